@@ -1,0 +1,9 @@
+pub mod Names
+pub mod State
+pub mod Command
+pub mod Reply
+pub mod OutOfDate
+pub mod Step
+pub mod History
+pub mod Renaming
+pub mod Rows

@@ -1,0 +1,41 @@
+-- How names are told apart and ordered. The definitions hold for names of any kind: what is promised speaks of
+-- texts, and the code of numbers.
+use Rattle.std.specs.Prelude.{◌≡◌, ◌≢◌, ℕ, Bool, cond, List, bytes_eq, ◌==◌, ◌↔◌, AllPairs, Contains, Decides}
+use Rattle.std.specs.Ordering.{nat_cmp}
+use Rattle.std.specs.declared.cmp.Ordering.{Ordering}
+use Rattle.std.specs.declared.cmp.Ordering.TheVariants.{Less}
+use Rattle.std.specs.Cmp.Lexicographic.{slice_cmp}
+
+-- bytes
+abbrev pub Text : Type 0
+Text = List ℕ
+
+pub record Naming (N : Type 0) : Type 0 where
+  pub same : N → N → Bool
+  pub order : N → N → Ordering
+
+-- what a naming keeps: the test tells equal names, and the order is strict
+pub record IsNaming {N : Type 0} (naming : Naming N) : Type 0 where
+  pub decides : (m n : N) → Decides (naming.same m n) (m ≡ n)
+  pub irreflexive : (n : N) → naming.order n n ≢ Less
+  pub transitive : (l m n : N) → naming.order l m ≡ Less → naming.order m n ≡ Less → naming.order l n ≡ Less
+
+-- names as texts, by their bytes
+abbrev pub texts : Naming Text
+texts = record { same = bytes_eq; order = slice_cmp nat_cmp }
+
+-- names as numbers, in a given order, as that of the texts that they stand for
+abbrev pub numbers : (ℕ → ℕ → Ordering) → Naming ℕ
+numbers order = record { same = ◌==◌; order = order }
+
+-- the function f with the value x at n
+abbrev pub put : {N X : Type 0} → Naming N → N → X → (N → X) → N → X
+put naming n x f m = cond (naming.same n m) x (f m)
+
+-- the names stand in order, each once
+abbrev pub Ascending : {N : Type 0} → Naming N → List N → Type 0
+Ascending naming names = AllPairs (λ m n. naming.order m n ≡ Less) names
+
+-- the list holds exactly the names with P, in order, each once
+abbrev pub IsListed : {N : Type 0} → Naming N → (N → Type 0) → List N → Type 0
+IsListed {N} naming P names = Ascending naming names × ((n : N) → Contains names n ↔ P n)

@@ -1,0 +1,20 @@
+-- What the database answers.
+use Rattle.std.specs.Prelude.{ℕ, List}
+
+pub data Refusal (N : Type 0) : Type 0 where
+  NotLocked : Refusal N
+  Building : Refusal N
+  NotBuilding : Refusal N
+  Itself : Refusal N
+  Exists : N → Refusal N
+
+pub data Reply (N : Type 0) : Type 0 where
+  Okay : Reply N
+  Granted : ℕ → Reply N
+  Busy : ℕ → Reply N
+  Stale : List N → Reply N
+  Stamped : List ℕ → Reply N
+  Ood : List N → Reply N
+  Targets : List N → Reply N
+  Sources : List N → Reply N
+  Refused : Refusal N → Reply N

@@ -1,0 +1,107 @@
+-- Histories that were worked out by hand, to believe the definitions by.
+use Rattle.std.specs.Prelude.{ℕ, zero, suc, List, [], ◌∷◌, Some, codes}
+use Rattle.redo_model.specs.Names.{Text}
+use Rattle.redo_model.specs.Command.{Command, File, Gone, Lock, Unlock, Start, IfChange, IfCreate, Stamp, Done, Failed, Ood, Targets, Sources}
+use Rattle.redo_model.specs.Reply.{Reply, NotLocked, Building, NotBuilding, Itself, Okay, Granted, Busy, Stale, Stamped, Refused}
+use Rattle.redo_model.specs.Reply as replies
+use Rattle.redo_model.specs.History.{Line}
+
+abbrev pub said : ℕ → Command Text → Reply Text → Line Text
+said session command reply = record { session = session; command = command; reply = reply }
+
+-- the lines with another reply on line k, counted from 0
+abbrev pub with_reply : ℕ → Reply Text → List (Line Text) → List (Line Text)
+with_reply k reply [] = []
+with_reply zero reply (line ∷ lines) = record line { reply = reply } ∷ lines
+with_reply (suc k) reply (line ∷ lines) = line ∷ with_reply k reply lines
+
+-- one session builds a target from a source
+abbrev pub common_path : List (Line Text)
+common_path =
+    let source = codes "a.c" in
+    let target = codes "a.o" in
+    said 0 (File source (codes "10")) Okay
+    ∷ said 0 (Lock target) (Granted 1)
+    ∷ said 0 (Start target) Okay
+    ∷ said 0 (IfChange target (source ∷ [])) Okay
+    ∷ said 0 (Done target (Some (codes "20"))) Okay
+    ∷ said 0 (Unlock target) Okay
+    ∷ said 0 Ood (replies.Ood [])
+    ∷ said 0 Targets (replies.Targets (target ∷ []))
+    ∷ said 0 Sources (replies.Sources (source ∷ []))
+    ∷ []
+
+-- a file appears that a target was built without, and is gone again
+abbrev pub appearance : List (Line Text)
+appearance =
+    let target = codes "T" in
+    said 0 (Lock target) (Granted 1)
+    ∷ said 0 (Start target) Okay
+    ∷ said 0 (IfCreate target (codes "y" ∷ [])) Okay
+    ∷ said 0 (Done target (Some (codes "5"))) Okay
+    ∷ said 0 Ood (replies.Ood [])
+    ∷ said 0 (File (codes "y") (codes "1")) Okay
+    ∷ said 0 Ood (replies.Ood (target ∷ []))
+    ∷ said 0 (Gone (codes "y")) Okay
+    ∷ said 0 Ood (replies.Ood [])
+    ∷ []
+
+-- two sessions, and which refusal comes first
+abbrev pub order_of_refusals : List (Line Text)
+order_of_refusals =
+    let target = codes "T" in
+    said 0 (Start target) (Refused NotLocked)
+    ∷ said 0 (Lock target) (Granted 1)
+    ∷ said 1 (Start target) (Refused NotLocked)
+    ∷ said 0 (Start target) Okay
+    ∷ said 0 (Start target) (Refused Building)
+    ∷ said 0 (Unlock target) (Refused Building)
+    ∷ said 1 (Unlock target) (Refused NotLocked)
+    ∷ said 0 (IfChange target (target ∷ [])) (Refused Itself)
+    ∷ said 0 (File (codes "x") (codes "1")) Okay
+    ∷ said 0 (IfCreate target (codes "x" ∷ target ∷ [])) (Refused Itself)
+    ∷ said 1 (Done target (Some (codes "5"))) (Refused NotBuilding)
+    ∷ said 1 (Lock target) (Busy 1)
+    ∷ said 0 (Done target (Some (codes "5"))) Okay
+    ∷ said 0 (IfChange target (target ∷ [])) (Refused NotBuilding)
+    ∷ said 0 (Unlock target) Okay
+    ∷ said 0 (Unlock target) (Refused NotLocked)
+    ∷ said 1 (Lock target) (Granted 2)
+    ∷ []
+
+-- the digest of "abc"
+abbrev pub digest_of_abc : List ℕ
+digest_of_abc = 0xa9 ∷ 0x99 ∷ 0x3e ∷ 0x36 ∷ 0x47 ∷ 0x06 ∷ 0x81 ∷ 0x6a ∷ 0xba ∷ 0x3e ∷ 0x25 ∷ 0x71 ∷ 0x78 ∷ 0x50 ∷ 0xc2 ∷ 0x6c ∷ 0x9c ∷ 0xd0 ∷ 0xd8 ∷ 0x9d ∷ []
+
+-- the digest of no bytes
+abbrev pub digest_of_nothing : List ℕ
+digest_of_nothing = 0xda ∷ 0x39 ∷ 0xa3 ∷ 0xee ∷ 0x5e ∷ 0x6b ∷ 0x4b ∷ 0x0d ∷ 0x32 ∷ 0x55 ∷ 0xbf ∷ 0xef ∷ 0x95 ∷ 0x60 ∷ 0x18 ∷ 0x90 ∷ 0xaf ∷ 0xd8 ∷ 0x07 ∷ 0x09 ∷ []
+
+-- two targets that depend on each other
+abbrev pub cycle : List (Line Text)
+cycle =
+    let a = codes "a" in
+    let b = codes "b" in
+    said 0 (Lock a) (Granted 1)
+    ∷ said 0 (Lock b) (Granted 1)
+    ∷ said 0 (Start a) Okay
+    ∷ said 0 (Stamp a (codes "abc")) (Stamped digest_of_abc)
+    ∷ said 0 (Done a (Some (codes "1"))) Okay
+    ∷ said 0 (Start b) Okay
+    ∷ said 0 (Stamp b []) (Stamped digest_of_nothing)
+    ∷ said 0 (IfChange b (a ∷ [])) Okay
+    ∷ said 0 (Done b (Some (codes "1"))) Okay
+    ∷ said 0 (Start a) Okay
+    ∷ said 0 (IfChange a (b ∷ [])) (Stale (b ∷ []))
+    ∷ said 0 (Stamp a (codes "abc")) (Stamped digest_of_abc)
+    ∷ said 0 (Done a (Some (codes "2"))) Okay
+    ∷ said 0 Ood (replies.Ood [])
+    ∷ said 0 (Start a) Okay
+    ∷ said 0 (Failed a) Okay
+    ∷ said 0 Ood (replies.Ood (a ∷ b ∷ []))
+    ∷ said 0 (Start a) Okay
+    ∷ said 0 (IfChange a (b ∷ [])) (Stale (b ∷ []))
+    ∷ said 0 (Stamp a (codes "abc")) (Stamped digest_of_abc)
+    ∷ said 0 (Done a (Some (codes "3"))) Okay
+    ∷ said 0 Ood (replies.Ood [])
+    ∷ []

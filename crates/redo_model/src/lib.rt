@@ -1,0 +1,7 @@
+//! The redo database in the words of mathematics, and laws about these words.
+#![tactic(auto)]
+
+pub mod histories;
+pub mod renaming;
+pub mod replies;
+pub mod rows;

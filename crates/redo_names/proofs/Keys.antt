@@ -1,0 +1,50 @@
+-- Names as the keys of a set of byte vectors.
+use Rattle.std.proofs.Common.{◌≡◌, ℕ, Bool, true, false, cond, ◌||◌, List, [], ◌∷◌, ◌++◌, map, length, Option, Some, slice_get, refl, sym, ap, ◌∙◌, inl, inr, if◌then◌else◌, ◌⊎◌}
+use Rattle.std.specs.Prelude.{bytes_eq, find}
+use Rattle.std.specs.Global.{Vec}
+use Rattle.std.specs.Option.{option_map}
+use Rattle.std.specs.List.{list_any}
+use Rattle.std.proofs.lemmas.List.{length-map, map-append}
+use Rattle.std.proofs.lemmas.Option.{slice_get-map}
+use Rattle.std.proofs.lemmas.Slice.Eq.{bytes_eq-Decides}
+use Rattle.redo_names.specs.Names.{has}
+
+-- the names that a set of these keys holds
+abbrev pub texts : List (Vec ℕ) → List (List ℕ)
+texts keys = map (λ key. key.items) keys
+
+pub length-texts : (keys : List (Vec ℕ)) → length (texts keys) ≡ length keys
+length-texts keys = length-map keys (λ (key : Vec ℕ). key.items)
+
+-- the set's own test says whether a name is there
+pub has-texts : (text : List ℕ) (keys : List (Vec ℕ)) → list_any (λ key. bytes_eq text key.items) keys ≡ has (texts keys) text
+has-texts text [] = refl
+has-texts text (key ∷ keys) = ap (λ (later : Bool). bytes_eq text key.items || later) (has-texts text keys)
+
+cond-Some : {K : Type 0} (b : Bool) (x k : K) (rest : Option K) → cond b (Some x) rest ≡ Some k → ((b ≡ true) × (x ≡ k)) ⊎ (rest ≡ Some k)
+cond-Some true x k rest e = inl (refl, cc)
+cond-Some false x k rest e = inr e
+
+-- what a search finds passes its test
+find-Some : {K : Type 0} (p : K → Bool) (keys : List K) (k : K) → find p keys ≡ Some k → p k ≡ true
+find-Some p [] k e = absurd cc
+find-Some p (x ∷ keys) k e =
+    elim (cond-Some (p x) x k (find p keys) e) [
+      | inl here ↦ ap p (sym here.1) ∙ here.0
+      | inr later ↦ find-Some p keys k later
+    ]
+
+-- a key's place among the keys is its name's number
+pub slice_get-texts : (text : List ℕ) (keys : List (Vec ℕ)) (number : ℕ) (key : Vec ℕ) → slice_get keys number ≡ Some key → find (λ k. bytes_eq text k.items) keys ≡ Some key → slice_get (texts keys) number ≡ Some text
+slice_get-texts text keys number key stored found =
+    let same : text ≡ key.items = (bytes_eq-Decides text key.items).0 (find-Some (λ (k : Vec ℕ). bytes_eq text k.items) keys key found) in
+    slice_get-map (λ (k : Vec ℕ). k.items) keys number ∙ ap (option_map (λ (k : Vec ℕ). k.items)) stored ∙ ap Some (sym same)
+
+-- a new key goes last
+pub texts-insert : (keys : List (Vec ℕ)) (key : Vec ℕ) (text : List ℕ) → key.items ≡ text → has (texts keys) text ≡ false
+    → texts (if list_any (λ k. bytes_eq key.items k.items) keys then keys else keys ++ key ∷ []) ≡ texts keys ++ text ∷ []
+texts-insert keys key text same new =
+    let absent : list_any (λ k. bytes_eq key.items k.items) keys ≡ false = has-texts key.items keys ∙ ap (has (texts keys)) same ∙ new in
+    ap (λ (there : Bool). texts (cond there keys (keys ++ key ∷ []))) absent
+    ∙ map-append (λ (k : Vec ℕ). k.items) keys (key ∷ [])
+    ∙ ap (λ (t : List ℕ). texts keys ++ t ∷ []) same

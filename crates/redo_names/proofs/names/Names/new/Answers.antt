@@ -1,0 +1,9 @@
+use Rattle.std.proofs.Common.{subst, sym, List, ℕ}
+use Rattle.std.specs.Global.{Vec}
+use Rattle.redo_names.specs.Names.{AreNames}
+use Rattle.redo_names.proofs.Keys.{texts}
+use Rattle.redo_names.proofs.NameLists.{AreNames-none}
+use Rattle.redo_names.proofs.names.Names.new.Goals as goal
+
+pub invariant_of-result : goal.invariant_of-result
+invariant_of-result c = subst (λ (keys : List (Vec ℕ)). AreNames (texts keys)) (sym c.new-texts.ensures.empty) AreNames-none

@@ -1,0 +1,45 @@
+-- What a name is, and lists of distinct names.
+use Rattle.std.specs.Prelude.{◌≡◌, ℕ, ◌≤◌, Bool, true, false, ◌&&◌, ◌||◌, not, ◌==◌, nat_le, List, [], ◌∷◌, ◌++◌, length, if◌then◌else◌, bytes_eq, slice_index_or, codes}
+use Rattle.std.specs.List.{list_all, list_any, IsDistinct, AllByRecursion}
+use Rattle.redo_names.specs.declared.name.TheConstants.{LONGEST_NAME}
+use Rattle.redo_names.specs.declared.names.TheConstants.{MOST_NAMES}
+
+-- a printed byte of ASCII, and no space
+abbrev pub is_visible : ℕ → Bool
+is_visible byte = nat_le 33 byte && nat_le byte 126
+
+-- '#' in front makes a line a comment
+abbrev pub begins_comment : List ℕ → Bool
+begins_comment [] = false
+begins_comment (byte ∷ _) = byte == 35
+
+-- the texts that stand for something else where a name may stand
+abbrev pub is_reserved : List ℕ → Bool
+is_reserved text = bytes_eq text (codes "-") || bytes_eq text (codes "=>") || begins_comment text
+
+-- 1 to 255 visible bytes that are not reserved
+unfoldable pub is_name : List ℕ → Bool
+is_name text = nat_le 1 (length text) && nat_le (length text) LONGEST_NAME && list_all is_visible text && not (is_reserved text)
+
+-- whether the text is among the names
+abbrev pub has : List (List ℕ) → List ℕ → Bool
+has names text = list_any (bytes_eq text) names
+
+-- the names with this one, which goes last where it is new
+abbrev pub with_name : List (List ℕ) → List ℕ → List (List ℕ)
+with_name names text = if has names text then names else names ++ text ∷ []
+
+-- the name that has this number
+abbrev pub text_at : List (List ℕ) → ℕ → List ℕ
+text_at names n = slice_index_or names n []
+
+-- the old names are a front of the new ones, so they keep their numbers
+pub record Extends (old new : List (List ℕ)) : Type 0 where
+  pub more : List (List ℕ)
+  pub is : new ≡ old ++ more
+
+-- at most 65,536 texts, no two of them equal, and each of them a name
+pub record AreNames (names : List (List ℕ)) : Type 0 where
+  pub few : length names ≤ MOST_NAMES
+  pub distinct : IsDistinct bytes_eq names
+  pub each : AllByRecursion (λ text. is_name text ≡ true) names

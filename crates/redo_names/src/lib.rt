@@ -1,0 +1,8 @@
+//! Names as numbers: a list of distinct names, in which a name's number is its place.
+#![tactic(auto)]
+
+mod name;
+mod names;
+
+pub use name::{LONGEST_NAME, is_name};
+pub use names::{MOST_NAMES, Names, NamesFault};

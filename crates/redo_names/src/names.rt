@@ -1,0 +1,130 @@
+ghost use Rattle.std.specs.Prelude.{◌≡◌, ◌<◌, ◌↔◌, List, ℕ, [], map, length, is_some, IfSome, IfOk, OnOk, OnErr, IsOk, IsErrOf, slice_get, true, false};
+ghost use Rattle.std.specs.Cmp.Lexicographic.{slice_cmp};
+ghost use Rattle.std.specs.Ordering.{nat_cmp};
+ghost use Rattle.redo_names.specs.declared.names.NamesFault.TheVariants.{Memory};
+ghost use Rattle.redo_names.specs.Names.{is_name, has, with_name, text_at, Extends, AreNames};
+
+use indexmap::IndexSet;
+use std::alloc::{AllocError, AllocFailed, Global};
+use std::cmp::Ordering;
+use std::marker::Model;
+use thiserror::Error;
+
+/// How many names there are at most.
+pub const MOST_NAMES: usize = 65536;
+
+/// Why a name was not added.
+#[derive(Debug, Drop, Error)]
+pub enum NamesFault {
+    /// Fault 1: there is no memory for another name.
+    #[error("out of memory")]
+    Memory,
+    /// Fault 2: there are 65,536 names, and this would be a new one.
+    #[error("too many names")]
+    Full,
+}
+
+impl From<AllocError> for NamesFault {
+    ghost from_gives = { λ _ fault. fault ≡ Memory };
+
+    fn from(_: AllocError) -> NamesFault {
+        NamesFault::Memory
+    }
+}
+
+impl<T: Drop> From<AllocFailed<T>> for NamesFault {
+    ghost from_gives = { λ _ fault. fault ≡ Memory };
+
+    fn from(_: AllocFailed<T>) -> NamesFault {
+        NamesFault::Memory
+    }
+}
+
+/// Distinct names, each with a number: its place in the order in which they were added.
+#[derive(Drop)]
+pub struct Names {
+    texts: IndexSet<Vec<u8>>,
+}
+
+impl Model for Names {
+    ghost Value = { List (List ℕ) };
+
+    ghost view = { λ names. map (λ text. text.items) names.texts.keys };
+
+    ghost invariant = { λ names. AreNames (map (λ text. text.items) names.texts.keys) };
+}
+
+impl Names {
+    /// No names.
+    pub fn new(alloc: Global) -> Self
+        ensures { result ≡ [] }
+    {
+        let texts = IndexSet::new(alloc);
+        Names { texts }
+    }
+
+    /// How many names there are.
+    pub fn len(&self) -> u32
+        ensures count { result ≡ length self.now }
+        ensures names { AreNames self.now }
+    {
+        self.texts.len() as u32
+    }
+
+    /// The number of a text, where it is among the names.
+    pub fn number_of(&self, text: &[u8]) -> Option<u32>
+        ensures found { IfSome result (λ number. slice_get self.now number ≡ Some text.now) }
+        ensures there { is_some result ≡ has self.now text.now }
+    {
+        match self.texts.get_full(text) {
+            Some((number, _)) => Some(number as u32),
+            None => None,
+        }
+    }
+
+    /// The name that has a number.
+    pub fn text(&self, number: u32) -> &[u8]
+        requires { number < length self.now }
+        ensures { result.now ≡ text_at self.now number }
+    {
+        self.texts.as_slice()[number as usize].as_slice()
+    }
+
+    /// How two names compare, by their bytes.
+    pub fn order(&self, a: u32, b: u32) -> Ordering
+        requires first { a < length self.now }
+        requires second { b < length self.now }
+        ensures { result ≡ slice_cmp nat_cmp (text_at self.now a) (text_at self.now b) }
+    {
+        self.text(a).cmp(self.text(b))
+    }
+
+    /// The number of a name, which goes last where it is new.
+    ///
+    /// A name that is there keeps its number, and adding it again never fails.
+    pub fn add(&mut self, text: &[u8]) -> Result<u32, NamesFault>
+        requires { is_name text.now ≡ true }
+        ensures added { OnOk result (self.new ≡ with_name self.old text.now) }
+        ensures number { IfOk result (λ number. slice_get self.new number ≡ Some text.now) }
+        ensures within { IfOk result (λ number. number < length self.new) }
+
+        ensures full { IsErrOf result NamesFault.Full ↔ ((length self.old ≡ MOST_NAMES) × (has self.old text.now ≡ false)) }
+        ensures there { has self.old text.now ≡ true → IsOk result }
+        ensures err { OnErr result (self.new ≡ self.old) }
+
+        ensures kept { Extends self.old self.new }
+        ensures names { AreNames self.new }
+    {
+        if let Some(number) = self.number_of(text) {
+            return Ok(number);
+        }
+        let number = self.texts.len();
+        if number == MOST_NAMES {
+            return Err(NamesFault::Full);
+        }
+        let alloc = *self.texts.allocator();
+        let name = Vec::from_slice(alloc, text)?;
+        self.texts.insert(name)?;
+        Ok(number as u32)
+    }
+}

@@ -1,0 +1,31 @@
+// A malloc for tests: it refuses the request for memory whose number is FAIL_AT, counted from 1. Where no request
+// has that number, it leaves the file FAIL_REPORT behind.
+#include <fcntl.h>
+#include <stdatomic.h>
+#include <stddef.h>
+#include <stdlib.h>
+#include <unistd.h>
+
+extern void *__libc_malloc(size_t);
+extern void *__libc_calloc(size_t, size_t);
+extern void *__libc_realloc(void *, size_t);
+
+static atomic_ulong requests;
+static unsigned long fail_at;
+
+__attribute__((constructor)) static void begin(void) {
+    const char *at = getenv("FAIL_AT");
+    fail_at = at ? strtoul(at, 0, 10) : 0;
+    atomic_store(&requests, 0);
+}
+
+__attribute__((destructor)) static void end(void) {
+    const char *report = getenv("FAIL_REPORT");
+    if (report && fail_at && atomic_load(&requests) < fail_at) close(open(report, O_CREAT | O_WRONLY, 0600));
+}
+
+static int is_refused(void) { return fail_at && atomic_fetch_add(&requests, 1) + 1 == fail_at; }
+
+void *malloc(size_t n) { return is_refused() ? 0 : __libc_malloc(n); }
+void *calloc(size_t n, size_t m) { return is_refused() ? 0 : __libc_calloc(n, m); }
+void *realloc(void *p, size_t n) { return is_refused() ? 0 : __libc_realloc(p, n); }
