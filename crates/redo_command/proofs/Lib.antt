@@ -1,0 +1,11 @@
+pub mod Added
+pub mod FormsFound
+pub mod FormsRead
+pub mod LineLaws
+pub mod Lines
+pub mod ScriptLaws
+pub mod ScriptParts
+pub mod ScriptSteps
+pub mod Scripts
+pub mod Spaced
+pub mod Steps

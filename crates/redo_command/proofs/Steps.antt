@@ -1,0 +1,43 @@
+-- What it takes that reading by steps comes to its end.
+use Rattle.std.proofs.Common.{◌≡◌, Bool, true, false, cond, ◌&&◌, List, Result, Ok, Err, refl, ◌⊎◌, inl, inr}
+use Rattle.std.specs.Prelude.{bytes_eq}
+use Rattle.std.proofs.lemmas.Slice.Eq.{bytes_eq-Decides}
+use Rattle.redo_model.specs.Names.{Text}
+use Rattle.redo_model.specs.Command.{Command}
+use Rattle.redo_command.specs.declared.fault.LineFault.{LineFault}
+use Rattle.redo_command.specs.Reading.{◌>>=◌, Reading}
+
+pub both : (a b : Bool) → (a && b) ≡ true → (a ≡ true) × (b ≡ true)
+both true b e = (refl, e)
+both false b e = absurd cc
+
+-- each of two steps is made
+pub bind_ok : {A B : Type 0} (r : Result A LineFault) (f : A → Result B LineFault) (y : B) → (r >>= f) ≡ Ok y → (x : A) × (r ≡ Ok x) × (f x ≡ Ok y)
+bind_ok (Ok x) f y e = (x, refl, e)
+bind_ok (Err d) f y e = absurd cc
+
+-- a test that leads to a fault otherwise is passed
+pub guard_ok : {A : Type 0} (b : Bool) (d : LineFault) (x y : A) → cond b (Ok x) (Err d) ≡ Ok y → (b ≡ true) × (x ≡ y)
+guard_ok true d x y e = (refl, cc)
+guard_ok false d x y e = absurd cc
+
+-- a test that leads to a fault is not passed
+pub unless_ok : {A : Type 0} (b : Bool) (d : LineFault) (r : Result A LineFault) (y : A) → cond b (Err d) r ≡ Ok y → (b ≡ false) × (r ≡ Ok y)
+unless_ok true d r y e = absurd cc
+unless_ok false d r y e = (refl, e)
+
+-- by whether the word is this one
+pub by_word : {R : Type 0} (word this : Text) (x y z : R) → cond (bytes_eq word this) x y ≡ z → ((word ≡ this) × (x ≡ z)) ⊎ (y ≡ z)
+by_word word this x y z e = by (bytes_eq word this) refl e
+  where
+    by : (b : Bool) → bytes_eq word this ≡ b → cond b x y ≡ z → ((word ≡ this) × (x ≡ z)) ⊎ (y ≡ z)
+    by true same h = inl ((bytes_eq-Decides word this).0 same, h)
+    by false same h = inr h
+
+-- the end of reading a line
+abbrev pub read : Command Text × List Text → Reading
+read x = Ok x
+
+-- what is read is one thing
+pub same_read : (x y : Command Text × List Text) → read x ≡ read y → x ≡ y
+same_read x y e = cc

@@ -1,0 +1,69 @@
+-- Which texts are commands and scripts.
+use Rattle.std.specs.Prelude.{◌≡◌, ◌≤◌, Bool, true, not, List, [], ◌∷◌, length, filter, IsTrue, IfSome, ◌==◌, ⊤}
+use Rattle.std.specs.List.{slice_split, flat_map, AllByRecursion}
+use Rattle.redo_names.specs.Names.{is_name, with_name}
+use Rattle.redo_model.specs.Names.{Text}
+use Rattle.redo_model.specs.Command.{Command, File, Gone, Lock, Unlock, Start, IfChange, IfCreate, Always, Stamp, Done, Failed, Ood, Targets, Sources, names_in}
+use Rattle.redo_command.specs.Stamp.{is_stamp}
+use Rattle.redo_command.specs.Texts.{command_text_of}
+
+-- what the words of a command have to be; the forms that have not come yet have none
+abbrev pub HasForm : Command Text → Type 0
+HasForm (File n stamp) = IsTrue (is_name n) × IsTrue (is_stamp stamp)
+HasForm (Gone n) = IsTrue (is_name n)
+HasForm (Lock t) = IsTrue (is_name t)
+HasForm (Unlock t) = IsTrue (is_name t)
+HasForm (Start t) = IsTrue (is_name t)
+HasForm (IfChange t ns) = ⊥
+HasForm (IfCreate t ns) = ⊥
+HasForm (Always t) = ⊥
+HasForm (Stamp t content) = ⊥
+HasForm (Done t stamp) = IsTrue (is_name t) × IfSome stamp (λ s. IsTrue (is_stamp s))
+HasForm (Failed t) = IsTrue (is_name t)
+HasForm Ood = ⊥
+HasForm Targets = ⊤
+HasForm Sources = ⊥
+
+-- a line may have 8,192 bytes, a script 4,096 commands, a run 65,536 names
+abbrev pub IsShort : Text → Type 0
+IsShort line = length line ≤ 8192
+
+-- the line is the command's text, without its LF
+abbrev pub IsCommandLine : Text → Command Text → Type 0
+IsCommandLine line command = HasForm command × IsShort line × (line ≡ command_text_of command)
+
+-- the names, and after them the new ones of these, each once, in the order in which they are met
+abbrev pub with_names : List Text → List Text → List Text
+with_names names [] = names
+with_names names (t ∷ ts) = with_names (with_name names t) ts
+
+-- after are the names with those of the commands, and not too many
+abbrev pub AddsNames : List Text → List (Command Text) → List Text → Type 0
+AddsNames names commands after = (after ≡ with_names names (flat_map names_in commands)) × (length after ≤ 65536)
+
+-- the pieces between line feeds: what stands after a last line feed is an empty piece, which is skipped as any
+abbrev pub lines_of : Text → List Text
+lines_of text = slice_split (λ b. b == 10) text
+
+-- an empty line, and one that begins with '#'
+abbrev pub is_skipped : Text → Bool
+is_skipped [] = true
+is_skipped (b ∷ bs) = b == 35
+
+-- each line is its command's
+abbrev pub AreCommandLines : List Text → List (Command Text) → Type 0
+AreCommandLines [] [] = ⊤
+AreCommandLines [] (command ∷ commands) = ⊥
+AreCommandLines (line ∷ lines) [] = ⊥
+AreCommandLines (line ∷ lines) (command ∷ commands) = IsCommandLine line command × AreCommandLines lines commands
+
+-- the lines that are not skipped are these commands, one by one
+pub record AreScriptLines (names : List Text) (lines : List Text) (commands : List (Command Text)) (after : List Text) : Type 0 where
+  pub short : AllByRecursion IsShort lines
+  pub said : AreCommandLines (filter (λ line. not (is_skipped line)) lines) commands
+  pub few : length commands ≤ 4096
+  pub named : AddsNames names commands after
+
+-- the text is a script of these commands, and after are the names with its names
+abbrev pub IsScript : List Text → Text → List (Command Text) → List Text → Type 0
+IsScript names text commands after = AreScriptLines names (lines_of text) commands after

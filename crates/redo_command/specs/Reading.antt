@@ -1,0 +1,140 @@
+-- Reading a line by steps: the first step that it fails is its fault.
+use Rattle.std.specs.Prelude.{◌≡◌, ℕ, ◌+◌, List, [], ◌∷◌, ◌++◌, length, Option, Some, None, Result, Ok, Err, Bool, not, ◌&&◌, nat_lt, nat_le, ◌==◌, if◌then◌else◌, codes, bytes_eq}
+use Rattle.std.specs.List.{slice_split, list_any}
+use Rattle.redo_names.specs.Names.{is_name, has}
+use Rattle.redo_model.specs.Names.{Text}
+use Rattle.redo_model.specs.Command.{Command, File, Gone, Lock, Unlock, Start, Done, Failed, Targets}
+use Rattle.redo_command.specs.Stamp.{is_stamp}
+use Rattle.redo_command.specs.Grammar.{is_skipped, lines_of, AreScriptLines}
+use Rattle.redo_command.specs.declared.fault.LineFault.{LineFault}
+use Rattle.redo_command.specs.declared.fault.LineFault.TheVariants.{LineTooLong, BadByte, UnknownCommand, WrongWords, BadName, BadStamp, TooManyLines, TooManyNames}
+use Rattle.redo_command.specs.declared.fault.Unread.{Unread}
+use Rattle.redo_command.specs.declared.fault.Unread.TheVariants as unread
+use Rattle.redo_command.specs.declared.fault.ReadFault.{ReadFault}
+use Rattle.redo_command.specs.declared.fault.ReadFault.TheVariants as faults
+
+infixl 10 ◌>>=◌
+abbrev pub ◌>>=◌ : {A B : Type 0} → Result A LineFault → (A → Result B LineFault) → Result B LineFault
+(Ok x) >>= f = f x
+(Err e) >>= f = Err e
+
+abbrev pub name_in : Text → Result Text LineFault
+name_in word = if is_name word then Ok word else Err BadName
+
+abbrev pub stamp_in : Text → Result Text LineFault
+stamp_in word = if is_stamp word then Ok word else Err BadStamp
+
+-- "-" is no stamp
+abbrev pub stamp_or_none_in : Text → Result (Option Text) LineFault
+stamp_or_none_in word = if bytes_eq word (codes "-") then Ok None else (stamp_in word >>= λ s. Ok (Some s))
+
+-- the names with this one, where it is there or there is room
+abbrev pub added : List Text → Text → Result (List Text) LineFault
+added names text = if has names text then Ok names else (if length names == 65536 then Err TooManyNames else Ok (names ++ text ∷ []))
+
+-- a command, and the names after it
+abbrev pub Reading : Type 0
+Reading = Result (Command Text × List Text) LineFault
+
+-- a form of one name
+unfoldable pub one_name_in : (Text → Command Text) → List Text → List Text → Reading
+one_name_in form names [] = Err WrongWords
+one_name_in form names (n ∷ []) = do
+  name ← name_in n
+  after ← added names name
+  Ok (form name, after)
+one_name_in form names (n ∷ w ∷ ws) = Err WrongWords
+
+unfoldable pub file_in : List Text → List Text → Reading
+file_in names [] = Err WrongWords
+file_in names (n ∷ []) = Err WrongWords
+file_in names (n ∷ s ∷ []) = do
+  name ← name_in n
+  stamp ← stamp_in s
+  after ← added names name
+  Ok (File name stamp, after)
+file_in names (n ∷ s ∷ w ∷ ws) = Err WrongWords
+
+unfoldable pub done_in : List Text → List Text → Reading
+done_in names [] = Err WrongWords
+done_in names (n ∷ []) = Err WrongWords
+done_in names (n ∷ s ∷ []) = do
+  name ← name_in n
+  stamp ← stamp_or_none_in s
+  after ← added names name
+  Ok (Done name stamp, after)
+done_in names (n ∷ s ∷ w ∷ ws) = Err WrongWords
+
+-- a form without words
+unfoldable pub no_words_in : Command Text → List Text → List Text → Reading
+no_words_in form names [] = Ok (form, names)
+no_words_in form names (w ∷ ws) = Err WrongWords
+
+-- by the first word
+unfoldable pub words_in : List Text → List Text → Reading
+words_in names [] = Err UnknownCommand
+words_in names (word ∷ args) =
+    if bytes_eq word (codes "file") then file_in names args
+    else (if bytes_eq word (codes "gone") then one_name_in Gone names args
+    else (if bytes_eq word (codes "lock") then one_name_in Lock names args
+    else (if bytes_eq word (codes "unlock") then one_name_in Unlock names args
+    else (if bytes_eq word (codes "start") then one_name_in Start names args
+    else (if bytes_eq word (codes "done") then done_in names args
+    else (if bytes_eq word (codes "failed") then one_name_in Failed names args
+    else (if bytes_eq word (codes "targets") then no_words_in Targets names args
+    else Err UnknownCommand)))))))
+
+-- the pieces between single spaces
+abbrev pub words_of : Text → List Text
+words_of line = slice_split (λ b. b == 32) line
+
+abbrev pub is_text_byte : ℕ → Bool
+is_text_byte b = nat_le 32 b && nat_le b 126
+
+-- a line without its LF
+unfoldable pub line_in : List Text → Text → Reading
+line_in names line =
+    if nat_lt 8192 (length line) then Err LineTooLong
+    else (if list_any (λ b. not (is_text_byte b)) line then Err BadByte
+    else words_in names (words_of line))
+
+-- a line of a script, after so many commands; it may be skipped
+unfoldable pub script_line_in : ℕ → List Text → Text → Result (Option (Command Text) × List Text) LineFault
+script_line_in count names line =
+    if nat_lt 8192 (length line) then Err LineTooLong
+    else (if is_skipped line then Ok (None, names)
+    else (if count == 4096 then Err TooManyLines
+    else (line_in names line >>= λ x. Ok (Some x.0, x.1))))
+
+-- what a private reader returned, seen by `view`, is what reading gives, unless memory ran out
+abbrev pub Reads : {X Y : Type 0} → (X → Y) → Result X Unread → Result Y LineFault → Type 0
+Reads view (Ok x) reading = reading ≡ Ok (view x)
+Reads view (Err unread.Memory) reading = Unit {0}
+Reads view (Err (unread.Fault fault)) reading = reading ≡ Err fault
+
+-- the same of a public reader, whose fault names line 1
+abbrev pub Gives : {X Y : Type 0} → (X → Y) → Result X ReadFault → Result Y LineFault → Type 0
+Gives view (Ok x) reading = reading ≡ Ok (view x)
+Gives view (Err faults.Memory) reading = Unit {0}
+Gives view (Err (faults.Line number fault)) reading = (number ≡ 1) × (reading ≡ Err fault)
+
+-- the lines before it are read, and it fails after their commands
+pub record FailsAfter (names : List Text) (before : List Text) (line : Text) (fault : LineFault) : Type 0 where
+  pub commands : List (Command Text)
+  pub after : List Text
+  pub read : AreScriptLines names before commands after
+  pub fails : script_line_in (length commands) after line ≡ Err fault
+
+-- the text's first faulty line has this number, counted from 1, and this fault
+pub record IsFirstFault (names : List Text) (text : Text) (number : ℕ) (fault : LineFault) : Type 0 where
+  pub before : List Text
+  pub line : Text
+  pub rest : List Text
+  pub lines : lines_of text ≡ before ++ line ∷ rest
+  pub counted : number ≡ length before + 1
+  pub fails : FailsAfter names before line fault
+
+-- why a text is not read as a script; for want of memory nothing is said
+abbrev pub IsReadFault : List Text → Text → ReadFault → Type 0
+IsReadFault names text faults.Memory = Unit {0}
+IsReadFault names text (faults.Line number fault) = IsFirstFault names text number fault

@@ -1,0 +1,150 @@
+ghost use Rattle.std.specs.Prelude.{◌≡◌, ◌<◌, List, map, length, IfOk};
+ghost use Rattle.redo_names.specs.Names.{text_at, Extends};
+ghost use Rattle.redo_model.specs.Names.{Text};
+ghost use Rattle.redo_model.specs.Command as commands;
+ghost use Rattle.redo_model.specs.Renaming.{IsBelow};
+ghost use Rattle.redo_command.specs.Meaning.{command_of, command_at};
+ghost use Rattle.redo_command.specs.Reading.{Reads, one_name_in, file_in, done_in, no_words_in, words_in};
+
+use crate::command::Command;
+use crate::fault::{LineFault, Unread};
+use crate::words::{name_of, number_of, one, stamp_of, stamp_or_none_of, two};
+use redo_names::Names;
+
+/// The number of the one name that a form has.
+#[tactic(auto, using(crate::proofs::Added::extends_same), unfolding(crate::specs::Reading::one_name_in))]
+fn one_name_of(names: &mut Names, args: &[&[u8]]) -> Result<u32, Unread>
+    ensures reads { (form : Text → commands.Command Text) → Reads (λ n. (form (text_at names.new n), names.new)) result (one_name_in form names.old (map (λ w. w.now) args.now)) }
+    ensures within { IfOk result (λ n. n < length names.new) }
+    ensures kept { Extends names.old names.new }
+{
+    let Some(word) = one(args) else {
+        return Err(Unread::Fault(LineFault::WrongWords));
+    };
+    let name = name_of(word)?;
+    number_of(names, name)
+}
+
+#[tactic(auto, using(crate::proofs::Added::extends_same), unfolding(crate::specs::Reading::file_in))]
+fn file_of(names: &mut Names, args: &[&[u8]]) -> Result<Command, Unread>
+    ensures reads { Reads (λ command. (command_at names.new command, names.new)) result (file_in names.old (map (λ w. w.now) args.now)) }
+    ensures within { IfOk result (λ command. IsBelow (length names.new) (command_of command)) }
+    ensures kept { Extends names.old names.new }
+{
+    let Some((n, s)) = two(args) else {
+        return Err(Unread::Fault(LineFault::WrongWords));
+    };
+    let name = name_of(n)?;
+    let stamp = stamp_of(s)?;
+    let number = number_of(names, name)?;
+    Ok(Command::File(number, stamp))
+}
+
+fn gone_of(names: &mut Names, args: &[&[u8]]) -> Result<Command, Unread>
+    ensures reads { Reads (λ command. (command_at names.new command, names.new)) result (one_name_in commands.Gone names.old (map (λ w. w.now) args.now)) }
+    ensures within { IfOk result (λ command. IsBelow (length names.new) (command_of command)) }
+    ensures kept { Extends names.old names.new }
+{
+    Ok(Command::Gone(one_name_of(names, args)?))
+}
+
+fn lock_of(names: &mut Names, args: &[&[u8]]) -> Result<Command, Unread>
+    ensures reads { Reads (λ command. (command_at names.new command, names.new)) result (one_name_in commands.Lock names.old (map (λ w. w.now) args.now)) }
+    ensures within { IfOk result (λ command. IsBelow (length names.new) (command_of command)) }
+    ensures kept { Extends names.old names.new }
+{
+    Ok(Command::Lock(one_name_of(names, args)?))
+}
+
+fn unlock_of(names: &mut Names, args: &[&[u8]]) -> Result<Command, Unread>
+    ensures reads { Reads (λ command. (command_at names.new command, names.new)) result (one_name_in commands.Unlock names.old (map (λ w. w.now) args.now)) }
+    ensures within { IfOk result (λ command. IsBelow (length names.new) (command_of command)) }
+    ensures kept { Extends names.old names.new }
+{
+    Ok(Command::Unlock(one_name_of(names, args)?))
+}
+
+fn start_of(names: &mut Names, args: &[&[u8]]) -> Result<Command, Unread>
+    ensures reads { Reads (λ command. (command_at names.new command, names.new)) result (one_name_in commands.Start names.old (map (λ w. w.now) args.now)) }
+    ensures within { IfOk result (λ command. IsBelow (length names.new) (command_of command)) }
+    ensures kept { Extends names.old names.new }
+{
+    Ok(Command::Start(one_name_of(names, args)?))
+}
+
+fn failed_of(names: &mut Names, args: &[&[u8]]) -> Result<Command, Unread>
+    ensures reads { Reads (λ command. (command_at names.new command, names.new)) result (one_name_in commands.Failed names.old (map (λ w. w.now) args.now)) }
+    ensures within { IfOk result (λ command. IsBelow (length names.new) (command_of command)) }
+    ensures kept { Extends names.old names.new }
+{
+    Ok(Command::Failed(one_name_of(names, args)?))
+}
+
+#[tactic(auto, using(crate::proofs::Added::extends_same), unfolding(crate::specs::Reading::done_in))]
+fn done_of(names: &mut Names, args: &[&[u8]]) -> Result<Command, Unread>
+    ensures reads { Reads (λ command. (command_at names.new command, names.new)) result (done_in names.old (map (λ w. w.now) args.now)) }
+    ensures within { IfOk result (λ command. IsBelow (length names.new) (command_of command)) }
+    ensures kept { Extends names.old names.new }
+{
+    let Some((n, s)) = two(args) else {
+        return Err(Unread::Fault(LineFault::WrongWords));
+    };
+    let name = name_of(n)?;
+    let stamp = stamp_or_none_of(s)?;
+    let number = number_of(names, name)?;
+    Ok(Command::Done(number, stamp))
+}
+
+/// Whether a form without words has none.
+#[tactic(auto, unfolding(crate::specs::Reading::no_words_in))]
+fn check_no_words(args: &[&[u8]]) -> Result<(), Unread>
+    ensures { (form : commands.Command Text) (names : List Text) → Reads (λ _. (form, names)) result (no_words_in form names (map (λ w. w.now) args.now)) }
+{
+    if args.is_empty() {
+        Ok(())
+    } else {
+        Err(Unread::Fault(LineFault::WrongWords))
+    }
+}
+
+#[tactic(auto, using(crate::proofs::Added::extends_same))]
+fn targets_of(names: &mut Names, args: &[&[u8]]) -> Result<Command, Unread>
+    ensures reads { Reads (λ command. (command_at names.new command, names.new)) result (no_words_in commands.Targets names.old (map (λ w. w.now) args.now)) }
+    ensures within { IfOk result (λ command. IsBelow (length names.new) (command_of command)) }
+    ensures kept { Extends names.old names.new }
+{
+    check_no_words(args)?;
+    Ok(Command::Targets)
+}
+
+/// The command that words are, by the first.
+#[tactic(auto, using(crate::proofs::Added::extends_same), unfolding(crate::specs::Reading::words_in))]
+pub(crate) fn form_of(names: &mut Names, words: &[&[u8]]) -> Result<Command, Unread>
+    ensures reads { Reads (λ command. (command_at names.new command, names.new)) result (words_in names.old (map (λ w. w.now) words.now)) }
+    ensures within { IfOk result (λ command. IsBelow (length names.new) (command_of command)) }
+    ensures kept { Extends names.old names.new }
+{
+    let Some((word, args)) = words.split_first() else {
+        return Err(Unread::Fault(LineFault::UnknownCommand));
+    };
+    let word = *word;
+    if word == b"file".as_slice() {
+        file_of(names, args)
+    } else if word == b"gone".as_slice() {
+        gone_of(names, args)
+    } else if word == b"lock".as_slice() {
+        lock_of(names, args)
+    } else if word == b"unlock".as_slice() {
+        unlock_of(names, args)
+    } else if word == b"start".as_slice() {
+        start_of(names, args)
+    } else if word == b"done".as_slice() {
+        done_of(names, args)
+    } else if word == b"failed".as_slice() {
+        failed_of(names, args)
+    } else if word == b"targets".as_slice() {
+        targets_of(names, args)
+    } else {
+        Err(Unread::Fault(LineFault::UnknownCommand))
+    }
+}

@@ -1,0 +1,26 @@
+//! Commands and replies: what they are, how they are read and written; and whole reads and writes.
+#![tactic(auto)]
+
+mod command;
+mod fault;
+mod forms;
+mod laws;
+mod read;
+mod reply;
+mod script;
+mod stamp;
+mod text;
+mod watched;
+mod whole;
+mod words;
+
+pub use command::Command;
+pub use fault::{LineFault, ReadFault};
+pub use laws::{command_reads_back, one_command_a_line};
+pub use read::read_command;
+pub use reply::{Line, Refusal, Reply};
+pub use script::{Script, read_script};
+pub use stamp::{FileStamp, LONGEST_STAMP};
+pub use text::{command_text, reply_text};
+pub use watched::Watched;
+pub use whole::{WholeFault, WriteFault, read_whole, write_whole};

@@ -1,0 +1,87 @@
+ghost use Rattle.std.specs.Prelude.{◌≡◌, ◌⊎◌, ◌∷◌, [], List, length, IfOk, IsOkAnd, IfSome};
+ghost use Rattle.std.specs.Option.{option_map};
+ghost use Rattle.redo_names.specs.Names.{Extends};
+ghost use Rattle.redo_model.specs.Names.{Text};
+ghost use Rattle.redo_model.specs.Command.{Command as CommandOf};
+ghost use Rattle.redo_model.specs.Renaming.{IsBelow};
+ghost use Rattle.redo_command.specs.Meaning.{command_of, command_at};
+ghost use Rattle.redo_command.specs.Grammar.{IsCommandLine, AddsNames, is_skipped as skipped_test};
+ghost use Rattle.redo_command.specs.Reading.{Gives, Reads, line_in, script_line_in};
+
+use crate::command::Command;
+use crate::fault::{LineFault, ReadFault, Unread};
+use crate::forms::form_of;
+use crate::words::{has_bad_byte, words};
+use redo_names::Names;
+use std::alloc::Global;
+
+/// The command that a line is, without its LF.
+#[tactic(auto, using(crate::proofs::Added::extends_same), unfolding(crate::specs::Reading::line_in))]
+fn line_of(alloc: Global, line: &[u8], names: &mut Names) -> Result<Command, Unread>
+    ensures reads { Reads (λ command. (command_at names.new command, names.new)) result (line_in names.old line.now) }
+    ensures within { IfOk result (λ command. IsBelow (length names.new) (command_of command)) }
+    ensures kept { Extends names.old names.new }
+{
+    if line.len() > 8192 {
+        return Err(Unread::Fault(LineFault::LineTooLong));
+    }
+    if has_bad_byte(line) {
+        return Err(Unread::Fault(LineFault::BadByte));
+    }
+    let words = words(alloc, line)?;
+    form_of(names, &words)
+}
+
+/// Reads the command that a line is, without its LF. Faults have line 1. After a fault the old names are a front of the names.
+pub fn read_command(alloc: Global, line: &[u8], names: &mut Names) -> Result<Command, ReadFault>
+    // What is read is a command line, and its names are added.
+    ensures read { IfOk result (λ command. IsCommandLine line.now (command_at names.new command) × AddsNames names.old (command_at names.new command ∷ []) names.new) }
+    // A command line whose names fit is read, unless memory runs out.
+    ensures only { (command : CommandOf Text) (after : List Text) → IsCommandLine line.now command → AddsNames names.old (command ∷ []) after
+        → (result ≡ Err ReadFault.Memory) ⊎ IsOkAnd result (λ read. (command_at names.new read ≡ command) × (names.new ≡ after)) }
+    // The fault is that of the first step that the line fails.
+    ensures fault { Gives (λ read. (command_at names.new read, names.new)) result (line_in names.old line.now) }
+    ensures within { IfOk result (λ command. IsBelow (length names.new) (command_of command)) }
+    ensures kept { Extends names.old names.new }
+{
+    prove!(names.len() as usize <= 65536);
+    match line_of(alloc, line, names) {
+        Ok(command) => Ok(command),
+        Err(Unread::Memory) => Err(ReadFault::Memory),
+        Err(Unread::Fault(fault)) => Err(ReadFault::Line { line: 1, fault }),
+    }
+}
+
+fn is_skipped(line: &[u8]) -> bool
+    ensures { result ≡ skipped_test line.now }
+{
+    match line {
+        [] | [b'#', ..] => true,
+        _ => false,
+    }
+}
+
+/// Reads a line of a script that has `count` commands so far: nothing, where it is skipped.
+#[tactic(auto, using(crate::proofs::Added::extends_same), unfolding(crate::specs::Reading::script_line_in))]
+pub(crate) fn read_script_line(
+    alloc: Global,
+    line: &[u8],
+    count: usize,
+    names: &mut Names,
+) -> Result<Option<Command>, Unread>
+    ensures reads { Reads (λ read. (option_map (command_at names.new) read, names.new)) result (script_line_in count names.old line.now) }
+    ensures within { IfOk result (λ read. IfSome read (λ command. IsBelow (length names.new) (command_of command))) }
+    ensures kept { Extends names.old names.new }
+{
+    if line.len() > 8192 {
+        return Err(Unread::Fault(LineFault::LineTooLong));
+    }
+    if is_skipped(line) {
+        return Ok(None);
+    }
+    if count == 4096 {
+        return Err(Unread::Fault(LineFault::TooManyLines));
+    }
+    let command = line_of(alloc, line, names)?;
+    Ok(Some(command))
+}

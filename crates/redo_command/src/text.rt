@@ -1,0 +1,128 @@
+ghost use Rattle.std.specs.Prelude.{◌≡◌, ◌<◌, ◌++◌, List, map, length, decimal, IfOk, OnOk};
+ghost use Rattle.std.specs.List.{flat_map};
+ghost use Rattle.redo_names.specs.Names.{text_at};
+ghost use Rattle.redo_model.specs.Names.{Text};
+ghost use Rattle.redo_model.specs.Renaming.{IsBelow, IsReplyBelow, AllBelow, named_refusal};
+ghost use Rattle.redo_command.specs.Meaning.{command_of, reply_of, refusal_of, command_at, reply_at};
+ghost use Rattle.redo_command.specs.Texts.{after_space, stamp_word, refusal_words, command_text_of, reply_text_of};
+
+use crate::command::Command;
+use crate::reply::{Refusal, Reply};
+use crate::stamp::FileStamp;
+use redo_names::Names;
+use std::alloc::{AllocError, Global};
+
+/// Writes a word with the space before it.
+fn put_word(out: &mut Vec<u8>, word: &[u8]) -> Result<(), AllocError>
+    ensures { OnOk result (out.new.items ≡ out.old.items ++ after_space word.now) }
+{
+    out.push(b' ')?;
+    out.extend_from_slice(word)?;
+    Ok(())
+}
+
+/// Writes the names of these numbers.
+fn put_names(out: &mut Vec<u8>, names: &Names, numbers: &[u32]) -> Result<(), AllocError>
+    requires { AllBelow (length names.now) numbers.now }
+    ensures { OnOk result (out.new.items ≡ out.old.items ++ flat_map after_space (map (text_at names.now) numbers.now)) }
+{
+    for number in numbers {
+        put_word(out, names.text(*number))?;
+    }
+    Ok(())
+}
+
+/// Writes a command that has one name.
+fn put_named(
+    out: &mut Vec<u8>,
+    command: &[u8],
+    names: &Names,
+    number: u32,
+) -> Result<(), AllocError>
+    requires { number < length names.now }
+    ensures { OnOk result (out.new.items ≡ out.old.items ++ command.now ++ after_space (text_at names.now number)) }
+{
+    out.extend_from_slice(command)?;
+    put_word(out, names.text(number))
+}
+
+/// Writes a stamp, or `-` for none.
+fn put_stamp_or_none(out: &mut Vec<u8>, stamp: Option<FileStamp>) -> Result<(), AllocError>
+    ensures { OnOk result (out.new.items ≡ out.old.items ++ after_space (stamp_word stamp)) }
+{
+    match stamp {
+        None => put_word(out, b"-"),
+        Some(stamp) => put_word(out, stamp.bytes()),
+    }
+}
+
+/// The text of a command: its words with single spaces, without LF.
+pub fn command_text(alloc: Global, command: &Command, names: &Names) -> Result<Vec<u8>, AllocError>
+    requires { IsBelow (length names.now) (command_of command.now) }
+    ensures { IfOk result (λ text. text.items ≡ command_text_of (command_at names.now command.now)) }
+{
+    let mut out = Vec::new(alloc);
+    match command {
+        Command::File(n, stamp) => {
+            put_named(&mut out, b"file", names, *n)?;
+            put_word(&mut out, stamp.bytes())?;
+        }
+        Command::Gone(n) => put_named(&mut out, b"gone", names, *n)?,
+        Command::Lock(t) => put_named(&mut out, b"lock", names, *t)?,
+        Command::Unlock(t) => put_named(&mut out, b"unlock", names, *t)?,
+        Command::Start(t) => put_named(&mut out, b"start", names, *t)?,
+        Command::Done(t, stamp) => {
+            put_named(&mut out, b"done", names, *t)?;
+            put_stamp_or_none(&mut out, *stamp)?;
+        }
+        Command::Failed(t) => put_named(&mut out, b"failed", names, *t)?,
+        Command::Targets => out.extend_from_slice(b"targets")?,
+    }
+    Ok(out)
+}
+
+/// Writes a word and a number.
+fn put_numbered(
+    alloc: Global,
+    out: &mut Vec<u8>,
+    word: &[u8],
+    number: u32,
+) -> Result<(), AllocError>
+    ensures { OnOk result (out.new.items ≡ out.old.items ++ word.now ++ after_space (decimal number)) }
+{
+    out.extend_from_slice(word)?;
+    put_word(out, number.to_string(alloc)?.as_bytes())
+}
+
+/// Writes the words for a refusal.
+fn put_refusal(out: &mut Vec<u8>, refusal: Refusal) -> Result<(), AllocError>
+    ensures { (names : List Text) → OnOk result (out.new.items ≡ out.old.items ++ flat_map after_space (refusal_words (named_refusal (text_at names) (refusal_of refusal)))) }
+{
+    match refusal {
+        Refusal::NotLocked => put_word(out, b"not-locked"),
+        Refusal::Building => put_word(out, b"building"),
+        Refusal::NotBuilding => put_word(out, b"not-building"),
+    }
+}
+
+/// The text of a reply, without LF.
+pub fn reply_text(alloc: Global, reply: &Reply, names: &Names) -> Result<Vec<u8>, AllocError>
+    requires { IsReplyBelow (length names.now) (reply_of reply.now) }
+    ensures { IfOk result (λ text. text.items ≡ reply_text_of (reply_at names.now reply.now)) }
+{
+    let mut out = Vec::new(alloc);
+    match reply {
+        Reply::Okay => out.extend_from_slice(b"ok")?,
+        Reply::Granted(grant) => put_numbered(alloc, &mut out, b"granted", *grant)?,
+        Reply::Busy(grant) => put_numbered(alloc, &mut out, b"busy", *grant)?,
+        Reply::Targets(targets) => {
+            out.extend_from_slice(b"targets")?;
+            put_names(&mut out, names, targets)?;
+        }
+        Reply::Refused(refusal) => {
+            out.extend_from_slice(b"refused")?;
+            put_refusal(&mut out, *refusal)?;
+        }
+    }
+    Ok(out)
+}
