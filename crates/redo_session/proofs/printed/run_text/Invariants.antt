@@ -1,0 +1,7 @@
+use Rattle.std.proofs.Common.{◌≡◌, map}
+use Rattle.redo_command.specs.Meaning.{line_at}
+use Rattle.redo_command.specs.Histories.{run_text_of, sessions_below}
+use Rattle.redo_session.proofs.printed.run_text.Given as goal
+
+abbrev pub invariant-loop-session : goal.invariant-loop-session
+invariant-loop-session l = l.text.items ≡ run_text_of (sessions_below l.session) (map (line_at l.names) l.outcome.history.items)

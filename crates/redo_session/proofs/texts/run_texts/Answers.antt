@@ -1,0 +1,28 @@
+use Rattle.std.proofs.Common.{◌∙◌, map, sym, subst, inl, inr}
+use Rattle.std.proofs.lemmas.Result.{err_from_is_err_and}
+use Rattle.redo_model.specs.Names.{Text}
+use Rattle.redo_command.specs.Watched.{is_faulted, inner_of}
+use Rattle.redo_session.specs.Runs.{IsRunText}
+use Rattle.redo_session.proofs.Devices.{device_read, no_flag}
+use Rattle.redo_session.proofs.texts.run_texts.Goals as goal
+
+pub returns-in_err-text-clause-device : goal.returns-in_err-text-clause-device
+returns-in_err-text-clause-device g c =
+    let p = err_from_is_err_and c.from_residual.result c.from_residual.ensures.1 in
+    rw (p.1, p.2) (device_read (λ file. is_faulted file) (map (λ file. g.R.Read.remaining (inner_of file)) c.args.files.now) c.args.files.now c.text_of_files.new.files (is_faulted c.args.out.now) c.in_err-text.field-0.0
+    c.in_err-text.ensures.cause c.in_err-text.ensures.flags)
+
+pub returns-in-Ok-clause-device : goal.returns-in-Ok-clause-device
+returns-in-Ok-clause-device g c down out_down = (
+  λ no. absurd no,
+  λ up. elim up [
+    | inl any ↦ no_flag (λ file. is_faulted file) c.args.files.now c.text_of_files.new.files down (c.in_ok-text.ensures.flags (λ no. no)) any
+    | inr out_up ↦ absurd (let wrong = (c.in-Ok.ensures.write out_down).1 out_up in cc)
+  ],
+)
+
+pub returns-clause-part_written : goal.returns-clause-part_written
+returns-clause-part_written g c same =
+    let runs = c.in_ok-text.ensures.text in
+    let front = c.in-Err-Write.ensures.front in
+    (runs.0, runs.1, front.0, front.1, runs.2, subst (λ (text : Text). IsRunText runs.0 text) (sym c.deref.ensures.value ∙ front.2) runs.3, front.3)

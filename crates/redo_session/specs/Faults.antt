@@ -1,0 +1,43 @@
+-- Why a run is refused: each fault with its cause.
+use Rattle.std.specs.Prelude.{◌≡◌, ℕ, ◌<◌, ◌≤◌, Bool, false, List, [], length, take, Option, None, IfSome, IsTrue, slice_index_or, ⊤}
+use Rattle.redo_model.specs.Names.{Text}
+use Rattle.redo_model.specs.Command.{Command}
+use Rattle.redo_command.specs.Reading.{IsFirstFault}
+use Rattle.redo_session.specs.Runs.{AreAccepted}
+use Rattle.redo_session.specs.declared.fault.TextFault.{TextFault}
+use Rattle.redo_session.specs.declared.fault.TextFault.TheVariants.{Memory, Read, TooManySessions, NoSession, Write, Device, TooLong}
+
+-- the files before this one are accepted, and leave these names
+abbrev pub FilesBefore : List (Option Text) → ℕ → List Text → Type 0
+FilesBefore files file names = (file < length files) × ((scripts : List (List (Command Text))) × AreAccepted [] (take file files) scripts names)
+
+-- the cause of a fault: `files` are the files' bytes, where they are known, `faulted` says of which files a read
+-- failed, and `out_faulted` whether a write failed
+abbrev pub IsCause : List (Option Text) → List Bool → Bool → TextFault → Type 0
+IsCause files faulted out_faulted Memory = ⊤
+IsCause files faulted out_faulted (Read file line fault) = (names : List Text) × FilesBefore files file names × IfSome (slice_index_or files file None) (λ bytes. (length bytes ≤ 67108864) × IsFirstFault names bytes line fault)
+IsCause files faulted out_faulted TooManySessions = (1 < length files) × ((scripts : List (List (Command Text))) × (names : List Text) × AreAccepted [] files scripts names)
+IsCause files faulted out_faulted NoSession = files ≡ []
+IsCause files faulted out_faulted Write = (length files ≡ 1) × IsTrue out_faulted
+IsCause files faulted out_faulted (Device file) = (names : List Text) × FilesBefore files file names × IsTrue (slice_index_or faulted file false)
+IsCause files faulted out_faulted (TooLong file) = (names : List Text) × FilesBefore files file names × IfSome (slice_index_or files file None) (λ bytes. 67108864 < length bytes)
+
+-- the fault is one of a device: a read or a write failed
+abbrev pub IsDeviceFault : TextFault → Type 0
+IsDeviceFault Memory = ⊥
+IsDeviceFault (Read file line fault) = ⊥
+IsDeviceFault TooManySessions = ⊥
+IsDeviceFault NoSession = ⊥
+IsDeviceFault Write = ⊤
+IsDeviceFault (Device file) = ⊤
+IsDeviceFault (TooLong file) = ⊥
+
+-- the cause of a fault of one file, which has this number, these bytes and this flag, with the names before it
+abbrev pub IsFileCause : List Text → Option Text → Bool → ℕ → TextFault → Type 0
+IsFileCause names known faulted at Memory = ⊤
+IsFileCause names known faulted at (Read file line fault) = (file ≡ at) × IfSome known (λ bytes. (length bytes ≤ 67108864) × IsFirstFault names bytes line fault)
+IsFileCause names known faulted at TooManySessions = ⊥
+IsFileCause names known faulted at NoSession = ⊥
+IsFileCause names known faulted at Write = ⊥
+IsFileCause names known faulted at (Device file) = (file ≡ at) × IsTrue faulted
+IsFileCause names known faulted at (TooLong file) = (file ≡ at) × IfSome known (λ bytes. 67108864 < length bytes)

@@ -1,0 +1,42 @@
+-- What a run of some session files is.
+use Rattle.std.specs.Prelude.{◌≡◌, ℕ, ◌<◌, ◌≤◌, List, [], ◌∷◌, ◌++◌, length, map, Option, IfSome, slice_index_or}
+use Rattle.std.specs.List.{AllByRecursion}
+use Rattle.std.specs.Io.KnownBytes.{Appends}
+use Rattle.redo_model.specs.Names.{Text, texts}
+use Rattle.redo_model.specs.Command.{Command}
+use Rattle.redo_model.specs.History.{Line, part_of, Legal}
+use Rattle.redo_command.specs.Grammar.{IsScript}
+use Rattle.redo_command.specs.Histories.{run_text_of, sessions_below}
+
+-- the file's bytes, where they are known, are a script of these commands, with the names before and after it
+abbrev pub IsAccepted : List Text → Option Text → List (Command Text) → List Text → Type 0
+IsAccepted names file script after = IfSome file (λ bytes. (length bytes ≤ 67108864) × IsScript names bytes script after)
+
+-- the files are accepted one after another, each with the names of those before it
+abbrev pub AreAccepted : List Text → List (Option Text) → List (List (Command Text)) → List Text → Type 0
+AreAccepted names [] [] after = after ≡ names
+AreAccepted names [] (script ∷ scripts) after = ⊥
+AreAccepted names (file ∷ files) [] after = ⊥
+AreAccepted names (file ∷ files) (script ∷ scripts) after = (middle : List Text) × IsAccepted names file script middle × AreAccepted middle files scripts after
+
+-- one history that holds each session's commands once, in that session's order, each reply the database's at its point
+pub record IsRun (scripts : List (List (Command Text))) (lines : List (Line Text)) : Type 0 where
+  pub legal : Legal texts lines
+  pub sessions : AllByRecursion (λ line. line.session < length scripts) lines
+  pub parts : (s : ℕ) → s < length scripts → map (λ line. line.command) (part_of s lines) ≡ slice_index_or scripts s []
+
+-- the text of such a run
+abbrev pub IsRunText : List (List (Command Text)) → Text → Type 0
+IsRunText scripts text = (lines : List (Line Text)) × IsRun scripts lines × (text ≡ run_text_of (sessions_below (length scripts)) lines)
+
+-- the files are accepted, and this is a run text of their commands
+abbrev pub RunsAs : List (Option Text) → Text → Type 0
+RunsAs files text = (scripts : List (List (Command Text))) × (names : List Text) × AreAccepted [] files scripts names × IsRunText scripts text
+
+-- the files are accepted, and the run text of their commands was written
+abbrev pub WritesRun : List (Option Text) → Option Text → Option Text → Type 0
+WritesRun files before after = (scripts : List (List (Command Text))) × (names : List Text) × (text : Text) × AreAccepted [] files scripts names × IsRunText scripts text × Appends before after text
+
+-- the files are accepted, and of the run text of their commands a front was written
+abbrev pub WritesPart : List (Option Text) → Option Text → Option Text → Type 0
+WritesPart files before after = (scripts : List (List (Command Text))) × (names : List Text) × (sent : Text) × (rest : Text) × AreAccepted [] files scripts names × IsRunText scripts (sent ++ rest) × Appends before after sent

@@ -1,0 +1,68 @@
+ghost use Rattle.std.specs.Prelude.{◌≡◌, ◌<◌, false, [], length, map, IfOk, IfErr, IsErrAnd, OnErr};
+ghost use Rattle.std.specs.List.{AllByRecursion};
+ghost use Rattle.redo_names.specs.Names.{Extends};
+ghost use Rattle.redo_model.specs.Renaming.{IsBelow};
+ghost use Rattle.redo_command.specs.Meaning.{command_of, command_at};
+ghost use Rattle.redo_command.specs.Watched.{is_faulted, inner_of};
+ghost use Rattle.redo_session.specs.Runs.{IsAccepted, AreAccepted};
+ghost use Rattle.redo_session.specs.Faults.{IsFileCause, IsCause, IsDeviceFault};
+
+use crate::fault::TextFault;
+use redo_command::{ReadFault, Script, Watched, WholeFault, read_script, read_whole};
+use redo_names::Names;
+use std::alloc::Global;
+use std::io::Read;
+
+/// A file of more bytes is refused.
+pub const FILE_LIMIT: usize = 67_108_864;
+
+/// Reads one file, which is the one of this number.
+fn read_file<R: Read>(
+    alloc: Global,
+    at: usize,
+    file: &mut Watched<R>,
+    names: &mut Names,
+) -> Result<Script, TextFault>
+    ensures accepted { IfOk result (λ script. IsAccepted names.old (R.remaining (inner_of file.old)) (map (command_at names.new) script) names.new) }
+    ensures below { IfOk result (λ script. AllByRecursion (λ command. IsBelow (length names.new) (command_of command)) script) }
+    ensures kept { Extends names.old names.new }
+    ensures cause { IfErr result (IsFileCause names.old (R.remaining (inner_of file.old)) (is_faulted file.new) at) }
+    ensures flag { ¬ (IsErrAnd result IsDeviceFault) → is_faulted file.new ≡ is_faulted file.old }
+{
+    let text = match read_whole(alloc, file, FILE_LIMIT) {
+        Ok(text) => text,
+        Err(WholeFault::Memory) => return Err(TextFault::Memory),
+        Err(WholeFault::Device) => return Err(TextFault::Device { file: at }),
+        Err(WholeFault::TooLong) => return Err(TextFault::TooLong { file: at }),
+    };
+    match read_script(alloc, &text, names) {
+        Ok(script) => Ok(script),
+        Err(ReadFault::Memory) => Err(TextFault::Memory),
+        Err(ReadFault::Line { line, fault }) => Err(TextFault::Read {
+            file: at,
+            line,
+            fault,
+        }),
+    }
+}
+
+/// Reads each file in order, with the names of those before it. The first fault ends it.
+pub(crate) fn read_files<R: Read>(
+    alloc: Global,
+    files: &mut [Watched<R>],
+    names: &mut Names,
+) -> Result<Vec<Script>, TextFault>
+    requires { names.old ≡ [] }
+    ensures accepted { IfOk result (λ scripts. AreAccepted [] (map (λ file. R.remaining (inner_of file)) files.old) (map (λ script. map (command_at names.new) script) scripts.items) names.new) }
+    ensures below { IfOk result (λ scripts. AllByRecursion (λ script. AllByRecursion (λ command. IsBelow (length names.new) (command_of command)) script) scripts.items) }
+    ensures cause { IfErr result (IsCause (map (λ file. R.remaining (inner_of file)) files.old) (map (λ file. is_faulted file) files.new) false) }
+    ensures some { OnErr result (0 < length files.old) }
+    ensures flags { ¬ (IsErrAnd result IsDeviceFault) → map (λ file. is_faulted file) files.new ≡ map (λ file. is_faulted file) files.old }
+{
+    let mut scripts = Vec::new(alloc);
+    for (at, file) in files.iter_mut().enumerate() {
+        let script = read_file(alloc, at, file, names)?;
+        scripts.push(script)?;
+    }
+    Ok(scripts)
+}

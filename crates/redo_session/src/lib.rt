@@ -1,0 +1,15 @@
+//! Runs of session files: from their bytes to the run text.
+#![tactic(auto)]
+
+mod fault;
+mod files;
+mod laws;
+mod printed;
+mod run;
+mod texts;
+
+pub use fault::TextFault;
+pub use laws::one_run;
+pub use printed::run_text;
+pub use run::Outcome;
+pub use texts::run_texts;

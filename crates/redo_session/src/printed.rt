@@ -1,0 +1,131 @@
+ghost use Rattle.std.specs.Prelude.{◌≡◌, ◌+◌, ◌<◌, ◌++◌, length, map, codes, decimal, IfOk, OnOk, [], ◌∷◌, ◌==◌, count_by};
+ghost use Rattle.std.specs.List.{AllByRecursion, flat_map};
+ghost use Rattle.redo_model.specs.History.{part_of};
+ghost use Rattle.redo_model.specs.Renaming.{IsLineBelow};
+ghost use Rattle.redo_command.specs.Meaning.{line_of, line_at};
+ghost use Rattle.redo_command.specs.Histories.{ended, answer_text_of, line_text_of, history_text_of, session_text_of, run_text_of, sessions_below};
+
+use crate::run::Outcome;
+use redo_command::{Line, command_text, reply_text};
+use redo_names::Names;
+use std::alloc::{AllocError, Global};
+
+fn put_number(alloc: Global, text: &mut Vec<u8>, n: usize) -> Result<(), AllocError>
+    ensures { OnOk result (text.new.items ≡ text.old.items ++ decimal n) }
+{
+    text.extend_from_slice(n.to_string(alloc)?.as_bytes())
+}
+
+fn put_answer(
+    alloc: Global,
+    text: &mut Vec<u8>,
+    line: &Line,
+    names: &Names,
+) -> Result<(), AllocError>
+    requires { IsLineBelow (length names.now) (line_of line.now) }
+    ensures { OnOk result (text.new.items ≡ text.old.items ++ ended (answer_text_of (line_at names.now line.now))) }
+{
+    text.extend_from_slice(&command_text(alloc, &line.command, names)?)?;
+    text.extend_from_slice(b" => ")?;
+    text.extend_from_slice(&reply_text(alloc, &line.reply, names)?)?;
+    text.push(b'\n')?;
+    Ok(())
+}
+
+fn put_line(alloc: Global, text: &mut Vec<u8>, line: &Line, names: &Names) -> Result<(), AllocError>
+    requires { IsLineBelow (length names.now) (line_of line.now) }
+    ensures { OnOk result (text.new.items ≡ text.old.items ++ line_text_of (line_at names.now line.now)) }
+{
+    put_number(alloc, text, line.session as usize + 1)?;
+    text.push(b' ')?;
+    put_answer(alloc, text, line, names)
+}
+
+/// The text of a history: how many lines it has, and the lines.
+fn history_text(alloc: Global, lines: &[Line], names: &Names) -> Result<Vec<u8>, AllocError>
+    requires { AllByRecursion (λ line. IsLineBelow (length names.now) (line_of line)) lines.now }
+    ensures { IfOk result (λ text. text.items ≡ history_text_of (map (line_at names.now) lines.now)) }
+{
+    let mut text = Vec::new(alloc);
+    text.extend_from_slice(b"history ")?;
+    put_number(alloc, &mut text, lines.len())?;
+    text.push(b'\n')?;
+    for line in lines {
+        put_line(alloc, &mut text, line, names)?;
+    }
+    Ok(text)
+}
+
+/// How many of the lines are of the session.
+fn count_of_session(session: u8, lines: &[Line]) -> usize
+    ensures { result ≡ count_by (λ line. line.session == session) lines.now }
+{
+    lines.iter().filter(|line| line.session == session).count()
+}
+
+/// Prints the line's command and reply, if the line is the session's.
+fn put_own_answer(
+    alloc: Global,
+    text: &mut Vec<u8>,
+    session: u8,
+    line: &Line,
+    names: &Names,
+) -> Result<(), AllocError>
+    requires { IsLineBelow (length names.now) (line_of line.now) }
+    ensures { OnOk result (text.new.items ≡ text.old.items ++ flat_map (λ line. ended (answer_text_of line)) (part_of session (line_at names.now line.now ∷ []))) }
+{
+    if line.session == session {
+        return put_answer(alloc, text, line, names);
+    }
+    Ok(())
+}
+
+fn put_header(
+    alloc: Global,
+    text: &mut Vec<u8>,
+    session: u8,
+    count: usize,
+) -> Result<(), AllocError>
+    ensures { OnOk result (text.new.items ≡ text.old.items ++ ended (codes "session " ++ decimal (session + 1) ++ codes " " ++ decimal count)) }
+{
+    text.extend_from_slice(b"session ")?;
+    put_number(alloc, text, session as usize + 1)?;
+    text.push(b' ')?;
+    put_number(alloc, text, count)?;
+    text.push(b'\n')?;
+    Ok(())
+}
+
+fn put_session(
+    alloc: Global,
+    text: &mut Vec<u8>,
+    session: u8,
+    lines: &[Line],
+    names: &Names,
+) -> Result<(), AllocError>
+    requires { AllByRecursion (λ line. IsLineBelow (length names.now) (line_of line)) lines.now }
+    ensures { OnOk result (text.new.items ≡ text.old.items ++ session_text_of session (part_of session (map (line_at names.now) lines.now))) }
+{
+    put_header(alloc, text, session, count_of_session(session, lines))?;
+    for line in lines {
+        put_own_answer(alloc, text, session, line, names)?;
+    }
+    Ok(())
+}
+
+/// The run text: the history, and then each session's own lines.
+pub fn run_text(
+    alloc: Global,
+    sessions: u8,
+    outcome: &Outcome,
+    names: &Names,
+) -> Result<Vec<u8>, AllocError>
+    requires { AllByRecursion (λ line. IsLineBelow (length names.now) (line_of line)) outcome.now.history.items }
+    ensures { IfOk result (λ text. text.items ≡ run_text_of (sessions_below sessions) (map (line_at names.now) outcome.now.history.items)) }
+{
+    let mut text = history_text(alloc, &outcome.history, names)?;
+    for session in 0..sessions {
+        put_session(alloc, &mut text, session, &outcome.history, names)?;
+    }
+    Ok(text)
+}

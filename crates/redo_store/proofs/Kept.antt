@@ -1,0 +1,83 @@
+-- Writes that keep the tables.
+use Rattle.std.proofs.Common.{◌≡◌, ℕ, zero, suc, ◌<◌, ◌≤◌, ◌+◌, ◌==◌, Bool, cond, List, [], ◌∷◌, Option, Some, None, length, get_or, sym, ap, ◌∙◌, subst, arith, inl, inr}
+use Rattle.std.proofs.Math.ListN.{set, length-set, replicate, length-replicate}
+use Rattle.std.proofs.Math.Path.{fun_ext}
+use Rattle.std.proofs.lemmas.Bool.{cases_eq, cases_lt, eq-eqb, ne_eqb}
+use Rattle.std.proofs.lemmas.Grind.{get_or-set_at}
+use Rattle.std.proofs.lemmas.List.{get_or_default, get_or_past, get_or-replicate, get_or-set_other}
+use Rattle.redo_model.specs.Names.{put, IsListed}
+use Rattle.redo_model.specs.Step.{after, locks_granted}
+use Rattle.redo_model.specs.Command as commands
+use Rattle.redo_store.specs.declared.cell.Cell.{Cell}
+use Rattle.redo_store.specs.Tables.{Tables, AreTables, AreSorted, HasRoom, blank, records_of, locks_of, state_of, naming_of}
+use Rattle.redo_store.proofs.Places.{listed_by_place}
+
+-- what holds at every place still does after a write that keeps it
+each_set : {X : Type 0} (P : X → Type 0) (xs : List X) (i : ℕ) (x d : X) → ((k : ℕ) → P (get_or xs k d)) → P x → (k : ℕ) → P (get_or (set xs i x) k d)
+each_set P [] i x d all here k = all k
+each_set P (y ∷ ys) zero x d all here zero = here
+each_set P (y ∷ ys) zero x d all here (suc k) = all (suc k)
+each_set P (y ∷ ys) (suc i) x d all here zero = all zero
+each_set P (y ∷ ys) (suc i) x d all here (suc k) = each_set P ys i x d (λ j. all (suc j)) here k
+
+-- a cell with no more builds than calls may be written
+pub AreTables-set_cell : (t : Tables) (n : ℕ) (c : Cell) → AreTables t → c.builds ≤ t.calls → AreTables (record t { cells = set t.cells n c })
+AreTables-set_cell t n c h few = record {
+  holder_for_each = h.holder_for_each ∙ sym (length-set t.cells n c);
+  grants_for_each = h.grants_for_each ∙ sym (length-set t.cells n c);
+  all_in_order = simp length-set h.all_in_order;
+  few_grants = h.few_grants;
+  few_builds = each_set (λ (y : Cell). y.builds ≤ t.calls) t.cells n c blank h.few_builds few;
+}
+
+-- what was read at a number's place is its cell
+read_cell : (t : Tables) (n : ℕ) (x : Cell) → n < length t.cells → x ≡ get_or t.cells n x → x ≡ get_or t.cells n blank
+read_cell t n x below read = read ∙ get_or_default t.cells n x blank below
+
+-- the cell that was read has no more builds than calls
+pub few_at : (t : Tables) (n : ℕ) (x : Cell) → AreTables t → n < length t.cells → x ≡ get_or t.cells n x → x.builds ≤ t.calls
+few_at t n x h below read = subst (λ (y : Cell). y.builds ≤ t.calls) (sym (read_cell t n x below read)) (h.few_builds n)
+
+-- the cell that was read has fewer where there is room
+pub fewer_at : (t : Tables) (n : ℕ) (x : Cell) → HasRoom t → n < length t.cells → x ≡ get_or t.cells n x → x.builds < t.calls
+fewer_at t n x room below read = subst (λ (y : Cell). y.builds < t.calls) (sym (read_cell t n x below read)) (room.builds n)
+
+same_everywhere : {X : Type 0} (n k : ℕ) (x : X) → get_or (replicate n x) k x ≡ x
+same_everywhere n k x = elim (cases_lt k n) [
+  | inl h ↦ get_or-replicate n k x x h
+  | inr h ↦ get_or_past (replicate n x) k x (omega (arith, length-replicate n x))
+]
+
+-- tables with nothing in them
+pub AreTables-new : (names : List (List ℕ)) (t : Tables) → AreSorted names t.sorted → t.cells ≡ replicate (length names) blank → length t.holders ≡ length names → t.grants ≡ replicate (length names) 0 → AreTables t
+AreTables-new names t sorted cells holders grants =
+    let count : length t.cells ≡ length names = ap length cells ∙ length-replicate (length names) blank in
+    record {
+      holder_for_each = holders ∙ sym count;
+      grants_for_each = ap length grants ∙ length-replicate (length names) 0 ∙ sym count;
+      all_in_order = subst (λ (m : ℕ). IsListed (naming_of t) (λ n. n < m) t.sorted) (sym count) (listed_by_place sorted);
+      few_grants = λ n. let none : get_or t.grants n 0 ≡ 0 = ap (λ (xs : List ℕ). get_or xs n 0) grants ∙ same_everywhere (length names) n 0 in omega arith;
+      few_builds = λ n.
+          let none : (get_or t.cells n blank).builds ≡ 0 = ap (λ (xs : List Cell). (get_or xs n blank).builds) cells ∙ ap (λ (x : Cell). x.builds) (same_everywhere (length names) n blank) in
+          omega arith;
+    }
+
+-- a write to a list is one to the function of its places
+set_is_put : {X : Type 0} (xs : List X) (i : ℕ) (x d : X) → i < length xs → (k : ℕ) → get_or (set xs i x) k d ≡ cond (i == k) x (get_or xs k d)
+set_is_put xs i x d below k = elim (cases_eq i k) [
+  | inl e ↦ get_or-set_at xs i k x d (sym e) below ∙ ap (λ (b : Bool). cond b x (get_or xs k d)) (sym (eq-eqb i k e))
+  | inr ne ↦ get_or-set_other xs i k x d (λ e. ne (sym e)) ∙ ap (λ (b : Bool). cond b x (get_or xs k d)) (sym (ne_eqb i k ne))
+]
+
+-- a free lock is granted: o is the holder that was read, and g the grants
+pub granted : (t : Tables) (s n g : ℕ) (o : Option ℕ) → n < length t.holders → n < length t.grants → o ≡ get_or t.holders n o → o ≡ None → g ≡ get_or t.grants n g
+    → state_of (record t { holders = set t.holders n (Some s); grants = set t.grants n (g + 1) }) ≡ after (naming_of t) (state_of t) s (commands.Lock n)
+granted t s n g o has_holder has_grants read free count =
+    let none : get_or t.holders n None ≡ None = get_or_default t.holders n None o has_holder ∙ sym read ∙ free in
+    let so_far : g ≡ get_or t.grants n 0 = count ∙ get_or_default t.grants n g 0 has_grants in
+    let holders : (λ (k : ℕ). get_or (set t.holders n (Some s)) k None) ≡ put (naming_of t) n (Some s) (λ k. get_or t.holders k None) = fun_ext (set_is_put t.holders n (Some s) None has_holder) in
+    let grants : (λ (k : ℕ). get_or (set t.grants n (g + 1)) k 0) ≡ put (naming_of t) n (get_or t.grants n 0 + 1) (λ k. get_or t.grants k 0) =
+        fun_ext (set_is_put t.grants n (g + 1) 0 has_grants) ∙ ap (λ (m : ℕ). put (naming_of t) n (m + 1) (λ k. get_or t.grants k 0)) so_far
+    in
+    subst (λ (h : Option ℕ). state_of (record t { holders = set t.holders n (Some s); grants = set t.grants n (g + 1) }) ≡ record { records = records_of t; locks = locks_granted (naming_of t) h (locks_of t) s n }) (sym none)
+      (λ i. record { records = records_of t; locks = record { holder = holders i; grants = grants i } })

@@ -1,0 +1,4 @@
+pub mod Listed
+pub mod Sorting
+pub mod Places
+pub mod Kept

@@ -1,0 +1,15 @@
+-- What the fields of the database show, and what they keep.
+use Rattle.redo_store.specs.Tables.{Tables, AreTables}
+use Rattle.redo_store.specs.declared.redo.Redo.TheInside.{Inside}
+
+abbrev pub tables_of : Inside → Tables
+tables_of inside = record {
+  cells = inside.cells.items;
+  holders = inside.holders.items;
+  grants = inside.grants.items;
+  sorted = inside.sorted.items;
+  calls = inside.calls;
+}
+
+abbrev pub KeepsTables : Inside → Type 0
+KeepsTables inside = AreTables (tables_of inside)

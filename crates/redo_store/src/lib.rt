@@ -1,0 +1,8 @@
+//! The redo database for one thread.
+#![tactic(auto)]
+
+mod cell;
+mod redo;
+mod sorted;
+
+pub use redo::Redo;

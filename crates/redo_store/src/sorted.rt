@@ -1,0 +1,34 @@
+ghost use Rattle.std.specs.Prelude.{◌≡◌, length, map, IfOk};
+ghost use Rattle.redo_store.specs.Tables.{AreSorted};
+ghost use Rattle.redo_names.specs.Names.{AreNames};
+ghost use Rattle.redo_store.specs.Numbered.{AreNumbered};
+
+use redo_names::Names;
+use std::alloc::{AllocError, Global};
+
+/// Each number with its name.
+fn numbered(alloc: Global, names: &Names) -> Result<Vec<(&[u8], u32)>, AllocError>
+    ensures names { AreNames names.now }
+    ensures pairs { IfOk result (λ pairs. AreNumbered names.now (length names.now) pairs.items) }
+{
+    let mut pairs = Vec::new(alloc);
+    for n in 0..names.len() {
+        pairs.push((names.text(n), n))?;
+    }
+    Ok(pairs)
+}
+
+fn numbers_of(alloc: Global, pairs: &[(&[u8], u32)]) -> Result<Vec<u32>, AllocError>
+    ensures { IfOk result (λ numbers. numbers.items ≡ map (λ pair. pair.1) pairs.now) }
+{
+    pairs.iter().map(|pair| pair.1).collect(alloc)
+}
+
+/// The numbers of all names, in the order of the bytes of their names.
+pub fn sorted_numbers(alloc: Global, names: &Names) -> Result<Vec<u32>, AllocError>
+    ensures { IfOk result (λ sorted. AreSorted names.now sorted.items) }
+{
+    let mut pairs = numbered(alloc, names)?;
+    pairs.sort()?;
+    numbers_of(alloc, &pairs)
+}
