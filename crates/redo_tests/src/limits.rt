@@ -1,0 +1,88 @@
+//! The greatest sizes that are accepted, and the next.
+use crate::faults::{fault_after_targets, fault_of};
+use redo_command::{LineFault, Watched, read_script};
+use redo_names::Names;
+use redo_session::{TextFault, run_texts};
+use std::alloc::{AllocError, Global};
+use std::process::Abort;
+use std::test::Fail;
+
+/// The words, and after them a word of as many letters `a`.
+fn line_of(alloc: Global, words: &str, letters: usize) -> Result<Vec<u8>, AllocError> {
+    let mut line = Vec::from_slice(alloc, words.as_bytes())?;
+    line.extend_from_slice(Vec::from_elem(alloc, b'a', letters)?.as_slice())?;
+    Ok(line)
+}
+
+/// Names have up to 255 bytes, and file stamps up to 64.
+fn words<R: Abort + AllocGlobal>(rt: &R) -> Result<(), Fail> {
+    let alloc = rt.alloc();
+    for (words, letters, want) in [
+        ("lock ", 255, None),
+        ("lock ", 256, Some((2, LineFault::BadName))),
+        ("file a ", 64, None),
+        ("file a ", 65, Some((2, LineFault::BadStamp))),
+    ] {
+        let line = line_of(alloc, words, letters)?;
+        let fault = fault_after_targets(alloc, line.as_slice())?;
+        assert_eq!(rt; fault, want, "{words:?} {letters}");
+    }
+    Ok(())
+}
+
+/// A session file has up to 4,096 commands.
+fn commands<R: Abort + AllocGlobal>(rt: &R) -> Result<(), Fail> {
+    let alloc = rt.alloc();
+    let mut names = Names::new(alloc);
+    let mut text = b"targets\n".repeat(alloc, 4096)?;
+    let script = read_script(alloc, text.as_slice(), &mut names)?;
+    assert_eq!(rt; script.commands().len(), 4096);
+    text.extend_from_slice(b"# no command\n\n")?;
+    let script = read_script(alloc, text.as_slice(), &mut names)?;
+    assert_eq!(rt; script.commands().len(), 4096);
+    let text = b"targets\n".repeat(alloc, 4097)?;
+    let fault = fault_of(read_script(alloc, text.as_slice(), &mut names))?;
+    assert_eq!(rt; fault, Some((4097, LineFault::TooManyLines)));
+    Ok(())
+}
+
+/// A run has one session, and a second one is refused after all files were read.
+fn sessions<R: Abort + AllocGlobal>(rt: &R) -> Result<(), Fail> {
+    let alloc = rt.alloc();
+    let mut out = Vec::new(alloc);
+    let (mut first, mut second) = (b"targets\n".as_slice(), b"targets\n".as_slice());
+    let mut files = [Watched::new(&mut first), Watched::new(&mut second)];
+    let run = run_texts(alloc, &mut files, &mut Watched::new(&mut out));
+    assert!(rt; matches!(run, Err(TextFault::TooManySessions)), "{run:?}");
+    assert!(rt; first.is_empty() && second.is_empty());
+
+    let mut files = [
+        Watched::new(b"targets\n".as_slice()),
+        Watched::new(b"targets\nbuild T\n".as_slice()),
+    ];
+    let run = run_texts(alloc, &mut files, &mut Watched::new(&mut out));
+    assert!(rt;
+        matches!(
+            run,
+            Err(TextFault::Read {
+                file: 1,
+                line: 2,
+                fault: LineFault::UnknownCommand
+            })
+        ),
+        "{run:?}"
+    );
+
+    let mut files: [Watched<&[u8]>; 0] = [];
+    let run = run_texts(alloc, &mut files, &mut Watched::new(&mut out));
+    assert!(rt; matches!(run, Err(TextFault::NoSession)), "{run:?}");
+    assert!(rt; out.is_empty());
+    Ok(())
+}
+
+#[test]
+fn limits(rt: HostRuntime) -> Result<(), Fail> {
+    words(&rt)?;
+    commands(&rt)?;
+    sessions(&rt)
+}

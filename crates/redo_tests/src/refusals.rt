@@ -1,0 +1,87 @@
+//! Refusals of the database, in their order.
+ghost use Rattle.std.specs.Prelude.{◌≡◌};
+ghost use Rattle.redo_store.specs.Tables.{count_of};
+
+use crate::names::added;
+use redo_command::{Refusal, Reply, read_command};
+use redo_names::Names;
+use redo_store::Redo;
+use std::alloc::Global;
+use std::process::Abort;
+use std::test::Fail;
+
+/// The replies that have no list.
+#[derive(Clone, Copy, Debug, PartialEq, Eq)]
+enum Answer {
+    Okay,
+    Granted(u32),
+    Busy(u32),
+    Refused(Refusal),
+}
+
+fn answer_of(reply: &Reply) -> Option<Answer> {
+    match reply {
+        Reply::Okay => Some(Answer::Okay),
+        Reply::Granted(grant) => Some(Answer::Granted(*grant)),
+        Reply::Busy(grant) => Some(Answer::Busy(*grant)),
+        Reply::Refused(refusal) => Some(Answer::Refused(*refusal)),
+        _ => None,
+    }
+}
+
+/// The answer to a command over the two names.
+fn called(
+    rt: &impl Abort,
+    alloc: Global,
+    redo: &mut Redo,
+    names: &mut Names,
+    session: u8,
+    line: &str,
+) -> Result<Option<Answer>, Fail>
+    requires { count_of redo.old ≡ 2 }
+    ensures { count_of redo.new ≡ 2 }
+{
+    let command = read_command(alloc, line.as_bytes(), names)?;
+    assert_eq!(rt; names.len(), 2);
+    assert!(rt; redo.calls() < 100);
+    Ok(answer_of(&redo.call(alloc, session, &command)?))
+}
+
+/// Each command has its answer.
+fn answers(rt: &impl Abort, alloc: Global, redo: &mut Redo, names: &mut Names) -> Result<(), Fail>
+    requires { count_of redo.old ≡ 2 }
+{
+    for (session, line, want) in [
+        (0, "start T", Answer::Refused(Refusal::NotLocked)),
+        (0, "lock T", Answer::Granted(1)),
+        (1, "start T", Answer::Refused(Refusal::NotLocked)),
+        (0, "start T", Answer::Okay),
+        (0, "start T", Answer::Refused(Refusal::Building)),
+        (0, "unlock T", Answer::Refused(Refusal::Building)),
+        (1, "unlock T", Answer::Refused(Refusal::NotLocked)),
+        (0, "file x 1", Answer::Okay),
+        (1, "done T 5", Answer::Refused(Refusal::NotBuilding)),
+        (1, "lock T", Answer::Busy(1)),
+        (0, "done T 5", Answer::Okay),
+        (0, "unlock T", Answer::Okay),
+        (0, "unlock T", Answer::Refused(Refusal::NotLocked)),
+        (1, "lock T", Answer::Granted(2)),
+    ] {
+        let answer = called(rt, alloc, redo, names, session, line)?;
+        assert_eq!(rt; answer, Some(want), "{session} {line:?}");
+    }
+    Ok(())
+}
+
+#[test]
+fn order_of_refusals(rt: HostRuntime) -> Result<(), Fail> {
+    let alloc = rt.alloc();
+    let mut names = Names::new(alloc);
+    added(&rt, &mut names, "T")?;
+    added(&rt, &mut names, "x")?;
+    assert_eq!(rt; names.len(), 2);
+    let mut redo = Redo::new(alloc, &names)?;
+    answers(&rt, alloc, &mut redo, &mut names)?;
+    assert_eq!(rt; redo.calls(), 14);
+    Ok(())
+}
