@@ -77,7 +77,7 @@ granted t s n g o has_holder has_grants read free count =
     let so_far : g ≡ get_or t.grants n 0 = count ∙ get_or_default t.grants n g 0 has_grants in
     let holders : (λ (k : ℕ). get_or (set t.holders n (Some s)) k None) ≡ put (naming_of t) n (Some s) (λ k. get_or t.holders k None) = fun_ext (set_is_put t.holders n (Some s) None has_holder) in
     let grants : (λ (k : ℕ). get_or (set t.grants n (g + 1)) k 0) ≡ put (naming_of t) n (get_or t.grants n 0 + 1) (λ k. get_or t.grants k 0) =
-        fun_ext (set_is_put t.grants n (g + 1) 0 has_grants) ∙ ap (λ (m : ℕ). put (naming_of t) n (m + 1) (λ k. get_or t.grants k 0)) so_far
+    fun_ext (set_is_put t.grants n (g + 1) 0 has_grants) ∙ ap (λ (m : ℕ). put (naming_of t) n (m + 1) (λ k. get_or t.grants k 0)) so_far
     in
     subst (λ (h : Option ℕ). state_of (record t { holders = set t.holders n (Some s); grants = set t.grants n (g + 1) }) ≡ record { records = records_of t; locks = locks_granted (naming_of t) h (locks_of t) s n }) (sym none)
-      (λ i. record { records = records_of t; locks = record { holder = holders i; grants = grants i } })
+    (λ i. record { records = records_of t; locks = record { holder = holders i; grants = grants i } })

@@ -112,15 +112,15 @@ AreSorted-from_pairs names from to are h moved sorted =
     let texts : All (λ (p : Pair). p.0.now ≡ text_at names p.1) to = All-permutation (λ (p : Pair). p.0.now ≡ text_at names p.1) from to moved (each_text are h) in
     let renumbered : IsPermutation (numbers_in from) (numbers_in to) = IsPermutation-map (λ (p : Pair). p.1) from to moved in
     let ascending : AllPairs (λ (p q : Pair). slice_cmp nat_cmp (text_at names p.1) (text_at names q.1) ≡ Less) to = λ i j d before below.
-        let p : Pair = get_or to i d in
-        let q : Pair = get_or to j d in
-        ap (λ (t : List ℕ). slice_cmp nat_cmp t (text_at names q.1)) (sym (texts i d (omega arith))) ∙ ap (slice_cmp nat_cmp p.0.now) (sym (texts j d below)) ∙ rise to sorted differ i j d before below
+    let p : Pair = get_or to i d in
+    let q : Pair = get_or to j d in
+    ap (λ (t : List ℕ). slice_cmp nat_cmp t (text_at names q.1)) (sym (texts i d (omega arith))) ∙ ap (slice_cmp nat_cmp p.0.now) (sym (texts j d below)) ∙ rise to sorted differ i j d before below
     in
     let all_below : (n : ℕ) → Contains (numbers_in to) n → n < length names = λ n there.
-        All-contains (λ (m : ℕ). m < length names) (numbers_in from) n (each_below are h) (Contains-permutation (numbers_in to) (numbers_in from) n (IsPermutation-sym (numbers_in from) (numbers_in to) renumbered) there)
+    All-contains (λ (m : ℕ). m < length names) (numbers_in from) n (each_below are h) (Contains-permutation (numbers_in to) (numbers_in from) n (IsPermutation-sym (numbers_in from) (numbers_in to) renumbered) there)
     in
     let all_there : (n : ℕ) → n < length names → Contains (numbers_in to) n = λ n below.
-        Contains-permutation (numbers_in from) (numbers_in to) n renumbered (number_there from n (omega (arith, h.whole)) (λ d. h.number n d below))
+    Contains-permutation (numbers_in from) (numbers_in to) n renumbered (number_there from n (omega (arith, h.whole)) (λ d. h.number n d below))
     in
     record {
       listed = (AllPairs-map (λ (p : Pair). p.1) (λ m n. slice_cmp nat_cmp (text_at names m) (text_at names n) ≡ Less) to ascending, λ n. (all_below n, all_there n));
