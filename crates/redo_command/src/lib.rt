@@ -4,6 +4,7 @@
 mod command;
 mod fault;
 mod forms;
+mod kind;
 mod laws;
 mod read;
 mod reply;
@@ -16,6 +17,7 @@ mod words;
 
 pub use command::Command;
 pub use fault::{LineFault, ReadFault};
+pub use kind::Kind;
 pub use laws::{command_reads_back, one_command_a_line};
 pub use read::read_command;
 pub use reply::{Line, Refusal, Reply};

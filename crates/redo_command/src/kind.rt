@@ -1,0 +1,13 @@
+/// The case of a command alone.
+#[derive(Clone, Copy, Debug, PartialEq, Eq)]
+pub enum Kind {
+    File,
+    Gone,
+    Lock,
+    Unlock,
+    Start,
+    Stamp,
+    Done,
+    Failed,
+    Targets,
+}

@@ -1,0 +1,4 @@
+pub mod Meaning
+pub mod Cell
+pub mod Cells
+pub mod Verdict

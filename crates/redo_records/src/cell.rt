@@ -1,0 +1,185 @@
+ghost use Rattle.std.specs.Prelude.{◌≡◌, ◌+◌, ◌<◌, ◌^◌, ◌↔◌, IsTrue, option_map};
+ghost use Rattle.redo_model.specs.State as states;
+ghost use Rattle.redo_model.specs.State.{idle, mark_in};
+ghost use Rattle.redo_model.specs.Step.{is_built_by};
+ghost use Rattle.redo_command.specs.Meaning.{refusal_of};
+ghost use Rattle.redo_records.specs.Meaning.{mark_meaning, state_meaning};
+ghost use Rattle.redo_records.specs.Cells.{IsChanged};
+ghost use Rattle.redo_records.specs.Verdict.{verdict_at, refusal_by_lock, refusal_by_build};
+
+use crate::mark::Mark;
+use crate::state::State;
+use redo_command::{FileStamp, Kind, Refusal};
+use std::marker::Model;
+
+/// What is known of one name.
+#[derive(Clone, Copy, Debug)]
+pub struct Cell {
+    file: Option<FileStamp>,
+    state: State,
+    builds: u32,
+    done: Option<FileStamp>,
+    digest: Option<[u8; 20]>,
+}
+
+impl Model for Cell {
+    ghost use Rattle.redo_model.specs.State as states;
+
+    ghost Value = { states.Cell };
+
+    ghost use Rattle.redo_records.specs.Cell.{cell_meaning, fields_of, fields_of-cell_meaning};
+
+    ghost view = { cell_meaning };
+
+    ghost inverse = { fields_of };
+
+    ghost inverse_ok = { λ cell i. fields_of-cell_meaning cell };
+}
+
+fn is_same_stamp(one: Option<FileStamp>, other: Option<FileStamp>) -> bool
+    ensures { IsTrue result ↔ (one ≡ other) }
+{
+    match (one, other) {
+        (Some(one), Some(other)) => one.bytes() == other.bytes(),
+        (None, None) => true,
+        _ => false,
+    }
+}
+
+impl Cell {
+    /// A name of which nothing was said.
+    pub fn idle() -> Cell
+        ensures { result ≡ idle }
+    {
+        Cell {
+            file: None,
+            state: State::Idle,
+            builds: 0,
+            done: None,
+            digest: None,
+        }
+    }
+
+    pub fn file(&self) -> Option<FileStamp>
+        ensures { result ≡ self.now.file }
+    {
+        self.file
+    }
+
+    pub fn state(&self) -> State
+        ensures { state_meaning result ≡ self.now.state }
+    {
+        self.state
+    }
+
+    pub fn builds(&self) -> u32
+        ensures { result ≡ self.now.builds }
+    {
+        self.builds
+    }
+
+    /// The mark that a change row on the name gets now.
+    pub fn mark(&self) -> Mark
+        ensures { mark_meaning result ≡ mark_in self.now.state self.now }
+    {
+        match self.state {
+            State::Idle => Mark::of_file(self.file),
+            State::Building(_) => Mark::Pending,
+            State::Built => Mark::of_build(self.digest, self.builds),
+            State::Failed => Mark::Pending,
+        }
+    }
+
+    /// Whether the name is built, and its file is another than its last done gave.
+    pub fn is_changed(&self) -> bool
+        ensures { IsTrue result ↔ IsChanged self.now }
+    {
+        match self.state {
+            State::Built => !is_same_stamp(self.file, self.done),
+            _ => false,
+        }
+    }
+
+    /// The first refusal that applies, by the target's state and by whether the session holds its lock.
+    pub fn verdict(&self, s: u8, kind: Kind, holds: bool) -> Option<Refusal>
+        ensures { option_map refusal_of result ≡ verdict_at self.now.state s holds kind }
+    {
+        match kind {
+            Kind::Unlock | Kind::Start => self.refusal_by_lock(holds),
+            Kind::Stamp | Kind::Done | Kind::Failed => self.refusal_by_build(s),
+            Kind::File | Kind::Gone | Kind::Lock | Kind::Targets => None,
+        }
+    }
+
+    fn refusal_by_lock(&self, holds: bool) -> Option<Refusal>
+        ensures { option_map refusal_of result ≡ refusal_by_lock holds self.now.state }
+    {
+        if !holds {
+            return Some(Refusal::NotLocked);
+        }
+        match self.state {
+            State::Building(_) => Some(Refusal::Building),
+            _ => None,
+        }
+    }
+
+    fn is_built_by(&self, s: u8) -> bool
+        ensures { result ≡ is_built_by s self.now.state }
+    {
+        match self.state {
+            State::Building(builder) => builder == s,
+            _ => false,
+        }
+    }
+
+    fn refusal_by_build(&self, s: u8) -> Option<Refusal>
+        ensures { option_map refusal_of result ≡ refusal_by_build s self.now.state }
+    {
+        if self.is_built_by(s) {
+            None
+        } else {
+            Some(Refusal::NotBuilding)
+        }
+    }
+
+    pub fn set_file(&mut self, file: Option<FileStamp>)
+        ensures { self.new ≡ record self.old { file = file } }
+    {
+        self.file = file;
+    }
+
+    /// The session starts a build, of which no digest is told so far.
+    pub fn start(&mut self, s: u8)
+        ensures { self.new ≡ record self.old { state = states.Building s; digest = None } }
+    {
+        self.state = State::Building(s);
+        self.digest = None;
+    }
+
+    pub fn stamp(&mut self, digest: [u8; 20])
+        ensures { self.new ≡ record self.old { digest = Some digest } }
+    {
+        self.digest = Some(digest);
+    }
+
+    /// The build ends with this file, or with none.
+    pub fn done(&mut self, stamp: Option<FileStamp>)
+        requires { self.old.builds + 1 < 2 ^ 32 }
+        ensures { self.new ≡ record self.old { file = stamp; state = states.Built; builds = self.old.builds + 1; done = stamp } }
+    {
+        let file = stamp;
+        *self = Cell {
+            file,
+            state: State::Built,
+            builds: self.builds + 1,
+            done: stamp,
+            digest: self.digest,
+        };
+    }
+
+    pub fn fail(&mut self)
+        ensures { self.new ≡ record self.old { state = states.Failed } }
+    {
+        self.state = State::Failed;
+    }
+}

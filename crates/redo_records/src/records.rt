@@ -1,0 +1,139 @@
+ghost use Rattle.std.specs.Prelude.{◌≡◌, ℕ, ◌+◌, ◌^◌, ◌<◌, ◌↔◌, IsTrue, IsFalse, List, length, replicate, option_map, IfOk};
+ghost use Rattle.redo_model.specs.State as states;
+ghost use Rattle.redo_model.specs.State.{idle, mark_in, is_building};
+ghost use Rattle.redo_command.specs.Meaning.{refusal_of};
+ghost use Rattle.redo_records.specs.Meaning.{mark_meaning, state_meaning};
+ghost use Rattle.redo_records.specs.Cells.{cell_at, with_cell_at, IsChanged};
+ghost use Rattle.redo_records.specs.Verdict.{verdict_at};
+
+use crate::cell::Cell;
+use crate::mark::Mark;
+use crate::state::State;
+use redo_command::{FileStamp, Kind, Refusal};
+use std::alloc::{AllocError, Global};
+use std::marker::Model;
+
+/// What is known of each name. Names are numbers below the number of names it was made for.
+#[derive(Drop)]
+pub struct Records {
+    cells: Vec<Cell>,
+}
+
+impl Model for Records {
+    ghost use Rattle.std.specs.Prelude.{List};
+    ghost use Rattle.redo_model.specs.State as states;
+
+    ghost Value = { List states.Cell };
+
+    ghost view = { λ records. records.cells.items };
+}
+
+impl Records {
+    /// The records of which nothing was said. No other call takes memory.
+    pub fn new(alloc: Global, names: u32) -> Result<Records, AllocError>
+        ensures { IfOk result (λ records. records ≡ replicate names idle) }
+    {
+        let cells = vec![in alloc; Cell::idle(); names as usize]?;
+        Ok(Records { cells })
+    }
+
+    /// How many names there are.
+    pub fn count(&self) -> usize
+        ensures { result ≡ length self.now }
+    {
+        self.cells.len()
+    }
+
+    /// The stamp of its file.
+    pub fn file(&self, n: u32) -> Option<FileStamp>
+        requires { n < length self.now }
+        ensures { result ≡ (cell_at self.now n).file }
+    {
+        self.cells[n as usize].file()
+    }
+
+    /// How far it has come.
+    pub fn state(&self, n: u32) -> State
+        requires { n < length self.now }
+        ensures { state_meaning result ≡ (cell_at self.now n).state }
+    {
+        self.cells[n as usize].state()
+    }
+
+    /// How often it was built.
+    pub fn builds(&self, n: u32) -> u32
+        requires { n < length self.now }
+        ensures { result ≡ (cell_at self.now n).builds }
+    {
+        self.cells[n as usize].builds()
+    }
+
+    /// The mark that a change row on it records now.
+    pub fn mark(&self, n: u32) -> Mark
+        requires { n < length self.now }
+        ensures { mark_meaning result ≡ mark_in (cell_at self.now n).state (cell_at self.now n) }
+    {
+        self.cells[n as usize].mark()
+    }
+
+    /// Whether it is built, and its file is another than its last done gave.
+    pub fn changed(&self, n: u32) -> bool
+        requires { n < length self.now }
+        ensures { IsTrue result ↔ IsChanged (cell_at self.now n) }
+    {
+        self.cells[n as usize].is_changed()
+    }
+
+    /// The first refusal that applies to a session's command on `t`, where `holds` says whether it holds its lock.
+    pub fn verdict(&self, s: u8, kind: Kind, t: u32, holds: bool) -> Option<Refusal>
+        requires { t < length self.now }
+        ensures { option_map refusal_of result ≡ verdict_at (cell_at self.now t).state s holds kind }
+    {
+        self.cells[t as usize].verdict(s, kind, holds)
+    }
+
+    /// Its file has this stamp, or there is none.
+    pub fn set_file(&mut self, n: u32, file: Option<FileStamp>)
+        requires { n < length self.old }
+        ensures { self.new ≡ with_cell_at self.old n (record (cell_at self.old n) { file = file }) }
+    {
+        self.cells[n as usize].set_file(file);
+    }
+
+    /// The session builds it from now on.
+    pub fn start(&mut self, s: u8, t: u32)
+        requires number { t < length self.old }
+        requires free { IsFalse (is_building (cell_at self.old t).state) }
+        ensures { self.new ≡ with_cell_at self.old t (record (cell_at self.old t) { state = states.Building s; digest = None }) }
+    {
+        self.cells[t as usize].start(s);
+    }
+
+    /// Its build told this digest.
+    pub fn stamp(&mut self, t: u32, digest: [u8; 20])
+        requires number { t < length self.old }
+        requires building { IsTrue (is_building (cell_at self.old t).state) }
+        ensures { self.new ≡ with_cell_at self.old t (record (cell_at self.old t) { digest = Some digest }) }
+    {
+        self.cells[t as usize].stamp(digest);
+    }
+
+    /// Its build ended. Its file has this stamp, or there is none.
+    pub fn done(&mut self, t: u32, stamp: Option<FileStamp>)
+        requires number { t < length self.old }
+        requires building { IsTrue (is_building (cell_at self.old t).state) }
+        requires builds { (cell_at self.old t).builds + 1 < 2 ^ 32 }
+        ensures { self.new ≡ with_cell_at self.old t (record (cell_at self.old t) { file = stamp; state = states.Built; builds = (cell_at self.old t).builds + 1; done = stamp }) }
+    {
+        self.cells[t as usize].done(stamp);
+    }
+
+    /// Its build failed.
+    pub fn failed(&mut self, t: u32)
+        requires number { t < length self.old }
+        requires building { IsTrue (is_building (cell_at self.old t).state) }
+        ensures { self.new ≡ with_cell_at self.old t (record (cell_at self.old t) { state = states.Failed }) }
+    {
+        self.cells[t as usize].fail();
+    }
+}

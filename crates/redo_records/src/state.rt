@@ -1,0 +1,9 @@
+/// How far a name has come. It is idle until its first start, and a target from then on.
+#[derive(Clone, Copy, Debug, PartialEq, Eq)]
+pub enum State {
+    Idle,
+    /// This session is building it.
+    Building(u8),
+    Built,
+    Failed,
+}
