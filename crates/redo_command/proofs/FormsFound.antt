@@ -1,23 +1,25 @@
 -- What is read as a form is what the form says.
-use Rattle.std.proofs.Common.{◌≡◌, ◌≤◌, Bool, true, false, cond, List, [], ◌∷◌, length, Option, Some, None, Result, Ok, refl, sym, ap, subst, ◌∙◌, inl, inr}
+use Rattle.std.proofs.Common.{◌≡◌, ◌≤◌, Bool, true, false, cond, List, [], ◌∷◌, length, Option, Some, None, Result, Ok, refl, sym, subst, inl, inr}
 use Rattle.std.specs.Prelude.{codes, bytes_eq, IfSome, IsTrue}
 use Rattle.std.proofs.lemmas.Slice.Eq.{bytes_eq-Decides}
+use Rattle.redo_names.specs.declared.names.TheConstants.{MOST_NAMES}
 use Rattle.redo_names.specs.Names.{is_name}
 use Rattle.redo_model.specs.Names.{Text}
-use Rattle.redo_model.specs.Command.{Command, File, Gone, Lock, Unlock, Start, Done, Failed, Targets, names_in}
+use Rattle.redo_model.specs.Command.{Command, File, Gone, Lock, Unlock, Start, Stamp, Done, Failed, Targets, names_in}
 use Rattle.redo_command.specs.declared.fault.LineFault.{LineFault}
 use Rattle.redo_command.specs.declared.fault.LineFault.TheVariants.{BadName, BadStamp}
 use Rattle.redo_command.specs.Stamp.{is_stamp}
-use Rattle.redo_command.specs.Texts.{spaced, stamp_word, command_text_of}
-use Rattle.redo_command.specs.Grammar.{HasForm, AddsNames}
-use Rattle.redo_command.specs.Reading.{◌>>=◌, name_in, stamp_in, stamp_or_none_in, added, one_name_in, file_in, done_in, no_words_in, words_in, Reading}
+use Rattle.redo_command.specs.Texts.{spaced, stamp_word}
+use Rattle.redo_command.specs.Grammar.{HasForm, IsSpelled, AddsNames}
+use Rattle.redo_command.specs.Reading.{◌>>=◌, name_in, file_stamp_in, file_stamp_or_none_in, content_in, added, one_name_in, file_in, stamp_in, done_in, no_words_in, words_in, Reading}
 use Rattle.redo_command.proofs.Steps.{bind_ok, guard_ok, by_word, read, same_read}
 use Rattle.redo_command.proofs.Added.{one_added}
+use Rattle.redo_command.proofs.Contents.{content_says}
 
 -- the words say the command, and its names are added
 pub record SaysCommand (names : List Text) (word : Text) (args : List Text) (command : Command Text) (after : List Text) : Type 0 where
   pub form : HasForm command
-  pub text : spaced word args ≡ command_text_of command
+  pub spelled : IsSpelled (spaced word args) command
   pub adds : AddsNames names (command ∷ []) after
 
 -- the same of a pair
@@ -28,79 +30,96 @@ says_read : (names : List Text) (word : Text) (args : List Text) (x y : Command 
 says_read names word args x y says e = subst (SaysRead names word args) (same_read x y e) says
 
 -- what is read as a form of one name
-one_name_says : (form : Text → Command Text) (word : Text) → ((n : Text) → IsTrue (is_name n) → HasForm (form n)) → ((n : Text) → spaced word (n ∷ []) ≡ command_text_of (form n)) → ((n : Text) → names_in (form n) ≡ n ∷ [])
-    → (names args : List Text) (x : Command Text × List Text) → length names ≤ 65536 → one_name_in form names args ≡ Ok x → SaysRead names word args x
+one_name_says : (form : Text → Command Text) (word : Text) → ((n : Text) → IsTrue (is_name n) → HasForm (form n)) → ((n : Text) → IsSpelled (spaced word (n ∷ [])) (form n)) → ((n : Text) → names_in (form n) ≡ n ∷ [])
+    → (names args : List Text) (x : Command Text × List Text) → length names ≤ MOST_NAMES → one_name_in form names args ≡ Ok x → SaysRead names word args x
 unfolding one_name_in
-one_name_says form word has text own names [] x few e = absurd cc
-one_name_says form word has text own names (n ∷ []) x few e =
+one_name_says form word has spelled own names [] x few e = absurd cc
+one_name_says form word has spelled own names (n ∷ []) x few e =
     let a = bind_ok (name_in n) (λ name. added names name >>= λ after. Ok (form name, after)) x e in
     let b = bind_ok (added names a.0) (λ after. Ok (form a.0, after)) x a.2 in
     let g = guard_ok (is_name n) BadName n a.0 a.1 in
     says_read names word (n ∷ []) (form a.0, b.0) x (record {
       form = has a.0 (subst (λ (t : Text). is_name t ≡ true) g.1 g.0);
-      text = ap (λ (t : Text). spaced word (t ∷ [])) g.1 ∙ text a.0;
+      spelled = subst (λ (t : Text). IsSpelled (spaced word (t ∷ [])) (form a.0)) (sym g.1) (spelled a.0);
       adds = one_added names a.0 (form a.0) b.0 few (own a.0) b.1;
     }) b.2
-one_name_says form word has text own names (n ∷ w ∷ ws) x few e = absurd cc
+one_name_says form word has spelled own names (n ∷ w ∷ ws) x few e = absurd cc
 
-file_says : (names args : List Text) (x : Command Text × List Text) → length names ≤ 65536 → file_in names args ≡ Ok x → SaysRead names (codes "file") args x
+file_says : (names args : List Text) (x : Command Text × List Text) → length names ≤ MOST_NAMES → file_in names args ≡ Ok x → SaysRead names (codes "file") args x
 unfolding file_in
 file_says names [] x few e = absurd cc
 file_says names (n ∷ []) x few e = absurd cc
 file_says names (n ∷ s ∷ []) x few e =
-    let a = bind_ok (name_in n) (λ name. stamp_in s >>= λ stamp. added names name >>= λ after. Ok (File name stamp, after)) x e in
-    let b = bind_ok (stamp_in s) (λ stamp. added names a.0 >>= λ after. Ok (File a.0 stamp, after)) x a.2 in
+    let a = bind_ok (name_in n) (λ name. file_stamp_in s >>= λ stamp. added names name >>= λ after. Ok (File name stamp, after)) x e in
+    let b = bind_ok (file_stamp_in s) (λ stamp. added names a.0 >>= λ after. Ok (File a.0 stamp, after)) x a.2 in
     let d = bind_ok (added names a.0) (λ after. Ok (File a.0 b.0, after)) x b.2 in
     let g = guard_ok (is_name n) BadName n a.0 a.1 in
     let k = guard_ok (is_stamp s) BadStamp s b.0 b.1 in
     says_read names (codes "file") (n ∷ s ∷ []) (File a.0 b.0, d.0) x (record {
       form = (subst (λ (t : Text). is_name t ≡ true) g.1 g.0, subst (λ (t : Text). is_stamp t ≡ true) k.1 k.0);
-      text = λ i. spaced (codes "file") (g.1 i ∷ k.1 i ∷ []);
+      spelled = λ i. spaced (codes "file") (g.1 i ∷ k.1 i ∷ []);
       adds = one_added names a.0 (File a.0 b.0) d.0 few refl d.1;
     }) d.2
 file_says names (n ∷ s ∷ w ∷ ws) x few e = absurd cc
 
 -- the word is that of the stamp, or stands for none
-record IsStampWord (word : Text) (stamp : Option Text) : Type 0 where
+record IsFileStampWord (word : Text) (stamp : Option Text) : Type 0 where
   is : word ≡ stamp_word stamp
   good : IfSome stamp (λ s. IsTrue (is_stamp s))
 
-stamp_says : (word : Text) (stamp : Option Text) → stamp_or_none_in word ≡ Ok stamp → IsStampWord word stamp
-stamp_says word stamp e = by (bytes_eq word (codes "-")) refl e
+file_stamp_says : (word : Text) (stamp : Option Text) → file_stamp_or_none_in word ≡ Ok stamp → IsFileStampWord word stamp
+file_stamp_says word stamp e = by (bytes_eq word (codes "-")) refl e
   where
     stamp_read : Option Text → Result (Option Text) LineFault
     stamp_read s = Ok s
 
-    by : (b : Bool) → bytes_eq word (codes "-") ≡ b → cond b (Ok None) (stamp_in word >>= λ s. Ok (Some s)) ≡ Ok stamp → IsStampWord word stamp
+    by : (b : Bool) → bytes_eq word (codes "-") ≡ b → cond b (Ok None) (file_stamp_in word >>= λ s. Ok (Some s)) ≡ Ok stamp → IsFileStampWord word stamp
     by true same h =
         let none : None ≡ stamp = cc in
-        subst (IsStampWord word) none (record { is = (bytes_eq-Decides word (codes "-")).0 same; good = tt })
+        subst (IsFileStampWord word) none (record { is = (bytes_eq-Decides word (codes "-")).0 same; good = tt })
     by false same h =
-        let a = bind_ok (stamp_in word) (λ s. Ok (Some s)) stamp h in
+        let a = bind_ok (file_stamp_in word) (λ s. Ok (Some s)) stamp h in
         let k = guard_ok (is_stamp word) BadStamp word a.0 a.1 in
         let some : Some a.0 ≡ stamp = cc in
-        subst (IsStampWord word) some (record { is = k.1; good = subst (λ (t : Text). is_stamp t ≡ true) k.1 k.0 })
+        subst (IsFileStampWord word) some (record { is = k.1; good = subst (λ (t : Text). is_stamp t ≡ true) k.1 k.0 })
 
-done_says : (names args : List Text) (x : Command Text × List Text) → length names ≤ 65536 → done_in names args ≡ Ok x → SaysRead names (codes "done") args x
+stamp_says : (names args : List Text) (x : Command Text × List Text) → length names ≤ MOST_NAMES → stamp_in names args ≡ Ok x → SaysRead names (codes "stamp") args x
+unfolding stamp_in
+stamp_says names [] x few e = absurd cc
+stamp_says names (n ∷ []) x few e = absurd cc
+stamp_says names (n ∷ w ∷ []) x few e =
+    let a = bind_ok (name_in n) (λ name. content_in w >>= λ content. added names name >>= λ after. Ok (Stamp name content, after)) x e in
+    let b = bind_ok (content_in w) (λ content. added names a.0 >>= λ after. Ok (Stamp a.0 content, after)) x a.2 in
+    let d = bind_ok (added names a.0) (λ after. Ok (Stamp a.0 b.0, after)) x b.2 in
+    let g = guard_ok (is_name n) BadName n a.0 a.1 in
+    let k = content_says w b.0 b.1 in
+    says_read names (codes "stamp") (n ∷ w ∷ []) (Stamp a.0 b.0, d.0) x (record {
+      form = (subst (λ (t : Text). is_name t ≡ true) g.1 g.0, k.bytes);
+      spelled = (w, λ i. spaced (codes "stamp") (g.1 i ∷ w ∷ []), k.word_is);
+      adds = one_added names a.0 (Stamp a.0 b.0) d.0 few refl d.1;
+    }) d.2
+stamp_says names (n ∷ w ∷ v ∷ ws) x few e = absurd cc
+
+done_says : (names args : List Text) (x : Command Text × List Text) → length names ≤ MOST_NAMES → done_in names args ≡ Ok x → SaysRead names (codes "done") args x
 unfolding done_in
 done_says names [] x few e = absurd cc
 done_says names (n ∷ []) x few e = absurd cc
 done_says names (n ∷ s ∷ []) x few e =
-    let a = bind_ok (name_in n) (λ name. stamp_or_none_in s >>= λ stamp. added names name >>= λ after. Ok (Done name stamp, after)) x e in
-    let b = bind_ok (stamp_or_none_in s) (λ stamp. added names a.0 >>= λ after. Ok (Done a.0 stamp, after)) x a.2 in
+    let a = bind_ok (name_in n) (λ name. file_stamp_or_none_in s >>= λ stamp. added names name >>= λ after. Ok (Done name stamp, after)) x e in
+    let b = bind_ok (file_stamp_or_none_in s) (λ stamp. added names a.0 >>= λ after. Ok (Done a.0 stamp, after)) x a.2 in
     let d = bind_ok (added names a.0) (λ after. Ok (Done a.0 b.0, after)) x b.2 in
     let g = guard_ok (is_name n) BadName n a.0 a.1 in
-    let k = stamp_says s b.0 b.1 in
+    let k = file_stamp_says s b.0 b.1 in
     says_read names (codes "done") (n ∷ s ∷ []) (Done a.0 b.0, d.0) x (record {
       form = (subst (λ (t : Text). is_name t ≡ true) g.1 g.0, k.good);
-      text = λ i. spaced (codes "done") (g.1 i ∷ k.is i ∷ []);
+      spelled = λ i. spaced (codes "done") (g.1 i ∷ k.is i ∷ []);
       adds = one_added names a.0 (Done a.0 b.0) d.0 few refl d.1;
     }) d.2
 done_says names (n ∷ s ∷ w ∷ ws) x few e = absurd cc
 
-targets_says : (names args : List Text) (x : Command Text × List Text) → length names ≤ 65536 → no_words_in Targets names args ≡ Ok x → SaysRead names (codes "targets") args x
+targets_says : (names args : List Text) (x : Command Text × List Text) → length names ≤ MOST_NAMES → no_words_in Targets names args ≡ Ok x → SaysRead names (codes "targets") args x
 unfolding no_words_in
-targets_says names [] x few e = says_read names (codes "targets") [] (Targets, names) x (record { form = tt; text = refl; adds = (refl, few) }) e
+targets_says names [] x few e = says_read names (codes "targets") [] (Targets, names) x (record { form = tt; spelled = refl; adds = (refl, few) }) e
 targets_says names (w ∷ ws) x few e = absurd cc
 
 -- where the first word is this one, and where it is another
@@ -112,17 +131,18 @@ first_word names word this args x r s e here other = elim (by_word word this r s
 ]
 
 -- what is read by the first word is what the words say
-pub words_say : (names : List Text) (word : Text) (args : List Text) (command : Command Text) (after : List Text) → length names ≤ 65536 → words_in names (word ∷ args) ≡ Ok (command, after) → SaysCommand names word args command after
+pub words_say : (names : List Text) (word : Text) (args : List Text) (command : Command Text) (after : List Text) → length names ≤ MOST_NAMES → words_in names (word ∷ args) ≡ Ok (command, after) → SaysCommand names word args command after
 unfolding words_in
 words_say names word args command after few e =
     let x : Command Text × List Text = (command, after) in
-    let one : (form : Text → Command Text) (this : Text) → ((n : Text) → IsTrue (is_name n) → HasForm (form n)) → ((n : Text) → spaced this (n ∷ []) ≡ command_text_of (form n)) → ((n : Text) → names_in (form n) ≡ n ∷ []) → one_name_in form names args ≡ Ok x → SaysRead names this args x
-    = λ form this has text own h. one_name_says form this has text own names args x few h in
+    let one : (form : Text → Command Text) (this : Text) → ((n : Text) → IsTrue (is_name n) → HasForm (form n)) → ((n : Text) → IsSpelled (spaced this (n ∷ [])) (form n)) → ((n : Text) → names_in (form n) ≡ n ∷ []) → one_name_in form names args ≡ Ok x → SaysRead names this args x
+    = λ form this has spelled own h. one_name_says form this has spelled own names args x few h in
     first_word names word (codes "file") args x _ _ e (file_says names args x few) (λ e2.
     first_word names word (codes "gone") args x _ _ e2 (one Gone (codes "gone") (λ n good. good) (λ n. refl) (λ n. refl)) (λ e3.
     first_word names word (codes "lock") args x _ _ e3 (one Lock (codes "lock") (λ n good. good) (λ n. refl) (λ n. refl)) (λ e4.
     first_word names word (codes "unlock") args x _ _ e4 (one Unlock (codes "unlock") (λ n good. good) (λ n. refl) (λ n. refl)) (λ e5.
     first_word names word (codes "start") args x _ _ e5 (one Start (codes "start") (λ n good. good) (λ n. refl) (λ n. refl)) (λ e6.
-    first_word names word (codes "done") args x _ _ e6 (done_says names args x few) (λ e7.
-    first_word names word (codes "failed") args x _ _ e7 (one Failed (codes "failed") (λ n good. good) (λ n. refl) (λ n. refl)) (λ e8.
-    first_word names word (codes "targets") args x _ _ e8 (targets_says names args x few) (λ e9. absurd cc))))))))
+    first_word names word (codes "stamp") args x _ _ e6 (stamp_says names args x few) (λ e7.
+    first_word names word (codes "done") args x _ _ e7 (done_says names args x few) (λ e8.
+    first_word names word (codes "failed") args x _ _ e8 (one Failed (codes "failed") (λ n good. good) (λ n. refl) (λ n. refl)) (λ e9.
+    first_word names word (codes "targets") args x _ _ e9 (targets_says names args x few) (λ e10. absurd cc)))))))))

@@ -1,4 +1,5 @@
 pub mod Added
+pub mod Contents
 pub mod FormsFound
 pub mod FormsRead
 pub mod LineLaws

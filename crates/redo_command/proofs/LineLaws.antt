@@ -1,17 +1,20 @@
 -- What is read as a line is a command line, and a command line is read.
-use Rattle.std.proofs.Common.{◌≡◌, ◌≤◌, ◌+◌, ℕ, Bool, true, false, not, cond, List, [], ◌∷◌, length, Ok, refl, sym, ap, ◌∙◌, arith, ltb, append-nil, length-append, ◌++◌, lit≤}
+use Rattle.std.proofs.Common.{◌≡◌, ◌≤◌, ◌+◌, ℕ, Bool, true, false, not, cond, List, [], ◌∷◌, length, Ok, refl, sym, ap, subst, ◌∙◌, arith, ltb, append-nil, length-append, ◌++◌, lit≤}
 use Rattle.std.specs.List.{list_any}
 use Rattle.std.proofs.lemmas.Bool.{le-ltb}
 use Rattle.std.proofs.lemmas.Bool.Decides.{nat_tests}
+use Rattle.redo_names.specs.declared.names.TheConstants.{MOST_NAMES}
 use Rattle.redo_names.specs.Names.{has, with_name}
 use Rattle.redo_model.specs.Names.{Text}
-use Rattle.redo_model.specs.Command.{Command, names_in}
+use Rattle.redo_model.specs.Command.{Command, Stamp, names_in}
+use Rattle.redo_command.specs.declared.read.TheConstants.{LONGEST_LINE}
 use Rattle.redo_command.specs.declared.fault.LineFault.TheVariants.{LineTooLong, BadByte}
-use Rattle.redo_command.specs.Texts.{spaced}
-use Rattle.redo_command.specs.Grammar.{IsCommandLine, IsShort, HasForm, with_names, AddsNames}
+use Rattle.redo_command.specs.Texts.{spaced, content_word, command_text_of}
+use Rattle.redo_command.specs.Grammar.{IsCommandLine, IsShort, IsSpelled, HasForm, with_names, AddsNames}
 use Rattle.redo_command.specs.Reading.{line_in, words_in, words_of, is_text_byte}
 use Rattle.redo_command.proofs.Steps.{unless_ok, same_read}
 use Rattle.redo_command.proofs.Spaced.{line_is_spaced, words_of-spaced, spaced_is_text}
+use Rattle.redo_command.proofs.Contents.{content_word_says}
 use Rattle.redo_command.proofs.FormsFound.{words_say}
 use Rattle.redo_command.proofs.FormsRead.{read_from_words, few_names}
 
@@ -19,27 +22,28 @@ abbrev is_bad : ℕ → Bool
 is_bad b = not (is_text_byte b)
 
 -- what is read is a command line, and its names are added
-pub line_found : (names : List Text) (line : Text) (command : Command Text) (after : List Text) → length names ≤ 65536 → line_in names line ≡ Ok (command, after) → IsCommandLine line command × AddsNames names (command ∷ []) after
+pub line_found : (names : List Text) (line : Text) (command : Command Text) (after : List Text) → length names ≤ MOST_NAMES → line_in names line ≡ Ok (command, after) → IsCommandLine line command × AddsNames names (command ∷ []) after
 unfolding line_in words_in
 line_found names line command after few e =
-    let a = unless_ok (ltb 8192 (length line)) LineTooLong _ (command, after) e in
+    let a = unless_ok (ltb LONGEST_LINE (length line)) LineTooLong _ (command, after) e in
     let b = unless_ok (list_any is_bad line) BadByte _ (command, after) a.1 in
-    let short : length line ≤ 8192 = grind (arith, nat_tests, a.0) in
+    let short : length line ≤ LONGEST_LINE = grind (arith, nat_tests, a.0) in
     by short (words_of line) refl b.1
   where
     by : IsShort line → (words : List Text) → words_of line ≡ words → words_in names words ≡ Ok (command, after) → IsCommandLine line command × AddsNames names (command ∷ []) after
     by short [] split h = absurd cc
     by short (word ∷ args) split h =
         let says = words_say names word args command after few h in
-        ((says.form, short, line_is_spaced line word args split ∙ says.text), says.adds)
+        let spelled = subst (λ (l : Text). IsSpelled l command) (sym (line_is_spaced line word args split)) says.spelled in
+        ((says.form, short, spelled), says.adds)
 
 -- a command line whose names fit is read
-pub line_only : (names : List Text) (line : Text) (command : Command Text) (after : List Text) → length names ≤ 65536 → IsCommandLine line command → AddsNames names (command ∷ []) after → line_in names line ≡ Ok (command, after)
+pub line_only : (names : List Text) (line : Text) (command : Command Text) (after : List Text) → length names ≤ MOST_NAMES → IsCommandLine line command → AddsNames names (command ∷ []) after → line_in names line ≡ Ok (command, after)
 unfolding line_in
 line_only names line command after few is adds =
-    let from = read_from_words names command after is.0 adds in
-    let text : line ≡ spaced from.word from.args = is.2 ∙ from.text in
-    let short : ltb 8192 (length line) ≡ false = le-ltb _ _ is.1 in
+    let from = read_from_words names line command after is.0 is.2 adds in
+    let text : line ≡ spaced from.word from.args = from.text in
+    let short : ltb LONGEST_LINE (length line) ≡ false = le-ltb _ _ is.1 in
     let good : list_any is_bad line ≡ false = ap (list_any is_bad) text ∙ spaced_is_text from.word from.args from.visible.0 from.visible.1 in
     let words : words_of line ≡ from.word ∷ from.args = ap words_of text ∙ words_of-spaced from.word from.args from.visible.0 from.visible.1 in
     rw (short, good, words) from.reads
@@ -58,6 +62,11 @@ length-with_names names (t ∷ ts) = omega (arith, length-with_names (with_name 
 -- a command's names alone fit
 fits_alone : (command : Command Text) → HasForm command → AddsNames [] (command ∷ []) (with_names [] (names_in command ++ []))
 fits_alone command form = (refl, omega (arith, length-with_names [] (names_in command ++ []), ap length (append-nil (names_in command)), few_names command form))
+
+-- the text of a command is one of its spellings
+pub text_is_spelled : (command : Command Text) → HasForm command → IsSpelled (command_text_of command) command
+text_is_spelled (Stamp t content) form = (content_word content, refl, content_word_says content form.1)
+text_is_spelled command form = refl
 
 -- a line is the line of at most one command
 pub one_command : (line : Text) (a b : Command Text) → IsCommandLine line a → IsCommandLine line b → a ≡ b

@@ -1,11 +1,14 @@
 -- Which texts are commands and scripts.
-use Rattle.std.specs.Prelude.{◌≡◌, ◌≤◌, Bool, true, not, List, [], ◌∷◌, length, filter, IsTrue, IfSome, ◌==◌, ⊤}
+use Rattle.std.specs.Prelude.{◌≡◌, ◌≢◌, ◌<◌, ◌≤◌, ◌⊎◌, Bool, true, not, List, [], ◌∷◌, length, filter, IsTrue, IfSome, Ok, codes, ◌==◌, ⊤}
 use Rattle.std.specs.List.{slice_split, flat_map, AllByRecursion}
+use Rattle.hex.specs.Hex.{decode_of}
 use Rattle.redo_names.specs.Names.{is_name, with_name}
+use Rattle.redo_names.specs.declared.names.TheConstants.{MOST_NAMES}
 use Rattle.redo_model.specs.Names.{Text}
 use Rattle.redo_model.specs.Command.{Command, File, Gone, Lock, Unlock, Start, IfChange, IfCreate, Always, Stamp, Done, Failed, Ood, Targets, Sources, names_in}
+use Rattle.redo_command.specs.declared.read.TheConstants.{LONGEST_LINE, MOST_COMMANDS}
 use Rattle.redo_command.specs.Stamp.{is_stamp}
-use Rattle.redo_command.specs.Texts.{command_text_of}
+use Rattle.redo_command.specs.Texts.{spaced, command_text_of}
 
 -- what the words of a command have to be; the forms that have not come yet have none
 abbrev pub HasForm : Command Text → Type 0
@@ -17,7 +20,7 @@ HasForm (Start t) = IsTrue (is_name t)
 HasForm (IfChange t ns) = ⊥
 HasForm (IfCreate t ns) = ⊥
 HasForm (Always t) = ⊥
-HasForm (Stamp t content) = ⊥
+HasForm (Stamp t content) = IsTrue (is_name t) × AllByRecursion (λ b. b < 256) content
 HasForm (Done t stamp) = IsTrue (is_name t) × IfSome stamp (λ s. IsTrue (is_stamp s))
 HasForm (Failed t) = IsTrue (is_name t)
 HasForm Ood = ⊥
@@ -26,11 +29,20 @@ HasForm Sources = ⊥
 
 -- a line may have 8,192 bytes, a script 4,096 commands, a run 65,536 names
 abbrev pub IsShort : Text → Type 0
-IsShort line = length line ≤ 8192
+IsShort line = length line ≤ LONGEST_LINE
 
--- the line is the command's text, without its LF
+-- "-" stands for empty content; the digits of other content may have letters of either case
+abbrev pub IsContentWord : Text → Text → Type 0
+IsContentWord word content = ((word ≡ codes "-") × (content ≡ [])) ⊎ ((content ≢ []) × (decode_of word ≡ Ok content))
+
+-- the line is the command's text, without its LF; of a stamp the content may be spelled in other ways
+abbrev pub IsSpelled : Text → Command Text → Type 0
+IsSpelled line (Stamp t content) = (word : Text) × (line ≡ spaced (codes "stamp") (t ∷ word ∷ [])) × IsContentWord word content
+IsSpelled line command = line ≡ command_text_of command
+
+-- the line says the command
 abbrev pub IsCommandLine : Text → Command Text → Type 0
-IsCommandLine line command = HasForm command × IsShort line × (line ≡ command_text_of command)
+IsCommandLine line command = HasForm command × IsShort line × IsSpelled line command
 
 -- the names, and after them the new ones of these, each once, in the order in which they are met
 abbrev pub with_names : List Text → List Text → List Text
@@ -39,7 +51,7 @@ with_names names (t ∷ ts) = with_names (with_name names t) ts
 
 -- after are the names with those of the commands, and not too many
 abbrev pub AddsNames : List Text → List (Command Text) → List Text → Type 0
-AddsNames names commands after = (after ≡ with_names names (flat_map names_in commands)) × (length after ≤ 65536)
+AddsNames names commands after = (after ≡ with_names names (flat_map names_in commands)) × (length after ≤ MOST_NAMES)
 
 -- the pieces between line feeds: what stands after a last line feed is an empty piece, which is skipped as any
 abbrev pub lines_of : Text → List Text
@@ -61,7 +73,7 @@ AreCommandLines (line ∷ lines) (command ∷ commands) = IsCommandLine line com
 pub record AreScriptLines (names : List Text) (lines : List Text) (commands : List (Command Text)) (after : List Text) : Type 0 where
   pub short : AllByRecursion IsShort lines
   pub said : AreCommandLines (filter (λ line. not (is_skipped line)) lines) commands
-  pub few : length commands ≤ 4096
+  pub few : length commands ≤ MOST_COMMANDS
   pub named : AddsNames names commands after
 
 -- the text is a script of these commands, and after are the names with its names

@@ -7,7 +7,9 @@ use Rattle.redo_model.specs.Reply as replies
 use Rattle.redo_model.specs.History as histories
 use Rattle.redo_model.specs.Renaming.{named_command, named_reply, named_line}
 use Rattle.redo_command.specs.declared.command.Command.{Command}
-use Rattle.redo_command.specs.declared.command.Command.TheVariants.{File, Gone, Lock, Unlock, Start, Done, Failed, Targets}
+use Rattle.redo_command.specs.declared.command.Command.TheVariants.{File, Gone, Lock, Unlock, Start, Stamp, Done, Failed, Targets}
+use Rattle.redo_command.specs.declared.kind.Kind.{Kind}
+use Rattle.redo_command.specs.declared.kind.Kind.TheVariants as kinds
 use Rattle.redo_command.specs.declared.reply.Refusal.{Refusal}
 use Rattle.redo_command.specs.declared.reply.Refusal.TheVariants.{NotLocked, Building, NotBuilding}
 use Rattle.redo_command.specs.declared.reply.Reply.{Reply}
@@ -20,9 +22,21 @@ command_of (Gone n) = commands.Gone n
 command_of (Lock t) = commands.Lock t
 command_of (Unlock t) = commands.Unlock t
 command_of (Start t) = commands.Start t
+command_of (Stamp t content) = commands.Stamp t content.items
 command_of (Done t stamp) = commands.Done t stamp
 command_of (Failed t) = commands.Failed t
 command_of Targets = commands.Targets
+
+abbrev pub kind_of : Command → Kind
+kind_of (File n stamp) = kinds.File
+kind_of (Gone n) = kinds.Gone
+kind_of (Lock t) = kinds.Lock
+kind_of (Unlock t) = kinds.Unlock
+kind_of (Start t) = kinds.Start
+kind_of (Stamp t content) = kinds.Stamp
+kind_of (Done t stamp) = kinds.Done
+kind_of (Failed t) = kinds.Failed
+kind_of Targets = kinds.Targets
 
 abbrev pub refusal_of : Refusal → replies.Refusal ℕ
 refusal_of NotLocked = replies.NotLocked
@@ -33,6 +47,7 @@ abbrev pub reply_of : Reply → replies.Reply ℕ
 reply_of coded.Okay = replies.Okay
 reply_of (coded.Granted g) = replies.Granted g
 reply_of (coded.Busy g) = replies.Busy g
+reply_of (coded.Stamped digest) = replies.Stamped digest
 reply_of (coded.Targets names) = replies.Targets names.items
 reply_of (coded.Refused refusal) = replies.Refused (refusal_of refusal)
 

@@ -1,13 +1,17 @@
 -- Reading a line by steps: the first step that it fails is its fault.
 use Rattle.std.specs.Prelude.{◌≡◌, ℕ, ◌+◌, List, [], ◌∷◌, ◌++◌, length, Option, Some, None, Result, Ok, Err, Bool, not, ◌&&◌, nat_lt, nat_le, ◌==◌, if◌then◌else◌, codes, bytes_eq}
 use Rattle.std.specs.List.{slice_split, list_any}
+use Rattle.hex.specs.Hex.{decode_of}
+use Rattle.hex.specs.declared.error.FromHexError.{FromHexError}
 use Rattle.redo_names.specs.Names.{is_name, has}
+use Rattle.redo_names.specs.declared.names.TheConstants.{MOST_NAMES}
 use Rattle.redo_model.specs.Names.{Text}
-use Rattle.redo_model.specs.Command.{Command, File, Gone, Lock, Unlock, Start, Done, Failed, Targets}
+use Rattle.redo_model.specs.Command.{Command, File, Gone, Lock, Unlock, Start, Stamp, Done, Failed, Targets}
+use Rattle.redo_command.specs.declared.read.TheConstants.{LONGEST_LINE, MOST_COMMANDS}
 use Rattle.redo_command.specs.Stamp.{is_stamp}
 use Rattle.redo_command.specs.Grammar.{is_skipped, lines_of, AreScriptLines}
 use Rattle.redo_command.specs.declared.fault.LineFault.{LineFault}
-use Rattle.redo_command.specs.declared.fault.LineFault.TheVariants.{LineTooLong, BadByte, UnknownCommand, WrongWords, BadName, BadStamp, TooManyLines, TooManyNames}
+use Rattle.redo_command.specs.declared.fault.LineFault.TheVariants.{LineTooLong, BadByte, UnknownCommand, WrongWords, BadName, BadStamp, BadHex, TooManyLines, TooManyNames}
 use Rattle.redo_command.specs.declared.fault.Unread.{Unread}
 use Rattle.redo_command.specs.declared.fault.Unread.TheVariants as unread
 use Rattle.redo_command.specs.declared.fault.ReadFault.{ReadFault}
@@ -21,16 +25,26 @@ abbrev pub ◌>>=◌ : {A B : Type 0} → Result A LineFault → (A → Result B
 abbrev pub name_in : Text → Result Text LineFault
 name_in word = if is_name word then Ok word else Err BadName
 
-abbrev pub stamp_in : Text → Result Text LineFault
-stamp_in word = if is_stamp word then Ok word else Err BadStamp
+abbrev pub file_stamp_in : Text → Result Text LineFault
+file_stamp_in word = if is_stamp word then Ok word else Err BadStamp
 
 -- "-" is no stamp
-abbrev pub stamp_or_none_in : Text → Result (Option Text) LineFault
-stamp_or_none_in word = if bytes_eq word (codes "-") then Ok None else (stamp_in word >>= λ s. Ok (Some s))
+abbrev pub file_stamp_or_none_in : Text → Result (Option Text) LineFault
+file_stamp_or_none_in word = if bytes_eq word (codes "-") then Ok None else (file_stamp_in word >>= λ s. Ok (Some s))
+
+-- decoded bytes, of which there have to be some
+abbrev pub some_content : Result Text FromHexError → Result Text LineFault
+some_content (Ok []) = Err BadHex
+some_content (Ok (b ∷ bs)) = Ok (b ∷ bs)
+some_content (Err e) = Err BadHex
+
+-- "-" is empty content
+abbrev pub content_in : Text → Result Text LineFault
+content_in word = if bytes_eq word (codes "-") then Ok [] else some_content (decode_of word)
 
 -- the names with this one, where it is there or there is room
 abbrev pub added : List Text → Text → Result (List Text) LineFault
-added names text = if has names text then Ok names else (if length names == 65536 then Err TooManyNames else Ok (names ++ text ∷ []))
+added names text = if has names text then Ok names else (if length names == MOST_NAMES then Err TooManyNames else Ok (names ++ text ∷ []))
 
 -- a command, and the names after it
 abbrev pub Reading : Type 0
@@ -50,17 +64,27 @@ file_in names [] = Err WrongWords
 file_in names (n ∷ []) = Err WrongWords
 file_in names (n ∷ s ∷ []) = do
   name ← name_in n
-  stamp ← stamp_in s
+  stamp ← file_stamp_in s
   after ← added names name
   Ok (File name stamp, after)
 file_in names (n ∷ s ∷ w ∷ ws) = Err WrongWords
+
+unfoldable pub stamp_in : List Text → List Text → Reading
+stamp_in names [] = Err WrongWords
+stamp_in names (n ∷ []) = Err WrongWords
+stamp_in names (n ∷ c ∷ []) = do
+  name ← name_in n
+  content ← content_in c
+  after ← added names name
+  Ok (Stamp name content, after)
+stamp_in names (n ∷ c ∷ w ∷ ws) = Err WrongWords
 
 unfoldable pub done_in : List Text → List Text → Reading
 done_in names [] = Err WrongWords
 done_in names (n ∷ []) = Err WrongWords
 done_in names (n ∷ s ∷ []) = do
   name ← name_in n
-  stamp ← stamp_or_none_in s
+  stamp ← file_stamp_or_none_in s
   after ← added names name
   Ok (Done name stamp, after)
 done_in names (n ∷ s ∷ w ∷ ws) = Err WrongWords
@@ -79,10 +103,11 @@ words_in names (word ∷ args) =
     else (if bytes_eq word (codes "lock") then one_name_in Lock names args
     else (if bytes_eq word (codes "unlock") then one_name_in Unlock names args
     else (if bytes_eq word (codes "start") then one_name_in Start names args
+    else (if bytes_eq word (codes "stamp") then stamp_in names args
     else (if bytes_eq word (codes "done") then done_in names args
     else (if bytes_eq word (codes "failed") then one_name_in Failed names args
     else (if bytes_eq word (codes "targets") then no_words_in Targets names args
-    else Err UnknownCommand)))))))
+    else Err UnknownCommand))))))))
 
 -- the pieces between single spaces
 abbrev pub words_of : Text → List Text
@@ -94,16 +119,16 @@ is_text_byte b = nat_le 32 b && nat_le b 126
 -- a line without its LF
 unfoldable pub line_in : List Text → Text → Reading
 line_in names line =
-    if nat_lt 8192 (length line) then Err LineTooLong
+    if nat_lt LONGEST_LINE (length line) then Err LineTooLong
     else (if list_any (λ b. not (is_text_byte b)) line then Err BadByte
     else words_in names (words_of line))
 
 -- a line of a script, after so many commands; it may be skipped
 unfoldable pub script_line_in : ℕ → List Text → Text → Result (Option (Command Text) × List Text) LineFault
 script_line_in count names line =
-    if nat_lt 8192 (length line) then Err LineTooLong
+    if nat_lt LONGEST_LINE (length line) then Err LineTooLong
     else (if is_skipped line then Ok (None, names)
-    else (if count == 4096 then Err TooManyLines
+    else (if count == MOST_COMMANDS then Err TooManyLines
     else (line_in names line >>= λ x. Ok (Some x.0, x.1))))
 
 -- what a private reader returned, seen by `view`, is what reading gives, unless memory ran out

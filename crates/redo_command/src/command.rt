@@ -1,3 +1,4 @@
+use crate::kind::Kind;
 use crate::stamp::FileStamp;
 use std::alloc::{AllocError, Global};
 
@@ -12,6 +13,8 @@ pub enum Command {
     Unlock(u32),
     /// The target is built from now on.
     Start(u32),
+    /// The target's digest is that of this content, of which a line holds up to 4,092 bytes.
+    Stamp(u32, Vec<u8>),
     /// The target was built; its file has this stamp, or there is none.
     Done(u32, Option<FileStamp>),
     /// The target could not be built.
@@ -22,10 +25,27 @@ pub enum Command {
 
 impl Command {
     ghost use Rattle.std.specs.Prelude.{◌≡◌, IfOk};
-    ghost use Rattle.redo_command.specs.Meaning.{command_of};
+    ghost use Rattle.redo_command.specs.Meaning.{command_of, kind_of};
+
+    /// Its case.
+    pub fn kind(&self) -> Kind
+        ensures { result ≡ kind_of self.now }
+    {
+        match self {
+            Command::File(..) => Kind::File,
+            Command::Gone(_) => Kind::Gone,
+            Command::Lock(_) => Kind::Lock,
+            Command::Unlock(_) => Kind::Unlock,
+            Command::Start(_) => Kind::Start,
+            Command::Stamp(..) => Kind::Stamp,
+            Command::Done(..) => Kind::Done,
+            Command::Failed(_) => Kind::Failed,
+            Command::Targets => Kind::Targets,
+        }
+    }
 
     /// An equal command.
-    pub fn copy(&self, _alloc: Global) -> Result<Command, AllocError>
+    pub fn copy(&self, alloc: Global) -> Result<Command, AllocError>
         ensures { IfOk result (λ copy. command_of copy ≡ command_of self.now) }
     {
         Ok(match self {
@@ -34,6 +54,7 @@ impl Command {
             Command::Lock(t) => Command::Lock(*t),
             Command::Unlock(t) => Command::Unlock(*t),
             Command::Start(t) => Command::Start(*t),
+            Command::Stamp(t, content) => Command::Stamp(*t, Vec::from_slice(alloc, content)?),
             Command::Done(t, stamp) => Command::Done(*t, *stamp),
             Command::Failed(t) => Command::Failed(*t),
             Command::Targets => Command::Targets,

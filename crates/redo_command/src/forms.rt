@@ -4,12 +4,15 @@ ghost use Rattle.redo_model.specs.Names.{Text};
 ghost use Rattle.redo_model.specs.Command as commands;
 ghost use Rattle.redo_model.specs.Renaming.{IsBelow};
 ghost use Rattle.redo_command.specs.Meaning.{command_of, command_at};
-ghost use Rattle.redo_command.specs.Reading.{Reads, one_name_in, file_in, done_in, no_words_in, words_in};
+ghost use Rattle.redo_command.specs.Reading.{Reads, one_name_in, file_in, stamp_in, done_in, no_words_in, words_in};
 
 use crate::command::Command;
 use crate::fault::{LineFault, Unread};
-use crate::words::{name_of, number_of, one, stamp_of, stamp_or_none_of, two};
+use crate::words::{
+    content_of, file_stamp_of, file_stamp_or_none_of, name_of, number_of, one, two,
+};
 use redo_names::Names;
+use std::alloc::Global;
 
 /// The number of the one name that a form has.
 #[tactic(auto, using(crate::proofs::Added::extends_same), unfolding(crate::specs::Reading::one_name_in))]
@@ -35,7 +38,7 @@ fn file_of(names: &mut Names, args: &[&[u8]]) -> Result<Command, Unread>
         return Err(Unread::Fault(LineFault::WrongWords));
     };
     let name = name_of(n)?;
-    let stamp = stamp_of(s)?;
+    let stamp = file_stamp_of(s)?;
     let number = number_of(names, name)?;
     Ok(Command::File(number, stamp))
 }
@@ -80,6 +83,21 @@ fn failed_of(names: &mut Names, args: &[&[u8]]) -> Result<Command, Unread>
     Ok(Command::Failed(one_name_of(names, args)?))
 }
 
+#[tactic(auto, using(crate::proofs::Added::extends_same), unfolding(crate::specs::Reading::stamp_in))]
+fn stamp_of(alloc: Global, names: &mut Names, args: &[&[u8]]) -> Result<Command, Unread>
+    ensures reads { Reads (λ command. (command_at names.new command, names.new)) result (stamp_in names.old (map (λ w. w.now) args.now)) }
+    ensures within { IfOk result (λ command. IsBelow (length names.new) (command_of command)) }
+    ensures kept { Extends names.old names.new }
+{
+    let Some((n, c)) = two(args) else {
+        return Err(Unread::Fault(LineFault::WrongWords));
+    };
+    let name = name_of(n)?;
+    let content = content_of(alloc, c)?;
+    let number = number_of(names, name)?;
+    Ok(Command::Stamp(number, content))
+}
+
 #[tactic(auto, using(crate::proofs::Added::extends_same), unfolding(crate::specs::Reading::done_in))]
 fn done_of(names: &mut Names, args: &[&[u8]]) -> Result<Command, Unread>
     ensures reads { Reads (λ command. (command_at names.new command, names.new)) result (done_in names.old (map (λ w. w.now) args.now)) }
@@ -90,7 +108,7 @@ fn done_of(names: &mut Names, args: &[&[u8]]) -> Result<Command, Unread>
         return Err(Unread::Fault(LineFault::WrongWords));
     };
     let name = name_of(n)?;
-    let stamp = stamp_or_none_of(s)?;
+    let stamp = file_stamp_or_none_of(s)?;
     let number = number_of(names, name)?;
     Ok(Command::Done(number, stamp))
 }
@@ -119,7 +137,7 @@ fn targets_of(names: &mut Names, args: &[&[u8]]) -> Result<Command, Unread>
 
 /// The command that words are, by the first.
 #[tactic(auto, using(crate::proofs::Added::extends_same), unfolding(crate::specs::Reading::words_in))]
-pub(crate) fn form_of(names: &mut Names, words: &[&[u8]]) -> Result<Command, Unread>
+pub(crate) fn form_of(alloc: Global, names: &mut Names, words: &[&[u8]]) -> Result<Command, Unread>
     ensures reads { Reads (λ command. (command_at names.new command, names.new)) result (words_in names.old (map (λ w. w.now) words.now)) }
     ensures within { IfOk result (λ command. IsBelow (length names.new) (command_of command)) }
     ensures kept { Extends names.old names.new }
@@ -138,6 +156,8 @@ pub(crate) fn form_of(names: &mut Names, words: &[&[u8]]) -> Result<Command, Unr
         unlock_of(names, args)
     } else if word == b"start".as_slice() {
         start_of(names, args)
+    } else if word == b"stamp".as_slice() {
+        stamp_of(alloc, names, args)
     } else if word == b"done".as_slice() {
         done_of(names, args)
     } else if word == b"failed".as_slice() {

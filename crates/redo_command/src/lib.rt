@@ -19,7 +19,7 @@ pub use command::Command;
 pub use fault::{LineFault, ReadFault};
 pub use kind::Kind;
 pub use laws::{command_reads_back, one_command_a_line};
-pub use read::read_command;
+pub use read::{LONGEST_LINE, MOST_COMMANDS, read_command};
 pub use reply::{Line, Refusal, Reply};
 pub use script::{Script, read_script};
 pub use stamp::{FileStamp, LONGEST_STAMP};

@@ -12,8 +12,14 @@ use crate::command::Command;
 use crate::fault::{LineFault, ReadFault, Unread};
 use crate::forms::form_of;
 use crate::words::{has_bad_byte, words};
-use redo_names::Names;
+use redo_names::{MOST_NAMES, Names};
 use std::alloc::Global;
+
+/// How many bytes a line has at most, without its LF.
+pub const LONGEST_LINE: usize = 8192;
+
+/// How many commands a session file has at most.
+pub const MOST_COMMANDS: usize = 4096;
 
 /// The command that a line is, without its LF.
 #[tactic(auto, using(crate::proofs::Added::extends_same), unfolding(crate::specs::Reading::line_in))]
@@ -22,14 +28,14 @@ fn line_of(alloc: Global, line: &[u8], names: &mut Names) -> Result<Command, Unr
     ensures within { IfOk result (λ command. IsBelow (length names.new) (command_of command)) }
     ensures kept { Extends names.old names.new }
 {
-    if line.len() > 8192 {
+    if line.len() > LONGEST_LINE {
         return Err(Unread::Fault(LineFault::LineTooLong));
     }
     if has_bad_byte(line) {
         return Err(Unread::Fault(LineFault::BadByte));
     }
     let words = words(alloc, line)?;
-    form_of(names, &words)
+    form_of(alloc, names, &words)
 }
 
 /// Reads the command that a line is, without its LF. Faults have line 1. After a fault the old names are a front of the names.
@@ -44,7 +50,7 @@ pub fn read_command(alloc: Global, line: &[u8], names: &mut Names) -> Result<Com
     ensures within { IfOk result (λ command. IsBelow (length names.new) (command_of command)) }
     ensures kept { Extends names.old names.new }
 {
-    prove!(names.len() as usize <= 65536);
+    prove!(names.len() as usize <= MOST_NAMES);
     match line_of(alloc, line, names) {
         Ok(command) => Ok(command),
         Err(Unread::Memory) => Err(ReadFault::Memory),
@@ -73,13 +79,13 @@ pub(crate) fn read_script_line(
     ensures within { IfOk result (λ read. IfSome read (λ command. IsBelow (length names.new) (command_of command))) }
     ensures kept { Extends names.old names.new }
 {
-    if line.len() > 8192 {
+    if line.len() > LONGEST_LINE {
         return Err(Unread::Fault(LineFault::LineTooLong));
     }
     if is_skipped(line) {
         return Ok(None);
     }
-    if count == 4096 {
+    if count == MOST_COMMANDS {
         return Err(Unread::Fault(LineFault::TooManyLines));
     }
     let command = line_of(alloc, line, names)?;

@@ -19,6 +19,8 @@ pub enum Reply {
     Granted(u32),
     /// The lock is taken, by the grant of this number.
     Busy(u32),
+    /// The digest of the content.
+    Stamped([u8; 20]),
     /// The targets that have a file, by the bytes of their names.
     Targets(Vec<u32>),
     Refused(Refusal),

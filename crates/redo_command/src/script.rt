@@ -10,9 +10,9 @@ ghost use Rattle.redo_command.specs.Reading.{script_line_in, IsReadFault};
 
 use crate::command::Command;
 use crate::fault::{LineFault, ReadFault, Unread};
-use crate::read::read_script_line;
+use crate::read::{MOST_COMMANDS, read_script_line};
 use crate::stamp::FileStamp;
-use redo_names::Names;
+use redo_names::{MOST_NAMES, Names};
 use std::alloc::Global;
 use std::marker::Model;
 
@@ -25,19 +25,20 @@ pub struct Script {
 impl Model for Script {
     ghost use Rattle.std.specs.Prelude.{List, ◌≤◌, length};
     ghost use Rattle.redo_command.specs.declared.command.Command.{Command};
+    ghost use Rattle.redo_command.specs.declared.read.TheConstants.{MOST_COMMANDS};
 
     ghost Value = { List Command };
 
     ghost view = { λ script. script.commands.items };
 
-    ghost invariant = { λ script. length script.commands.items ≤ 4096 };
+    ghost invariant = { λ script. length script.commands.items ≤ MOST_COMMANDS };
 }
 
 impl Script {
     /// The commands, in order.
     pub fn commands(&self) -> &[Command]
         ensures commands { result.now ≡ self.now }
-        ensures few { length self.now ≤ 4096 }
+        ensures few { length self.now ≤ MOST_COMMANDS }
     {
         &self.commands
     }
@@ -108,7 +109,7 @@ pub fn read_script(alloc: Global, text: &[u8], names: &mut Names) -> Result<Scri
     ensures within { IfOk result (λ script. AllByRecursion (λ command. IsBelow (length names.new) (command_of command)) script) }
     ensures kept { Extends names.old names.new }
 {
-    prove!(names.len() as usize <= 65536);
+    prove!(names.len() as usize <= MOST_NAMES);
     let mut commands = Vec::new(alloc);
     let mut rest = text;
     let mut number = 1usize;

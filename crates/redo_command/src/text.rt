@@ -1,10 +1,11 @@
 ghost use Rattle.std.specs.Prelude.{◌≡◌, ◌<◌, ◌++◌, List, map, length, decimal, IfOk, OnOk};
 ghost use Rattle.std.specs.List.{flat_map};
+ghost use Rattle.hex.specs.Hex.{encode_lower};
 ghost use Rattle.redo_names.specs.Names.{text_at};
 ghost use Rattle.redo_model.specs.Names.{Text};
 ghost use Rattle.redo_model.specs.Renaming.{IsBelow, IsReplyBelow, AllBelow, named_refusal};
 ghost use Rattle.redo_command.specs.Meaning.{command_of, reply_of, refusal_of, command_at, reply_at};
-ghost use Rattle.redo_command.specs.Texts.{after_space, stamp_word, refusal_words, command_text_of, reply_text_of};
+ghost use Rattle.redo_command.specs.Texts.{after_space, stamp_word, content_word, refusal_words, command_text_of, reply_text_of};
 
 use crate::command::Command;
 use crate::reply::{Refusal, Reply};
@@ -56,6 +57,23 @@ fn put_stamp_or_none(out: &mut Vec<u8>, stamp: Option<FileStamp>) -> Result<(), 
     }
 }
 
+/// Writes bytes as hexadecimal digits in lower case.
+fn put_hex(alloc: Global, out: &mut Vec<u8>, bytes: &[u8]) -> Result<(), AllocError>
+    ensures { OnOk result (out.new.items ≡ out.old.items ++ after_space (encode_lower bytes.now)) }
+{
+    put_word(out, hex::encode(alloc, bytes)?.as_bytes())
+}
+
+/// Writes content, or `-` for none.
+fn put_content(alloc: Global, out: &mut Vec<u8>, content: &[u8]) -> Result<(), AllocError>
+    ensures { OnOk result (out.new.items ≡ out.old.items ++ after_space (content_word content.now)) }
+{
+    match content {
+        [] => put_word(out, b"-"),
+        _ => put_hex(alloc, out, content),
+    }
+}
+
 /// The text of a command: its words with single spaces, without LF.
 pub fn command_text(alloc: Global, command: &Command, names: &Names) -> Result<Vec<u8>, AllocError>
     requires { IsBelow (length names.now) (command_of command.now) }
@@ -71,6 +89,10 @@ pub fn command_text(alloc: Global, command: &Command, names: &Names) -> Result<V
         Command::Lock(t) => put_named(&mut out, b"lock", names, *t)?,
         Command::Unlock(t) => put_named(&mut out, b"unlock", names, *t)?,
         Command::Start(t) => put_named(&mut out, b"start", names, *t)?,
+        Command::Stamp(t, content) => {
+            put_named(&mut out, b"stamp", names, *t)?;
+            put_content(alloc, &mut out, content)?;
+        }
         Command::Done(t, stamp) => {
             put_named(&mut out, b"done", names, *t)?;
             put_stamp_or_none(&mut out, *stamp)?;
@@ -115,6 +137,10 @@ pub fn reply_text(alloc: Global, reply: &Reply, names: &Names) -> Result<Vec<u8>
         Reply::Okay => out.extend_from_slice(b"ok")?,
         Reply::Granted(grant) => put_numbered(alloc, &mut out, b"granted", *grant)?,
         Reply::Busy(grant) => put_numbered(alloc, &mut out, b"busy", *grant)?,
+        Reply::Stamped(digest) => {
+            out.extend_from_slice(b"stamped")?;
+            put_hex(alloc, &mut out, digest)?;
+        }
         Reply::Targets(targets) => {
             out.extend_from_slice(b"targets")?;
             put_names(&mut out, names, targets)?;

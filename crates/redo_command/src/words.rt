@@ -1,10 +1,11 @@
 ghost use Rattle.std.specs.Prelude.{◌≡◌, ◌≢◌, ◌∷◌, [], MatchOption, not, ◌<◌, map, length, IfOk, Ok, true, ◌==◌};
 ghost use Rattle.std.specs.List.{slice_split, list_any};
 ghost use Rattle.redo_names.specs.Names.{is_name as name_test, text_at, Extends};
-ghost use Rattle.redo_command.specs.Reading.{Reads, name_in, stamp_in, stamp_or_none_in, added, words_of, is_text_byte};
+ghost use Rattle.redo_command.specs.Reading.{Reads, name_in, file_stamp_in, file_stamp_or_none_in, content_in, added, words_of, is_text_byte};
 
 use crate::fault::{LineFault, Unread};
 use crate::stamp::FileStamp;
+use hex::FromHexError;
 use redo_names::{Names, NamesFault, is_name};
 use std::alloc::{AllocError, Global};
 
@@ -21,8 +22,8 @@ pub(crate) fn name_of(word: &[u8]) -> Result<&[u8], Unread>
 }
 
 /// The stamp that a word is.
-pub(crate) fn stamp_of(word: &[u8]) -> Result<FileStamp, Unread>
-    ensures { Reads (λ stamp. stamp) result (stamp_in word.now) }
+pub(crate) fn file_stamp_of(word: &[u8]) -> Result<FileStamp, Unread>
+    ensures { Reads (λ stamp. stamp) result (file_stamp_in word.now) }
 {
     match FileStamp::new(word) {
         Some(stamp) => Ok(stamp),
@@ -31,14 +32,32 @@ pub(crate) fn stamp_of(word: &[u8]) -> Result<FileStamp, Unread>
 }
 
 /// The stamp that a word is, or none for `-`.
-pub(crate) fn stamp_or_none_of(word: &[u8]) -> Result<Option<FileStamp>, Unread>
-    ensures { Reads (λ stamp. stamp) result (stamp_or_none_in word.now) }
+pub(crate) fn file_stamp_or_none_of(word: &[u8]) -> Result<Option<FileStamp>, Unread>
+    ensures { Reads (λ stamp. stamp) result (file_stamp_or_none_in word.now) }
 {
     if word == b"-".as_slice() {
         return Ok(None);
     }
-    let stamp = stamp_of(word)?;
+    let stamp = file_stamp_of(word)?;
     Ok(Some(stamp))
+}
+
+/// The bytes of the content that a word is.
+pub(crate) fn content_of(alloc: Global, word: &[u8]) -> Result<Vec<u8>, Unread>
+    ensures { Reads (λ content. content.items) result (content_in word.now) }
+{
+    if word == b"-".as_slice() {
+        return Ok(Vec::new(alloc));
+    }
+    let content = match hex::decode(alloc, word) {
+        Ok(content) => content,
+        Err(FromHexError::OutOfMemory) => return Err(Unread::Memory),
+        Err(_) => return Err(Unread::Fault(LineFault::BadHex)),
+    };
+    if content.is_empty() {
+        return Err(Unread::Fault(LineFault::BadHex));
+    }
+    Ok(content)
 }
 
 /// The number of a name, which is added if it is new.

@@ -29,11 +29,11 @@ target_state_of Built = states.Built
 target_state_of Failed = states.Failed
 
 abbrev pub cell_of : Cell → states.Cell
-cell_of c = record { file = c.file; state = target_state_of c.state; builds = c.builds; done = c.done; digest = None }
+cell_of c = record { file = c.file; state = target_state_of c.state; builds = c.builds; done = c.done; digest = c.digest }
 
 -- a name of which nothing was said
 abbrev pub blank : Cell
-blank = record { file = None; state = Idle; builds = 0; done = None }
+blank = record { file = None; state = Idle; builds = 0; done = None; digest = None }
 
 abbrev pub records_of : Tables → states.Records ℕ
 records_of tables = record { cell = λ n. cell_of (slice_index_or tables.cells n blank); rows = states.no_rows }

@@ -1,4 +1,5 @@
 use redo_command::FileStamp;
+use sha1::DIGEST_LEN;
 
 /// How far a name has come.
 #[derive(Clone, Copy, Debug, PartialEq, Eq)]
@@ -16,4 +17,5 @@ pub struct Cell {
     pub state: TargetState,
     pub builds: u32,
     pub done: Option<FileStamp>,
+    pub digest: Option<[u8; DIGEST_LEN]>,
 }

@@ -10,6 +10,7 @@ use crate::cell::{Cell, TargetState};
 use crate::sorted::sorted_numbers;
 use redo_command::{Command, FileStamp, Refusal, Reply};
 use redo_names::Names;
+use sha1::Sha1;
 use std::alloc::{AllocError, Global};
 use std::marker::Model;
 
@@ -40,6 +41,7 @@ const BLANK: Cell = Cell {
     state: TargetState::Idle,
     builds: 0,
     done: None,
+    digest: None,
 };
 
 impl Redo {
@@ -145,20 +147,21 @@ impl Redo {
         ensures count { count_of self.new ≡ count_of self.old }
         ensures order { order_of self.new ≡ order_of self.old }
     {
-        match *command {
+        match command {
             Command::File(n, stamp) => {
-                self.set_file(n, Some(stamp));
+                self.set_file(*n, Some(*stamp));
                 Reply::Okay
             }
             Command::Gone(n) => {
-                self.set_file(n, None);
+                self.set_file(*n, None);
                 Reply::Okay
             }
-            Command::Lock(t) => self.lock(session, t),
-            Command::Unlock(t) => self.unlock(session, t),
-            Command::Start(t) => self.start(session, t),
-            Command::Done(t, stamp) => self.done(session, t, stamp),
-            Command::Failed(t) => self.fail(session, t),
+            Command::Lock(t) => self.lock(session, *t),
+            Command::Unlock(t) => self.unlock(session, *t),
+            Command::Start(t) => self.start(session, *t),
+            Command::Stamp(t, content) => self.stamp(session, *t, content),
+            Command::Done(t, stamp) => self.done(session, *t, *stamp),
+            Command::Failed(t) => self.fail(session, *t),
             Command::Targets => Reply::Targets(listed),
         }
     }
@@ -246,7 +249,9 @@ impl Redo {
         ensures count { count_of self.new ≡ count_of self.old }
         ensures order { order_of self.new ≡ order_of self.old }
     {
-        self.cells[t as usize].state = TargetState::Building(session);
+        let cell = &mut self.cells[t as usize];
+        cell.state = TargetState::Building(session);
+        cell.digest = None;
     }
 
     fn start(&mut self, session: u8, t: u32) -> Reply
@@ -277,6 +282,23 @@ impl Redo {
         }
     }
 
+    fn stamp(&mut self, session: u8, t: u32, content: &[u8]) -> Reply
+        requires number { t < count_of self.old }
+        ensures answers { Answers (naming_of self.old) (state_of self.old) session (commands.Stamp t content.now) (reply_of result) }
+        ensures after { state_of self.new ≡ after (naming_of self.old) (state_of self.old) session (commands.Stamp t content.now) }
+        ensures below { IsReplyBelow (count_of self.old) (reply_of result) }
+        ensures calls { calls_of self.new ≡ calls_of self.old }
+        ensures count { count_of self.new ≡ count_of self.old }
+        ensures order { order_of self.new ≡ order_of self.old }
+    {
+        if !self.is_building(session, t) {
+            return Reply::Refused(Refusal::NotBuilding);
+        }
+        let digest = Sha1::digest(content);
+        self.cells[t as usize].digest = Some(digest);
+        Reply::Stamped(digest)
+    }
+
     fn finish(&mut self, t: u32, stamp: Option<FileStamp>)
         requires number { t < count_of self.old }
         requires room { HasRoom self.old }
@@ -287,12 +309,14 @@ impl Redo {
         ensures order { order_of self.new ≡ order_of self.old }
     {
         let builds = self.cells[t as usize].builds + 1;
+        let digest = self.cells[t as usize].digest;
         let file = stamp;
         self.cells[t as usize] = Cell {
             file,
             state: TargetState::Built,
             builds,
             done: stamp,
+            digest,
         };
     }
 

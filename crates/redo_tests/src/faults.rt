@@ -47,9 +47,13 @@ fn faulty_lines<R: Abort + AllocGlobal>(rt: &R) -> Result<(), Fail> {
         ("build T", LineFault::UnknownCommand),
         ("Lock a", LineFault::UnknownCommand),
         (" lock a", LineFault::UnknownCommand),
-        ("stamp T 61", LineFault::UnknownCommand),
         ("file a -", LineFault::BadStamp),
         ("done a =>", LineFault::BadStamp),
+        ("stamp T 6", LineFault::BadHex),
+        ("stamp T 6g", LineFault::BadHex),
+        ("stamp T ", LineFault::BadHex),
+        ("stamp - 61", LineFault::BadName),
+        ("stamp T", LineFault::WrongWords),
     ] {
         let fault = fault_after_targets(alloc, line.as_bytes())?;
         assert_eq!(rt; fault, Some((2, want)), "{line:?}");

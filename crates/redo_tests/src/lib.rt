@@ -4,11 +4,15 @@
 #[cfg(test)]
 mod devices;
 #[cfg(test)]
+mod digests;
+#[cfg(test)]
 mod faults;
 #[cfg(test)]
 mod limits;
 #[cfg(test)]
 mod names;
+#[cfg(test)]
+mod records;
 #[cfg(test)]
 mod refusals;
 #[cfg(test)]

@@ -1,6 +1,6 @@
 //! The greatest sizes that are accepted, and the next.
 use crate::faults::{fault_after_targets, fault_of};
-use redo_command::{LineFault, Watched, read_script};
+use redo_command::{Command, LineFault, Watched, read_script};
 use redo_names::Names;
 use redo_session::{TextFault, run_texts};
 use std::alloc::{AllocError, Global};
@@ -77,6 +77,23 @@ fn sessions<R: Abort + AllocGlobal>(rt: &R) -> Result<(), Fail> {
     let run = run_texts(alloc, &mut files, &mut Watched::new(&mut out));
     assert!(rt; matches!(run, Err(TextFault::NoSession)), "{run:?}");
     assert!(rt; out.is_empty());
+    Ok(())
+}
+
+#[test]
+fn longest_stamp(rt: HostRuntime) -> Result<(), Fail> {
+    let alloc = rt.alloc();
+    let mut names = Names::new(alloc);
+    let line = line_of(alloc, "stamp T ", 8184)?;
+    let script = read_script(alloc, line.as_slice(), &mut names)?;
+    let content = Vec::from_elem(alloc, 0xaa, 4092)?;
+    assert!(rt;
+        matches!(script.commands(), [Command::Stamp(0, read)] if read.as_slice() == content.as_slice()),
+        "{script:?}"
+    );
+    let line = line_of(alloc, "stamp T ", 8186)?;
+    let fault = fault_of(read_script(alloc, line.as_slice(), &mut names))?;
+    assert_eq!(rt; fault, Some((1, LineFault::LineTooLong)));
     Ok(())
 }
 

@@ -54,6 +54,7 @@ fn answers(rt: &impl Abort, alloc: Global, redo: &mut Redo, names: &mut Names) -
     for (session, line, want) in [
         (0, "start T", Answer::Refused(Refusal::NotLocked)),
         (0, "lock T", Answer::Granted(1)),
+        (0, "stamp T 61", Answer::Refused(Refusal::NotBuilding)),
         (1, "start T", Answer::Refused(Refusal::NotLocked)),
         (0, "start T", Answer::Okay),
         (0, "start T", Answer::Refused(Refusal::Building)),
@@ -61,6 +62,7 @@ fn answers(rt: &impl Abort, alloc: Global, redo: &mut Redo, names: &mut Names) -
         (1, "unlock T", Answer::Refused(Refusal::NotLocked)),
         (0, "file x 1", Answer::Okay),
         (1, "done T 5", Answer::Refused(Refusal::NotBuilding)),
+        (1, "stamp T 61", Answer::Refused(Refusal::NotBuilding)),
         (1, "lock T", Answer::Busy(1)),
         (0, "done T 5", Answer::Okay),
         (0, "unlock T", Answer::Okay),
@@ -82,6 +84,6 @@ fn order_of_refusals(rt: HostRuntime) -> Result<(), Fail> {
     assert_eq!(rt; names.len(), 2);
     let mut redo = Redo::new(alloc, &names)?;
     answers(&rt, alloc, &mut redo, &mut names)?;
-    assert_eq!(rt; redo.calls(), 14);
+    assert_eq!(rt; redo.calls(), 16);
     Ok(())
 }

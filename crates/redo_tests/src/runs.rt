@@ -98,3 +98,63 @@ fn sorted_by_bytes(rt: HostRuntime) -> Result<(), Fail> {
     assert_eq!(rt; text.as_slice(), want.as_slice());
     Ok(())
 }
+
+#[test]
+fn empty_content(rt: HostRuntime) -> Result<(), Fail> {
+    let want = b"history 3\n\
+        1 lock T => granted 1\n\
+        1 start T => ok\n\
+        1 stamp T - => stamped da39a3ee5e6b4b0d3255bfef95601890afd80709\n\
+        session 1 3\n\
+        lock T => granted 1\n\
+        start T => ok\n\
+        stamp T - => stamped da39a3ee5e6b4b0d3255bfef95601890afd80709\n";
+    let text = run_of(rt.alloc(), b"lock T\nstart T\nstamp T -\n")?;
+    assert_eq!(rt; text.as_slice(), want.as_slice());
+    Ok(())
+}
+
+#[test]
+fn content_stamps(rt: HostRuntime) -> Result<(), Fail> {
+    let file = b"lock lib\nstart lib\nstamp lib 616263\ndone lib 1\n\
+        start lib\nstamp lib 616263\ndone lib 2\n";
+    let want = b"history 7\n\
+        1 lock lib => granted 1\n\
+        1 start lib => ok\n\
+        1 stamp lib 616263 => stamped a9993e364706816aba3e25717850c26c9cd0d89d\n\
+        1 done lib 1 => ok\n\
+        1 start lib => ok\n\
+        1 stamp lib 616263 => stamped a9993e364706816aba3e25717850c26c9cd0d89d\n\
+        1 done lib 2 => ok\n\
+        session 1 7\n\
+        lock lib => granted 1\n\
+        start lib => ok\n\
+        stamp lib 616263 => stamped a9993e364706816aba3e25717850c26c9cd0d89d\n\
+        done lib 1 => ok\n\
+        start lib => ok\n\
+        stamp lib 616263 => stamped a9993e364706816aba3e25717850c26c9cd0d89d\n\
+        done lib 2 => ok\n";
+    let text = run_of(rt.alloc(), file)?;
+    assert_eq!(rt; text.as_slice(), want.as_slice());
+    Ok(())
+}
+
+/// The 56 bytes that the standard hashes, in digits of upper case.
+#[test]
+fn content_in_upper_case(rt: HostRuntime) -> Result<(), Fail> {
+    let file = b"lock T\nstart T\n\
+        stamp T 6162636462636465636465666465666765666768666768696768696A68696A6B696A6B6C6A6B6C6D6B6C6D6E6C6D6E6F6D6E6F706E6F7071\n";
+    let want = b"history 3\n\
+        1 lock T => granted 1\n\
+        1 start T => ok\n\
+        1 stamp T 6162636462636465636465666465666765666768666768696768696a68696a6b696a6b6c6a6b6c6d6b6c6d6e6c6d6e6f6d6e6f706e6f7071 \
+        => stamped 84983e441c3bd26ebaae4aa1f95129e5e54670f1\n\
+        session 1 3\n\
+        lock T => granted 1\n\
+        start T => ok\n\
+        stamp T 6162636462636465636465666465666765666768666768696768696a68696a6b696a6b6c6a6b6c6d6b6c6d6e6c6d6e6f6d6e6f706e6f7071 \
+        => stamped 84983e441c3bd26ebaae4aa1f95129e5e54670f1\n";
+    let text = run_of(rt.alloc(), file)?;
+    assert_eq!(rt; text.as_slice(), want.as_slice());
+    Ok(())
+}

@@ -1,52 +1,61 @@
 //! Texts of commands and replies.
-ghost use Rattle.std.specs.Prelude.{length};
 ghost use Rattle.redo_model.specs.Renaming.{IsBelow, IsReplyBelow};
 ghost use Rattle.redo_command.specs.Meaning.{command_of, reply_of};
 
-use redo_command::{Command, FileStamp, Refusal, Reply, command_text, read_command, reply_text};
+use redo_command::{
+    Command, FileStamp, Kind, Refusal, Reply, command_text, read_command, reply_text,
+};
 use redo_names::Names;
-use std::alloc::{AllocError, Global};
+use std::alloc::Global;
 use std::process::Abort;
 use std::test::Fail;
 
-/// Whether the command has this text.
-fn is_printed(
-    alloc: Global,
-    names: &Names,
-    command: &Command,
-    want: &str,
-) -> Result<bool, AllocError>
-    requires { IsBelow (length names.now) (command_of command.now) }
+/// Checks the text of a command on the one name `a.o`.
+fn check_command(rt: &impl Abort, alloc: Global, command: Command, want: &str) -> Result<(), Fail>
+    requires { IsBelow 1 (command_of command) }
 {
-    let text = command_text(alloc, command, names)?;
-    Ok(text.as_slice() == want.as_bytes())
+    let mut names = Names::new(alloc);
+    let _ = read_command(alloc, b"lock a.o", &mut names)?;
+    assert_eq!(rt; names.len(), 1);
+    let text = command_text(alloc, &command, &names)?;
+    assert_eq!(rt; text.as_slice(), want.as_bytes());
+    Ok(())
 }
 
-/// Whether the reply has this text.
-fn is_answered(alloc: Global, names: &Names, reply: &Reply, want: &str) -> Result<bool, AllocError>
-    requires { IsReplyBelow (length names.now) (reply_of reply.now) }
+/// Checks the text of a reply over the two names `a` and `b`.
+fn check_reply(rt: &impl Abort, alloc: Global, reply: Reply, want: &str) -> Result<(), Fail>
+    requires { IsReplyBelow 2 (reply_of reply) }
 {
-    let text = reply_text(alloc, reply, names)?;
-    Ok(text.as_slice() == want.as_bytes())
+    let mut names = Names::new(alloc);
+    let _ = read_command(alloc, b"lock a", &mut names)?;
+    let _ = read_command(alloc, b"lock b", &mut names)?;
+    assert_eq!(rt; names.len(), 2);
+    let text = reply_text(alloc, &reply, &names)?;
+    assert_eq!(rt; text.as_slice(), want.as_bytes());
+    Ok(())
 }
 
 /// Each form has its text.
 fn commands_print<R: Abort + AllocGlobal>(rt: &R) -> Result<(), Fail> {
     let alloc = rt.alloc();
-    let mut names = Names::new(alloc);
-    let _ = read_command(alloc, b"lock a.o", &mut names)?;
-    assert_eq!(rt; names.len(), 1);
     let stamp = FileStamp::new(b"10").ok_or("a stamp")?;
-    assert!(rt; is_printed(alloc, &names, &Command::File(0, stamp), "file a.o 10")?);
-    assert!(rt; is_printed(alloc, &names, &Command::Gone(0), "gone a.o")?);
-    assert!(rt; is_printed(alloc, &names, &Command::Lock(0), "lock a.o")?);
-    assert!(rt; is_printed(alloc, &names, &Command::Unlock(0), "unlock a.o")?);
-    assert!(rt; is_printed(alloc, &names, &Command::Start(0), "start a.o")?);
-    assert!(rt; is_printed(alloc, &names, &Command::Done(0, Some(stamp)), "done a.o 10")?);
-    assert!(rt; is_printed(alloc, &names, &Command::Done(0, None), "done a.o -")?);
-    assert!(rt; is_printed(alloc, &names, &Command::Failed(0), "failed a.o")?);
-    assert!(rt; is_printed(alloc, &names, &Command::Targets, "targets")?);
-    Ok(())
+    check_command(rt, alloc, Command::File(0, stamp), "file a.o 10")?;
+    check_command(rt, alloc, Command::Gone(0), "gone a.o")?;
+    check_command(rt, alloc, Command::Lock(0), "lock a.o")?;
+    check_command(rt, alloc, Command::Unlock(0), "unlock a.o")?;
+    check_command(rt, alloc, Command::Start(0), "start a.o")?;
+    check_command(rt, alloc, Command::Done(0, Some(stamp)), "done a.o 10")?;
+    check_command(rt, alloc, Command::Done(0, None), "done a.o -")?;
+    check_command(rt, alloc, Command::Failed(0), "failed a.o")?;
+    check_command(rt, alloc, Command::Targets, "targets")
+}
+
+/// Content is printed in digits of lower case.
+fn contents_print<R: Abort + AllocGlobal>(rt: &R) -> Result<(), Fail> {
+    let alloc = rt.alloc();
+    let content = Vec::from_slice(alloc, b"JZ")?;
+    check_command(rt, alloc, Command::Stamp(0, content), "stamp a.o 4a5a")?;
+    check_command(rt, alloc, Command::Stamp(0, Vec::new(alloc)), "stamp a.o -")
 }
 
 /// What a command's text says is that command.
@@ -59,6 +68,8 @@ fn commands_read_back<R: Abort + AllocGlobal>(rt: &R) -> Result<(), Fail> {
         "lock c",
         "unlock a.o",
         "start d",
+        "stamp d 00abff",
+        "stamp d -",
         "done d 10",
         "done d -",
         "failed e",
@@ -67,6 +78,29 @@ fn commands_read_back<R: Abort + AllocGlobal>(rt: &R) -> Result<(), Fail> {
         let command = read_command(alloc, line.as_bytes(), &mut names)?;
         let text = command_text(alloc, &command, &names)?;
         assert_eq!(rt; text.as_slice(), line.as_bytes());
+        let text = command_text(alloc, &command.copy(alloc)?, &names)?;
+        assert_eq!(rt; text.as_slice(), line.as_bytes());
+    }
+    Ok(())
+}
+
+/// Each form has its kind.
+fn commands_have_kinds<R: Abort + AllocGlobal>(rt: &R) -> Result<(), Fail> {
+    let alloc = rt.alloc();
+    let mut names = Names::new(alloc);
+    for (line, want) in [
+        ("file a 10", Kind::File),
+        ("gone a", Kind::Gone),
+        ("lock a", Kind::Lock),
+        ("unlock a", Kind::Unlock),
+        ("start a", Kind::Start),
+        ("stamp a 61", Kind::Stamp),
+        ("done a -", Kind::Done),
+        ("failed a", Kind::Failed),
+        ("targets", Kind::Targets),
+    ] {
+        let command = read_command(alloc, line.as_bytes(), &mut names)?;
+        assert_eq!(rt; command.kind(), want, "{line:?}");
     }
     Ok(())
 }
@@ -74,47 +108,34 @@ fn commands_read_back<R: Abort + AllocGlobal>(rt: &R) -> Result<(), Fail> {
 /// Each reply has its text.
 fn replies_print<R: Abort + AllocGlobal>(rt: &R) -> Result<(), Fail> {
     let alloc = rt.alloc();
-    let mut names = Names::new(alloc);
-    let _ = read_command(alloc, b"lock a", &mut names)?;
-    let _ = read_command(alloc, b"lock b", &mut names)?;
-    assert_eq!(rt; names.len(), 2);
-    let none = Reply::Targets(Vec::new(alloc));
-    assert!(rt; is_answered(alloc, &names, &none, "targets")?);
-    let both = Reply::Targets(vec![in alloc; 0, 1]?);
-    assert!(rt; is_answered(alloc, &names, &both, "targets a b")?);
-    assert!(rt; is_answered(alloc, &names, &Reply::Okay, "ok")?);
-    assert!(rt; is_answered(alloc, &names, &Reply::Granted(3), "granted 3")?);
-    assert!(rt; is_answered(alloc, &names, &Reply::Busy(4294967295), "busy 4294967295")?);
-    assert!(rt;
-        is_answered(
-            alloc,
-            &names,
-            &Reply::Refused(Refusal::NotLocked),
-            "refused not-locked"
-        )?
-    );
-    assert!(rt;
-        is_answered(
-            alloc,
-            &names,
-            &Reply::Refused(Refusal::Building),
-            "refused building"
-        )?
-    );
-    assert!(rt;
-        is_answered(
-            alloc,
-            &names,
-            &Reply::Refused(Refusal::NotBuilding),
-            "refused not-building"
-        )?
-    );
-    Ok(())
+    check_reply(rt, alloc, Reply::Okay, "ok")?;
+    check_reply(rt, alloc, Reply::Granted(3), "granted 3")?;
+    check_reply(rt, alloc, Reply::Busy(4294967295), "busy 4294967295")?;
+    let digest = *b"abcdefghijklmnopqrst";
+    let want = "stamped 6162636465666768696a6b6c6d6e6f7071727374";
+    check_reply(rt, alloc, Reply::Stamped(digest), want)?;
+    check_reply(rt, alloc, Reply::Targets(Vec::new(alloc)), "targets")?;
+    let both = vec![in alloc; 0, 1]?;
+    check_reply(rt, alloc, Reply::Targets(both), "targets a b")
+}
+
+/// Each refusal has its text.
+fn refusals_print<R: Abort + AllocGlobal>(rt: &R) -> Result<(), Fail> {
+    let alloc = rt.alloc();
+    let refused = Reply::Refused(Refusal::NotLocked);
+    check_reply(rt, alloc, refused, "refused not-locked")?;
+    let refused = Reply::Refused(Refusal::Building);
+    check_reply(rt, alloc, refused, "refused building")?;
+    let refused = Reply::Refused(Refusal::NotBuilding);
+    check_reply(rt, alloc, refused, "refused not-building")
 }
 
 #[test]
 fn texts(rt: HostRuntime) -> Result<(), Fail> {
     commands_print(&rt)?;
+    contents_print(&rt)?;
     commands_read_back(&rt)?;
-    replies_print(&rt)
+    commands_have_kinds(&rt)?;
+    replies_print(&rt)?;
+    refusals_print(&rt)
 }

@@ -7,4 +7,4 @@ use Rattle.redo_store.proofs.redo.Redo.begin.Goals as goal
 pub invariant_of-self : goal.invariant_of-self
 invariant_of-self c =
     let below : c.args.t < count_of (tables_of c.self.inside) = subst (λ (t : Tables). c.args.t < count_of t) (sym c.self.view_is) c.requires in
-    AreTables-set_cell (tables_of c.self.inside) c.args.t _ c.self.invariant (few_at (tables_of c.self.inside) c.args.t c.index_mut.result.now c.self.invariant below c.index_mut.ensures.value)
+    AreTables-set_cell (tables_of c.self.inside) c.args.t _ c.self.invariant (few_at (tables_of c.self.inside) c.args.t c.index_mut-cell.result.now c.self.invariant below c.index_mut-cell.ensures.value)

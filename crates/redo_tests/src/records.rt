@@ -1,0 +1,31 @@
+//! What is known of each name.
+use redo_command::FileStamp;
+use redo_records::{Mark, Records, digest_of};
+use std::test::Fail;
+
+const DIGEST_OF_ABC: [u8; 20] = [
+    0xa9, 0x99, 0x3e, 0x36, 0x47, 0x06, 0x81, 0x6a, 0xba, 0x3e, 0x25, 0x71, 0x78, 0x50, 0xc2, 0x6c,
+    0x9c, 0xd0, 0xd8, 0x9d,
+];
+
+/// A mark goes with the file, the state and the builds of its name.
+#[test]
+fn marks(rt: HostRuntime) -> Result<(), Fail> {
+    let mut records = Records::new(rt.alloc(), 2)?;
+    assert_eq!(rt; records.mark(1), Mark::Absent);
+    records.set_file(1, FileStamp::new(b"7"));
+    assert_eq!(rt; Some(records.mark(1)), FileStamp::new(b"7").map(Mark::File));
+    records.start(0, 0);
+    assert_eq!(rt; records.mark(0), Mark::Pending);
+    records.stamp(0, digest_of(b"abc"));
+    records.done(0, FileStamp::new(b"5"));
+    assert_eq!(rt; records.mark(0), Mark::Digest(DIGEST_OF_ABC));
+    records.start(0, 0);
+    records.done(0, FileStamp::new(b"5"));
+    assert_eq!(rt; records.mark(0), Mark::Builds(2));
+    assert!(rt; !records.changed(0));
+    records.set_file(0, FileStamp::new(b"6"));
+    assert!(rt; records.changed(0));
+    assert_eq!(rt; records.mark(0), Mark::Builds(2));
+    Ok(())
+}
