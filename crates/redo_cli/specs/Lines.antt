@@ -3,9 +3,15 @@ use Rattle.std.specs.Prelude.{ℕ, List, ◌++◌, Option, Some, None, Result, O
 use Rattle.std.specs.declared.alloc.Global.{Global}
 use Rattle.redo_command.specs.declared.fault.LineFault.{LineFault}
 use Rattle.redo_command.specs.declared.fault.LineFault.TheVariants.{LineTooLong, BadByte, UnknownCommand, WrongWords, BadName, BadStamp, BadHex, TooManyLines, TooManyNames}
+use Rattle.redo_session.specs.declared.fault.TextFault.{TextFault}
 use Rattle.redo_session.specs.declared.fault.TextFault.TheVariants as texts
 use Rattle.redo_cli.specs.declared.fault.Fault.{Fault}
 use Rattle.redo_cli.specs.declared.fault.Fault.TheVariants.{Memory, Usage, Text}
+
+-- a run's fault as the program's: want of memory is its own
+abbrev pub run_fault : TextFault → Fault
+run_fault texts.Memory = Memory
+run_fault fault = Text fault
 
 -- the word for a line's fault
 abbrev pub word_of : LineFault → List ℕ

@@ -14,6 +14,11 @@ pub enum Fault {
 }
 
 impl From<TextFault> for Fault {
+    ghost use Rattle.std.specs.Prelude.{◌≡◌};
+    ghost use Rattle.redo_cli.specs.Lines.{run_fault};
+
+    ghost from_gives = { λ run fault. fault ≡ run_fault run };
+
     fn from(fault: TextFault) -> Fault {
         match fault {
             TextFault::Memory => Fault::Memory,
