@@ -1,6 +1,7 @@
 //! Commands and replies: what they are, how they are read and written; and whole reads and writes.
 #![tactic(auto)]
 
+mod cases;
 mod command;
 mod fault;
 mod forms;
