@@ -1,5 +1,5 @@
 -- What is read as a form is what the form says.
-use Rattle.std.proofs.Common.{◌≡◌, ◌≤◌, Bool, true, false, cond, List, [], ◌∷◌, length, Option, Some, None, Result, Ok, refl, sym, subst, inl, inr}
+use Rattle.std.proofs.Common.{◌≡◌, ◌≤◌, Bool, true, false, cond, List, [], ◌∷◌, length, Option, Some, None, Result, Ok, refl, sym, subst}
 use Rattle.std.specs.Prelude.{codes, bytes_eq, IfSome, IsTrue}
 use Rattle.std.proofs.lemmas.Slice.Eq.{bytes_eq-Decides}
 use Rattle.redo_names.specs.declared.names.TheConstants.{MOST_NAMES}
@@ -8,11 +8,13 @@ use Rattle.redo_model.specs.Names.{Text}
 use Rattle.redo_model.specs.Command.{Command, File, Gone, Lock, Unlock, Start, Stamp, Done, Failed, Targets, names_in}
 use Rattle.redo_command.specs.declared.fault.LineFault.{LineFault}
 use Rattle.redo_command.specs.declared.fault.LineFault.TheVariants.{BadName, BadStamp}
+use Rattle.redo_command.specs.declared.kind.Kind.{Kind}
+use Rattle.redo_command.specs.declared.kind.Kind.TheVariants as kinds
 use Rattle.redo_command.specs.Stamp.{is_stamp}
-use Rattle.redo_command.specs.Texts.{spaced, stamp_word}
+use Rattle.redo_command.specs.Texts.{spaced, stamp_word, word_of}
 use Rattle.redo_command.specs.Grammar.{HasForm, IsSpelled, AddsNames}
-use Rattle.redo_command.specs.Reading.{◌>>=◌, name_in, file_stamp_in, file_stamp_or_none_in, content_in, added, one_name_in, file_in, stamp_in, done_in, no_words_in, words_in, Reading}
-use Rattle.redo_command.proofs.Steps.{bind_ok, guard_ok, by_word, read, same_read}
+use Rattle.redo_command.specs.Reading.{◌>>=◌, name_in, file_stamp_in, file_stamp_or_none_in, content_in, added, one_name_in, file_in, stamp_in, done_in, no_words_in, all_kinds, kind_named, form_in, words_in}
+use Rattle.redo_command.proofs.Steps.{bind_ok, guard_ok, found_passes, read, same_read}
 use Rattle.redo_command.proofs.Added.{one_added}
 use Rattle.redo_command.proofs.Contents.{content_says}
 
@@ -122,27 +124,29 @@ unfolding no_words_in
 targets_says names [] x few e = says_read names (codes "targets") [] (Targets, names) x (record { form = tt; spelled = refl; adds = (refl, few) }) e
 targets_says names (w ∷ ws) x few e = absurd cc
 
--- where the first word is this one, and where it is another
-first_word : (names : List Text) (word this : Text) (args : List Text) (x : Command Text × List Text) (r s : Reading) → cond (bytes_eq word this) r s ≡ Ok x
-    → (r ≡ Ok x → SaysRead names this args x) → (s ≡ Ok x → SaysRead names word args x) → SaysRead names word args x
-first_word names word this args x r s e here other = elim (by_word word this r s (Ok x) e) [
-  | inl h ↦ subst (λ (w : Text). SaysRead names w args x) (sym h.0) (here h.1)
-  | inr h ↦ other h
-]
+-- what is read as the form of a kind
+form_says : (kind : Kind) (names args : List Text) (x : Command Text × List Text) → length names ≤ MOST_NAMES → form_in (Some kind) names args ≡ Ok x → SaysRead names (word_of kind) args x
+unfolding form_in
+form_says kinds.File = file_says
+form_says kinds.Gone = one_name_says Gone (codes "gone") (λ n good. good) (λ n. refl) (λ n. refl)
+form_says kinds.Lock = one_name_says Lock (codes "lock") (λ n good. good) (λ n. refl) (λ n. refl)
+form_says kinds.Unlock = one_name_says Unlock (codes "unlock") (λ n good. good) (λ n. refl) (λ n. refl)
+form_says kinds.Start = one_name_says Start (codes "start") (λ n good. good) (λ n. refl) (λ n. refl)
+form_says kinds.Stamp = stamp_says
+form_says kinds.Done = done_says
+form_says kinds.Failed = one_name_says Failed (codes "failed") (λ n good. good) (λ n. refl) (λ n. refl)
+form_says kinds.Targets = targets_says
+
+-- the word is that of the kind that it names
+word_is : (word : Text) (kind : Kind) → kind_named word ≡ Some kind → word ≡ word_of kind
+word_is word kind named = (bytes_eq-Decides word (word_of kind)).0 (found_passes (λ k. bytes_eq word (word_of k)) all_kinds kind named)
 
 -- what is read by the first word is what the words say
 pub words_say : (names : List Text) (word : Text) (args : List Text) (command : Command Text) (after : List Text) → length names ≤ MOST_NAMES → words_in names (word ∷ args) ≡ Ok (command, after) → SaysCommand names word args command after
-unfolding words_in
-words_say names word args command after few e =
-    let x : Command Text × List Text = (command, after) in
-    let one : (form : Text → Command Text) (this : Text) → ((n : Text) → IsTrue (is_name n) → HasForm (form n)) → ((n : Text) → IsSpelled (spaced this (n ∷ [])) (form n)) → ((n : Text) → names_in (form n) ≡ n ∷ []) → one_name_in form names args ≡ Ok x → SaysRead names this args x
-    = λ form this has spelled own h. one_name_says form this has spelled own names args x few h in
-    first_word names word (codes "file") args x _ _ e (file_says names args x few) (λ e2.
-    first_word names word (codes "gone") args x _ _ e2 (one Gone (codes "gone") (λ n good. good) (λ n. refl) (λ n. refl)) (λ e3.
-    first_word names word (codes "lock") args x _ _ e3 (one Lock (codes "lock") (λ n good. good) (λ n. refl) (λ n. refl)) (λ e4.
-    first_word names word (codes "unlock") args x _ _ e4 (one Unlock (codes "unlock") (λ n good. good) (λ n. refl) (λ n. refl)) (λ e5.
-    first_word names word (codes "start") args x _ _ e5 (one Start (codes "start") (λ n good. good) (λ n. refl) (λ n. refl)) (λ e6.
-    first_word names word (codes "stamp") args x _ _ e6 (stamp_says names args x few) (λ e7.
-    first_word names word (codes "done") args x _ _ e7 (done_says names args x few) (λ e8.
-    first_word names word (codes "failed") args x _ _ e8 (one Failed (codes "failed") (λ n good. good) (λ n. refl) (λ n. refl)) (λ e9.
-    first_word names word (codes "targets") args x _ _ e9 (targets_says names args x few) (λ e10. absurd cc)))))))))
+unfolding words_in form_in
+words_say names word args command after few e = by (kind_named word) refl e
+  where
+    by : (found : Option Kind) → kind_named word ≡ found → form_in found names args ≡ Ok (command, after) → SaysCommand names word args command after
+    by None named h = absurd cc
+    by (Some kind) named h =
+        subst (λ (w : Text). SaysRead names w args (command, after)) (sym (word_is word kind named)) (form_says kind names args (command, after) few h)

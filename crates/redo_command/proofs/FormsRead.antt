@@ -9,7 +9,7 @@ use Rattle.redo_model.specs.Command.{Command, File, Gone, Lock, Unlock, Start, I
 use Rattle.redo_command.specs.Stamp.{is_stamp}
 use Rattle.redo_command.specs.Texts.{spaced, stamp_word}
 use Rattle.redo_command.specs.Grammar.{HasForm, IsSpelled, IsContentWord, AddsNames}
-use Rattle.redo_command.specs.Reading.{file_stamp_or_none_in, one_name_in, file_in, stamp_in, done_in, no_words_in, words_in}
+use Rattle.redo_command.specs.Reading.{file_stamp_or_none_in, one_name_in, file_in, stamp_in, done_in, no_words_in, form_in, words_in}
 use Rattle.redo_command.proofs.Added.{one_fits}
 use Rattle.redo_command.proofs.Contents.{content_read, content_is_visible}
 use Rattle.redo_command.proofs.Spaced.{IsVisible, name_is_visible, stamp_is_visible, stamp_is_no_dash}
@@ -60,7 +60,7 @@ stamp_word_is_visible (Some s) known = stamp_is_visible s known
 
 -- each command is read from a line of it
 pub read_from_words : (names : List Text) (line : Text) (command : Command Text) (after : List Text) → HasForm command → IsSpelled line command → AddsNames names (command ∷ []) after → IsReadFrom names line command after
-unfolding words_in no_words_in
+unfolding words_in form_in no_words_in
 read_from_words names line (File n stamp) after form spelled adds = record {
   word = codes "file";
   args = n ∷ stamp ∷ [];

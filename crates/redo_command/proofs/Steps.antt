@@ -1,7 +1,6 @@
 -- What it takes that reading by steps comes to its end.
-use Rattle.std.proofs.Common.{◌≡◌, Bool, true, false, cond, ◌&&◌, List, Result, Ok, Err, refl, ◌⊎◌, inl, inr}
-use Rattle.std.specs.Prelude.{bytes_eq}
-use Rattle.std.proofs.lemmas.Slice.Eq.{bytes_eq-Decides}
+use Rattle.std.proofs.Common.{◌≡◌, Bool, true, false, cond, ◌&&◌, List, [], ◌∷◌, Some, Result, Ok, Err, refl}
+use Rattle.std.specs.List.{find}
 use Rattle.redo_model.specs.Names.{Text}
 use Rattle.redo_model.specs.Command.{Command}
 use Rattle.redo_command.specs.declared.fault.LineFault.{LineFault}
@@ -26,13 +25,14 @@ pub unless_ok : {A : Type 0} (b : Bool) (d : LineFault) (r : Result A LineFault)
 unless_ok true d r y e = absurd cc
 unless_ok false d r y e = (refl, e)
 
--- by whether the word is this one
-pub by_word : {R : Type 0} (word this : Text) (x y z : R) → cond (bytes_eq word this) x y ≡ z → ((word ≡ this) × (x ≡ z)) ⊎ (y ≡ z)
-by_word word this x y z e = by (bytes_eq word this) refl e
+-- what a search finds passes its test
+pub found_passes : {X : Type 0} (test : X → Bool) (xs : List X) (x : X) → find test xs ≡ Some x → test x ≡ true
+found_passes test [] x e = absurd cc
+found_passes test (y ∷ ys) x e = by (test y) refl e (found_passes test ys x)
   where
-    by : (b : Bool) → bytes_eq word this ≡ b → cond b x y ≡ z → ((word ≡ this) × (x ≡ z)) ⊎ (y ≡ z)
-    by true same h = inl ((bytes_eq-Decides word this).0 same, h)
-    by false same h = inr h
+    by : (b : Bool) → test y ≡ b → cond b (Some y) (find test ys) ≡ Some x → (find test ys ≡ Some x → test x ≡ true) → test x ≡ true
+    by true passes h later = cc
+    by false fails h later = later h
 
 -- the end of reading a line
 abbrev pub read : Command Text × List Text → Reading

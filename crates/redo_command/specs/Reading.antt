@@ -1,5 +1,5 @@
 -- Reading a line by steps: the first step that it fails is its fault.
-use Rattle.std.specs.Prelude.{◌≡◌, ℕ, ◌+◌, List, [], ◌∷◌, ◌++◌, length, Option, Some, None, Result, Ok, Err, Bool, not, ◌&&◌, nat_lt, nat_le, ◌==◌, if◌then◌else◌, codes, bytes_eq}
+use Rattle.std.specs.Prelude.{◌≡◌, ℕ, ◌+◌, List, [], ◌∷◌, ◌++◌, length, Option, Some, None, Result, Ok, Err, Bool, not, ◌&&◌, nat_lt, nat_le, ◌==◌, if◌then◌else◌, codes, bytes_eq, find}
 use Rattle.std.specs.List.{slice_split, list_any}
 use Rattle.hex.specs.Hex.{decode_of}
 use Rattle.hex.specs.declared.error.FromHexError.{FromHexError}
@@ -8,7 +8,10 @@ use Rattle.redo_names.specs.declared.names.TheConstants.{MOST_NAMES}
 use Rattle.redo_model.specs.Names.{Text}
 use Rattle.redo_model.specs.Command.{Command, File, Gone, Lock, Unlock, Start, Stamp, Done, Failed, Targets}
 use Rattle.redo_command.specs.declared.read.TheConstants.{LONGEST_LINE, MOST_COMMANDS}
+use Rattle.redo_command.specs.declared.kind.Kind.{Kind}
+use Rattle.redo_command.specs.declared.kind.Kind.TheVariants as kinds
 use Rattle.redo_command.specs.Stamp.{is_stamp}
+use Rattle.redo_command.specs.Texts.{word_of}
 use Rattle.redo_command.specs.Grammar.{is_skipped, lines_of, AreScriptLines}
 use Rattle.redo_command.specs.declared.fault.LineFault.{LineFault}
 use Rattle.redo_command.specs.declared.fault.LineFault.TheVariants.{LineTooLong, BadByte, UnknownCommand, WrongWords, BadName, BadStamp, BadHex, TooManyLines, TooManyNames}
@@ -94,20 +97,31 @@ unfoldable pub no_words_in : Command Text → List Text → List Text → Readin
 no_words_in form names [] = Ok (form, names)
 no_words_in form names (w ∷ ws) = Err WrongWords
 
+-- each kind of command
+abbrev pub all_kinds : List Kind
+all_kinds = kinds.File ∷ kinds.Gone ∷ kinds.Lock ∷ kinds.Unlock ∷ kinds.Start ∷ kinds.Stamp ∷ kinds.Done ∷ kinds.Failed ∷ kinds.Targets ∷ []
+
+-- the kind whose word this is
+abbrev pub kind_named : Text → Option Kind
+kind_named word = find (λ kind. bytes_eq word (word_of kind)) all_kinds
+
+-- the words after that of the kind, where there is one
+unfoldable pub form_in : Option Kind → List Text → List Text → Reading
+form_in None names args = Err UnknownCommand
+form_in (Some kinds.File) names args = file_in names args
+form_in (Some kinds.Gone) names args = one_name_in Gone names args
+form_in (Some kinds.Lock) names args = one_name_in Lock names args
+form_in (Some kinds.Unlock) names args = one_name_in Unlock names args
+form_in (Some kinds.Start) names args = one_name_in Start names args
+form_in (Some kinds.Stamp) names args = stamp_in names args
+form_in (Some kinds.Done) names args = done_in names args
+form_in (Some kinds.Failed) names args = one_name_in Failed names args
+form_in (Some kinds.Targets) names args = no_words_in Targets names args
+
 -- by the first word
 unfoldable pub words_in : List Text → List Text → Reading
 words_in names [] = Err UnknownCommand
-words_in names (word ∷ args) =
-    if bytes_eq word (codes "file") then file_in names args
-    else (if bytes_eq word (codes "gone") then one_name_in Gone names args
-    else (if bytes_eq word (codes "lock") then one_name_in Lock names args
-    else (if bytes_eq word (codes "unlock") then one_name_in Unlock names args
-    else (if bytes_eq word (codes "start") then one_name_in Start names args
-    else (if bytes_eq word (codes "stamp") then stamp_in names args
-    else (if bytes_eq word (codes "done") then done_in names args
-    else (if bytes_eq word (codes "failed") then one_name_in Failed names args
-    else (if bytes_eq word (codes "targets") then no_words_in Targets names args
-    else Err UnknownCommand))))))))
+words_in names (word ∷ args) = form_in (kind_named word) names args
 
 -- the pieces between single spaces
 abbrev pub words_of : Text → List Text

@@ -6,6 +6,8 @@ use Rattle.redo_model.specs.Names.{Text}
 use Rattle.redo_model.specs.Command.{Command, File, Gone, Lock, Unlock, Start, IfChange, IfCreate, Always, Stamp, Done, Failed, Ood, Targets, Sources}
 use Rattle.redo_model.specs.Reply.{Refusal, NotLocked, Building, NotBuilding, Itself, Exists, Reply, Okay, Granted, Busy, Stale, Stamped, Refused}
 use Rattle.redo_model.specs.Reply as replies
+use Rattle.redo_command.specs.declared.kind.Kind.{Kind}
+use Rattle.redo_command.specs.declared.kind.Kind.TheVariants as kinds
 
 -- a word with the space before it
 abbrev pub after_space : Text → Text
@@ -24,6 +26,18 @@ stamp_word (Some stamp) = stamp
 abbrev pub content_word : Text → Text
 content_word [] = codes "-"
 content_word (b ∷ bs) = encode_lower (b ∷ bs)
+
+-- the word that says which command it is
+abbrev pub word_of : Kind → Text
+word_of kinds.File = codes "file"
+word_of kinds.Gone = codes "gone"
+word_of kinds.Lock = codes "lock"
+word_of kinds.Unlock = codes "unlock"
+word_of kinds.Start = codes "start"
+word_of kinds.Stamp = codes "stamp"
+word_of kinds.Done = codes "done"
+word_of kinds.Failed = codes "failed"
+word_of kinds.Targets = codes "targets"
 
 abbrev pub command_text_of : Command Text → Text
 command_text_of (File n stamp) = spaced (codes "file") (n ∷ stamp ∷ [])

@@ -1,7 +1,15 @@
-/// The table of the commands: hands a row for each to the macro `$then`, after the arguments in brackets. A row has
-/// the command with its fields; its word; what it needs of its target, each with the refusal where that is wanting:
-/// `held` by the session, `resting` while nobody builds it, `own_build` of the session; what an accepted one is
-/// answered; and what it changes.
+/// The table of the commands, a row for each. The macro `$then` is handed the arguments in brackets, and then the rows.
+///
+/// A row holds, in this order:
+///
+/// - the case of `Command` and of `Kind`, with a name for each field of the command;
+/// - the word that a line of it begins with;
+/// - what it needs, in the order of the tests, each need with the refusal where it is not met: `held`, the session
+///   holds the target's lock; `resting`, nobody builds the target; `own_build`, the session builds it;
+/// - the answer where it is accepted: `okay`; `grant`, whether the lock is the session's, and the number of its grant;
+///   `digest`, that of the content; `targets`, those that have a file;
+/// - what it then changes: `set_file` and `clear_file` the name's file; `start`, `stamp`, `finish` and `fail` the
+///   target's build; `nothing`.
 #[macro_export]
 macro_rules! cases {
     ($then:ident $($args:tt)*) => {

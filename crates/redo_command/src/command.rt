@@ -25,6 +25,7 @@ pub enum Command {
 
 impl Command {
     ghost use Rattle.std.specs.Prelude.{◌≡◌, IfOk};
+    ghost use Rattle.redo_model.specs.Command.{target_of};
     ghost use Rattle.redo_command.specs.Meaning.{command_of, kind_of};
 
     /// Its case.
@@ -41,6 +42,17 @@ impl Command {
             Command::Done(..) => Kind::Done,
             Command::Failed(_) => Kind::Failed,
             Command::Targets => Kind::Targets,
+        }
+    }
+
+    /// The number of its target; none where it tells of a file, or asks about all names.
+    pub fn target(&self) -> Option<u32>
+        ensures { result ≡ target_of (command_of self.now) }
+    {
+        match self {
+            Command::Lock(t) | Command::Unlock(t) | Command::Start(t) => Some(*t),
+            Command::Stamp(t, _) | Command::Done(t, _) | Command::Failed(t) => Some(*t),
+            Command::File(..) | Command::Gone(_) | Command::Targets => None,
         }
     }
 

@@ -8,6 +8,8 @@ ghost use Rattle.redo_command.specs.Reading.{Reads, one_name_in, file_in, stamp_
 
 use crate::command::Command;
 use crate::fault::{LineFault, Unread};
+use crate::keywords::kind_named;
+use crate::kind::Kind;
 use crate::words::{
     content_of, file_stamp_of, file_stamp_or_none_of, name_of, number_of, one, two,
 };
@@ -136,7 +138,7 @@ fn targets_of(names: &mut Names, args: &[&[u8]]) -> Result<Command, Unread>
 }
 
 /// The command that words are, by the first.
-#[tactic(auto, using(crate::proofs::Added::extends_same), unfolding(crate::specs::Reading::words_in))]
+#[tactic(auto, using(crate::proofs::Added::extends_same), unfolding(crate::specs::Reading::words_in, crate::specs::Reading::form_in))]
 pub(crate) fn form_of(alloc: Global, names: &mut Names, words: &[&[u8]]) -> Result<Command, Unread>
     ensures reads { Reads (λ command. (command_at names.new command, names.new)) result (words_in names.old (map (λ w. w.now) words.now)) }
     ensures within { IfOk result (λ command. IsBelow (length names.new) (command_of command)) }
@@ -145,26 +147,16 @@ pub(crate) fn form_of(alloc: Global, names: &mut Names, words: &[&[u8]]) -> Resu
     let Some((word, args)) = words.split_first() else {
         return Err(Unread::Fault(LineFault::UnknownCommand));
     };
-    let word = *word;
-    if word == b"file".as_slice() {
-        file_of(names, args)
-    } else if word == b"gone".as_slice() {
-        gone_of(names, args)
-    } else if word == b"lock".as_slice() {
-        lock_of(names, args)
-    } else if word == b"unlock".as_slice() {
-        unlock_of(names, args)
-    } else if word == b"start".as_slice() {
-        start_of(names, args)
-    } else if word == b"stamp".as_slice() {
-        stamp_of(alloc, names, args)
-    } else if word == b"done".as_slice() {
-        done_of(names, args)
-    } else if word == b"failed".as_slice() {
-        failed_of(names, args)
-    } else if word == b"targets".as_slice() {
-        targets_of(names, args)
-    } else {
-        Err(Unread::Fault(LineFault::UnknownCommand))
+    match kind_named(word) {
+        Some(Kind::File) => file_of(names, args),
+        Some(Kind::Gone) => gone_of(names, args),
+        Some(Kind::Lock) => lock_of(names, args),
+        Some(Kind::Unlock) => unlock_of(names, args),
+        Some(Kind::Start) => start_of(names, args),
+        Some(Kind::Stamp) => stamp_of(alloc, names, args),
+        Some(Kind::Done) => done_of(names, args),
+        Some(Kind::Failed) => failed_of(names, args),
+        Some(Kind::Targets) => targets_of(names, args),
+        None => Err(Unread::Fault(LineFault::UnknownCommand)),
     }
 }

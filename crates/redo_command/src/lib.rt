@@ -5,6 +5,7 @@ mod cases;
 mod command;
 mod fault;
 mod forms;
+mod keywords;
 mod kind;
 mod laws;
 mod read;

@@ -4,10 +4,12 @@ ghost use Rattle.hex.specs.Hex.{encode_lower};
 ghost use Rattle.redo_names.specs.Names.{text_at};
 ghost use Rattle.redo_model.specs.Names.{Text};
 ghost use Rattle.redo_model.specs.Renaming.{IsBelow, IsReplyBelow, AllBelow, named_refusal};
-ghost use Rattle.redo_command.specs.Meaning.{command_of, reply_of, refusal_of, command_at, reply_at};
-ghost use Rattle.redo_command.specs.Texts.{after_space, stamp_word, content_word, refusal_words, command_text_of, reply_text_of};
+ghost use Rattle.redo_command.specs.Meaning.{command_of, kind_of, reply_of, refusal_of, command_at, reply_at};
+ghost use Rattle.redo_command.specs.Texts.{after_space, stamp_word, content_word, refusal_words, word_of, command_text_of, reply_text_of};
 
 use crate::command::Command;
+use crate::keywords::keyword;
+use crate::kind::Kind;
 use crate::reply::{Refusal, Reply};
 use crate::stamp::FileStamp;
 use redo_names::Names;
@@ -31,20 +33,6 @@ fn put_names(out: &mut Vec<u8>, names: &Names, numbers: &[u32]) -> Result<(), Al
         put_word(out, names.text(*number))?;
     }
     Ok(())
-}
-
-/// Writes a command that has one name.
-fn put_named(
-    out: &mut Vec<u8>,
-    command: &[u8],
-    names: &Names,
-    number: u32,
-) -> Result<(), AllocError>
-    requires { number < length names.now }
-    ensures { OnOk result (out.new.items ≡ out.old.items ++ command.now ++ after_space (text_at names.now number)) }
-{
-    out.extend_from_slice(command)?;
-    put_word(out, names.text(number))
 }
 
 /// Writes a stamp, or `-` for none.
@@ -74,32 +62,47 @@ fn put_content(alloc: Global, out: &mut Vec<u8>, content: &[u8]) -> Result<(), A
     }
 }
 
+/// Writes what follows a command's word.
+fn put_form(
+    alloc: Global,
+    out: &mut Vec<u8>,
+    command: &Command,
+    names: &Names,
+) -> Result<(), AllocError>
+    requires below { IsBelow (length names.now) (command_of command.now) }
+    requires begun { out.old.items ≡ word_of (kind_of command.now) }
+    ensures { OnOk result (out.new.items ≡ command_text_of (command_at names.now command.now)) }
+{
+    match command {
+        Command::File(n, stamp) => {
+            put_word(out, names.text(*n))?;
+            put_word(out, stamp.bytes())
+        }
+        Command::Gone(n)
+        | Command::Lock(n)
+        | Command::Unlock(n)
+        | Command::Start(n)
+        | Command::Failed(n) => put_word(out, names.text(*n)),
+        Command::Stamp(t, content) => {
+            put_word(out, names.text(*t))?;
+            put_content(alloc, out, content)
+        }
+        Command::Done(t, stamp) => {
+            put_word(out, names.text(*t))?;
+            put_stamp_or_none(out, *stamp)
+        }
+        Command::Targets => Ok(()),
+    }
+}
+
 /// The text of a command: its words with single spaces, without LF.
 pub fn command_text(alloc: Global, command: &Command, names: &Names) -> Result<Vec<u8>, AllocError>
     requires { IsBelow (length names.now) (command_of command.now) }
     ensures { IfOk result (λ text. text.items ≡ command_text_of (command_at names.now command.now)) }
 {
     let mut out = Vec::new(alloc);
-    match command {
-        Command::File(n, stamp) => {
-            put_named(&mut out, b"file", names, *n)?;
-            put_word(&mut out, stamp.bytes())?;
-        }
-        Command::Gone(n) => put_named(&mut out, b"gone", names, *n)?,
-        Command::Lock(t) => put_named(&mut out, b"lock", names, *t)?,
-        Command::Unlock(t) => put_named(&mut out, b"unlock", names, *t)?,
-        Command::Start(t) => put_named(&mut out, b"start", names, *t)?,
-        Command::Stamp(t, content) => {
-            put_named(&mut out, b"stamp", names, *t)?;
-            put_content(alloc, &mut out, content)?;
-        }
-        Command::Done(t, stamp) => {
-            put_named(&mut out, b"done", names, *t)?;
-            put_stamp_or_none(&mut out, *stamp)?;
-        }
-        Command::Failed(t) => put_named(&mut out, b"failed", names, *t)?,
-        Command::Targets => out.extend_from_slice(b"targets")?,
-    }
+    out.extend_from_slice(keyword(command.kind()))?;
+    put_form(alloc, &mut out, command, names)?;
     Ok(out)
 }
 
@@ -142,7 +145,7 @@ pub fn reply_text(alloc: Global, reply: &Reply, names: &Names) -> Result<Vec<u8>
             put_hex(alloc, &mut out, digest)?;
         }
         Reply::Targets(targets) => {
-            out.extend_from_slice(b"targets")?;
+            out.extend_from_slice(keyword(Kind::Targets))?;
             put_names(&mut out, names, targets)?;
         }
         Reply::Refused(refusal) => {

@@ -1,15 +1,15 @@
 ghost use Rattle.std.specs.Prelude.{◌≡◌, ◌+◌, ◌<◌, ◌^◌, ◌↔◌, IsTrue, option_map};
 ghost use Rattle.redo_model.specs.State as states;
-ghost use Rattle.redo_model.specs.State.{idle, mark_in};
+ghost use Rattle.redo_model.specs.State.{idle, mark_in, is_building};
 ghost use Rattle.redo_model.specs.Step.{is_built_by};
 ghost use Rattle.redo_command.specs.Meaning.{refusal_of};
 ghost use Rattle.redo_records.specs.Meaning.{mark_meaning, state_meaning};
 ghost use Rattle.redo_records.specs.Cells.{IsChanged};
-ghost use Rattle.redo_records.specs.Verdict.{verdict_at, refusal_by_lock, refusal_by_build};
+ghost use Rattle.redo_records.specs.Verdict.{verdict_at};
 
 use crate::mark::Mark;
 use crate::state::State;
-use redo_command::{FileStamp, Kind, Refusal};
+use redo_command::{FileStamp, Kind, Refusal, cases};
 use std::marker::Model;
 
 /// What is known of one name.
@@ -44,6 +44,36 @@ fn is_same_stamp(one: Option<FileStamp>, other: Option<FileStamp>) -> bool
         (None, None) => true,
         _ => false,
     }
+}
+
+/// Whether a need of a row is met.
+macro_rules! is_met {
+    (held $cell:ident $s:ident $holds:ident) => {
+        $holds
+    };
+    (resting $cell:ident $s:ident $holds:ident) => {
+        !$cell.is_building()
+    };
+    (own_build $cell:ident $s:ident $holds:ident) => {
+        $cell.is_built_by($s)
+    };
+}
+
+/// By the kind, the refusal of the first need in its row that is not met.
+macro_rules! first_refusal {
+    (
+        [$cell:ident $s:ident $holds:ident $kind:ident]
+        $(($case:ident $(($($field:ident),*))?, $word:literal, [$($need:ident $refusal:ident),*], $($rest:tt)*))*
+    ) => {
+        match $kind {
+            $(Kind::$case => {
+                $(if !is_met!($need $cell $s $holds) {
+                    return Some(Refusal::$refusal);
+                })*
+                None
+            })*
+        }
+    };
 }
 
 impl Cell {
@@ -104,22 +134,15 @@ impl Cell {
     pub fn verdict(&self, s: u8, kind: Kind, holds: bool) -> Option<Refusal>
         ensures { option_map refusal_of result ≡ verdict_at self.now.state s holds kind }
     {
-        match kind {
-            Kind::Unlock | Kind::Start => self.refusal_by_lock(holds),
-            Kind::Stamp | Kind::Done | Kind::Failed => self.refusal_by_build(s),
-            Kind::File | Kind::Gone | Kind::Lock | Kind::Targets => None,
-        }
+        cases!(first_refusal self s holds kind)
     }
 
-    fn refusal_by_lock(&self, holds: bool) -> Option<Refusal>
-        ensures { option_map refusal_of result ≡ refusal_by_lock holds self.now.state }
+    fn is_building(&self) -> bool
+        ensures { result ≡ is_building self.now.state }
     {
-        if !holds {
-            return Some(Refusal::NotLocked);
-        }
         match self.state {
-            State::Building(_) => Some(Refusal::Building),
-            _ => None,
+            State::Building(_) => true,
+            _ => false,
         }
     }
 
@@ -129,16 +152,6 @@ impl Cell {
         match self.state {
             State::Building(builder) => builder == s,
             _ => false,
-        }
-    }
-
-    fn refusal_by_build(&self, s: u8) -> Option<Refusal>
-        ensures { option_map refusal_of result ≡ refusal_by_build s self.now.state }
-    {
-        if self.is_built_by(s) {
-            None
-        } else {
-            Some(Refusal::NotBuilding)
         }
     }
 

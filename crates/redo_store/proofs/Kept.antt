@@ -6,10 +6,13 @@ use Rattle.std.proofs.lemmas.Bool.{cases_eq, cases_lt, eq-eqb, ne_eqb}
 use Rattle.std.proofs.lemmas.Grind.{get_or-set_at}
 use Rattle.std.proofs.lemmas.List.{get_or_default, get_or_past, get_or-replicate, get_or-set_other}
 use Rattle.redo_model.specs.Names.{put, IsListed}
+use Rattle.redo_model.specs.State.{Cell, idle}
 use Rattle.redo_model.specs.Step.{after, locks_granted}
 use Rattle.redo_model.specs.Command as commands
-use Rattle.redo_store.specs.declared.cell.Cell.{Cell}
-use Rattle.redo_store.specs.Tables.{Tables, AreTables, AreSorted, HasRoom, blank, records_of, locks_of, state_of, naming_of}
+use Rattle.redo_store.specs.Orders.{AreSorted}
+use Rattle.redo_store.specs.Stored.{Stored, IsStored, HasRoom}
+use Rattle.redo_store.specs.Stored as stored
+use Rattle.redo_store.specs.Tables.{Tables, records_of, locks_of, state_of, naming_of}
 use Rattle.redo_store.proofs.Places.{listed_by_place}
 
 -- what holds at every place still does after a write that keeps it
@@ -20,27 +23,12 @@ each_set P (y ∷ ys) zero x d all here (suc k) = all (suc k)
 each_set P (y ∷ ys) (suc i) x d all here zero = all zero
 each_set P (y ∷ ys) (suc i) x d all here (suc k) = each_set P ys i x d (λ j. all (suc j)) here k
 
--- a cell with no more builds than calls may be written
-pub AreTables-set_cell : (t : Tables) (n : ℕ) (c : Cell) → AreTables t → c.builds ≤ t.calls → AreTables (record t { cells = set t.cells n c })
-AreTables-set_cell t n c h few = record {
-  holder_for_each = h.holder_for_each ∙ sym (length-set t.cells n c);
-  grants_for_each = h.grants_for_each ∙ sym (length-set t.cells n c);
+-- a cell with no more builds than commands may be written
+pub IsStored-set_cell : (t : Stored) (n : ℕ) (c : Cell) → IsStored t → c.builds ≤ t.applied → IsStored (record t { cells = set t.cells n c })
+IsStored-set_cell t n c h few = record {
   all_in_order = simp length-set h.all_in_order;
-  few_grants = h.few_grants;
-  few_builds = each_set (λ (y : Cell). y.builds ≤ t.calls) t.cells n c blank h.few_builds few;
+  few_builds = each_set (λ (y : Cell). y.builds ≤ t.applied) t.cells n c idle h.few_builds few;
 }
-
--- what was read at a number's place is its cell
-read_cell : (t : Tables) (n : ℕ) (x : Cell) → n < length t.cells → x ≡ get_or t.cells n x → x ≡ get_or t.cells n blank
-read_cell t n x below read = read ∙ get_or_default t.cells n x blank below
-
--- the cell that was read has no more builds than calls
-pub few_at : (t : Tables) (n : ℕ) (x : Cell) → AreTables t → n < length t.cells → x ≡ get_or t.cells n x → x.builds ≤ t.calls
-few_at t n x h below read = subst (λ (y : Cell). y.builds ≤ t.calls) (sym (read_cell t n x below read)) (h.few_builds n)
-
--- the cell that was read has fewer where there is room
-pub fewer_at : (t : Tables) (n : ℕ) (x : Cell) → HasRoom t → n < length t.cells → x ≡ get_or t.cells n x → x.builds < t.calls
-fewer_at t n x room below read = subst (λ (y : Cell). y.builds < t.calls) (sym (read_cell t n x below read)) (room.builds n)
 
 same_everywhere : {X : Type 0} (n k : ℕ) (x : X) → get_or (replicate n x) k x ≡ x
 same_everywhere n k x = elim (cases_lt k n) [
@@ -48,17 +36,14 @@ same_everywhere n k x = elim (cases_lt k n) [
   | inr h ↦ get_or_past (replicate n x) k x (omega (arith, length-replicate n x))
 ]
 
--- tables with nothing in them
-pub AreTables-new : (names : List (List ℕ)) (t : Tables) → AreSorted names t.sorted → t.cells ≡ replicate (length names) blank → length t.holders ≡ length names → t.grants ≡ replicate (length names) 0 → AreTables t
-AreTables-new names t sorted cells holders grants =
-    let count : length t.cells ≡ length names = ap length cells ∙ length-replicate (length names) blank in
+-- a store that knows nothing
+pub IsStored-new : (names : List (List ℕ)) (t : Stored) → AreSorted names t.sorted → t.cells ≡ replicate (length names) idle → IsStored t
+IsStored-new names t sorted cells =
+    let count : length t.cells ≡ length names = ap length cells ∙ length-replicate (length names) idle in
     record {
-      holder_for_each = holders ∙ sym count;
-      grants_for_each = ap length grants ∙ length-replicate (length names) 0 ∙ sym count;
-      all_in_order = subst (λ (m : ℕ). IsListed (naming_of t) (λ n. n < m) t.sorted) (sym count) (listed_by_place sorted);
-      few_grants = λ n. let none : get_or t.grants n 0 ≡ 0 = ap (λ (xs : List ℕ). get_or xs n 0) grants ∙ same_everywhere (length names) n 0 in omega arith;
+      all_in_order = subst (λ (m : ℕ). IsListed (stored.naming_of t) (λ n. n < m) t.sorted) (sym count) (listed_by_place sorted);
       few_builds = λ n.
-          let none : (get_or t.cells n blank).builds ≡ 0 = ap (λ (xs : List Cell). (get_or xs n blank).builds) cells ∙ ap (λ (x : Cell). x.builds) (same_everywhere (length names) n blank) in
+          let none : (get_or t.cells n idle).builds ≡ 0 = ap (λ (xs : List Cell). (get_or xs n idle).builds) cells ∙ ap (λ (x : Cell). x.builds) (same_everywhere (length names) n idle) in
           omega arith;
     }
 

@@ -18,7 +18,7 @@ use Rattle.std.proofs.lemmas.Map.Keys.{IsDistinct-from_apart, apart_from_distinc
 use Rattle.std.proofs.lemmas.Map.Text.{is_eq-slice_cmp}
 use Rattle.redo_names.specs.Names.{AreNames, text_at}
 use Rattle.redo_store.specs.Numbered.{AreNumbered}
-use Rattle.redo_store.specs.Tables.{AreSorted}
+use Rattle.redo_store.specs.Orders.{AreSorted}
 
 pub AreNumbered-none : (names : List (List ℕ)) → AreNumbered names 0 []
 AreNumbered-none names = record { whole = refl; number = λ k d h. absurd (omega arith); text = λ k d h. absurd (omega arith) }

@@ -4,10 +4,9 @@ use Rattle.redo_store.specs.declared.redo.Redo.TheInside.{Inside}
 
 abbrev pub tables_of : Inside → Tables
 tables_of inside = record {
-  cells = inside.cells.items;
+  store = inside.store;
   holders = inside.holders.items;
   grants = inside.grants.items;
-  sorted = inside.sorted.items;
   calls = inside.calls;
 }
 

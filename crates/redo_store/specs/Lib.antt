@@ -1,3 +1,6 @@
+pub mod Orders
+pub mod Stored
+pub mod KeptStore
 pub mod Tables
 pub mod Kept
 pub mod Numbered

@@ -1,8 +1,10 @@
-//! The redo database for one thread.
+//! The redo database for one thread: what it knows and answers, and over that its locks.
 #![tactic(auto)]
 
-mod cell;
 mod redo;
+mod rows;
 mod sorted;
+mod store;
 
 pub use redo::Redo;
+pub use store::Store;

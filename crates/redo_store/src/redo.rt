@@ -1,26 +1,25 @@
-ghost use Rattle.std.specs.Prelude.{◌≡◌, ℕ, ◌+◌, ◌^◌, ◌<◌, ◌≤◌, length, option_map, IfOk, OnOk, OnErr};
+ghost use Rattle.std.specs.Prelude.{◌≡◌, ◌+◌, ◌^◌, ◌<◌, Some, None, length, slice_set, IfOk, OnOk, OnErr};
 ghost use Rattle.redo_model.specs.Names.{texts, numbers};
-ghost use Rattle.redo_model.specs.State.{Built, empty, target_state};
-ghost use Rattle.redo_model.specs.Step.{Answers, after, verdict_of, is_held_by, is_built_by, with_cell, effect_of};
-ghost use Rattle.redo_model.specs.Renaming.{OrdersAlike, numbering, IsBelow, IsReplyBelow};
-ghost use Rattle.redo_command.specs.Meaning.{command_of, reply_of, refusal_of};
+ghost use Rattle.redo_model.specs.State.{empty};
 ghost use Rattle.redo_model.specs.Command as commands;
+ghost use Rattle.redo_model.specs.Command.{asked_lock};
+ghost use Rattle.redo_model.specs.Step.{Answers, after, is_held_by, holds_target, records_after};
+ghost use Rattle.redo_model.specs.Renaming.{OrdersAlike, numbering, IsBelow, IsReplyBelow};
+ghost use Rattle.redo_command.specs.Meaning.{command_of, reply_of};
+ghost use Rattle.redo_store.specs.Tables.{freed_by};
 
-use crate::cell::{Cell, TargetState};
-use crate::sorted::sorted_numbers;
-use redo_command::{Command, FileStamp, Refusal, Reply};
+use crate::store::Store;
+use redo_command::{Command, Reply};
 use redo_names::Names;
-use sha1::Sha1;
 use std::alloc::{AllocError, Global};
 use std::marker::Model;
 
 /// The database with its locks, for one thread. Names are numbers below the number of names it was made for.
 #[derive(Drop)]
 pub struct Redo {
-    cells: Vec<Cell>,
+    store: Store,
     holders: Vec<Option<u8>>,
     grants: Vec<u32>,
-    sorted: Vec<u32>,
     calls: u32,
 }
 
@@ -36,16 +35,28 @@ impl Model for Redo {
     ghost invariant = { KeepsTables };
 }
 
-const BLANK: Cell = Cell {
-    file: None,
-    state: TargetState::Idle,
-    builds: 0,
-    done: None,
-    digest: None,
-};
+/// The name whose lock a command asks for.
+fn asked_lock(command: &Command) -> Option<u32>
+    ensures { result ≡ asked_lock (command_of command.now) }
+{
+    match command {
+        Command::Lock(t) => Some(*t),
+        _ => None,
+    }
+}
+
+/// The target that a command with this reply sets free.
+fn freed_by(command: &Command, reply: &Reply) -> Option<u32>
+    ensures { result ≡ freed_by (command_of command.now) (reply_of reply.now) }
+{
+    match (command, reply) {
+        (Command::Unlock(t), Reply::Okay) => Some(*t),
+        _ => None,
+    }
+}
 
 impl Redo {
-    ghost use Rattle.redo_store.specs.Tables.{state_of, records_of, locks_of, order_of, naming_of, count_of, calls_of, is_listed, AreTargets, AreListed, HasRoom};
+    ghost use Rattle.redo_store.specs.Tables.{state_of, records_of, locks_of, order_of, naming_of, count_of, calls_of, HasRoom};
 
     /// The empty database: each name is idle, without a file, and free.
     pub fn new(alloc: Global, names: &Names) -> Result<Redo, AllocError>
@@ -55,15 +66,13 @@ impl Redo {
         ensures calls { IfOk result (λ redo. calls_of redo ≡ 0) }
     {
         let count = names.len() as usize;
-        let sorted = sorted_numbers(alloc, names)?;
-        let cells = vec![in alloc; BLANK; count]?;
+        let store = Store::new(alloc, names)?;
         let holders = vec![in alloc; None; count]?;
         let grants = vec![in alloc; 0; count]?;
         Ok(Redo {
-            cells,
+            store,
             holders,
             grants,
-            sorted,
             calls: 0,
         })
     }
@@ -85,9 +94,13 @@ impl Redo {
         ensures order { order_of self.new ≡ order_of self.old }
         ensures err { OnErr result (self.new ≡ self.old) }
     {
-        let listed = self.listed(alloc, command)?;
-        self.count_call();
-        Ok(self.answer(session, command, listed))
+        match asked_lock(command) {
+            Some(t) => {
+                self.count_call();
+                Ok(self.lock(session, t))
+            }
+            None => self.obey(alloc, session, command),
+        }
     }
 
     /// How many calls gave a reply.
@@ -95,36 +108,6 @@ impl Redo {
         ensures { result ≡ calls_of self.now }
     {
         self.calls
-    }
-
-    /// The names that a reply to the command lists: all the memory that it takes.
-    fn listed(&self, alloc: Global, command: &Command) -> Result<Vec<u32>, AllocError>
-        ensures { IfOk result (λ names. AreListed self.now (command_of command.now) names.items) }
-    {
-        match command {
-            Command::Targets => self.targets(alloc),
-            _ => Ok(Vec::new(alloc)),
-        }
-    }
-
-    fn is_listed(&self, n: u32) -> bool
-        requires { n < count_of self.now }
-        ensures { result ≡ is_listed self.now n }
-    {
-        let cell = &self.cells[n as usize];
-        cell.file.is_some() && !matches!(cell.state, TargetState::Idle)
-    }
-
-    fn targets(&self, alloc: Global) -> Result<Vec<u32>, AllocError>
-        ensures { IfOk result (λ names. AreTargets self.now names.items) }
-    {
-        let mut names = Vec::new(alloc);
-        for &n in &self.sorted {
-            if self.is_listed(n) {
-                names.push(n)?;
-            }
-        }
-        Ok(names)
     }
 
     fn count_call(&mut self)
@@ -135,48 +118,7 @@ impl Redo {
         self.calls += 1;
     }
 
-    /// The reply, after its call was counted.
-    fn answer(&mut self, session: u8, command: &Command, listed: Vec<u32>) -> Reply
-        requires numbers { IsBelow (count_of self.old) (command_of command.now) }
-        requires room { HasRoom self.old }
-        requires listed { AreListed self.old (command_of command.now) listed.items }
-        ensures answers { Answers (naming_of self.old) (state_of self.old) session (command_of command.now) (reply_of result) }
-        ensures after { state_of self.new ≡ after (naming_of self.old) (state_of self.old) session (command_of command.now) }
-        ensures below { IsReplyBelow (count_of self.old) (reply_of result) }
-        ensures calls { calls_of self.new ≡ calls_of self.old }
-        ensures count { count_of self.new ≡ count_of self.old }
-        ensures order { order_of self.new ≡ order_of self.old }
-    {
-        match command {
-            Command::File(n, stamp) => {
-                self.set_file(*n, Some(*stamp));
-                Reply::Okay
-            }
-            Command::Gone(n) => {
-                self.set_file(*n, None);
-                Reply::Okay
-            }
-            Command::Lock(t) => self.lock(session, *t),
-            Command::Unlock(t) => self.unlock(session, *t),
-            Command::Start(t) => self.start(session, *t),
-            Command::Stamp(t, content) => self.stamp(session, *t, content),
-            Command::Done(t, stamp) => self.done(session, *t, *stamp),
-            Command::Failed(t) => self.fail(session, *t),
-            Command::Targets => Reply::Targets(listed),
-        }
-    }
-
-    fn set_file(&mut self, n: u32, stamp: Option<FileStamp>)
-        requires { n < count_of self.old }
-        ensures records { records_of self.new ≡ with_cell (naming_of self.old) (records_of self.old) n (record ((records_of self.old).cell n) { file = stamp }) }
-        ensures locks { locks_of self.new ≡ locks_of self.old }
-        ensures calls { calls_of self.new ≡ calls_of self.old }
-        ensures count { count_of self.new ≡ count_of self.old }
-        ensures order { order_of self.new ≡ order_of self.old }
-    {
-        self.cells[n as usize].file = stamp;
-    }
-
+    /// The reply to a lock, and its change, after the call was counted.
     fn lock(&mut self, session: u8, t: u32) -> Reply
         requires number { t < count_of self.old }
         requires room { HasRoom self.old }
@@ -209,147 +151,60 @@ impl Redo {
         }
     }
 
-    fn refusal_by_lock(&self, session: u8, t: u32) -> Option<Refusal>
-        requires { t < count_of self.now }
-        ensures start { option_map refusal_of result ≡ verdict_of (naming_of self.now) (records_of self.now) session (is_held_by session ((locks_of self.now).holder t)) (commands.Start t) }
-        ensures unlock { option_map refusal_of result ≡ verdict_of (naming_of self.now) (records_of self.now) session (is_held_by session ((locks_of self.now).holder t)) (commands.Unlock t) }
+    fn holds_target(&self, session: u8, command: &Command) -> bool
+        requires { IsBelow (count_of self.now) (command_of command.now) }
+        ensures { result ≡ holds_target (locks_of self.now) session (command_of command.now) }
     {
-        if !self.holds(session, t) {
-            return Some(Refusal::NotLocked);
-        }
-        match self.cells[t as usize].state {
-            TargetState::Building(_) => Some(Refusal::Building),
-            _ => None,
+        match command.target() {
+            Some(t) => self.holds(session, t),
+            None => false,
         }
     }
 
-    fn unlock(&mut self, session: u8, t: u32) -> Reply
-        requires number { t < count_of self.old }
-        ensures answers { Answers (naming_of self.old) (state_of self.old) session (commands.Unlock t) (reply_of result) }
-        ensures after { state_of self.new ≡ after (naming_of self.old) (state_of self.old) session (commands.Unlock t) }
-        ensures below { IsReplyBelow (count_of self.old) (reply_of result) }
-        ensures calls { calls_of self.new ≡ calls_of self.old }
+    /// The reply to a command that is no lock, and its change.
+    fn obey(&mut self, alloc: Global, session: u8, command: &Command) -> Result<Reply, AllocError>
+        requires numbers { IsBelow (count_of self.old) (command_of command.now) }
+        requires no_lock { asked_lock (command_of command.now) ≡ None }
+        requires calls { calls_of self.old + 1 < 2 ^ 32 }
+        ensures answers { IfOk result (λ reply. Answers (naming_of self.old) (state_of self.old) session (command_of command.now) (reply_of reply)) }
+        ensures after { OnOk result (state_of self.new ≡ after (naming_of self.old) (state_of self.old) session (command_of command.now)) }
+        ensures calls { OnOk result (calls_of self.new ≡ calls_of self.old + 1) }
+        ensures below { IfOk result (λ reply. IsReplyBelow (count_of self.old) (reply_of reply)) }
         ensures count { count_of self.new ≡ count_of self.old }
         ensures order { order_of self.new ≡ order_of self.old }
+        ensures err { OnErr result (self.new ≡ self.old) }
     {
-        match self.refusal_by_lock(session, t) {
-            Some(refusal) => Reply::Refused(refusal),
-            None => {
-                self.holders[t as usize] = None;
-                Reply::Okay
-            }
+        let holds = self.holds_target(session, command);
+        let reply = self.store.reply(alloc, session, command, holds)?;
+        self.apply(session, command, holds)?;
+        if let Some(t) = freed_by(command, &reply) {
+            self.free(t);
         }
+        Ok(reply)
     }
 
-    fn begin(&mut self, session: u8, t: u32)
+    /// The change of a command that is no lock, but for what it sets free.
+    fn apply(&mut self, session: u8, command: &Command, holds: bool) -> Result<(), AllocError>
+        requires numbers { IsBelow (count_of self.old) (command_of command.now) }
+        requires no_lock { asked_lock (command_of command.now) ≡ None }
+        requires calls { calls_of self.old + 1 < 2 ^ 32 }
+        ensures records { OnOk result (records_of self.new ≡ records_after (naming_of self.old) (records_of self.old) session holds (command_of command.now)) }
+        ensures locks { locks_of self.new ≡ locks_of self.old }
+        ensures calls { OnOk result (calls_of self.new ≡ calls_of self.old + 1) }
+        ensures count { count_of self.new ≡ count_of self.old }
+        ensures order { order_of self.new ≡ order_of self.old }
+        ensures err { OnErr result (self.new ≡ self.old) }
+    {
+        let calls = self.calls + 1;
+        self.store.apply(session, command, holds)?;
+        self.calls = calls;
+        Ok(())
+    }
+
+    fn free(&mut self, t: u32)
         requires { t < count_of self.old }
-        ensures records { records_of self.new ≡ effect_of (naming_of self.old) (records_of self.old) session (commands.Start t) }
-        ensures locks { locks_of self.new ≡ locks_of self.old }
-        ensures calls { calls_of self.new ≡ calls_of self.old }
-        ensures count { count_of self.new ≡ count_of self.old }
-        ensures order { order_of self.new ≡ order_of self.old }
+        ensures { self.new ≡ record self.old { holders = slice_set self.old.holders t None } }
     {
-        let cell = &mut self.cells[t as usize];
-        cell.state = TargetState::Building(session);
-        cell.digest = None;
-    }
-
-    fn start(&mut self, session: u8, t: u32) -> Reply
-        requires number { t < count_of self.old }
-        ensures answers { Answers (naming_of self.old) (state_of self.old) session (commands.Start t) (reply_of result) }
-        ensures after { state_of self.new ≡ after (naming_of self.old) (state_of self.old) session (commands.Start t) }
-        ensures below { IsReplyBelow (count_of self.old) (reply_of result) }
-        ensures calls { calls_of self.new ≡ calls_of self.old }
-        ensures count { count_of self.new ≡ count_of self.old }
-        ensures order { order_of self.new ≡ order_of self.old }
-    {
-        match self.refusal_by_lock(session, t) {
-            Some(refusal) => Reply::Refused(refusal),
-            None => {
-                self.begin(session, t);
-                Reply::Okay
-            }
-        }
-    }
-
-    fn is_building(&self, session: u8, t: u32) -> bool
-        requires { t < count_of self.now }
-        ensures { result ≡ is_built_by session (target_state (records_of self.now) t) }
-    {
-        match self.cells[t as usize].state {
-            TargetState::Building(builder) => builder == session,
-            _ => false,
-        }
-    }
-
-    fn stamp(&mut self, session: u8, t: u32, content: &[u8]) -> Reply
-        requires number { t < count_of self.old }
-        ensures answers { Answers (naming_of self.old) (state_of self.old) session (commands.Stamp t content.now) (reply_of result) }
-        ensures after { state_of self.new ≡ after (naming_of self.old) (state_of self.old) session (commands.Stamp t content.now) }
-        ensures below { IsReplyBelow (count_of self.old) (reply_of result) }
-        ensures calls { calls_of self.new ≡ calls_of self.old }
-        ensures count { count_of self.new ≡ count_of self.old }
-        ensures order { order_of self.new ≡ order_of self.old }
-    {
-        if !self.is_building(session, t) {
-            return Reply::Refused(Refusal::NotBuilding);
-        }
-        let digest = Sha1::digest(content);
-        self.cells[t as usize].digest = Some(digest);
-        Reply::Stamped(digest)
-    }
-
-    fn finish(&mut self, t: u32, stamp: Option<FileStamp>)
-        requires number { t < count_of self.old }
-        requires room { HasRoom self.old }
-        ensures records { records_of self.new ≡ with_cell (naming_of self.old) (records_of self.old) t (record ((records_of self.old).cell t) { file = stamp; state = Built; builds = ((records_of self.old).cell t).builds + 1; done = stamp }) }
-        ensures locks { locks_of self.new ≡ locks_of self.old }
-        ensures calls { calls_of self.new ≡ calls_of self.old }
-        ensures count { count_of self.new ≡ count_of self.old }
-        ensures order { order_of self.new ≡ order_of self.old }
-    {
-        let builds = self.cells[t as usize].builds + 1;
-        let digest = self.cells[t as usize].digest;
-        let file = stamp;
-        self.cells[t as usize] = Cell {
-            file,
-            state: TargetState::Built,
-            builds,
-            done: stamp,
-            digest,
-        };
-    }
-
-    fn done(&mut self, session: u8, t: u32, stamp: Option<FileStamp>) -> Reply
-        requires number { t < count_of self.old }
-        requires room { HasRoom self.old }
-        ensures answers { Answers (naming_of self.old) (state_of self.old) session (commands.Done t stamp) (reply_of result) }
-        ensures after { state_of self.new ≡ after (naming_of self.old) (state_of self.old) session (commands.Done t stamp) }
-        ensures below { IsReplyBelow (count_of self.old) (reply_of result) }
-        ensures calls { calls_of self.new ≡ calls_of self.old }
-        ensures count { count_of self.new ≡ count_of self.old }
-        ensures order { order_of self.new ≡ order_of self.old }
-    {
-        if !self.is_building(session, t) {
-            return Reply::Refused(Refusal::NotBuilding);
-        }
-        self.finish(t, stamp);
-        Reply::Okay
-    }
-
-    fn fail(&mut self, session: u8, t: u32) -> Reply
-        requires number { t < count_of self.old }
-        ensures answers { Answers (naming_of self.old) (state_of self.old) session (commands.Failed t) (reply_of result) }
-        ensures after { state_of self.new ≡ after (naming_of self.old) (state_of self.old) session (commands.Failed t) }
-        ensures below { IsReplyBelow (count_of self.old) (reply_of result) }
-        ensures calls { calls_of self.new ≡ calls_of self.old }
-        ensures count { count_of self.new ≡ count_of self.old }
-        ensures order { order_of self.new ≡ order_of self.old }
-    {
-        if !self.is_building(session, t) {
-            return Reply::Refused(Refusal::NotBuilding);
-        }
-        self.cells[t as usize].state = TargetState::Failed;
-        Reply::Okay
+        self.holders[t as usize] = None;
     }
 }

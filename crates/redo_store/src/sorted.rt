@@ -1,5 +1,5 @@
 ghost use Rattle.std.specs.Prelude.{◌≡◌, length, map, IfOk};
-ghost use Rattle.redo_store.specs.Tables.{AreSorted};
+ghost use Rattle.redo_store.specs.Orders.{AreSorted};
 ghost use Rattle.redo_names.specs.Names.{AreNames};
 ghost use Rattle.redo_store.specs.Numbered.{AreNumbered};
 

@@ -12,11 +12,17 @@ mod limits;
 #[cfg(test)]
 mod names;
 #[cfg(test)]
+mod oracle;
+#[cfg(test)]
+mod random;
+#[cfg(test)]
 mod records;
 #[cfg(test)]
 mod refusals;
 #[cfg(test)]
 mod runs;
+#[cfg(test)]
+mod stores;
 #[cfg(test)]
 mod texts;
 #[cfg(test)]

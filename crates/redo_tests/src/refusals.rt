@@ -12,14 +12,14 @@ use std::test::Fail;
 
 /// The replies that have no list.
 #[derive(Clone, Copy, Debug, PartialEq, Eq)]
-enum Answer {
+pub(crate) enum Answer {
     Okay,
     Granted(u32),
     Busy(u32),
     Refused(Refusal),
 }
 
-fn answer_of(reply: &Reply) -> Option<Answer> {
+pub(crate) fn answer_of(reply: &Reply) -> Option<Answer> {
     match reply {
         Reply::Okay => Some(Answer::Okay),
         Reply::Granted(grant) => Some(Answer::Granted(*grant)),

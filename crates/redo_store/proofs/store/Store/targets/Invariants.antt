@@ -1,7 +1,7 @@
 use Rattle.std.proofs.Common.{◌≡◌, take}
 use Rattle.std.specs.List.{filter}
-use Rattle.redo_store.specs.Tables.{is_listed}
-use Rattle.redo_store.proofs.redo.Redo.targets.Given as goal
+use Rattle.redo_store.specs.Stored.{is_listed}
+use Rattle.redo_store.proofs.store.Store.targets.Given as goal
 
 abbrev pub invariant-loop-n : goal.invariant-loop-n
 invariant-loop-n l = l.names.items ≡ filter (is_listed l.self) (take l.n-index l.self.sorted)

@@ -1,0 +1,119 @@
+use redo_command::FileStamp;
+use std::alloc::{AllocError, Global};
+
+/// How far a name has come. It is a target from its first start on.
+#[derive(Clone, Copy, Debug, PartialEq, Eq)]
+pub(crate) enum State {
+    Idle,
+    /// This session is building it.
+    Building(u8),
+    Built,
+    Failed,
+}
+
+/// What a change row records of a name.
+#[derive(Clone, Copy, Debug, PartialEq, Eq)]
+pub(crate) enum Mark {
+    Digest([u8; 20]),
+    Builds(u32),
+    Pending,
+    File(FileStamp),
+    Absent,
+}
+
+/// All that is known of one name.
+#[derive(Drop)]
+pub(crate) struct Known {
+    pub(crate) text: Vec<u8>,
+    pub(crate) file: Option<FileStamp>,
+    pub(crate) state: State,
+    pub(crate) builds: u32,
+    /// The stamp that its last done gave.
+    pub(crate) done: Option<FileStamp>,
+    /// The digest that its present build told, or its last.
+    pub(crate) digest: Option<[u8; 20]>,
+    /// Its change rows: the names that it needs, each with its mark at that time.
+    pub(crate) changes: Vec<(u32, Mark)>,
+    /// Its created rows: the names that it needs not to have a file.
+    pub(crate) created: Vec<u32>,
+    pub(crate) always: bool,
+    /// The session that holds its lock.
+    pub(crate) holder: Option<u8>,
+    pub(crate) grants: u32,
+}
+
+impl Known {
+    /// A name of which nothing was said.
+    pub(crate) fn new(alloc: Global, text: Vec<u8>) -> Known {
+        Known {
+            text,
+            file: None,
+            state: State::Idle,
+            builds: 0,
+            done: None,
+            digest: None,
+            changes: Vec::new(alloc),
+            created: Vec::new(alloc),
+            always: false,
+            holder: None,
+            grants: 0,
+        }
+    }
+
+    pub(crate) fn is_target(&self) -> bool {
+        self.state != State::Idle
+    }
+
+    pub(crate) fn is_building(&self) -> bool {
+        matches!(self.state, State::Building(_))
+    }
+
+    pub(crate) fn has_file(&self) -> bool {
+        self.file.is_some()
+    }
+
+    /// The mark that a change row on it would record now.
+    pub(crate) fn mark(&self) -> Mark {
+        match self.state {
+            State::Idle => match self.file {
+                Some(stamp) => Mark::File(stamp),
+                None => Mark::Absent,
+            },
+            State::Building(_) | State::Failed => Mark::Pending,
+            State::Built => match self.digest {
+                Some(digest) => Mark::Digest(digest),
+                None => Mark::Builds(self.builds),
+            },
+        }
+    }
+
+    /// Whether it has a row on this name.
+    pub(crate) fn has_row_on(&self, n: u32) -> bool {
+        self.changes.iter().any(|row| row.0 == n) || self.created.contains(&n)
+    }
+
+    /// Records a change row, in place of an earlier one on that name.
+    pub(crate) fn put_change(&mut self, n: u32, mark: Mark) -> Result<(), AllocError> {
+        self.changes.retain(|row| row.0 != n);
+        self.changes.push((n, mark))?;
+        Ok(())
+    }
+
+    /// The session builds it from now on, with no rows and no digest.
+    pub(crate) fn start(&mut self, session: u8) {
+        self.state = State::Building(session);
+        self.changes.clear();
+        self.created.clear();
+        self.always = false;
+        self.digest = None;
+    }
+
+    /// Its build ended with this file, or with none.
+    pub(crate) fn finish(&mut self, stamp: Option<FileStamp>) {
+        self.state = State::Built;
+        self.builds = self.builds.saturating_add(1);
+        let file = stamp;
+        self.file = file;
+        self.done = stamp;
+    }
+}

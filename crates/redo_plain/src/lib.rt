@@ -1,0 +1,13 @@
+//! The database once more, in the plainest way: one thread, lists that are searched from the front, everything
+//! derived again at each call. It is for tests to compare the real database with.
+//!
+//! It is slow, and it has no contracts: proved of it is only that it is safe and ends. That it follows the rules is to
+//! be seen by reading it. It shares no definition with the proofs of the real database.
+#![tactic(auto)]
+
+mod facts;
+mod known;
+mod lists;
+mod plain;
+
+pub use plain::Plain;

@@ -1,0 +1,179 @@
+use crate::known::{Known, State};
+use redo_command::{Command, FileStamp, Refusal, Reply};
+use redo_names::Names;
+use sha1::Sha1;
+use std::alloc::{AllocError, Global};
+
+/// The database with its locks. A number that is no name's stands for a name of which nothing is ever known.
+#[derive(Drop)]
+pub struct Plain {
+    pub(crate) names: Vec<Known>,
+}
+
+impl Plain {
+    /// The database of which nothing was asked so far.
+    pub fn new(alloc: Global, names: &Names) -> Result<Plain, AllocError> {
+        let mut all = Vec::new(alloc);
+        for n in 0..names.len() {
+            let text = Vec::from_slice(alloc, names.text(n))?;
+            all.push(Known::new(alloc, text))?;
+        }
+        Ok(Plain { names: all })
+    }
+
+    /// The reply to a session's command, and its change. After want of memory the database is of no further use.
+    pub fn call(
+        &mut self,
+        alloc: Global,
+        session: u8,
+        command: &Command,
+    ) -> Result<Reply, AllocError> {
+        if let Some(refusal) = self.refusal(session, command) {
+            return Ok(Reply::Refused(refusal));
+        }
+        let reply = self.reply(alloc, command)?;
+        self.change(session, command)?;
+        Ok(reply)
+    }
+
+    /// Why the command is refused, where it is.
+    fn refusal(&self, session: u8, command: &Command) -> Option<Refusal> {
+        match command {
+            Command::Unlock(t) | Command::Start(t) => {
+                if !self.holds(session, *t) {
+                    Some(Refusal::NotLocked)
+                } else if self.is_building(*t) {
+                    Some(Refusal::Building)
+                } else {
+                    None
+                }
+            }
+            Command::Stamp(t, _) | Command::Done(t, _) | Command::Failed(t) => {
+                self.refusal_of_build(session, *t)
+            }
+            Command::File(..) | Command::Gone(_) | Command::Lock(_) | Command::Targets => None,
+        }
+    }
+
+    fn refusal_of_build(&self, session: u8, t: u32) -> Option<Refusal> {
+        if self.builds(session, t) {
+            None
+        } else {
+            Some(Refusal::NotBuilding)
+        }
+    }
+
+    /// The first of these names that has a file.
+    pub(crate) fn first_file(&self, names: &[u32]) -> Option<u32> {
+        names.iter().copied().find(|n| self.has_file(*n))
+    }
+
+    /// What a command that is not refused is answered, before its change.
+    fn reply(&self, alloc: Global, command: &Command) -> Result<Reply, AllocError> {
+        Ok(match command {
+            Command::Lock(t) => self.lock_reply(*t),
+            Command::Stamp(_, content) => Reply::Stamped(Sha1::digest(content)),
+            Command::Targets => Reply::Targets(self.targets(alloc)?),
+            Command::File(..)
+            | Command::Gone(_)
+            | Command::Unlock(_)
+            | Command::Start(_)
+            | Command::Done(..)
+            | Command::Failed(_) => Reply::Okay,
+        })
+    }
+
+    fn lock_reply(&self, t: u32) -> Reply {
+        match self.holder(t) {
+            Some(_) => Reply::Busy(self.grants(t)),
+            None => Reply::Granted(self.grants(t).saturating_add(1)),
+        }
+    }
+
+    /// What a command that is not refused changes.
+    fn change(&mut self, session: u8, command: &Command) -> Result<(), AllocError> {
+        match command {
+            Command::File(n, stamp) => self.set_file(*n, Some(*stamp)),
+            Command::Gone(n) => self.set_file(*n, None),
+            Command::Lock(t) => self.lock(session, *t),
+            Command::Unlock(t) => self.unlock(*t),
+            Command::Start(t) => self.start(session, *t),
+            Command::Stamp(t, content) => self.stamp(*t, Sha1::digest(content)),
+            Command::Done(t, stamp) => self.finish(*t, *stamp),
+            Command::Failed(t) => self.fail(*t),
+            Command::Targets => {}
+        }
+        Ok(())
+    }
+
+    fn set_file(&mut self, n: u32, file: Option<FileStamp>) {
+        if let Some(known) = self.names.get_mut(n as usize) {
+            known.file = file;
+        }
+    }
+
+    /// The lock is the session's, unless somebody has it.
+    fn lock(&mut self, session: u8, t: u32) {
+        if let Some(known) = self.names.get_mut(t as usize) {
+            if known.holder.is_none() {
+                known.holder = Some(session);
+                known.grants = known.grants.saturating_add(1);
+            }
+        }
+    }
+
+    fn unlock(&mut self, t: u32) {
+        if let Some(known) = self.names.get_mut(t as usize) {
+            known.holder = None;
+        }
+    }
+
+    fn start(&mut self, session: u8, t: u32) {
+        if let Some(known) = self.names.get_mut(t as usize) {
+            known.start(session);
+        }
+    }
+
+    /// Records a change row of the target on each of these names, with the mark that the name has now.
+    pub(crate) fn put_changes(&mut self, t: u32, names: &[u32]) -> Result<(), AllocError> {
+        for n in names {
+            let mark = self.mark(*n);
+            if let Some(known) = self.names.get_mut(t as usize) {
+                known.put_change(*n, mark)?;
+            }
+        }
+        Ok(())
+    }
+
+    /// Records a created row of the target on each of these names.
+    pub(crate) fn put_created(&mut self, t: u32, names: &[u32]) -> Result<(), AllocError> {
+        if let Some(known) = self.names.get_mut(t as usize) {
+            known.created.extend_from_slice(names)?;
+        }
+        Ok(())
+    }
+
+    pub(crate) fn put_always(&mut self, t: u32) {
+        if let Some(known) = self.names.get_mut(t as usize) {
+            known.always = true;
+        }
+    }
+
+    fn stamp(&mut self, t: u32, digest: [u8; 20]) {
+        if let Some(known) = self.names.get_mut(t as usize) {
+            known.digest = Some(digest);
+        }
+    }
+
+    fn finish(&mut self, t: u32, stamp: Option<FileStamp>) {
+        if let Some(known) = self.names.get_mut(t as usize) {
+            known.finish(stamp);
+        }
+    }
+
+    fn fail(&mut self, t: u32) {
+        if let Some(known) = self.names.get_mut(t as usize) {
+            known.state = State::Failed;
+        }
+    }
+}

@@ -1,0 +1,63 @@
+//! The rows of the table of commands as code of the store.
+
+/// The reply to an accepted command, by the word for its answer, the store and allocator, and the command's fields.
+macro_rules! answer {
+    (okay [$store:tt $alloc:tt] $($field:ident)*) => {
+        Ok(Reply::Okay)
+    };
+    (grant [$store:tt $alloc:tt] $t:ident) => {
+        unreachable!()
+    };
+    (digest [$store:tt $alloc:tt] $t:ident $content:ident) => {
+        Ok(Reply::Stamped(digest_of($content)))
+    };
+    (targets [$store:tt $alloc:tt]) => {
+        $store.targets_reply($alloc)
+    };
+}
+
+macro_rules! answers {
+    ([$store:tt $alloc:tt $command:ident] $(($case:ident $(($($field:ident),*))?, $word:literal, $needs:tt, $answer:ident, $effect:ident))*) => {
+        match $command {
+            $(Command::$case $(($($field),*))? => answer!($answer [$store $alloc] $($($field)*)?),)*
+        }
+    };
+}
+
+/// The change of an accepted command, by the word for its effect, the store and session, and the command's fields.
+macro_rules! effect {
+    (nothing [$store:tt $s:tt] $($field:ident)*) => {
+        {}
+    };
+    (set_file [$store:tt $s:tt] $n:ident $stamp:ident) => {
+        $store.set_file(*$n, Some(*$stamp))
+    };
+    (clear_file [$store:tt $s:tt] $n:ident) => {
+        $store.set_file(*$n, None)
+    };
+    (start [$store:tt $s:tt] $t:ident) => {
+        $store.start($s, *$t)
+    };
+    (stamp [$store:tt $s:tt] $t:ident $content:ident) => {
+        $store.stamp(*$t, $content)
+    };
+    (finish [$store:tt $s:tt] $t:ident $stamp:ident) => {
+        $store.finish(*$t, *$stamp)
+    };
+    (fail [$store:tt $s:tt] $t:ident) => {
+        $store.fail(*$t)
+    };
+}
+
+macro_rules! effects {
+    ([$store:tt $s:tt $command:ident] $(($case:ident $(($($field:ident),*))?, $word:literal, $needs:tt, $answer:ident, $effect:ident))*) => {
+        match $command {
+            $(Command::$case $(($($field),*))? => effect!($effect [$store $s] $($($field)*)?),)*
+        }
+    };
+}
+
+pub(crate) use answer;
+pub(crate) use answers;
+pub(crate) use effect;
+pub(crate) use effects;

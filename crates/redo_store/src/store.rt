@@ -1,0 +1,213 @@
+ghost use Rattle.std.specs.Prelude.{◌≡◌, ◌+◌, ◌^◌, ◌<◌, Some, None, length, option_map, IsTrue, IsFalse, true, IfOk, OnOk, OnErr};
+ghost use Rattle.redo_model.specs.Names.{texts};
+ghost use Rattle.redo_model.specs.State.{empty, is_building, target_state};
+ghost use Rattle.redo_model.specs.Command as commands;
+ghost use Rattle.redo_model.specs.Command.{asked_lock};
+ghost use Rattle.redo_model.specs.Step.{Replies, Tells, records_after, verdict_of, effect_of, with_cell};
+ghost use Rattle.redo_model.specs.Renaming.{OrdersAlike, numbering, IsBelow, IsReplyBelow};
+ghost use Rattle.redo_command.specs.Meaning.{command_of, reply_of, refusal_of};
+
+use crate::rows::{answer, answers, effect, effects};
+use crate::sorted::sorted_numbers;
+use redo_command::{Command, FileStamp, Refusal, Reply, cases};
+use redo_names::Names;
+use redo_records::{Records, State, digest_of};
+use std::alloc::{AllocError, Global};
+use std::marker::Model;
+
+/// The database without its locks, for one thread. Names are numbers below the number of names it was made for.
+/// Whether a session holds the target of its command is said with the command.
+#[derive(Drop)]
+pub struct Store {
+    records: Records,
+    sorted: Vec<u32>,
+    applied: u32,
+}
+
+impl Model for Store {
+    ghost use Rattle.redo_store.specs.Stored.{Stored};
+
+    ghost Value = { Stored };
+
+    ghost use Rattle.redo_store.specs.KeptStore.{stored_of, KeepsStored};
+
+    ghost view = { stored_of };
+
+    ghost invariant = { KeepsStored };
+}
+
+impl Store {
+    ghost use Rattle.redo_store.specs.Stored.{records_of, order_of, naming_of, count_of, applied_of, is_listed, AreTargets, HasRoom, KeepsNames};
+
+    /// The empty store: each name is idle, and without a file.
+    pub fn new(alloc: Global, names: &Names) -> Result<Store, AllocError>
+        ensures empty { IfOk result (λ store. records_of store ≡ empty.records) }
+        ensures count { IfOk result (λ store. count_of store ≡ length names.now) }
+        ensures order { IfOk result (λ store. OrdersAlike (numbering names.now) texts (order_of store)) }
+        ensures applied { IfOk result (λ store. applied_of store ≡ 0) }
+    {
+        let sorted = sorted_numbers(alloc, names)?;
+        let records = Records::new(alloc, names.len())?;
+        Ok(Store {
+            records,
+            sorted,
+            applied: 0,
+        })
+    }
+
+    /// The reply to a session's command, which is no lock. `holds` says whether the session holds its target.
+    pub fn reply(
+        &self,
+        alloc: Global,
+        s: u8,
+        command: &Command,
+        holds: bool,
+    ) -> Result<Reply, AllocError>
+        requires numbers { IsBelow (count_of self.now) (command_of command.now) }
+        requires no_lock { asked_lock (command_of command.now) ≡ None }
+        ensures replies { IfOk result (λ reply. Replies (naming_of self.now) (records_of self.now) s holds (command_of command.now) (reply_of reply)) }
+        ensures below { IfOk result (λ reply. IsReplyBelow (count_of self.now) (reply_of reply)) }
+    {
+        match self.verdict(s, command, holds) {
+            Some(refusal) => Ok(Reply::Refused(refusal)),
+            None => self.answer(alloc, command),
+        }
+    }
+
+    /// Makes the change of a session's command, which is no lock. Want of memory changes nothing.
+    pub fn apply(&mut self, s: u8, command: &Command, holds: bool) -> Result<(), AllocError>
+        requires numbers { IsBelow (count_of self.old) (command_of command.now) }
+        requires no_lock { asked_lock (command_of command.now) ≡ None }
+        requires applied { applied_of self.old + 1 < 2 ^ 32 }
+        ensures after { OnOk result (records_of self.new ≡ records_after (naming_of self.old) (records_of self.old) s holds (command_of command.now)) }
+        ensures applied { OnOk result (applied_of self.new ≡ applied_of self.old + 1) }
+        ensures count { count_of self.new ≡ count_of self.old }
+        ensures order { order_of self.new ≡ order_of self.old }
+        ensures err { OnErr result (self.new ≡ self.old) }
+    {
+        let verdict = self.verdict(s, command, holds);
+        self.count_applied();
+        match verdict {
+            Some(_) => {}
+            None => self.change(s, command),
+        }
+        Ok(())
+    }
+
+    /// How many commands were applied.
+    pub fn applied(&self) -> u32
+        ensures { result ≡ applied_of self.now }
+    {
+        self.applied
+    }
+
+    /// The first refusal that applies.
+    fn verdict(&self, s: u8, command: &Command, holds: bool) -> Option<Refusal>
+        requires { IsBelow (count_of self.now) (command_of command.now) }
+        ensures { option_map refusal_of result ≡ verdict_of (naming_of self.now) (records_of self.now) s holds (command_of command.now) }
+    {
+        match command.target() {
+            Some(t) => self.records.verdict(s, command.kind(), t, holds),
+            None => None,
+        }
+    }
+
+    /// What an accepted command is answered.
+    fn answer(&self, alloc: Global, command: &Command) -> Result<Reply, AllocError>
+        requires { asked_lock (command_of command.now) ≡ None }
+        ensures tells { IfOk result (λ reply. Tells (naming_of self.now) (records_of self.now) (command_of command.now) (reply_of reply)) }
+        ensures below { IfOk result (λ reply. IsReplyBelow (count_of self.now) (reply_of reply)) }
+    {
+        cases!(answers self alloc command)
+    }
+
+    fn targets_reply(&self, alloc: Global) -> Result<Reply, AllocError>
+        ensures tells { IfOk result (λ reply. Tells (naming_of self.now) (records_of self.now) commands.Targets (reply_of reply)) }
+        ensures below { IfOk result (λ reply. IsReplyBelow (count_of self.now) (reply_of reply)) }
+    {
+        Ok(Reply::Targets(self.targets(alloc)?))
+    }
+
+    fn targets(&self, alloc: Global) -> Result<Vec<u32>, AllocError>
+        ensures { IfOk result (λ names. AreTargets self.now names.items) }
+    {
+        let mut names = Vec::new(alloc);
+        for &n in &self.sorted {
+            if self.is_listed(n) {
+                names.push(n)?;
+            }
+        }
+        Ok(names)
+    }
+
+    fn is_listed(&self, n: u32) -> bool
+        requires { n < count_of self.now }
+        ensures { result ≡ is_listed self.now n }
+    {
+        self.records.file(n).is_some() && !matches!(self.records.state(n), State::Idle)
+    }
+
+    fn count_applied(&mut self)
+        requires { applied_of self.old + 1 < 2 ^ 32 }
+        ensures after { self.new ≡ record self.old { applied = applied_of self.old + 1 } }
+        ensures room { HasRoom self.new }
+    {
+        self.applied += 1;
+    }
+
+    /// Makes the change of an accepted command, after that was counted.
+    fn change(&mut self, s: u8, command: &Command)
+        requires numbers { IsBelow (count_of self.old) (command_of command.now) }
+        requires accepted { verdict_of (naming_of self.old) (records_of self.old) s true (command_of command.now) ≡ None }
+        requires room { HasRoom self.old }
+        ensures after { records_of self.new ≡ effect_of (naming_of self.old) (records_of self.old) s (command_of command.now) }
+        ensures kept { KeepsNames self.old self.new }
+    {
+        cases!(effects self s command)
+    }
+
+    fn set_file(&mut self, n: u32, file: Option<FileStamp>)
+        requires { n < count_of self.old }
+        ensures after { records_of self.new ≡ with_cell (naming_of self.old) (records_of self.old) n (record ((records_of self.old).cell n) { file = file }) }
+        ensures kept { KeepsNames self.old self.new }
+    {
+        self.records.set_file(n, file);
+    }
+
+    fn start(&mut self, s: u8, t: u32)
+        requires number { t < count_of self.old }
+        requires free { IsFalse (is_building (target_state (records_of self.old) t)) }
+        ensures after { records_of self.new ≡ effect_of (naming_of self.old) (records_of self.old) s (commands.Start t) }
+        ensures kept { KeepsNames self.old self.new }
+    {
+        self.records.start(s, t);
+    }
+
+    fn stamp(&mut self, t: u32, content: &[u8])
+        requires number { t < count_of self.old }
+        requires building { IsTrue (is_building (target_state (records_of self.old) t)) }
+        ensures after { records_of self.new ≡ effect_of (naming_of self.old) (records_of self.old) 0 (commands.Stamp t content.now) }
+        ensures kept { KeepsNames self.old self.new }
+    {
+        self.records.stamp(t, digest_of(content));
+    }
+
+    fn finish(&mut self, t: u32, stamp: Option<FileStamp>)
+        requires number { t < count_of self.old }
+        requires building { IsTrue (is_building (target_state (records_of self.old) t)) }
+        requires room { HasRoom self.old }
+        ensures after { records_of self.new ≡ effect_of (naming_of self.old) (records_of self.old) 0 (commands.Done t stamp) }
+        ensures kept { KeepsNames self.old self.new }
+    {
+        self.records.done(t, stamp);
+    }
+
+    fn fail(&mut self, t: u32)
+        requires number { t < count_of self.old }
+        requires building { IsTrue (is_building (target_state (records_of self.old) t)) }
+        ensures after { records_of self.new ≡ effect_of (naming_of self.old) (records_of self.old) 0 (commands.Failed t) }
+        ensures kept { KeepsNames self.old self.new }
+    {
+        self.records.failed(t);
+    }
+}

@@ -1,0 +1,115 @@
+//! Commands that are drawn at random, the same for the same seed.
+ghost use Rattle.std.specs.Prelude.{◌≡◌, ◌<◌, IfOk};
+ghost use Rattle.redo_model.specs.Renaming.{AllBelow, IsBelow};
+ghost use Rattle.redo_command.specs.Meaning.{command_of};
+
+use redo_command::{Command, FileStamp};
+use std::alloc::{AllocError, Global};
+
+/// How many names the commands speak of, and how many sessions ask them.
+pub(crate) const NAMES: u32 = 8;
+
+pub(crate) const SESSIONS: u32 = 4;
+
+/// A generator of numbers: the state moves on by a fixed step, and each number is the state, mixed.
+#[derive(Drop)]
+pub(crate) struct Random {
+    state: u64,
+}
+
+impl Random {
+    pub(crate) fn new(seed: u64) -> Random {
+        Random { state: seed }
+    }
+
+    fn number(&mut self) -> u64 {
+        self.state = self.state.wrapping_add(0x9e37_79b9_7f4a_7c15);
+        let mut mixed = self.state;
+        mixed = (mixed ^ (mixed >> 30)).wrapping_mul(0xbf58_476d_1ce4_e5b9);
+        mixed = (mixed ^ (mixed >> 27)).wrapping_mul(0x94d0_49bb_1331_11eb);
+        mixed ^ (mixed >> 31)
+    }
+
+    /// A number below the count.
+    fn below(&mut self, count: u32) -> u32
+        requires { 0 < count }
+        ensures { result < count }
+    {
+        (self.number() % u64::from(count)) as u32
+    }
+
+    /// A name.
+    pub(crate) fn name(&mut self) -> u32
+        ensures { result < NAMES }
+    {
+        self.below(NAMES)
+    }
+
+    /// One to three names, of which two may be the same.
+    pub(crate) fn few_names(&mut self, alloc: Global) -> Result<Vec<u32>, AllocError>
+        ensures { IfOk result (λ names. AllBelow NAMES names.items) }
+    {
+        Ok(match self.below(3) {
+            0 => vec![in alloc; self.name()]?,
+            1 => vec![in alloc; self.name(), self.name()]?,
+            _ => vec![in alloc; self.name(), self.name(), self.name()]?,
+        })
+    }
+
+    /// A session: for the most part the one that works on this name.
+    pub(crate) fn session(&mut self, name: u32) -> u8 {
+        let session = if self.below(8) == 0 {
+            self.below(SESSIONS)
+        } else {
+            name % SESSIONS
+        };
+        session as u8
+    }
+
+    /// One of a few file stamps, or none.
+    fn stamp(&mut self) -> Option<FileStamp> {
+        match self.below(4) {
+            0 => None,
+            1 => FileStamp::new(b"1"),
+            2 => FileStamp::new(b"22"),
+            _ => FileStamp::new(b"2"),
+        }
+    }
+
+    /// One of a few contents.
+    fn content(&mut self, alloc: Global) -> Result<Vec<u8>, AllocError> {
+        match self.below(3) {
+            0 => Ok(Vec::new(alloc)),
+            1 => Vec::from_slice(alloc, b"abc"),
+            _ => Vec::from_slice(alloc, b"abd"),
+        }
+    }
+
+    /// The name has another file, or none.
+    fn file(&mut self, n: u32) -> Command
+        requires { n < NAMES }
+        ensures { IsBelow NAMES (command_of result) }
+    {
+        match self.stamp() {
+            Some(stamp) => Command::File(n, stamp),
+            None => Command::Gone(n),
+        }
+    }
+
+    /// A command on this name.
+    pub(crate) fn command(&mut self, alloc: Global, name: u32) -> Result<Command, AllocError>
+        requires { name < NAMES }
+        ensures { IfOk result (λ command. IsBelow NAMES (command_of command)) }
+    {
+        Ok(match self.below(20) {
+            0..=2 => self.file(name),
+            3..=5 => Command::Lock(name),
+            6 => Command::Unlock(name),
+            7..=10 => Command::Start(name),
+            11..=13 => Command::Stamp(name, self.content(alloc)?),
+            14..=16 => Command::Done(name, self.stamp()),
+            17 => Command::Failed(name),
+            _ => Command::Targets,
+        })
+    }
+}
