@@ -1,5 +1,5 @@
 -- Adding names: what the names are after, and what they leave alone.
-use Rattle.std.proofs.Common.{◌≡◌, ℕ, ◌+◌, ◌<◌, ◌≤◌, Bool, true, false, cond, List, [], ◌∷◌, ◌++◌, length, get_or, Result, Ok, Err, refl, sym, ap, ◌∙◌, arith, eqb, length-append, append-nil, append_assoc}
+use Rattle.std.proofs.Common.{◌≡◌, ℕ, ◌+◌, ◌<◌, ◌≤◌, Bool, true, false, cond, List, [], ◌∷◌, ◌++◌, map, length, get_or, Result, Ok, Err, refl, sym, ap, ◌∙◌, arith, eqb, length-append, append-nil, append_assoc}
 use Rattle.std.proofs.lemmas.Bool.Decides.{nat_tests}
 use Rattle.std.proofs.lemmas.List.{get_or_append_left}
 use Rattle.redo_names.specs.declared.names.TheConstants.{MOST_NAMES}
@@ -8,7 +8,7 @@ use Rattle.redo_model.specs.Names.{Text}
 use Rattle.redo_model.specs.Command as commands
 use Rattle.redo_model.specs.Renaming.{AllBelow, IsBelow}
 use Rattle.redo_command.specs.declared.command.Command.{Command}
-use Rattle.redo_command.specs.declared.command.Command.TheVariants.{File, Gone, Lock, Unlock, Start, Stamp, Done, Failed, Targets}
+use Rattle.redo_command.specs.declared.command.Command.TheVariants.{File, Gone, Lock, Unlock, Start, IfChange, IfCreate, Always, Stamp, Done, Failed, Ood, Targets, Sources}
 use Rattle.redo_command.specs.declared.fault.LineFault.{LineFault}
 use Rattle.redo_command.specs.declared.fault.LineFault.TheVariants.{TooManyNames}
 use Rattle.redo_command.specs.Meaning.{command_of, command_at}
@@ -73,10 +73,18 @@ one_fits names t command after own adds = added_fits names t after (adds.0 ∙ a
 pub text_at-Extends : (old new : List Text) (n : ℕ) → Extends old new → n < length old → text_at new n ≡ text_at old n
 text_at-Extends old new n x lt = ap (λ (l : List Text). get_or l n []) x.is ∙ get_or_append_left old x.more [] n lt
 
+-- what the numbers stand for does not change where names are added
+pub texts-Extends : (old new : List Text) (ns : List ℕ) → Extends old new → AllBelow (length old) ns → map (text_at new) ns ≡ map (text_at old) ns
+texts-Extends old new [] x all = refl
+texts-Extends old new (n ∷ ns) x all =
+    let one = text_at-Extends old new n x all.0 in
+    let others = texts-Extends old new ns x all.1 in
+    λ i. one i ∷ others i
+
 below-Extends : (old new : List Text) (n : ℕ) → Extends old new → n < length old → n < length new
 below-Extends old new n x lt = omega (arith, ap length x.is, length-append old x.more)
 
-all_below-Extends : (old new : List Text) (ns : List ℕ) → Extends old new → AllBelow (length old) ns → AllBelow (length new) ns
+pub all_below-Extends : (old new : List Text) (ns : List ℕ) → Extends old new → AllBelow (length old) ns → AllBelow (length new) ns
 all_below-Extends old new [] x all = tt
 all_below-Extends old new (n ∷ ns) x all = (below-Extends old new n x all.0, all_below-Extends old new ns x all.1)
 
@@ -90,7 +98,18 @@ command_at-Extends old new (Gone n) x below = ap commands.Gone (text_at-Extends 
 command_at-Extends old new (Lock n) x below = ap commands.Lock (text_at-Extends old new n x below.0)
 command_at-Extends old new (Unlock n) x below = ap commands.Unlock (text_at-Extends old new n x below.0)
 command_at-Extends old new (Start n) x below = ap commands.Start (text_at-Extends old new n x below.0)
+command_at-Extends old new (IfChange t ns) x below =
+    let target = text_at-Extends old new t x below.0 in
+    let others = texts-Extends old new ns.items x below.1 in
+    λ i. commands.IfChange (target i) (others i)
+command_at-Extends old new (IfCreate t ns) x below =
+    let target = text_at-Extends old new t x below.0 in
+    let others = texts-Extends old new ns.items x below.1 in
+    λ i. commands.IfCreate (target i) (others i)
+command_at-Extends old new (Always n) x below = ap commands.Always (text_at-Extends old new n x below.0)
 command_at-Extends old new (Stamp n content) x below = let e = text_at-Extends old new n x below.0 in λ i. commands.Stamp (e i) content.items
 command_at-Extends old new (Done n stamp) x below = let e = text_at-Extends old new n x below.0 in λ i. commands.Done (e i) stamp
 command_at-Extends old new (Failed n) x below = ap commands.Failed (text_at-Extends old new n x below.0)
+command_at-Extends old new Ood x below = refl
 command_at-Extends old new Targets x below = refl
+command_at-Extends old new Sources x below = refl

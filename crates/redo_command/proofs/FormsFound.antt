@@ -1,22 +1,23 @@
 -- What is read as a form is what the form says.
-use Rattle.std.proofs.Common.{◌≡◌, ◌≤◌, Bool, true, false, cond, List, [], ◌∷◌, length, Option, Some, None, Result, Ok, refl, sym, subst}
+use Rattle.std.proofs.Common.{◌≡◌, ◌≤◌, Bool, true, false, cond, List, [], ◌∷◌, ◌++◌, length, Option, Some, None, Result, Ok, refl, sym, ap, subst}
 use Rattle.std.specs.Prelude.{codes, bytes_eq, IfSome, IsTrue}
 use Rattle.std.proofs.lemmas.Slice.Eq.{bytes_eq-Decides}
 use Rattle.redo_names.specs.declared.names.TheConstants.{MOST_NAMES}
 use Rattle.redo_names.specs.Names.{is_name}
 use Rattle.redo_model.specs.Names.{Text}
-use Rattle.redo_model.specs.Command.{Command, File, Gone, Lock, Unlock, Start, Stamp, Done, Failed, Targets, names_in}
+use Rattle.redo_model.specs.Command.{Command, File, Gone, Lock, Unlock, Start, IfChange, IfCreate, Always, Stamp, Done, Failed, Ood, Targets, Sources, names_in}
 use Rattle.redo_command.specs.declared.fault.LineFault.{LineFault}
 use Rattle.redo_command.specs.declared.fault.LineFault.TheVariants.{BadName, BadStamp}
 use Rattle.redo_command.specs.declared.kind.Kind.{Kind}
 use Rattle.redo_command.specs.declared.kind.Kind.TheVariants as kinds
 use Rattle.redo_command.specs.Stamp.{is_stamp}
 use Rattle.redo_command.specs.Texts.{spaced, stamp_word, word_of}
-use Rattle.redo_command.specs.Grammar.{HasForm, IsSpelled, AddsNames}
-use Rattle.redo_command.specs.Reading.{◌>>=◌, name_in, file_stamp_in, file_stamp_or_none_in, content_in, added, one_name_in, file_in, stamp_in, done_in, no_words_in, all_kinds, kind_named, form_in, words_in}
+use Rattle.redo_command.specs.Grammar.{HasForm, IsNameList, IsSpelled, with_names, AddsNames}
+use Rattle.redo_command.specs.Reading.{◌>>=◌, name_in, file_stamp_in, file_stamp_or_none_in, content_in, added, one_name_in, target_and_names_in, all_added, names_form_in, file_in, stamp_in, done_in, no_words_in, all_kinds, kind_named, form_in, words_in}
 use Rattle.redo_command.proofs.Steps.{bind_ok, guard_ok, found_passes, read, same_read}
 use Rattle.redo_command.proofs.Added.{one_added}
 use Rattle.redo_command.proofs.Contents.{content_says}
+use Rattle.redo_command.proofs.NameLists.{target_and_names_found, all_adds}
 
 -- the words say the command, and its names are added
 pub record SaysCommand (names : List Text) (word : Text) (args : List Text) (command : Command Text) (after : List Text) : Type 0 where
@@ -119,10 +120,29 @@ done_says names (n ∷ s ∷ []) x few e =
     }) d.2
 done_says names (n ∷ s ∷ w ∷ ws) x few e = absurd cc
 
-targets_says : (names args : List Text) (x : Command Text × List Text) → length names ≤ MOST_NAMES → no_words_in Targets names args ≡ Ok x → SaysRead names (codes "targets") args x
+-- what is read as a form of a target and of names
+names_form_says : (form : Text → List Text → Command Text) (word : Text) → ((t : Text) (ns : List Text) → IsTrue (is_name t) → IsNameList ns → HasForm (form t ns)) → ((t : Text) (ns : List Text) → IsSpelled (spaced word (t ∷ ns)) (form t ns)) → ((t : Text) (ns : List Text) → names_in (form t ns) ≡ t ∷ ns)
+    → (names args : List Text) (x : Command Text × List Text) → length names ≤ MOST_NAMES → names_form_in form names args ≡ Ok x → SaysRead names word args x
+unfolding names_form_in
+names_form_says form word has spelled own names args x few e =
+    let a = bind_ok (target_and_names_in args) (λ w. all_added names (w.0 ∷ w.1) >>= λ after. Ok (form w.0 w.1, after)) x e in
+    let t = a.0.0 in
+    let ns = a.0.1 in
+    let b = bind_ok (all_added names (t ∷ ns)) (λ after. Ok (form t ns, after)) x a.2 in
+    let g = target_and_names_found args t ns a.1 in
+    says_read names word args (form t ns, b.0) x (record {
+      form = has t ns g.target g.list;
+      spelled = subst (λ (l : List Text). IsSpelled (spaced word l) (form t ns)) (sym g.words) (spelled t ns);
+      adds = all_adds names (t ∷ ns) (form t ns) b.0 (own t ns) b.1;
+    }) b.2
+
+-- what is read as a form without words
+no_words_says : (form : Command Text) (word : Text) → HasForm form → IsSpelled (spaced word []) form → names_in form ≡ [] → (names args : List Text) (x : Command Text × List Text) → length names ≤ MOST_NAMES → no_words_in form names args ≡ Ok x → SaysRead names word args x
 unfolding no_words_in
-targets_says names [] x few e = says_read names (codes "targets") [] (Targets, names) x (record { form = tt; spelled = refl; adds = (refl, few) }) e
-targets_says names (w ∷ ws) x few e = absurd cc
+no_words_says form word has spelled own names [] x few e =
+    let adds : AddsNames names (form ∷ []) names = (ap (λ (l : List Text). with_names names (l ++ [])) (sym own), few) in
+    says_read names word [] (form, names) x (record { form = has; spelled = spelled; adds = adds }) e
+no_words_says form word has spelled own names (w ∷ ws) x few e = absurd cc
 
 -- what is read as the form of a kind
 form_says : (kind : Kind) (names args : List Text) (x : Command Text × List Text) → length names ≤ MOST_NAMES → form_in (Some kind) names args ≡ Ok x → SaysRead names (word_of kind) args x
@@ -132,10 +152,15 @@ form_says kinds.Gone = one_name_says Gone (codes "gone") (λ n good. good) (λ n
 form_says kinds.Lock = one_name_says Lock (codes "lock") (λ n good. good) (λ n. refl) (λ n. refl)
 form_says kinds.Unlock = one_name_says Unlock (codes "unlock") (λ n good. good) (λ n. refl) (λ n. refl)
 form_says kinds.Start = one_name_says Start (codes "start") (λ n good. good) (λ n. refl) (λ n. refl)
+form_says kinds.IfChange = names_form_says IfChange (codes "ifchange") (λ t ns good list. (good, list)) (λ t ns. refl) (λ t ns. refl)
+form_says kinds.IfCreate = names_form_says IfCreate (codes "ifcreate") (λ t ns good list. (good, list)) (λ t ns. refl) (λ t ns. refl)
+form_says kinds.Always = one_name_says Always (codes "always") (λ n good. good) (λ n. refl) (λ n. refl)
 form_says kinds.Stamp = stamp_says
 form_says kinds.Done = done_says
 form_says kinds.Failed = one_name_says Failed (codes "failed") (λ n good. good) (λ n. refl) (λ n. refl)
-form_says kinds.Targets = targets_says
+form_says kinds.Ood = no_words_says Ood (codes "ood") tt refl refl
+form_says kinds.Targets = no_words_says Targets (codes "targets") tt refl refl
+form_says kinds.Sources = no_words_says Sources (codes "sources") tt refl refl
 
 -- the word is that of the kind that it names
 word_is : (word : Text) (kind : Kind) → kind_named word ≡ Some kind → word ≡ word_of kind

@@ -1,17 +1,19 @@
 -- The words of a command are read as the command.
-use Rattle.std.proofs.Common.{◌≡◌, ◌≤◌, List, [], ◌∷◌, length, Option, Some, None, Ok, refl, sym, ap, lit≤}
+use Rattle.std.proofs.Common.{◌≡◌, ◌≤◌, List, [], ◌∷◌, length, Option, Some, None, Ok, refl, sym, ap, lit≤, arith}
 use Rattle.std.specs.Prelude.{codes, IfSome, IsTrue}
 use Rattle.std.specs.List.{AllByRecursion}
 use Rattle.redo_names.specs.declared.names.TheConstants.{MOST_NAMES}
 use Rattle.redo_names.specs.Names.{is_name}
+use Rattle.redo_command.specs.declared.name_lists.TheConstants.{MOST_LISTED_NAMES}
 use Rattle.redo_model.specs.Names.{Text}
 use Rattle.redo_model.specs.Command.{Command, File, Gone, Lock, Unlock, Start, IfChange, IfCreate, Always, Stamp, Done, Failed, Ood, Targets, Sources, names_in}
 use Rattle.redo_command.specs.Stamp.{is_stamp}
 use Rattle.redo_command.specs.Texts.{spaced, stamp_word}
-use Rattle.redo_command.specs.Grammar.{HasForm, IsSpelled, IsContentWord, AddsNames}
-use Rattle.redo_command.specs.Reading.{file_stamp_or_none_in, one_name_in, file_in, stamp_in, done_in, no_words_in, form_in, words_in}
+use Rattle.redo_command.specs.Grammar.{HasForm, IsNameList, IsSpelled, IsContentWord, AddsNames}
+use Rattle.redo_command.specs.Reading.{file_stamp_or_none_in, one_name_in, names_form_in, file_in, stamp_in, done_in, no_words_in, form_in, words_in}
 use Rattle.redo_command.proofs.Added.{one_fits}
 use Rattle.redo_command.proofs.Contents.{content_read, content_is_visible}
+use Rattle.redo_command.proofs.NameLists.{target_and_names_read, names_are_visible, all_fit}
 use Rattle.redo_command.proofs.Spaced.{IsVisible, name_is_visible, stamp_is_visible, stamp_is_no_dash}
 
 -- the words of a line, the first of them apart, and that they are read as the command
@@ -27,6 +29,13 @@ unfolding one_name_in
 one_name_read form names n after own good adds =
     let fits = one_fits names n (form n) after own adds in
     rw (good, fits) refl
+
+names_form_read : (form : Text → List Text → Command Text) (names : List Text) (t : Text) (ns after : List Text) → names_in (form t ns) ≡ t ∷ ns → IsTrue (is_name t) → IsNameList ns → AddsNames names (form t ns ∷ []) after → names_form_in form names (t ∷ ns) ≡ Ok (form t ns, after)
+unfolding names_form_in
+names_form_read form names t ns after own good list adds =
+    let words = target_and_names_read t ns good list in
+    let fit = all_fit names (t ∷ ns) (form t ns) after own adds in
+    rw (words, fit) refl
 
 file_read : (names : List Text) (n stamp : Text) (after : List Text) → IsTrue (is_name n) → IsTrue (is_stamp stamp) → AddsNames names (File n stamp ∷ []) after → file_in names (n ∷ stamp ∷ []) ≡ Ok (File n stamp, after)
 unfolding file_in
@@ -96,9 +105,27 @@ read_from_words names line (Start t) after form spelled adds = record {
   visible = (refl, (name_is_visible t form, tt));
   reads = one_name_read Start names t after refl form adds;
 }
-read_from_words names line (IfChange t ns) after form spelled adds = absurd form
-read_from_words names line (IfCreate t ns) after form spelled adds = absurd form
-read_from_words names line (Always t) after form spelled adds = absurd form
+read_from_words names line (IfChange t ns) after form spelled adds = record {
+  word = codes "ifchange";
+  args = t ∷ ns;
+  text = spelled;
+  visible = (refl, (name_is_visible t form.0, names_are_visible ns form.1.each));
+  reads = names_form_read IfChange names t ns after refl form.0 form.1 adds;
+}
+read_from_words names line (IfCreate t ns) after form spelled adds = record {
+  word = codes "ifcreate";
+  args = t ∷ ns;
+  text = spelled;
+  visible = (refl, (name_is_visible t form.0, names_are_visible ns form.1.each));
+  reads = names_form_read IfCreate names t ns after refl form.0 form.1 adds;
+}
+read_from_words names line (Always t) after form spelled adds = record {
+  word = codes "always";
+  args = t ∷ [];
+  text = spelled;
+  visible = (refl, (name_is_visible t form, tt));
+  reads = one_name_read Always names t after refl form adds;
+}
 read_from_words names line (Stamp t content) after form spelled adds = record {
   word = codes "stamp";
   args = t ∷ spelled.0 ∷ [];
@@ -120,7 +147,13 @@ read_from_words names line (Failed t) after form spelled adds = record {
   visible = (refl, (name_is_visible t form, tt));
   reads = one_name_read Failed names t after refl form adds;
 }
-read_from_words names line Ood after form spelled adds = absurd form
+read_from_words names line Ood after form spelled adds = record {
+  word = codes "ood";
+  args = [];
+  text = spelled;
+  visible = (refl, tt);
+  reads = ap (λ (l : List Text). Ok (Ood, l)) (sym adds.0);
+}
 read_from_words names line Targets after form spelled adds = record {
   word = codes "targets";
   args = [];
@@ -128,7 +161,18 @@ read_from_words names line Targets after form spelled adds = record {
   visible = (refl, tt);
   reads = ap (λ (l : List Text). Ok (Targets, l)) (sym adds.0);
 }
-read_from_words names line Sources after form spelled adds = absurd form
+read_from_words names line Sources after form spelled adds = record {
+  word = codes "sources";
+  args = [];
+  text = spelled;
+  visible = (refl, tt);
+  reads = ap (λ (l : List Text). Ok (Sources, l)) (sym adds.0);
+}
+
+few_listed : (t : Text) (ns : List Text) → IsNameList ns → length (t ∷ ns) ≤ MOST_NAMES
+few_listed t ns list =
+    let few : length ns ≤ MOST_LISTED_NAMES = list.few in
+    omega arith
 
 -- a command has few names
 pub few_names : (command : Command Text) → HasForm command → length (names_in command) ≤ MOST_NAMES
@@ -137,12 +181,12 @@ few_names (Gone n) form = lit≤ tt
 few_names (Lock t) form = lit≤ tt
 few_names (Unlock t) form = lit≤ tt
 few_names (Start t) form = lit≤ tt
-few_names (IfChange t ns) form = absurd form
-few_names (IfCreate t ns) form = absurd form
-few_names (Always t) form = absurd form
+few_names (IfChange t ns) form = few_listed t ns form.1
+few_names (IfCreate t ns) form = few_listed t ns form.1
+few_names (Always t) form = lit≤ tt
 few_names (Stamp t content) form = lit≤ tt
 few_names (Done t stamp) form = lit≤ tt
 few_names (Failed t) form = lit≤ tt
-few_names Ood form = absurd form
+few_names Ood form = lit≤ tt
 few_names Targets form = lit≤ tt
-few_names Sources form = absurd form
+few_names Sources form = lit≤ tt

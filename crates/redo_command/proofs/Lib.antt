@@ -4,6 +4,7 @@ pub mod FormsFound
 pub mod FormsRead
 pub mod LineLaws
 pub mod Lines
+pub mod NameLists
 pub mod ScriptLaws
 pub mod ScriptParts
 pub mod ScriptSteps

@@ -6,26 +6,33 @@ use Rattle.redo_names.specs.Names.{is_name, with_name}
 use Rattle.redo_names.specs.declared.names.TheConstants.{MOST_NAMES}
 use Rattle.redo_model.specs.Names.{Text}
 use Rattle.redo_model.specs.Command.{Command, File, Gone, Lock, Unlock, Start, IfChange, IfCreate, Always, Stamp, Done, Failed, Ood, Targets, Sources, names_in}
+use Rattle.redo_command.specs.declared.name_lists.TheConstants.{MOST_LISTED_NAMES}
 use Rattle.redo_command.specs.declared.read.TheConstants.{LONGEST_LINE, MOST_COMMANDS}
 use Rattle.redo_command.specs.Stamp.{is_stamp}
 use Rattle.redo_command.specs.Texts.{spaced, command_text_of}
 
--- what the words of a command have to be; the forms that have not come yet have none
+-- 1 to 64 names
+pub record IsNameList (names : List Text) : Type 0 where
+  pub some : 1 ≤ length names
+  pub few : length names ≤ MOST_LISTED_NAMES
+  pub each : AllByRecursion (λ n. IsTrue (is_name n)) names
+
+-- what the words of a command have to be
 abbrev pub HasForm : Command Text → Type 0
 HasForm (File n stamp) = IsTrue (is_name n) × IsTrue (is_stamp stamp)
 HasForm (Gone n) = IsTrue (is_name n)
 HasForm (Lock t) = IsTrue (is_name t)
 HasForm (Unlock t) = IsTrue (is_name t)
 HasForm (Start t) = IsTrue (is_name t)
-HasForm (IfChange t ns) = ⊥
-HasForm (IfCreate t ns) = ⊥
-HasForm (Always t) = ⊥
+HasForm (IfChange t ns) = IsTrue (is_name t) × IsNameList ns
+HasForm (IfCreate t ns) = IsTrue (is_name t) × IsNameList ns
+HasForm (Always t) = IsTrue (is_name t)
 HasForm (Stamp t content) = IsTrue (is_name t) × AllByRecursion (λ b. b < 256) content
 HasForm (Done t stamp) = IsTrue (is_name t) × IfSome stamp (λ s. IsTrue (is_stamp s))
 HasForm (Failed t) = IsTrue (is_name t)
-HasForm Ood = ⊥
+HasForm Ood = ⊤
 HasForm Targets = ⊤
-HasForm Sources = ⊥
+HasForm Sources = ⊤
 
 -- a line may have 8,192 bytes, a script 4,096 commands, a run 65,536 names
 abbrev pub IsShort : Text → Type 0

@@ -1,18 +1,19 @@
 -- Reading a line by steps: the first step that it fails is its fault.
 use Rattle.std.specs.Prelude.{◌≡◌, ℕ, ◌+◌, List, [], ◌∷◌, ◌++◌, length, Option, Some, None, Result, Ok, Err, Bool, not, ◌&&◌, nat_lt, nat_le, ◌==◌, if◌then◌else◌, codes, bytes_eq, find}
-use Rattle.std.specs.List.{slice_split, list_any}
+use Rattle.std.specs.List.{slice_split, list_any, list_all}
 use Rattle.hex.specs.Hex.{decode_of}
 use Rattle.hex.specs.declared.error.FromHexError.{FromHexError}
 use Rattle.redo_names.specs.Names.{is_name, has}
 use Rattle.redo_names.specs.declared.names.TheConstants.{MOST_NAMES}
 use Rattle.redo_model.specs.Names.{Text}
-use Rattle.redo_model.specs.Command.{Command, File, Gone, Lock, Unlock, Start, Stamp, Done, Failed, Targets}
+use Rattle.redo_model.specs.Command.{Command, File, Gone, Lock, Unlock, Start, IfChange, IfCreate, Always, Stamp, Done, Failed, Ood, Targets, Sources}
+use Rattle.redo_command.specs.declared.name_lists.TheConstants.{MOST_LISTED_NAMES}
 use Rattle.redo_command.specs.declared.read.TheConstants.{LONGEST_LINE, MOST_COMMANDS}
 use Rattle.redo_command.specs.declared.kind.Kind.{Kind}
 use Rattle.redo_command.specs.declared.kind.Kind.TheVariants as kinds
 use Rattle.redo_command.specs.Stamp.{is_stamp}
 use Rattle.redo_command.specs.Texts.{word_of}
-use Rattle.redo_command.specs.Grammar.{is_skipped, lines_of, AreScriptLines}
+use Rattle.redo_command.specs.Grammar.{with_names, is_skipped, lines_of, AreScriptLines}
 use Rattle.redo_command.specs.declared.fault.LineFault.{LineFault}
 use Rattle.redo_command.specs.declared.fault.LineFault.TheVariants.{LineTooLong, BadByte, UnknownCommand, WrongWords, BadName, BadStamp, BadHex, TooManyLines, TooManyNames}
 use Rattle.redo_command.specs.declared.fault.Unread.{Unread}
@@ -62,6 +63,26 @@ one_name_in form names (n ∷ []) = do
   Ok (form name, after)
 one_name_in form names (n ∷ w ∷ ws) = Err WrongWords
 
+-- a name, and after it 1 to 64 names
+unfoldable pub target_and_names_in : List Text → Result (Text × List Text) LineFault
+target_and_names_in [] = Err WrongWords
+target_and_names_in (t ∷ []) = Err WrongWords
+target_and_names_in (t ∷ n ∷ ns) =
+    if nat_lt MOST_LISTED_NAMES (length (n ∷ ns)) then Err TooManyNames
+    else (if not (list_all is_name (t ∷ n ∷ ns)) then Err BadName
+    else Ok (t, n ∷ ns))
+
+-- the names with all of these, where they are not too many then
+unfoldable pub all_added : List Text → List Text → Result (List Text) LineFault
+all_added names ts = if nat_le (length (with_names names ts)) MOST_NAMES then Ok (with_names names ts) else Err TooManyNames
+
+-- a form of a target and of names
+unfoldable pub names_form_in : (Text → List Text → Command Text) → List Text → List Text → Reading
+names_form_in form names args = do
+  words ← target_and_names_in args
+  after ← all_added names (words.0 ∷ words.1)
+  Ok (form words.0 words.1, after)
+
 unfoldable pub file_in : List Text → List Text → Reading
 file_in names [] = Err WrongWords
 file_in names (n ∷ []) = Err WrongWords
@@ -99,7 +120,7 @@ no_words_in form names (w ∷ ws) = Err WrongWords
 
 -- each kind of command
 abbrev pub all_kinds : List Kind
-all_kinds = kinds.File ∷ kinds.Gone ∷ kinds.Lock ∷ kinds.Unlock ∷ kinds.Start ∷ kinds.Stamp ∷ kinds.Done ∷ kinds.Failed ∷ kinds.Targets ∷ []
+all_kinds = kinds.File ∷ kinds.Gone ∷ kinds.Lock ∷ kinds.Unlock ∷ kinds.Start ∷ kinds.IfChange ∷ kinds.IfCreate ∷ kinds.Always ∷ kinds.Stamp ∷ kinds.Done ∷ kinds.Failed ∷ kinds.Ood ∷ kinds.Targets ∷ kinds.Sources ∷ []
 
 -- the kind whose word this is
 abbrev pub kind_named : Text → Option Kind
@@ -113,10 +134,15 @@ form_in (Some kinds.Gone) names args = one_name_in Gone names args
 form_in (Some kinds.Lock) names args = one_name_in Lock names args
 form_in (Some kinds.Unlock) names args = one_name_in Unlock names args
 form_in (Some kinds.Start) names args = one_name_in Start names args
+form_in (Some kinds.IfChange) names args = names_form_in IfChange names args
+form_in (Some kinds.IfCreate) names args = names_form_in IfCreate names args
+form_in (Some kinds.Always) names args = one_name_in Always names args
 form_in (Some kinds.Stamp) names args = stamp_in names args
 form_in (Some kinds.Done) names args = done_in names args
 form_in (Some kinds.Failed) names args = one_name_in Failed names args
+form_in (Some kinds.Ood) names args = no_words_in Ood names args
 form_in (Some kinds.Targets) names args = no_words_in Targets names args
+form_in (Some kinds.Sources) names args = no_words_in Sources names args
 
 -- by the first word
 unfoldable pub words_in : List Text → List Text → Reading

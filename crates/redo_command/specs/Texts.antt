@@ -34,10 +34,15 @@ word_of kinds.Gone = codes "gone"
 word_of kinds.Lock = codes "lock"
 word_of kinds.Unlock = codes "unlock"
 word_of kinds.Start = codes "start"
+word_of kinds.IfChange = codes "ifchange"
+word_of kinds.IfCreate = codes "ifcreate"
+word_of kinds.Always = codes "always"
 word_of kinds.Stamp = codes "stamp"
 word_of kinds.Done = codes "done"
 word_of kinds.Failed = codes "failed"
+word_of kinds.Ood = codes "ood"
 word_of kinds.Targets = codes "targets"
+word_of kinds.Sources = codes "sources"
 
 abbrev pub command_text_of : Command Text → Text
 command_text_of (File n stamp) = spaced (codes "file") (n ∷ stamp ∷ [])

@@ -5,11 +5,14 @@
 /// - the case of `Command` and of `Kind`, with a name for each field of the command;
 /// - the word that a line of it begins with;
 /// - what it needs, in the order of the tests, each need with the refusal where it is not met: `held`, the session
-///   holds the target's lock; `resting`, nobody builds the target; `own_build`, the session builds it;
+///   holds the target's lock; `resting`, nobody builds the target; `own_build`, the session builds it; `others`, the
+///   target is not among the names after it; `missing`, none of these has a file;
 /// - the answer where it is accepted: `okay`; `grant`, whether the lock is the session's, and the number of its grant;
-///   `digest`, that of the content; `targets`, those that have a file;
+///   `stale`, which of the names after the target are stale, or that none is; `digest`, that of the content; `ood`, the
+///   targets that have a file and are out of date; `targets`, those that have a file; `sources`, the sources;
 /// - what it then changes: `set_file` and `clear_file` the name's file; `start`, `stamp`, `finish` and `fail` the
-///   target's build; `nothing`.
+///   target's build; `put_changes` and `put_created` its rows on the names after it, `put_always` that it is always out
+///   of date; `nothing`.
 #[macro_export]
 macro_rules! cases {
     ($then:ident $($args:tt)*) => {
@@ -20,10 +23,15 @@ macro_rules! cases {
             (Lock(t), b"lock", [], grant, nothing)
             (Unlock(t), b"unlock", [held NotLocked, resting Building], okay, nothing)
             (Start(t), b"start", [held NotLocked, resting Building], okay, start)
+            (IfChange(t, names), b"ifchange", [own_build NotBuilding, others Itself], stale, put_changes)
+            (IfCreate(t, names), b"ifcreate", [own_build NotBuilding, others Itself, missing Exists], okay, put_created)
+            (Always(t), b"always", [own_build NotBuilding], okay, put_always)
             (Stamp(t, content), b"stamp", [own_build NotBuilding], digest, stamp)
             (Done(t, stamp), b"done", [own_build NotBuilding], okay, finish)
             (Failed(t), b"failed", [own_build NotBuilding], okay, fail)
+            (Ood, b"ood", [], ood, nothing)
             (Targets, b"targets", [], targets, nothing)
+            (Sources, b"sources", [], sources, nothing)
         }
     };
 }

@@ -13,14 +13,24 @@ pub enum Command {
     Unlock(u32),
     /// The target is built from now on.
     Start(u32),
+    /// The target depends on these names as they are now; a line holds 1 to 64.
+    IfChange(u32, Vec<u32>),
+    /// The target depends on none of these names having a file; a line holds 1 to 64.
+    IfCreate(u32, Vec<u32>),
+    /// Once built, the target is always out of date.
+    Always(u32),
     /// The target's digest is that of this content, of which a line holds up to 4,092 bytes.
     Stamp(u32, Vec<u8>),
     /// The target was built; its file has this stamp, or there is none.
     Done(u32, Option<FileStamp>),
     /// The target could not be built.
     Failed(u32),
+    /// Which targets have a file and are out of date?
+    Ood,
     /// Which targets have a file?
     Targets,
+    /// Which idle names have a file that some target depends on?
+    Sources,
 }
 
 impl Command {
@@ -38,10 +48,15 @@ impl Command {
             Command::Lock(_) => Kind::Lock,
             Command::Unlock(_) => Kind::Unlock,
             Command::Start(_) => Kind::Start,
+            Command::IfChange(..) => Kind::IfChange,
+            Command::IfCreate(..) => Kind::IfCreate,
+            Command::Always(_) => Kind::Always,
             Command::Stamp(..) => Kind::Stamp,
             Command::Done(..) => Kind::Done,
             Command::Failed(_) => Kind::Failed,
+            Command::Ood => Kind::Ood,
             Command::Targets => Kind::Targets,
+            Command::Sources => Kind::Sources,
         }
     }
 
@@ -51,8 +66,10 @@ impl Command {
     {
         match self {
             Command::Lock(t) | Command::Unlock(t) | Command::Start(t) => Some(*t),
+            Command::IfChange(t, _) | Command::IfCreate(t, _) | Command::Always(t) => Some(*t),
             Command::Stamp(t, _) | Command::Done(t, _) | Command::Failed(t) => Some(*t),
-            Command::File(..) | Command::Gone(_) | Command::Targets => None,
+            Command::File(..) | Command::Gone(_) => None,
+            Command::Ood | Command::Targets | Command::Sources => None,
         }
     }
 
@@ -66,10 +83,15 @@ impl Command {
             Command::Lock(t) => Command::Lock(*t),
             Command::Unlock(t) => Command::Unlock(*t),
             Command::Start(t) => Command::Start(*t),
+            Command::IfChange(t, names) => Command::IfChange(*t, Vec::from_slice(alloc, names)?),
+            Command::IfCreate(t, names) => Command::IfCreate(*t, Vec::from_slice(alloc, names)?),
+            Command::Always(t) => Command::Always(*t),
             Command::Stamp(t, content) => Command::Stamp(*t, Vec::from_slice(alloc, content)?),
             Command::Done(t, stamp) => Command::Done(*t, *stamp),
             Command::Failed(t) => Command::Failed(*t),
+            Command::Ood => Command::Ood,
             Command::Targets => Command::Targets,
+            Command::Sources => Command::Sources,
         })
     }
 }

@@ -4,12 +4,13 @@ ghost use Rattle.redo_model.specs.Names.{Text};
 ghost use Rattle.redo_model.specs.Command as commands;
 ghost use Rattle.redo_model.specs.Renaming.{IsBelow};
 ghost use Rattle.redo_command.specs.Meaning.{command_of, command_at};
-ghost use Rattle.redo_command.specs.Reading.{Reads, one_name_in, file_in, stamp_in, done_in, no_words_in, words_in};
+ghost use Rattle.redo_command.specs.Reading.{Reads, one_name_in, names_form_in, file_in, stamp_in, done_in, no_words_in, words_in};
 
 use crate::command::Command;
 use crate::fault::{LineFault, Unread};
 use crate::keywords::kind_named;
 use crate::kind::Kind;
+use crate::name_lists::target_and_numbers_of;
 use crate::words::{
     content_of, file_stamp_of, file_stamp_or_none_of, name_of, number_of, one, two,
 };
@@ -85,6 +86,32 @@ fn failed_of(names: &mut Names, args: &[&[u8]]) -> Result<Command, Unread>
     Ok(Command::Failed(one_name_of(names, args)?))
 }
 
+fn ifchange_of(alloc: Global, names: &mut Names, args: &[&[u8]]) -> Result<Command, Unread>
+    ensures reads { Reads (λ command. (command_at names.new command, names.new)) result (names_form_in commands.IfChange names.old (map (λ w. w.now) args.now)) }
+    ensures within { IfOk result (λ command. IsBelow (length names.new) (command_of command)) }
+    ensures kept { Extends names.old names.new }
+{
+    let (target, numbers) = target_and_numbers_of(alloc, names, args)?;
+    Ok(Command::IfChange(target, numbers))
+}
+
+fn ifcreate_of(alloc: Global, names: &mut Names, args: &[&[u8]]) -> Result<Command, Unread>
+    ensures reads { Reads (λ command. (command_at names.new command, names.new)) result (names_form_in commands.IfCreate names.old (map (λ w. w.now) args.now)) }
+    ensures within { IfOk result (λ command. IsBelow (length names.new) (command_of command)) }
+    ensures kept { Extends names.old names.new }
+{
+    let (target, numbers) = target_and_numbers_of(alloc, names, args)?;
+    Ok(Command::IfCreate(target, numbers))
+}
+
+fn always_of(names: &mut Names, args: &[&[u8]]) -> Result<Command, Unread>
+    ensures reads { Reads (λ command. (command_at names.new command, names.new)) result (one_name_in commands.Always names.old (map (λ w. w.now) args.now)) }
+    ensures within { IfOk result (λ command. IsBelow (length names.new) (command_of command)) }
+    ensures kept { Extends names.old names.new }
+{
+    Ok(Command::Always(one_name_of(names, args)?))
+}
+
 #[tactic(auto, using(crate::proofs::Added::extends_same), unfolding(crate::specs::Reading::stamp_in))]
 fn stamp_of(alloc: Global, names: &mut Names, args: &[&[u8]]) -> Result<Command, Unread>
     ensures reads { Reads (λ command. (command_at names.new command, names.new)) result (stamp_in names.old (map (λ w. w.now) args.now)) }
@@ -128,6 +155,16 @@ fn check_no_words(args: &[&[u8]]) -> Result<(), Unread>
 }
 
 #[tactic(auto, using(crate::proofs::Added::extends_same))]
+fn ood_of(names: &mut Names, args: &[&[u8]]) -> Result<Command, Unread>
+    ensures reads { Reads (λ command. (command_at names.new command, names.new)) result (no_words_in commands.Ood names.old (map (λ w. w.now) args.now)) }
+    ensures within { IfOk result (λ command. IsBelow (length names.new) (command_of command)) }
+    ensures kept { Extends names.old names.new }
+{
+    check_no_words(args)?;
+    Ok(Command::Ood)
+}
+
+#[tactic(auto, using(crate::proofs::Added::extends_same))]
 fn targets_of(names: &mut Names, args: &[&[u8]]) -> Result<Command, Unread>
     ensures reads { Reads (λ command. (command_at names.new command, names.new)) result (no_words_in commands.Targets names.old (map (λ w. w.now) args.now)) }
     ensures within { IfOk result (λ command. IsBelow (length names.new) (command_of command)) }
@@ -135,6 +172,16 @@ fn targets_of(names: &mut Names, args: &[&[u8]]) -> Result<Command, Unread>
 {
     check_no_words(args)?;
     Ok(Command::Targets)
+}
+
+#[tactic(auto, using(crate::proofs::Added::extends_same))]
+fn sources_of(names: &mut Names, args: &[&[u8]]) -> Result<Command, Unread>
+    ensures reads { Reads (λ command. (command_at names.new command, names.new)) result (no_words_in commands.Sources names.old (map (λ w. w.now) args.now)) }
+    ensures within { IfOk result (λ command. IsBelow (length names.new) (command_of command)) }
+    ensures kept { Extends names.old names.new }
+{
+    check_no_words(args)?;
+    Ok(Command::Sources)
 }
 
 /// The command that words are, by the first.
@@ -153,10 +200,15 @@ pub(crate) fn form_of(alloc: Global, names: &mut Names, words: &[&[u8]]) -> Resu
         Some(Kind::Lock) => lock_of(names, args),
         Some(Kind::Unlock) => unlock_of(names, args),
         Some(Kind::Start) => start_of(names, args),
+        Some(Kind::IfChange) => ifchange_of(alloc, names, args),
+        Some(Kind::IfCreate) => ifcreate_of(alloc, names, args),
+        Some(Kind::Always) => always_of(names, args),
         Some(Kind::Stamp) => stamp_of(alloc, names, args),
         Some(Kind::Done) => done_of(names, args),
         Some(Kind::Failed) => failed_of(names, args),
+        Some(Kind::Ood) => ood_of(names, args),
         Some(Kind::Targets) => targets_of(names, args),
+        Some(Kind::Sources) => sources_of(names, args),
         None => Err(Unread::Fault(LineFault::UnknownCommand)),
     }
 }

@@ -6,8 +6,13 @@ pub enum Kind {
     Lock,
     Unlock,
     Start,
+    IfChange,
+    IfCreate,
+    Always,
     Stamp,
     Done,
     Failed,
+    Ood,
     Targets,
+    Sources,
 }

@@ -9,9 +9,13 @@ pub enum Refusal {
     Building,
     /// The session is not building the target.
     NotBuilding,
+    /// The target is among the names after it.
+    Itself,
+    /// This name has a file, the first of the names after the target that has one.
+    Exists(u32),
 }
 
-/// What the database answers. Names are numbers.
+/// What the database answers. Names are numbers. Lists of names are sorted by the bytes of the names.
 #[derive(Debug, Drop)]
 pub enum Reply {
     Okay,
@@ -19,11 +23,40 @@ pub enum Reply {
     Granted(u32),
     /// The lock is taken, by the grant of this number.
     Busy(u32),
+    /// Those of the names after the target that are out of date, or idle without a file; at least one.
+    Stale(Vec<u32>),
     /// The digest of the content.
     Stamped([u8; 20]),
-    /// The targets that have a file, by the bytes of their names.
+    /// The targets that have a file and are out of date.
+    Ood(Vec<u32>),
+    /// The targets that have a file.
     Targets(Vec<u32>),
+    /// The idle names that have a file and on which a target has a row.
+    Sources(Vec<u32>),
     Refused(Refusal),
+}
+
+impl Reply {
+    ghost use Rattle.std.specs.Prelude.{◌≡◌, ◌↔◌, IsTrue};
+    ghost use Rattle.redo_command.specs.Meaning.{reply_of};
+
+    /// Whether the other says the same.
+    pub fn is_same(&self, other: &Reply) -> bool
+        ensures { IsTrue result ↔ (reply_of self.now ≡ reply_of other.now) }
+    {
+        match (self, other) {
+            (Reply::Okay, Reply::Okay) => true,
+            (Reply::Granted(one), Reply::Granted(two)) => one == two,
+            (Reply::Busy(one), Reply::Busy(two)) => one == two,
+            (Reply::Stale(one), Reply::Stale(two)) => one == two,
+            (Reply::Stamped(one), Reply::Stamped(two)) => one == two,
+            (Reply::Ood(one), Reply::Ood(two)) => one == two,
+            (Reply::Targets(one), Reply::Targets(two)) => one == two,
+            (Reply::Sources(one), Reply::Sources(two)) => one == two,
+            (Reply::Refused(one), Reply::Refused(two)) => one == two,
+            _ => false,
+        }
+    }
 }
 
 /// A line of a history. Sessions are counted from 0.

@@ -2,7 +2,7 @@ ghost use Rattle.std.specs.Prelude.{◌≡◌, ◌<◌, ◌++◌, List, map, len
 ghost use Rattle.std.specs.List.{flat_map};
 ghost use Rattle.hex.specs.Hex.{encode_lower};
 ghost use Rattle.redo_names.specs.Names.{text_at};
-ghost use Rattle.redo_model.specs.Names.{Text};
+ghost use Rattle.redo_model.specs.Reply.{Refused};
 ghost use Rattle.redo_model.specs.Renaming.{IsBelow, IsReplyBelow, AllBelow, named_refusal};
 ghost use Rattle.redo_command.specs.Meaning.{command_of, kind_of, reply_of, refusal_of, command_at, reply_at};
 ghost use Rattle.redo_command.specs.Texts.{after_space, stamp_word, content_word, refusal_words, word_of, command_text_of, reply_text_of};
@@ -82,7 +82,12 @@ fn put_form(
         | Command::Lock(n)
         | Command::Unlock(n)
         | Command::Start(n)
+        | Command::Always(n)
         | Command::Failed(n) => put_word(out, names.text(*n)),
+        Command::IfChange(t, others) | Command::IfCreate(t, others) => {
+            put_word(out, names.text(*t))?;
+            put_names(out, names, others)
+        }
         Command::Stamp(t, content) => {
             put_word(out, names.text(*t))?;
             put_content(alloc, out, content)
@@ -91,7 +96,7 @@ fn put_form(
             put_word(out, names.text(*t))?;
             put_stamp_or_none(out, *stamp)
         }
-        Command::Targets => Ok(()),
+        Command::Ood | Command::Targets | Command::Sources => Ok(()),
     }
 }
 
@@ -120,13 +125,19 @@ fn put_numbered(
 }
 
 /// Writes the words for a refusal.
-fn put_refusal(out: &mut Vec<u8>, refusal: Refusal) -> Result<(), AllocError>
-    ensures { (names : List Text) → OnOk result (out.new.items ≡ out.old.items ++ flat_map after_space (refusal_words (named_refusal (text_at names) (refusal_of refusal)))) }
+fn put_refusal(out: &mut Vec<u8>, refusal: Refusal, names: &Names) -> Result<(), AllocError>
+    requires { IsReplyBelow (length names.now) (Refused (refusal_of refusal)) }
+    ensures { OnOk result (out.new.items ≡ out.old.items ++ flat_map after_space (refusal_words (named_refusal (text_at names.now) (refusal_of refusal)))) }
 {
     match refusal {
         Refusal::NotLocked => put_word(out, b"not-locked"),
         Refusal::Building => put_word(out, b"building"),
         Refusal::NotBuilding => put_word(out, b"not-building"),
+        Refusal::Itself => put_word(out, b"self"),
+        Refusal::Exists(n) => {
+            put_word(out, b"exists")?;
+            put_word(out, names.text(n))
+        }
     }
 }
 
@@ -140,17 +151,29 @@ pub fn reply_text(alloc: Global, reply: &Reply, names: &Names) -> Result<Vec<u8>
         Reply::Okay => out.extend_from_slice(b"ok")?,
         Reply::Granted(grant) => put_numbered(alloc, &mut out, b"granted", *grant)?,
         Reply::Busy(grant) => put_numbered(alloc, &mut out, b"busy", *grant)?,
+        Reply::Stale(stale) => {
+            out.extend_from_slice(b"stale")?;
+            put_names(&mut out, names, stale)?;
+        }
         Reply::Stamped(digest) => {
             out.extend_from_slice(b"stamped")?;
             put_hex(alloc, &mut out, digest)?;
+        }
+        Reply::Ood(ood) => {
+            out.extend_from_slice(keyword(Kind::Ood))?;
+            put_names(&mut out, names, ood)?;
         }
         Reply::Targets(targets) => {
             out.extend_from_slice(keyword(Kind::Targets))?;
             put_names(&mut out, names, targets)?;
         }
+        Reply::Sources(sources) => {
+            out.extend_from_slice(keyword(Kind::Sources))?;
+            put_names(&mut out, names, sources)?;
+        }
         Reply::Refused(refusal) => {
             out.extend_from_slice(b"refused")?;
-            put_refusal(&mut out, *refusal)?;
+            put_refusal(&mut out, *refusal, names)?;
         }
     }
     Ok(out)

@@ -1,11 +1,12 @@
--- Which refusal applies to a command of a kind.
-use Rattle.std.specs.Prelude.{ℕ, Bool, not, Option, Some, None}
-use Rattle.redo_model.specs.State.{TargetState, is_building}
-use Rattle.redo_model.specs.Reply.{Refusal, NotLocked, Building, NotBuilding}
-use Rattle.redo_model.specs.Step.{refusal_or, is_built_by}
+-- Which refusal applies to a command, by its kind and by its names.
+use Rattle.std.specs.Prelude.{ℕ, Bool, not, Option, None, find}
+use Rattle.redo_model.specs.Names.{Naming}
+use Rattle.redo_model.specs.State.{Records, TargetState, is_building, has_file}
+use Rattle.redo_model.specs.Reply.{Refusal, NotLocked, Building, NotBuilding, Itself}
+use Rattle.redo_model.specs.Step.{refusal_or, refusal_of_existing, is_built_by, is_among}
 use Rattle.redo_model.specs.Command as commands
 use Rattle.redo_command.specs.declared.kind.Kind.{Kind}
-use Rattle.redo_command.specs.declared.kind.Kind.TheVariants.{File, Gone, Lock, Unlock, Start, Stamp, Done, Failed, Targets}
+use Rattle.redo_command.specs.declared.kind.Kind.TheVariants.{File, Gone, Lock, Unlock, Start, IfChange, IfCreate, Always, Stamp, Done, Failed, Ood, Targets, Sources}
 
 -- the first of these that applies: the session does not hold the target's lock, the target is building
 abbrev pub refusal_by_lock : Bool → TargetState → Option (Refusal ℕ)
@@ -15,31 +16,42 @@ refusal_by_lock holds state = refusal_or (not holds) NotLocked (refusal_or (is_b
 abbrev pub refusal_by_build : ℕ → TargetState → Option (Refusal ℕ)
 refusal_by_build s state = refusal_or (not (is_built_by s state)) NotBuilding None
 
--- the first refusal that applies, where `holds` says whether the session holds the target's lock
+-- the first refusal that applies whatever the names after the target are, where `holds` says whether the session
+-- holds the target's lock
 abbrev pub verdict_at : TargetState → ℕ → Bool → Kind → Option (Refusal ℕ)
 verdict_at state s holds File = None
 verdict_at state s holds Gone = None
 verdict_at state s holds Lock = None
 verdict_at state s holds Unlock = refusal_by_lock holds state
 verdict_at state s holds Start = refusal_by_lock holds state
+verdict_at state s holds IfChange = refusal_by_build s state
+verdict_at state s holds IfCreate = refusal_by_build s state
+verdict_at state s holds Always = refusal_by_build s state
 verdict_at state s holds Stamp = refusal_by_build s state
 verdict_at state s holds Done = refusal_by_build s state
 verdict_at state s holds Failed = refusal_by_build s state
+verdict_at state s holds Ood = None
 verdict_at state s holds Targets = None
+verdict_at state s holds Sources = None
 
--- the kind of a command, where it is one of these nine
-abbrev pub kind_of : {N : Type 0} → commands.Command N → Option Kind
-kind_of (commands.File n stamp) = Some File
-kind_of (commands.Gone n) = Some Gone
-kind_of (commands.Lock t) = Some Lock
-kind_of (commands.Unlock t) = Some Unlock
-kind_of (commands.Start t) = Some Start
-kind_of (commands.IfChange t ns) = None
-kind_of (commands.IfCreate t ns) = None
-kind_of (commands.Always t) = None
-kind_of (commands.Stamp t content) = Some Stamp
-kind_of (commands.Done t stamp) = Some Done
-kind_of (commands.Failed t) = Some Failed
-kind_of commands.Ood = None
-kind_of commands.Targets = Some Targets
-kind_of commands.Sources = None
+-- the first refusal for the names after the target: the target is among them; one of them has a file
+abbrev pub refusal_of_names : {N : Type 0} → Naming N → Records N → commands.Command N → Option (Refusal N)
+refusal_of_names naming r (commands.IfChange t ns) = refusal_or (is_among naming ns t) Itself None
+refusal_of_names naming r (commands.IfCreate t ns) = refusal_or (is_among naming ns t) Itself (refusal_of_existing (find (has_file r) ns))
+refusal_of_names naming r command = None
+
+abbrev pub kind_of : {N : Type 0} → commands.Command N → Kind
+kind_of (commands.File n stamp) = File
+kind_of (commands.Gone n) = Gone
+kind_of (commands.Lock t) = Lock
+kind_of (commands.Unlock t) = Unlock
+kind_of (commands.Start t) = Start
+kind_of (commands.IfChange t ns) = IfChange
+kind_of (commands.IfCreate t ns) = IfCreate
+kind_of (commands.Always t) = Always
+kind_of (commands.Stamp t content) = Stamp
+kind_of (commands.Done t stamp) = Done
+kind_of (commands.Failed t) = Failed
+kind_of commands.Ood = Ood
+kind_of commands.Targets = Targets
+kind_of commands.Sources = Sources

@@ -46,20 +46,28 @@ fn is_same_stamp(one: Option<FileStamp>, other: Option<FileStamp>) -> bool
     }
 }
 
-/// Whether a need of a row is met.
-macro_rules! is_met {
-    (held $cell:ident $s:ident $holds:ident) => {
-        $holds
+/// Returns the refusal of a need of a row, where the need is not met. A need of the names after the target is passed over.
+macro_rules! refuse_unless {
+    (held $refusal:ident $cell:ident $s:ident $holds:ident) => {
+        if !$holds {
+            return Some(Refusal::$refusal);
+        }
     };
-    (resting $cell:ident $s:ident $holds:ident) => {
-        !$cell.is_building()
+    (resting $refusal:ident $cell:ident $s:ident $holds:ident) => {
+        if $cell.is_building() {
+            return Some(Refusal::$refusal);
+        }
     };
-    (own_build $cell:ident $s:ident $holds:ident) => {
-        $cell.is_built_by($s)
+    (own_build $refusal:ident $cell:ident $s:ident $holds:ident) => {
+        if !$cell.is_built_by($s) {
+            return Some(Refusal::$refusal);
+        }
     };
+    (others $refusal:ident $cell:ident $s:ident $holds:ident) => {};
+    (missing $refusal:ident $cell:ident $s:ident $holds:ident) => {};
 }
 
-/// By the kind, the refusal of the first need in its row that is not met.
+/// By the kind, the refusal of the first need in its row that is not met, of those of the target alone.
 macro_rules! first_refusal {
     (
         [$cell:ident $s:ident $holds:ident $kind:ident]
@@ -67,9 +75,7 @@ macro_rules! first_refusal {
     ) => {
         match $kind {
             $(Kind::$case => {
-                $(if !is_met!($need $cell $s $holds) {
-                    return Some(Refusal::$refusal);
-                })*
+                $(refuse_unless!($need $refusal $cell $s $holds);)*
                 None
             })*
         }
@@ -130,7 +136,8 @@ impl Cell {
         }
     }
 
-    /// The first refusal that applies, by the target's state and by whether the session holds its lock.
+    /// The first refusal that applies, by the target's state and by whether the session holds its lock. Of the names
+    /// after the target nothing is known here.
     pub fn verdict(&self, s: u8, kind: Kind, holds: bool) -> Option<Refusal>
         ensures { option_map refusal_of result ≡ verdict_at self.now.state s holds kind }
     {

@@ -84,7 +84,8 @@ impl Records {
         self.cells[n as usize].is_changed()
     }
 
-    /// The first refusal that applies to a session's command on `t`, where `holds` says whether it holds its lock.
+    /// The first refusal that applies to a session's command on `t` whatever the names after `t` are, where `holds` says
+    /// whether it holds its lock.
     pub fn verdict(&self, s: u8, kind: Kind, t: u32, holds: bool) -> Option<Refusal>
         requires { t < length self.now }
         ensures { option_map refusal_of result ≡ verdict_at (cell_at self.now t).state s holds kind }

@@ -1,0 +1,64 @@
+ghost use Rattle.std.specs.Prelude.{◌≡◌, ◌<◌, ◌≤◌, length, map};
+ghost use Rattle.std.specs.List.{AllByRecursion};
+ghost use Rattle.redo_names.specs.Names.{AreNames};
+ghost use Rattle.redo_model.specs.Renaming.{IsLineBelow};
+ghost use Rattle.redo_command.specs.Meaning.{line_of};
+
+use redo_command::Line;
+use redo_names::Names;
+use std::marker::Model;
+
+/// How many lines a history has at most.
+pub const MOST_LINES: usize = 1_048_576;
+
+/// How many sessions a history has at most.
+pub const MOST_SESSIONS: u8 = 64;
+
+/// What was asked and answered, line after line, with the names that the lines' numbers stand for.
+#[derive(Drop)]
+pub struct History {
+    names: Names,
+    lines: Vec<Line>,
+}
+
+impl Model for History {
+    ghost use Rattle.redo_replay.specs.Recorded.{Recorded};
+
+    ghost Value = { Recorded };
+
+    ghost use Rattle.redo_replay.specs.Kept.{recorded_of, KeepsLines};
+
+    ghost view = { recorded_of };
+
+    ghost invariant = { KeepsLines };
+}
+
+impl History {
+    /// The history of these lines.
+    pub fn new(names: Names, lines: Vec<Line>) -> History
+        requires below { AllByRecursion (λ line. IsLineBelow (length names) (line_of line)) lines.items }
+        requires sessions { AllByRecursion (λ line. line.session < MOST_SESSIONS) lines.items }
+        requires few { length lines.items ≤ MOST_LINES }
+        ensures names { result.names ≡ names }
+        ensures lines { result.lines ≡ map line_of lines.items }
+    {
+        History { names, lines }
+    }
+
+    /// Its names.
+    pub fn names(&self) -> &Names
+        ensures { result.now ≡ self.now.names }
+    {
+        &self.names
+    }
+
+    /// Its lines, whose numbers are those of its names.
+    pub fn lines(&self) -> &[Line]
+        ensures lines { map line_of result.now ≡ self.now.lines }
+        ensures below { AllByRecursion (λ line. IsLineBelow (length self.now.names) (line_of line)) result.now }
+        ensures sessions { AllByRecursion (λ line. line.session < MOST_SESSIONS) result.now }
+        ensures few { length result.now ≤ MOST_LINES }
+    {
+        &self.lines
+    }
+}

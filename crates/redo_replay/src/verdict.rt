@@ -1,0 +1,38 @@
+ghost use Rattle.std.specs.Prelude.{◌≡◌, length, IfOk};
+ghost use Rattle.redo_replay.specs.Verdicts.{IsVerdictBelow, verdict_at, verdict_text_of};
+
+use crate::printed::put_number;
+use redo_command::{Reply, reply_text};
+use redo_names::Names;
+use std::alloc::{AllocError, Global};
+
+/// Whether a history's replies are those of the database.
+#[derive(Debug, Drop)]
+pub enum Verdict {
+    /// They are, in this number of lines.
+    Same(usize),
+    /// The reply of this line, counted from 1, is the first that is wrong, and this is the right one.
+    Differs { line: usize, reply: Reply },
+}
+
+/// The text of a verdict: one line, with its LF.
+pub fn verdict_text(alloc: Global, verdict: &Verdict, names: &Names) -> Result<Vec<u8>, AllocError>
+    requires { IsVerdictBelow (length names.now) verdict.now }
+    ensures { IfOk result (λ text. text.items ≡ verdict_text_of (verdict_at names.now verdict.now)) }
+{
+    let mut text = Vec::new(alloc);
+    match verdict {
+        Verdict::Same(count) => {
+            text.extend_from_slice(b"same ")?;
+            put_number(alloc, &mut text, *count)?;
+        }
+        Verdict::Differs { line, reply } => {
+            text.extend_from_slice(b"differs ")?;
+            put_number(alloc, &mut text, *line)?;
+            text.push(b' ')?;
+            text.extend_from_slice(&reply_text(alloc, reply, names)?)?;
+        }
+    }
+    text.push(b'\n')?;
+    Ok(text)
+}

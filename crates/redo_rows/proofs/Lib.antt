@@ -1,0 +1,10 @@
+pub mod Begun
+pub mod Changed
+pub mod Forgetting
+pub mod Inverses
+pub mod Keeping
+pub mod Listed
+pub mod Rises
+pub mod SeatEdits
+pub mod Seats
+pub mod Writing

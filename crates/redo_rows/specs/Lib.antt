@@ -1,0 +1,5 @@
+pub mod Kept
+pub mod Numbers
+pub mod Rows
+pub mod Seat
+pub mod Target

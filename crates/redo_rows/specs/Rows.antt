@@ -1,0 +1,91 @@
+-- The rows of the targets, and the room that was made for more.
+use Rattle.std.specs.Prelude.{ℕ, Bool, true, false, List, [], ◌∷◌, Option, Some, None, IsSome, IsTrue, ◌⊎◌, ◌==◌, if◌then◌else◌, slice_index_or, length}
+use Rattle.std.specs.List.{list_any}
+use Rattle.std.specs.Ordering.{nat_cmp}
+use Rattle.redo_model.specs.Names.{Naming, numbers}
+use Rattle.redo_model.specs.State.{Cell, Mark, Records, Rows}
+use Rattle.redo_records.specs.Cells.{cell_at}
+
+-- room for a target's rows on one name, and those of them that there are
+pub record Seat : Type 0 where
+  pub name : ℕ
+  pub change : Option Mark
+  pub created : Bool
+
+-- a target's seats, and whether it has an always row
+pub record TargetRows : Type 0 where
+  pub seats : List Seat
+  pub always : Bool
+
+-- a target without room and without rows
+abbrev pub bare : TargetRows
+bare = record { seats = []; always = false }
+
+-- what stands on the name: that of its seat, and no row where it has none
+abbrev pub seat_at : List Seat → ℕ → Seat
+seat_at [] n = record { name = n; change = None; created = false }
+seat_at (seat ∷ seats) n = if seat.name == n then seat else seat_at seats n
+
+abbrev pub has_seat : List Seat → ℕ → Bool
+has_seat seats n = list_any (λ seat. seat.name == n) seats
+
+abbrev pub target_at : List TargetRows → ℕ → TargetRows
+target_at targets t = slice_index_or targets t bare
+
+-- how many names there are
+abbrev pub count_of : List TargetRows → ℕ
+count_of targets = length targets
+
+-- the rows that stand
+abbrev pub rows_of : List TargetRows → Rows ℕ
+rows_of targets = record {
+  change = λ t n. (seat_at (target_at targets t).seats n).change;
+  created = λ t n. (seat_at (target_at targets t).seats n).created;
+  always = λ t. (target_at targets t).always;
+}
+
+-- whether there is room for t's rows on n
+abbrev pub room_of : List TargetRows → ℕ → ℕ → Bool
+room_of targets t n = has_seat (target_at targets t).seats n
+
+-- the function f with the value x at n
+abbrev pub at : {X : Type 0} → ℕ → X → (ℕ → X) → ℕ → X
+at n x f m = if n == m then x else f m
+
+-- the rows with a change row of t on n, in place of an earlier one
+abbrev pub with_change : Rows ℕ → ℕ → ℕ → Mark → Rows ℕ
+with_change rows t n mark = record rows { change = at t (at n (Some mark) (rows.change t)) rows.change }
+
+-- the rows with a created row of t on n
+abbrev pub with_created : Rows ℕ → ℕ → ℕ → Rows ℕ
+with_created rows t n = record rows { created = at t (at n true (rows.created t)) rows.created }
+
+-- the rows with an always row of t
+abbrev pub with_always : Rows ℕ → ℕ → Rows ℕ
+with_always rows t = record rows { always = at t true rows.always }
+
+-- the rows without those of t
+abbrev pub without_rows : Rows ℕ → ℕ → Rows ℕ
+without_rows rows t = record {
+  change = at t (λ n. None) rows.change;
+  created = at t (λ n. false) rows.created;
+  always = at t false rows.always;
+}
+
+abbrev pub HasChangeRowOn : Rows ℕ → ℕ → ℕ → Type 0
+HasChangeRowOn rows t n = IsSome (rows.change t n)
+
+abbrev pub HasCreatedRowOn : Rows ℕ → ℕ → ℕ → Type 0
+HasCreatedRowOn rows t n = IsTrue (rows.created t n)
+
+-- t has a row on n
+abbrev pub HasRowOn : Rows ℕ → ℕ → ℕ → Type 0
+HasRowOn rows t n = HasChangeRowOn rows t n ⊎ HasCreatedRowOn rows t n
+
+-- numbers by their size
+abbrev pub by_number : Naming ℕ
+by_number = numbers nat_cmp
+
+-- what is known of each name, with these rows
+abbrev pub records_of : List Cell → List TargetRows → Records ℕ
+records_of cells targets = record { cell = cell_at cells; rows = rows_of targets }

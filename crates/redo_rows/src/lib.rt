@@ -1,0 +1,10 @@
+//! The rows of the targets: on which names each depends, and for each name, which targets depend on it.
+#![tactic(auto)]
+
+mod inverse;
+mod made;
+mod numbers;
+mod rows;
+mod target;
+
+pub use rows::DepRows;

@@ -1,0 +1,204 @@
+ghost use Rattle.std.specs.Prelude.{◌≡◌, ◌⊎◌, ℕ, ◌<◌, ◌==◌, ◌&&◌, not, false, IsTrue, length, Contains, ◌||◌, option_map, IfOk, OnOk, OnErr};
+ghost use Rattle.redo_model.specs.Names.{IsListed};
+ghost use Rattle.redo_model.specs.State.{no_rows};
+ghost use Rattle.redo_model.specs.Renaming.{AllBelow};
+ghost use Rattle.redo_records.specs.Meaning.{mark_meaning};
+ghost use Rattle.redo_rows.specs.Rows.{count_of, rows_of, room_of, with_change, with_created, with_always, without_rows, HasRowOn, HasChangeRowOn, HasCreatedRowOn, by_number};
+
+use crate::numbers::Numbers;
+use crate::target::Target;
+use crate::{inverse, made};
+use redo_records::Mark;
+use std::alloc::{AllocError, Global};
+use std::marker::Model;
+
+/// The rows of each target, and their inverses. Targets and names are numbers below the number of names it was made
+/// for. Only `new` and `reserve` take memory.
+#[derive(Drop)]
+pub struct DepRows {
+    targets: Vec<Target>,
+    // for each name, the targets with a change row on it
+    needed: Vec<Numbers>,
+    // and those with a created row on it
+    awaited: Vec<Numbers>,
+    // and how many targets have room for rows on it
+    seated: Vec<usize>,
+}
+
+impl Model for DepRows {
+    ghost use Rattle.std.specs.Prelude.{List};
+    ghost use Rattle.redo_rows.specs.Rows.{TargetRows};
+    ghost use Rattle.redo_rows.specs.Kept.{IsKept};
+
+    ghost Value = { List TargetRows };
+
+    ghost view = { λ inside. inside.targets.items };
+
+    ghost invariant = { λ inside. IsKept inside.targets.items inside.needed.items inside.awaited.items inside.seated.items };
+}
+
+impl DepRows {
+    /// No rows and no room.
+    pub fn new(alloc: Global, names: u32) -> Result<DepRows, AllocError>
+        ensures count { IfOk result (λ rows. count_of rows ≡ names) }
+        ensures rows { IfOk result (λ rows. rows_of rows ≡ no_rows) }
+        ensures room { IfOk result (λ rows. (t n : ℕ) → room_of rows t n ≡ false) }
+    {
+        let count = names as usize;
+        Ok(DepRows {
+            targets: made::bare_targets(alloc, count)?,
+            needed: made::empty_lists(alloc, count)?,
+            awaited: made::empty_lists(alloc, count)?,
+            seated: vec![in alloc; 0; count]?,
+        })
+    }
+
+    /// Makes room for rows of `t` on these names, and changes no row. Room that was there stays, also where memory
+    /// runs out.
+    pub fn reserve(&mut self, t: u32, names: &[u32]) -> Result<(), AllocError>
+        requires target { t < count_of self.old }
+        requires names { AllBelow (count_of self.old) names.now }
+        ensures rows { rows_of self.new ≡ rows_of self.old }
+        ensures made { OnOk result ((n : ℕ) → Contains names.now n → IsTrue (room_of self.new t n)) }
+        ensures kept { (u n : ℕ) → IsTrue (room_of self.old u n) → IsTrue (room_of self.new u n) }
+        ensures from { (u n : ℕ) → IsTrue (room_of self.new u n) → IsTrue (room_of self.old u n) ⊎ ((u ≡ t) × Contains names.now n) }
+        ensures count { count_of self.new ≡ count_of self.old }
+    {
+        for &n in names {
+            self.reserve_seat(t, n)?;
+        }
+        Ok(())
+    }
+
+    /// Makes room for rows of `t` on `n`.
+    fn reserve_seat(&mut self, t: u32, n: u32) -> Result<(), AllocError>
+        requires target { t < count_of self.old }
+        requires name { n < count_of self.old }
+        ensures rows { rows_of self.new ≡ rows_of self.old }
+        ensures made { OnOk result ((u k : ℕ) → room_of self.new u k ≡ (((t == u) && (k == n)) || room_of self.old u k)) }
+        ensures err { OnErr result (self.new ≡ self.old) }
+        ensures count { count_of self.new ≡ count_of self.old }
+    {
+        if self.has_room(t, n) {
+            return Ok(());
+        }
+        let seats = self.seated[n as usize] + 1;
+        self.needed[n as usize].reserve(seats)?;
+        self.awaited[n as usize].reserve(seats)?;
+        self.targets[t as usize].add_seat(n)?;
+        self.seated[n as usize] = seats;
+        Ok(())
+    }
+
+    /// Whether there is room for a row of `t` on `n`, and so for its change row and its created row.
+    pub fn has_room(&self, t: u32, n: u32) -> bool
+        requires { t < count_of self.now }
+        ensures { result ≡ room_of self.now t n }
+    {
+        self.targets[t as usize].has_seat(n)
+    }
+
+    /// A change row of `t` on `n`, in place of an earlier one.
+    pub fn put_change(&mut self, t: u32, n: u32, mark: Mark)
+        requires target { t < count_of self.old }
+        requires name { n < count_of self.old }
+        requires room { IsTrue (room_of self.old t n) }
+        ensures rows { rows_of self.new ≡ with_change (rows_of self.old) t n (mark_meaning mark) }
+        ensures room { (u k : ℕ) → room_of self.new u k ≡ room_of self.old u k }
+        ensures count { count_of self.new ≡ count_of self.old }
+    {
+        let was = self.targets[t as usize].put_change(n, mark);
+        inverse::put_in(&mut self.needed, n, t, was);
+    }
+
+    /// A created row of `t` on `n`.
+    pub fn put_created(&mut self, t: u32, n: u32)
+        requires target { t < count_of self.old }
+        requires name { n < count_of self.old }
+        requires room { IsTrue (room_of self.old t n) }
+        ensures rows { rows_of self.new ≡ with_created (rows_of self.old) t n }
+        ensures room { (u k : ℕ) → room_of self.new u k ≡ room_of self.old u k }
+        ensures count { count_of self.new ≡ count_of self.old }
+    {
+        let was = self.targets[t as usize].put_created(n);
+        inverse::put_in(&mut self.awaited, n, t, was);
+    }
+
+    /// An always row of `t`.
+    pub fn put_always(&mut self, t: u32)
+        requires { t < count_of self.old }
+        ensures rows { rows_of self.new ≡ with_always (rows_of self.old) t }
+        ensures room { (u k : ℕ) → room_of self.new u k ≡ room_of self.old u k }
+        ensures count { count_of self.new ≡ count_of self.old }
+    {
+        self.targets[t as usize].put_always();
+    }
+
+    /// Takes away the rows of `t`, and their room.
+    pub fn clear(&mut self, t: u32)
+        requires { t < count_of self.old }
+        ensures rows { rows_of self.new ≡ without_rows (rows_of self.old) t }
+        ensures room { (u k : ℕ) → room_of self.new u k ≡ (not (u == t) && room_of self.old u k) }
+        ensures count { count_of self.new ≡ count_of self.old }
+    {
+        inverse::forget(
+            &self.targets,
+            t,
+            &mut self.needed,
+            &mut self.awaited,
+            &mut self.seated,
+        );
+        self.targets[t as usize].clear();
+    }
+
+    /// The mark of the change row of `t` on `n`.
+    pub fn change_of(&self, t: u32, n: u32) -> Option<Mark>
+        requires { t < count_of self.now }
+        ensures { option_map mark_meaning result ≡ (rows_of self.now).change t n }
+    {
+        self.targets[t as usize].change_of(n)
+    }
+
+    /// Whether `t` has a created row on `n`.
+    pub fn created(&self, t: u32, n: u32) -> bool
+        requires { t < count_of self.now }
+        ensures { result ≡ (rows_of self.now).created t n }
+    {
+        self.targets[t as usize].created(n)
+    }
+
+    /// Whether `t` has an always row.
+    pub fn always(&self, t: u32) -> bool
+        requires { t < count_of self.now }
+        ensures { result ≡ (rows_of self.now).always t }
+    {
+        self.targets[t as usize].always()
+    }
+
+    /// The names on which `t` has a row, by ascending number.
+    pub fn of(&self, t: u32) -> &[u32]
+        requires { t < count_of self.now }
+        ensures listed { IsListed by_number (λ n. HasRowOn (rows_of self.now) t n) result.now }
+        ensures below { AllBelow (count_of self.now) result.now }
+    {
+        self.targets[t as usize].names()
+    }
+
+    /// The targets with a change row on `n`, by ascending number.
+    pub fn needed_by(&self, n: u32) -> &[u32]
+        requires { n < count_of self.now }
+        ensures listed { IsListed by_number (λ t. HasChangeRowOn (rows_of self.now) t n) result.now }
+        ensures below { AllBelow (count_of self.now) result.now }
+    {
+        self.needed[n as usize].as_slice()
+    }
+
+    /// The targets with a created row on `n`, by ascending number.
+    pub fn awaited_by(&self, n: u32) -> &[u32]
+        requires { n < count_of self.now }
+        ensures listed { IsListed by_number (λ t. HasCreatedRowOn (rows_of self.now) t n) result.now }
+        ensures below { AllBelow (count_of self.now) result.now }
+    {
+        self.awaited[n as usize].as_slice()
+    }
+}
