@@ -1,5 +1,5 @@
 -- Writes that keep the tables.
-use Rattle.std.proofs.Common.{◌≡◌, ℕ, zero, suc, ◌<◌, ◌≤◌, ◌+◌, ◌==◌, Bool, cond, List, [], ◌∷◌, Option, Some, None, length, get_or, sym, ap, ◌∙◌, subst, arith, inl, inr}
+use Rattle.std.proofs.Common.{◌≡◌, ℕ, zero, suc, ◌<◌, ◌≤◌, ◌+◌, ◌^◌, ◌==◌, Bool, cond, List, [], ◌∷◌, Option, Some, None, length, get_or, sym, ap, ◌∙◌, subst, arith, inl, inr}
 use Rattle.std.proofs.Math.ListN.{set, length-set, replicate, length-replicate}
 use Rattle.std.proofs.Math.Path.{fun_ext}
 use Rattle.std.proofs.lemmas.Bool.{cases_eq, cases_lt, eq-eqb, ne_eqb}
@@ -10,7 +10,9 @@ use Rattle.redo_model.specs.State.{Cell, idle}
 use Rattle.redo_model.specs.Step.{after, locks_granted}
 use Rattle.redo_model.specs.Command as commands
 use Rattle.redo_store.specs.Orders.{AreSorted}
-use Rattle.redo_store.specs.Stored.{Stored, IsStored, HasRoom}
+use Rattle.redo_rows.specs.Rows as rows
+use Rattle.redo_rows.specs.Rows.{TargetRows}
+use Rattle.redo_store.specs.Stored.{Stored, IsStored}
 use Rattle.redo_store.specs.Stored as stored
 use Rattle.redo_store.specs.Tables.{Tables, records_of, locks_of, state_of, naming_of}
 use Rattle.redo_store.proofs.Places.{listed_by_place}
@@ -26,9 +28,15 @@ each_set P (y ∷ ys) (suc i) x d all here (suc k) = each_set P ys i x d (λ j. 
 -- a cell with no more builds than commands may be written
 pub IsStored-set_cell : (t : Stored) (n : ℕ) (c : Cell) → IsStored t → c.builds ≤ t.applied → IsStored (record t { cells = set t.cells n c })
 IsStored-set_cell t n c h few = record {
+  rows_for_each = h.rows_for_each ∙ sym (length-set t.cells n c);
   all_in_order = simp length-set h.all_in_order;
   few_builds = each_set (λ (y : Cell). y.builds ≤ t.applied) t.cells n c idle h.few_builds few;
+  few_names = subst (λ (m : ℕ). m < 2 ^ 32) (sym (length-set t.cells n c)) h.few_names;
 }
+
+-- the rows of as many targets may be written
+pub IsStored-set_rows : (t : Stored) (to : List TargetRows) → IsStored t → rows.count_of to ≡ rows.count_of t.rows → IsStored (record t { rows = to })
+IsStored-set_rows t to h same = record { rows_for_each = same ∙ h.rows_for_each; all_in_order = h.all_in_order; few_builds = h.few_builds; few_names = h.few_names }
 
 same_everywhere : {X : Type 0} (n k : ℕ) (x : X) → get_or (replicate n x) k x ≡ x
 same_everywhere n k x = elim (cases_lt k n) [
@@ -37,18 +45,20 @@ same_everywhere n k x = elim (cases_lt k n) [
 ]
 
 -- a store that knows nothing
-pub IsStored-new : (names : List (List ℕ)) (t : Stored) → AreSorted names t.sorted → t.cells ≡ replicate (length names) idle → IsStored t
-IsStored-new names t sorted cells =
+pub IsStored-new : (names : List (List ℕ)) (t : Stored) → AreSorted names t.sorted → t.cells ≡ replicate (length names) idle → rows.count_of t.rows ≡ length names → length names < 2 ^ 32 → IsStored t
+IsStored-new names t sorted cells each few =
     let count : length t.cells ≡ length names = ap length cells ∙ length-replicate (length names) idle in
     record {
+      rows_for_each = each ∙ sym count;
       all_in_order = subst (λ (m : ℕ). IsListed (stored.naming_of t) (λ n. n < m) t.sorted) (sym count) (listed_by_place sorted);
       few_builds = λ n.
           let none : (get_or t.cells n idle).builds ≡ 0 = ap (λ (xs : List Cell). (get_or xs n idle).builds) cells ∙ ap (λ (x : Cell). x.builds) (same_everywhere (length names) n idle) in
           omega arith;
+      few_names = subst (λ (m : ℕ). m < 2 ^ 32) (sym count) few;
     }
 
 -- a write to a list is one to the function of its places
-set_is_put : {X : Type 0} (xs : List X) (i : ℕ) (x d : X) → i < length xs → (k : ℕ) → get_or (set xs i x) k d ≡ cond (i == k) x (get_or xs k d)
+pub set_is_put : {X : Type 0} (xs : List X) (i : ℕ) (x d : X) → i < length xs → (k : ℕ) → get_or (set xs i x) k d ≡ cond (i == k) x (get_or xs k d)
 set_is_put xs i x d below k = elim (cases_eq i k) [
   | inl e ↦ get_or-set_at xs i k x d (sym e) below ∙ ap (λ (b : Bool). cond b x (get_or xs k d)) (sym (eq-eqb i k e))
   | inr ne ↦ get_or-set_other xs i k x d (λ e. ne (sym e)) ∙ ap (λ (b : Bool). cond b x (get_or xs k d)) (sym (ne_eqb i k ne))

@@ -1,5 +1,10 @@
 pub mod Listed
+pub mod Flags
+pub mod Refusing
 pub mod Sorting
 pub mod Places
 pub mod Kept
+pub mod Effects
+pub mod Rooms
+pub mod Verdicts
 pub mod Obeyed

@@ -5,6 +5,7 @@ use Rattle.redo_store.specs.declared.store.Store.TheInside.{Inside}
 abbrev pub stored_of : Inside → Stored
 stored_of inside = record {
   cells = inside.records;
+  rows = inside.rows;
   sorted = inside.sorted.items;
   applied = inside.applied;
 }

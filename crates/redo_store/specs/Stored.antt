@@ -1,21 +1,25 @@
 -- What the store holds.
-use Rattle.std.specs.Prelude.{◌≡◌, ℕ, ◌<◌, ◌≤◌, ◌^◌, Bool, ◌&&◌, List, length}
+use Rattle.std.specs.Prelude.{◌≡◌, ◌↔◌, ℕ, ◌<◌, ◌≤◌, ◌^◌, Bool, true, false, IsTrue, List, length, slice_index_or}
+use Rattle.std.specs.List.{list_all}
+use Rattle.redo_model.specs.Command.{Command, IfChange, IfCreate}
 use Rattle.std.specs.declared.cmp.Ordering.{Ordering}
 use Rattle.redo_model.specs.Names.{Naming, IsListed, numbers}
-use Rattle.redo_model.specs.State.{Cell, Records, no_rows, has_file, is_target}
-use Rattle.redo_model.specs.OutOfDate.{HasFile, IsTarget}
+use Rattle.redo_model.specs.State.{Cell, Records}
 use Rattle.redo_model.specs.Renaming.{AllBelow}
 use Rattle.redo_records.specs.Cells.{cell_at}
+use Rattle.redo_rows.specs.Rows.{TargetRows, room_of}
+use Rattle.redo_rows.specs.Rows as rows
 use Rattle.redo_store.specs.Orders.{by_place}
 
--- a cell for each name, the numbers of all names in order, and how many commands were applied
+-- a cell and the rows for each name, the numbers of all names in order, and how many commands were applied
 pub record Stored : Type 0 where
   pub cells : List Cell
+  pub rows : List TargetRows
   pub sorted : List ℕ
   pub applied : ℕ
 
 abbrev pub records_of : Stored → Records ℕ
-records_of stored = record { cell = λ n. cell_at stored.cells n; rows = no_rows }
+records_of stored = rows.records_of stored.cells stored.rows
 
 -- how many names there are
 abbrev pub count_of : Stored → ℕ
@@ -32,13 +36,16 @@ naming_of stored = numbers (order_of stored)
 abbrev pub applied_of : Stored → ℕ
 applied_of stored = stored.applied
 
--- the store has each number once, in order, and no name was built more often than commands were applied
+-- each name has a cell and rows, each number stands once, in order, no name was built more often than commands were
+-- applied, and each name has a number of 32 bits
 pub record IsStored (stored : Stored) : Type 0 where
+  pub rows_for_each : rows.count_of stored.rows ≡ count_of stored
   pub all_in_order : IsListed (naming_of stored) (λ n. n < count_of stored) stored.sorted
   pub few_builds : (n : ℕ) → (cell_at stored.cells n).builds ≤ stored.applied
+  pub few_names : count_of stored < 2 ^ 32
 
 -- no name was built as often as commands were applied
-pub record HasRoom (stored : Stored) : Type 0 where
+pub record HasBuildsLeft (stored : Stored) : Type 0 where
   pub builds : (n : ℕ) → (cell_at stored.cells n).builds < stored.applied
   pub applied : stored.applied < 2 ^ 32
 
@@ -48,11 +55,26 @@ pub record KeepsNames (old new : Stored) : Type 0 where
   pub sorted : new.sorted ≡ old.sorted
   pub applied : new.applied ≡ old.applied
 
--- whether `targets` lists the name
-abbrev pub is_listed : Stored → ℕ → Bool
-is_listed stored n = has_file (records_of stored) n && is_target (records_of stored) n
+-- whether there is room for all rows of the command
+abbrev pub has_room_for : Stored → Command ℕ → Bool
+has_room_for stored (IfChange t ns) = list_all (room_of stored.rows t) ns
+has_room_for stored (IfCreate t ns) = list_all (room_of stored.rows t) ns
+has_room_for stored command = true
 
--- the targets that have a file, in order
-pub record AreTargets (stored : Stored) (names : List ℕ) : Type 0 where
-  pub listed : IsListed (naming_of stored) (λ t. HasFile (records_of stored) t × IsTarget (records_of stored) t) names
+-- the same but for room, of which none is lost
+pub record IsSameButRoom (old new : Stored) : Type 0 where
+  pub records : records_of new ≡ records_of old
+  pub count : count_of new ≡ count_of old
+  pub sorted : new.sorted ≡ old.sorted
+  pub applied : new.applied ≡ old.applied
+  pub room : (t n : ℕ) → IsTrue (room_of old.rows t n) → IsTrue (room_of new.rows t n)
+
+-- the names with P, in order, each a number below the count
+pub record AreInOrder (stored : Stored) (P : ℕ → Type 0) (names : List ℕ) : Type 0 where
+  pub listed : IsListed (naming_of stored) P names
   pub below : AllBelow (count_of stored) names
+
+-- a flag for each name, which is true for the names with P
+pub record AreFlags (count : ℕ) (P : ℕ → Type 0) (flags : List Bool) : Type 0 where
+  pub sized : length flags ≡ count
+  pub right : (n : ℕ) → IsTrue (slice_index_or flags n false) ↔ P n

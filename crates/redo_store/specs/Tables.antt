@@ -56,3 +56,10 @@ pub record HasRoom (tables : Tables) : Type 0 where
 abbrev pub freed_by : Command ℕ → Reply ℕ → Option ℕ
 freed_by (Unlock t) Okay = Some t
 freed_by command reply = None
+
+-- the same state, names and calls
+pub record IsAsBefore (old new : Tables) : Type 0 where
+  pub state : state_of new ≡ state_of old
+  pub count : count_of new ≡ count_of old
+  pub order : order_of new ≡ order_of old
+  pub calls : calls_of new ≡ calls_of old

@@ -56,7 +56,7 @@ fn freed_by(command: &Command, reply: &Reply) -> Option<u32>
 }
 
 impl Redo {
-    ghost use Rattle.redo_store.specs.Tables.{state_of, records_of, locks_of, order_of, naming_of, count_of, calls_of, HasRoom};
+    ghost use Rattle.redo_store.specs.Tables.{state_of, records_of, locks_of, order_of, naming_of, count_of, calls_of, HasRoom, IsAsBefore};
 
     /// The empty database: each name is idle, without a file, and free.
     pub fn new(alloc: Global, names: &Names) -> Result<Redo, AllocError>
@@ -77,7 +77,7 @@ impl Redo {
         })
     }
 
-    /// The reply to a session's command, and its change. Want of memory changes nothing.
+    /// The reply to a session's command, and its change. Want of memory changes neither the state nor the calls.
     pub fn call(
         &mut self,
         alloc: Global,
@@ -92,7 +92,7 @@ impl Redo {
         ensures below { IfOk result (λ reply. IsReplyBelow (count_of self.old) (reply_of reply)) }
         ensures count { count_of self.new ≡ count_of self.old }
         ensures order { order_of self.new ≡ order_of self.old }
-        ensures err { OnErr result (self.new ≡ self.old) }
+        ensures err { OnErr result (IsAsBefore self.old self.new) }
     {
         match asked_lock(command) {
             Some(t) => {
@@ -172,7 +172,7 @@ impl Redo {
         ensures below { IfOk result (λ reply. IsReplyBelow (count_of self.old) (reply_of reply)) }
         ensures count { count_of self.new ≡ count_of self.old }
         ensures order { order_of self.new ≡ order_of self.old }
-        ensures err { OnErr result (self.new ≡ self.old) }
+        ensures err { OnErr result (IsAsBefore self.old self.new) }
     {
         let holds = self.holds_target(session, command);
         let reply = self.store.reply(alloc, session, command, holds)?;
@@ -193,7 +193,7 @@ impl Redo {
         ensures calls { OnOk result (calls_of self.new ≡ calls_of self.old + 1) }
         ensures count { count_of self.new ≡ count_of self.old }
         ensures order { order_of self.new ≡ order_of self.old }
-        ensures err { OnErr result (self.new ≡ self.old) }
+        ensures err { OnErr result (IsAsBefore self.old self.new) }
     {
         let calls = self.calls + 1;
         self.store.apply(session, command, holds)?;

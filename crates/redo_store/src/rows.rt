@@ -11,8 +11,17 @@ macro_rules! answer {
     (digest [$store:tt $alloc:tt] $t:ident $content:ident) => {
         Ok(Reply::Stamped(digest_of($content)))
     };
+    (stale [$store:tt $alloc:tt] $t:ident $names:ident) => {
+        $store.stale_reply($alloc, $names.as_slice())
+    };
+    (ood [$store:tt $alloc:tt]) => {
+        $store.ood_reply($alloc)
+    };
     (targets [$store:tt $alloc:tt]) => {
         $store.targets_reply($alloc)
+    };
+    (sources [$store:tt $alloc:tt]) => {
+        $store.sources_reply($alloc)
     };
 }
 
@@ -37,6 +46,15 @@ macro_rules! effect {
     };
     (start [$store:tt $s:tt] $t:ident) => {
         $store.start($s, *$t)
+    };
+    (put_changes [$store:tt $s:tt] $t:ident $names:ident) => {
+        $store.put_changes(*$t, $names)
+    };
+    (put_created [$store:tt $s:tt] $t:ident $names:ident) => {
+        $store.put_created(*$t, $names)
+    };
+    (put_always [$store:tt $s:tt] $t:ident) => {
+        $store.put_always(*$t)
     };
     (stamp [$store:tt $s:tt] $t:ident $content:ident) => {
         $store.stamp(*$t, $content)

@@ -1,4 +1,4 @@
-ghost use Rattle.std.specs.Prelude.{◌≡◌, ◌+◌, ◌^◌, ◌<◌, Some, None, length, option_map, IsTrue, IsFalse, true, IfOk, OnOk, OnErr};
+ghost use Rattle.std.specs.Prelude.{◌≡◌, ◌+◌, ◌^◌, ◌<◌, Some, None, length, option_map, IsTrue, IsFalse, true, IfOk, IsOk, OnOk, OnErr};
 ghost use Rattle.redo_model.specs.Names.{texts};
 ghost use Rattle.redo_model.specs.State.{empty, is_building, target_state};
 ghost use Rattle.redo_model.specs.Command as commands;
@@ -11,15 +11,22 @@ use crate::rows::{answer, answers, effect, effects};
 use crate::sorted::sorted_numbers;
 use redo_command::{Command, FileStamp, Refusal, Reply, cases};
 use redo_names::Names;
-use redo_records::{Records, State, digest_of};
+use redo_records::{Records, digest_of};
+use redo_rows::DepRows;
 use std::alloc::{AllocError, Global};
 use std::marker::Model;
+
+mod changes;
+mod lists;
+mod refusals;
+mod room;
 
 /// The database without its locks, for one thread. Names are numbers below the number of names it was made for.
 /// Whether a session holds the target of its command is said with the command.
 #[derive(Drop)]
 pub struct Store {
     records: Records,
+    rows: DepRows,
     sorted: Vec<u32>,
     applied: u32,
 }
@@ -37,7 +44,7 @@ impl Model for Store {
 }
 
 impl Store {
-    ghost use Rattle.redo_store.specs.Stored.{records_of, order_of, naming_of, count_of, applied_of, is_listed, AreTargets, HasRoom, KeepsNames};
+    ghost use Rattle.redo_store.specs.Stored.{records_of, order_of, naming_of, count_of, applied_of, HasBuildsLeft, KeepsNames, IsSameButRoom, has_room_for};
 
     /// The empty store: each name is idle, and without a file.
     pub fn new(alloc: Global, names: &Names) -> Result<Store, AllocError>
@@ -48,8 +55,10 @@ impl Store {
     {
         let sorted = sorted_numbers(alloc, names)?;
         let records = Records::new(alloc, names.len())?;
+        let rows = DepRows::new(alloc, names.len())?;
         Ok(Store {
             records,
+            rows,
             sorted,
             applied: 0,
         })
@@ -74,7 +83,8 @@ impl Store {
         }
     }
 
-    /// Makes the change of a session's command, which is no lock. Want of memory changes nothing.
+    /// Makes the change of a session's command, which is no lock. All room that this takes is made first, where there
+    /// is none: want of memory changes nothing but room.
     pub fn apply(&mut self, s: u8, command: &Command, holds: bool) -> Result<(), AllocError>
         requires numbers { IsBelow (count_of self.old) (command_of command.now) }
         requires no_lock { asked_lock (command_of command.now) ≡ None }
@@ -83,13 +93,16 @@ impl Store {
         ensures applied { OnOk result (applied_of self.new ≡ applied_of self.old + 1) }
         ensures count { count_of self.new ≡ count_of self.old }
         ensures order { order_of self.new ≡ order_of self.old }
-        ensures err { OnErr result (self.new ≡ self.old) }
+        ensures ok { has_room_for self.old (command_of command.now) ≡ true → IsOk result }
+        ensures err { OnErr result (IsSameButRoom self.old self.new) }
     {
-        let verdict = self.verdict(s, command, holds);
-        self.count_applied();
-        match verdict {
-            Some(_) => {}
-            None => self.change(s, command),
+        match self.verdict(s, command, holds) {
+            Some(_) => self.count_applied(),
+            None => {
+                self.make_room(command)?;
+                self.count_applied();
+                self.change(s, command);
+            }
         }
         Ok(())
     }
@@ -106,51 +119,27 @@ impl Store {
         requires { IsBelow (count_of self.now) (command_of command.now) }
         ensures { option_map refusal_of result ≡ verdict_of (naming_of self.now) (records_of self.now) s holds (command_of command.now) }
     {
-        match command.target() {
-            Some(t) => self.records.verdict(s, command.kind(), t, holds),
-            None => None,
+        let t = command.target()?;
+        match self.records.verdict(s, command.kind(), t, holds) {
+            Some(refusal) => Some(refusal),
+            None => self.refusal_of_names(command),
         }
     }
 
     /// What an accepted command is answered.
     fn answer(&self, alloc: Global, command: &Command) -> Result<Reply, AllocError>
-        requires { asked_lock (command_of command.now) ≡ None }
+        requires numbers { IsBelow (count_of self.now) (command_of command.now) }
+        requires no_lock { asked_lock (command_of command.now) ≡ None }
         ensures tells { IfOk result (λ reply. Tells (naming_of self.now) (records_of self.now) (command_of command.now) (reply_of reply)) }
         ensures below { IfOk result (λ reply. IsReplyBelow (count_of self.now) (reply_of reply)) }
     {
         cases!(answers self alloc command)
     }
 
-    fn targets_reply(&self, alloc: Global) -> Result<Reply, AllocError>
-        ensures tells { IfOk result (λ reply. Tells (naming_of self.now) (records_of self.now) commands.Targets (reply_of reply)) }
-        ensures below { IfOk result (λ reply. IsReplyBelow (count_of self.now) (reply_of reply)) }
-    {
-        Ok(Reply::Targets(self.targets(alloc)?))
-    }
-
-    fn targets(&self, alloc: Global) -> Result<Vec<u32>, AllocError>
-        ensures { IfOk result (λ names. AreTargets self.now names.items) }
-    {
-        let mut names = Vec::new(alloc);
-        for &n in &self.sorted {
-            if self.is_listed(n) {
-                names.push(n)?;
-            }
-        }
-        Ok(names)
-    }
-
-    fn is_listed(&self, n: u32) -> bool
-        requires { n < count_of self.now }
-        ensures { result ≡ is_listed self.now n }
-    {
-        self.records.file(n).is_some() && !matches!(self.records.state(n), State::Idle)
-    }
-
     fn count_applied(&mut self)
         requires { applied_of self.old + 1 < 2 ^ 32 }
         ensures after { self.new ≡ record self.old { applied = applied_of self.old + 1 } }
-        ensures room { HasRoom self.new }
+        ensures builds { HasBuildsLeft self.new }
     {
         self.applied += 1;
     }
@@ -159,55 +148,11 @@ impl Store {
     fn change(&mut self, s: u8, command: &Command)
         requires numbers { IsBelow (count_of self.old) (command_of command.now) }
         requires accepted { verdict_of (naming_of self.old) (records_of self.old) s true (command_of command.now) ≡ None }
-        requires room { HasRoom self.old }
+        requires builds { HasBuildsLeft self.old }
+        requires room { has_room_for self.old (command_of command.now) ≡ true }
         ensures after { records_of self.new ≡ effect_of (naming_of self.old) (records_of self.old) s (command_of command.now) }
         ensures kept { KeepsNames self.old self.new }
     {
         cases!(effects self s command)
-    }
-
-    fn set_file(&mut self, n: u32, file: Option<FileStamp>)
-        requires { n < count_of self.old }
-        ensures after { records_of self.new ≡ with_cell (naming_of self.old) (records_of self.old) n (record ((records_of self.old).cell n) { file = file }) }
-        ensures kept { KeepsNames self.old self.new }
-    {
-        self.records.set_file(n, file);
-    }
-
-    fn start(&mut self, s: u8, t: u32)
-        requires number { t < count_of self.old }
-        requires free { IsFalse (is_building (target_state (records_of self.old) t)) }
-        ensures after { records_of self.new ≡ effect_of (naming_of self.old) (records_of self.old) s (commands.Start t) }
-        ensures kept { KeepsNames self.old self.new }
-    {
-        self.records.start(s, t);
-    }
-
-    fn stamp(&mut self, t: u32, content: &[u8])
-        requires number { t < count_of self.old }
-        requires building { IsTrue (is_building (target_state (records_of self.old) t)) }
-        ensures after { records_of self.new ≡ effect_of (naming_of self.old) (records_of self.old) 0 (commands.Stamp t content.now) }
-        ensures kept { KeepsNames self.old self.new }
-    {
-        self.records.stamp(t, digest_of(content));
-    }
-
-    fn finish(&mut self, t: u32, stamp: Option<FileStamp>)
-        requires number { t < count_of self.old }
-        requires building { IsTrue (is_building (target_state (records_of self.old) t)) }
-        requires room { HasRoom self.old }
-        ensures after { records_of self.new ≡ effect_of (naming_of self.old) (records_of self.old) 0 (commands.Done t stamp) }
-        ensures kept { KeepsNames self.old self.new }
-    {
-        self.records.done(t, stamp);
-    }
-
-    fn fail(&mut self, t: u32)
-        requires number { t < count_of self.old }
-        requires building { IsTrue (is_building (target_state (records_of self.old) t)) }
-        ensures after { records_of self.new ≡ effect_of (naming_of self.old) (records_of self.old) 0 (commands.Failed t) }
-        ensures kept { KeepsNames self.old self.new }
-    {
-        self.records.failed(t);
     }
 }

@@ -1,7 +1,7 @@
-use Rattle.std.proofs.Common.{◌≡◌, take}
-use Rattle.std.specs.List.{filter}
-use Rattle.redo_store.specs.Stored.{is_listed}
+use Rattle.redo_model.specs.OutOfDate.{HasFile, IsTarget}
+use Rattle.redo_store.specs.Stored.{records_of}
+use Rattle.redo_store.proofs.Listed.{AreFirst}
 use Rattle.redo_store.proofs.store.Store.targets.Given as goal
 
 abbrev pub invariant-loop-n : goal.invariant-loop-n
-invariant-loop-n l = l.names.items ≡ filter (is_listed l.self) (take l.n-index l.self.sorted)
+invariant-loop-n l = AreFirst l.fn.self (λ n. HasFile (records_of l.fn.self) n × IsTarget (records_of l.fn.self) n) l.n-items l.n-index l.names.items

@@ -1,0 +1,213 @@
+ghost use Rattle.std.specs.Prelude.{◌≡◌, ◌≢◌, ◌<◌, ◌↔◌, ◌++◌, ◌∷◌, [], ℕ, IsTrue, IsNone, IfOk, OnOk, Contains, false, length, slice_index_or, if◌then◌else◌};
+ghost use Rattle.redo_model.specs.Command as commands;
+ghost use Rattle.redo_model.specs.State.{Idle, has_file, target_state};
+ghost use Rattle.redo_model.specs.OutOfDate.{HasFile, IsTarget, OutOfDate, IsStale, IsSource, HasRow};
+ghost use Rattle.redo_model.specs.Step.{Tells, stale_reply};
+ghost use Rattle.redo_model.specs.Renaming.{AllBelow, IsReplyBelow};
+ghost use Rattle.redo_command.specs.Meaning.{reply_of};
+ghost use Rattle.redo_store.specs.Stored.{IsStored, records_of, naming_of, count_of, AreInOrder, AreFlags};
+
+use crate::store::Store;
+use redo_command::Reply;
+use redo_ood::Ood;
+use redo_records::State;
+use std::alloc::{AllocError, Global};
+
+// A flag for each name, true for those that are asked for.
+fn flags(alloc: Global, count: u32, names: &[u32]) -> Result<Vec<bool>, AllocError>
+    requires { AllBelow count names.now }
+    ensures { IfOk result (λ flags. AreFlags count (Contains names.now) flags.items) }
+{
+    let mut flags = vec![in alloc; false; count as usize]?;
+    for &n in names {
+        flags[n as usize] = true;
+    }
+    Ok(flags)
+}
+
+fn push_if(names: &mut Vec<u32>, n: u32, is_due: bool) -> Result<(), AllocError>
+    ensures { OnOk result (names.new.items ≡ names.old.items ++ (if is_due then n ∷ [] else [])) }
+{
+    if is_due {
+        names.push(n)?;
+    }
+    Ok(())
+}
+
+fn reply_to_ifchange(stale: Vec<u32>) -> Reply
+    ensures { reply_of result ≡ stale_reply stale.items }
+{
+    if stale.is_empty() {
+        Reply::Okay
+    } else {
+        Reply::Stale(stale)
+    }
+}
+
+impl Store {
+    /// Which of the names are stale, or that none is.
+    pub(crate) fn stale_reply(&self, alloc: Global, names: &[u32]) -> Result<Reply, AllocError>
+        requires { AllBelow (count_of self.now) names.now }
+        ensures tells { IfOk result (λ reply. (t : ℕ) → Tells (naming_of self.now) (records_of self.now) (commands.IfChange t names.now) (reply_of reply)) }
+        ensures below { IfOk result (λ reply. IsReplyBelow (count_of self.now) (reply_of reply)) }
+    {
+        Ok(reply_to_ifchange(self.stale(alloc, names)?))
+    }
+
+    /// The targets that have a file and are out of date.
+    pub(crate) fn ood_reply(&self, alloc: Global) -> Result<Reply, AllocError>
+        ensures tells { IfOk result (λ reply. Tells (naming_of self.now) (records_of self.now) commands.Ood (reply_of reply)) }
+        ensures below { IfOk result (λ reply. IsReplyBelow (count_of self.now) (reply_of reply)) }
+    {
+        Ok(Reply::Ood(self.ood(alloc)?))
+    }
+
+    /// The idle names that have a file and on which a target has a row.
+    pub(crate) fn sources_reply(&self, alloc: Global) -> Result<Reply, AllocError>
+        ensures tells { IfOk result (λ reply. Tells (naming_of self.now) (records_of self.now) commands.Sources (reply_of reply)) }
+        ensures below { IfOk result (λ reply. IsReplyBelow (count_of self.now) (reply_of reply)) }
+    {
+        Ok(Reply::Sources(self.sources(alloc)?))
+    }
+
+    /// The targets that have a file.
+    pub(crate) fn targets_reply(&self, alloc: Global) -> Result<Reply, AllocError>
+        ensures tells { IfOk result (λ reply. Tells (naming_of self.now) (records_of self.now) commands.Targets (reply_of reply)) }
+        ensures below { IfOk result (λ reply. IsReplyBelow (count_of self.now) (reply_of reply)) }
+    {
+        Ok(Reply::Targets(self.targets(alloc)?))
+    }
+
+    fn stale(&self, alloc: Global, names: &[u32]) -> Result<Vec<u32>, AllocError>
+        requires { AllBelow (count_of self.now) names.now }
+        ensures { IfOk result (λ stale. AreInOrder self.now (λ n. Contains names.now n × IsStale (records_of self.now) n) stale.items) }
+    {
+        let asked = flags(alloc, self.count(), names)?;
+        let ood = self.search(alloc)?;
+        let mut stale = Vec::new(alloc);
+        for &n in self.sorted() {
+            let is_due = self.is_stale(&asked, &ood, n);
+            push_if(&mut stale, n, is_due)?;
+        }
+        Ok(stale)
+    }
+
+    fn ood(&self, alloc: Global) -> Result<Vec<u32>, AllocError>
+        ensures { IfOk result (λ names. AreInOrder self.now (λ t. HasFile (records_of self.now) t × OutOfDate (records_of self.now) t) names.items) }
+    {
+        let ood = self.search(alloc)?;
+        let mut names = Vec::new(alloc);
+        for &n in self.sorted() {
+            let is_due = self.is_out_with_file(&ood, n);
+            push_if(&mut names, n, is_due)?;
+        }
+        Ok(names)
+    }
+
+    fn sources(&self, alloc: Global) -> Result<Vec<u32>, AllocError>
+        ensures { IfOk result (λ names. AreInOrder self.now (IsSource (records_of self.now)) names.items) }
+    {
+        let mut names = Vec::new(alloc);
+        for &n in self.sorted() {
+            let is_due = self.is_source(n);
+            push_if(&mut names, n, is_due)?;
+        }
+        Ok(names)
+    }
+
+    fn targets(&self, alloc: Global) -> Result<Vec<u32>, AllocError>
+        ensures { IfOk result (λ names. AreInOrder self.now (λ t. HasFile (records_of self.now) t × IsTarget (records_of self.now) t) names.items) }
+    {
+        let mut names = Vec::new(alloc);
+        for &n in self.sorted() {
+            let is_due = self.is_listed(n);
+            push_if(&mut names, n, is_due)?;
+        }
+        Ok(names)
+    }
+
+    /// Whether the name is asked for, and is stale.
+    fn is_stale(&self, asked: &[bool], ood: &Ood, n: u32) -> bool
+        requires number { n < count_of self.now }
+        requires asked { length asked.now ≡ count_of self.now }
+        requires searched { AreFlags (count_of self.now) (OutOfDate (records_of self.now)) ood.now }
+        ensures { IsTrue result ↔ (IsTrue (slice_index_or asked.now n false) × IsStale (records_of self.now) n) }
+    {
+        asked[n as usize] && (ood.is(n) || self.is_missing(n))
+    }
+
+    /// Whether it is an out-of-date target with a file.
+    fn is_out_with_file(&self, ood: &Ood, n: u32) -> bool
+        requires number { n < count_of self.now }
+        requires searched { AreFlags (count_of self.now) (OutOfDate (records_of self.now)) ood.now }
+        ensures { IsTrue result ↔ (HasFile (records_of self.now) n × OutOfDate (records_of self.now) n) }
+    {
+        self.has_file(n) && ood.is(n)
+    }
+
+    fn is_source(&self, n: u32) -> bool
+        requires { n < count_of self.now }
+        ensures { IsTrue result ↔ IsSource (records_of self.now) n }
+    {
+        self.is_idle(n) && self.has_file(n) && self.is_needed(n)
+    }
+
+    /// Whether it is a target with a file.
+    fn is_listed(&self, n: u32) -> bool
+        requires { n < count_of self.now }
+        ensures { IsTrue result ↔ (HasFile (records_of self.now) n × IsTarget (records_of self.now) n) }
+    {
+        self.has_file(n) && !self.is_idle(n)
+    }
+
+    /// Whether it is an idle name without a file.
+    fn is_missing(&self, n: u32) -> bool
+        requires { n < count_of self.now }
+        ensures { IsTrue result ↔ ((target_state (records_of self.now) n ≡ Idle) × IsNone ((records_of self.now).cell n).file) }
+    {
+        self.is_idle(n) && !self.has_file(n)
+    }
+
+    /// Whether some target has a row on it.
+    fn is_needed(&self, n: u32) -> bool
+        requires { n < count_of self.now }
+        ensures { IsTrue result ↔ ((t : ℕ) × HasRow (records_of self.now) t n) }
+    {
+        !self.rows.needed_by(n).is_empty() || !self.rows.awaited_by(n).is_empty()
+    }
+
+    fn is_idle(&self, n: u32) -> bool
+        requires { n < count_of self.now }
+        ensures { IsTrue result ↔ (target_state (records_of self.now) n ≡ Idle) }
+    {
+        matches!(self.records.state(n), State::Idle)
+    }
+
+    pub(super) fn has_file(&self, n: u32) -> bool
+        requires { n < count_of self.now }
+        ensures { result ≡ has_file (records_of self.now) n }
+    {
+        self.records.file(n).is_some()
+    }
+
+    /// Finds the targets that are out of date.
+    fn search(&self, alloc: Global) -> Result<Ood, AllocError>
+        ensures { IfOk result (λ ood. AreFlags (count_of self.now) (OutOfDate (records_of self.now)) ood) }
+    {
+        Ood::search(alloc, self.count(), &self.records, &self.rows)
+    }
+
+    fn count(&self) -> u32
+        ensures { result ≡ count_of self.now }
+    {
+        self.records.count() as u32
+    }
+
+    /// The numbers of all names, in order.
+    fn sorted(&self) -> &[u32]
+        ensures sorted { result.now ≡ self.now.sorted }
+        ensures stored { IsStored self.now }
+    {
+        &self.sorted
+    }
+}

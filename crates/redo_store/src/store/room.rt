@@ -1,0 +1,72 @@
+ghost use Rattle.std.specs.Prelude.{◌≡◌, ◌<◌, true, IsOk, OnOk};
+ghost use Rattle.std.specs.List.{list_all};
+ghost use Rattle.redo_model.specs.Renaming.{AllBelow, IsBelow};
+ghost use Rattle.redo_command.specs.Meaning.{command_of};
+ghost use Rattle.redo_rows.specs.Rows.{room_of};
+ghost use Rattle.redo_store.specs.Stored.{count_of, has_room_for, IsSameButRoom};
+
+use crate::store::Store;
+use redo_command::Command;
+use std::alloc::AllocError;
+
+impl Store {
+    /// Whether there is room for all rows of the command.
+    pub fn has_room(&self, command: &Command) -> bool
+        requires { IsBelow (count_of self.now) (command_of command.now) }
+        ensures { result ≡ has_room_for self.now (command_of command.now) }
+    {
+        match command {
+            Command::IfChange(t, names) => self.has_room_on(*t, names),
+            Command::IfCreate(t, names) => self.has_room_on(*t, names),
+            _ => true,
+        }
+    }
+
+    /// Makes room for all rows of the command, and changes nothing else. Room that was there stays, also where memory
+    /// runs out.
+    pub fn reserve(&mut self, command: &Command) -> Result<(), AllocError>
+        requires { IsBelow (count_of self.old) (command_of command.now) }
+        ensures same { IsSameButRoom self.old self.new }
+        ensures made { OnOk result (has_room_for self.new (command_of command.now) ≡ true) }
+    {
+        match command {
+            Command::IfChange(t, names) => self.reserve_on(*t, names),
+            Command::IfCreate(t, names) => self.reserve_on(*t, names),
+            _ => Ok(()),
+        }
+    }
+
+    /// Room for all rows of the command. Where there is room already, no memory is asked for.
+    pub(crate) fn make_room(&mut self, command: &Command) -> Result<(), AllocError>
+        requires { IsBelow (count_of self.old) (command_of command.now) }
+        ensures same { IsSameButRoom self.old self.new }
+        ensures made { OnOk result (has_room_for self.new (command_of command.now) ≡ true) }
+        ensures ok { has_room_for self.old (command_of command.now) ≡ true → IsOk result }
+    {
+        if self.has_room(command) {
+            return Ok(());
+        }
+        self.reserve(command)
+    }
+
+    fn has_room_on(&self, t: u32, names: &[u32]) -> bool
+        requires { t < count_of self.now }
+        ensures { result ≡ list_all (room_of self.now.rows t) names.now }
+    {
+        for &n in names {
+            if !self.rows.has_room(t, n) {
+                return false;
+            }
+        }
+        true
+    }
+
+    fn reserve_on(&mut self, t: u32, names: &[u32]) -> Result<(), AllocError>
+        requires number { t < count_of self.old }
+        requires numbers { AllBelow (count_of self.old) names.now }
+        ensures same { IsSameButRoom self.old self.new }
+        ensures made { OnOk result (list_all (room_of self.new.rows t) names.now ≡ true) }
+    {
+        self.rows.reserve(t, names)
+    }
+}
