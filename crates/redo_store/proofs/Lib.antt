@@ -1,6 +1,5 @@
 pub mod Listed
 pub mod Flags
-pub mod Refusing
 pub mod Sorting
 pub mod Places
 pub mod Kept

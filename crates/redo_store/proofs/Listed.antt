@@ -33,7 +33,7 @@ module _ (naming : Naming ℕ) (P : ℕ → Type 0) (sorted : List ℕ) (k d : �
       → IsListed naming (λ n. Contains (take k sorted ++ get_or sorted k d ∷ []) n × P n) (names ++ get_or sorted k d ∷ [])
   listed_with up names p h = (
     all_pairs_push (λ m n. naming.order m n ≡ Less) names (get_or sorted k d) h.0
-    (λ i e in'. before_next up (get_or names i e) ((h.1 (get_or names i e)).0 (Contains-get_or names i e in')).0),
+        (λ i e in'. before_next up (get_or names i e) ((h.1 (get_or names i e)).0 (Contains-get_or names i e in')).0),
     λ n. (
       λ c. elim (Contains-push_cases names (get_or sorted k d) n c) [
         | inl old ↦ (let o = (h.1 n).0 old in (Contains-append_left (take k sorted) (get_or sorted k d ∷ []) n o.0, o.1))

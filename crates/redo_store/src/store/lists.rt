@@ -1,7 +1,7 @@
-ghost use Rattle.std.specs.Prelude.{◌≡◌, ◌≢◌, ◌<◌, ◌↔◌, ◌++◌, ◌∷◌, [], ℕ, IsTrue, IsNone, IfOk, OnOk, Contains, false, length, slice_index_or, if◌then◌else◌};
+ghost use Rattle.std.specs.Prelude.{◌≡◌, ◌<◌, ◌↔◌, ◌++◌, ◌∷◌, [], ℕ, IsTrue, IsNone, IfOk, OnOk, Contains, false, length, slice_index_or, if◌then◌else◌};
 ghost use Rattle.redo_model.specs.Command as commands;
 ghost use Rattle.redo_model.specs.State.{Idle, has_file, target_state};
-ghost use Rattle.redo_model.specs.OutOfDate.{HasFile, IsTarget, OutOfDate, IsStale, IsSource, HasRow};
+ghost use Rattle.redo_model.specs.OutOfDate.{HasFile, IsTarget, OutOfDate, IsStale, IsSource, HasChangeRow, HasCreatedRow, HasRow};
 ghost use Rattle.redo_model.specs.Step.{Tells, stale_reply};
 ghost use Rattle.redo_model.specs.Renaming.{AllBelow, IsReplyBelow};
 ghost use Rattle.redo_command.specs.Meaning.{reply_of};
@@ -149,7 +149,7 @@ impl Store {
         requires { n < count_of self.now }
         ensures { IsTrue result ↔ IsSource (records_of self.now) n }
     {
-        self.is_idle(n) && self.has_file(n) && self.is_needed(n)
+        self.is_idle(n) && self.has_file(n) && self.has_row_on(n)
     }
 
     /// Whether it is a target with a file.
@@ -168,12 +168,28 @@ impl Store {
         self.is_idle(n) && !self.has_file(n)
     }
 
-    /// Whether some target has a row on it.
+    /// Whether some target has a change row on it.
     fn is_needed(&self, n: u32) -> bool
+        requires { n < count_of self.now }
+        ensures { IsTrue result ↔ ((t : ℕ) × HasChangeRow (records_of self.now) t n) }
+    {
+        !self.rows.needed_by(n).is_empty()
+    }
+
+    /// Whether some target has a created row on it.
+    fn is_awaited(&self, n: u32) -> bool
+        requires { n < count_of self.now }
+        ensures { IsTrue result ↔ ((t : ℕ) × HasCreatedRow (records_of self.now) t n) }
+    {
+        !self.rows.awaited_by(n).is_empty()
+    }
+
+    /// Whether some target has a row on it.
+    fn has_row_on(&self, n: u32) -> bool
         requires { n < count_of self.now }
         ensures { IsTrue result ↔ ((t : ℕ) × HasRow (records_of self.now) t n) }
     {
-        !self.rows.needed_by(n).is_empty() || !self.rows.awaited_by(n).is_empty()
+        self.is_needed(n) || self.is_awaited(n)
     }
 
     fn is_idle(&self, n: u32) -> bool

@@ -37,14 +37,25 @@ impl Store {
     {
         match command {
             Command::IfChange(t, names) => refusal_of_target(*t, names),
-            Command::IfCreate(t, names) => match refusal_of_target(*t, names) {
-                Some(refusal) => Some(refusal),
-                None => self.refusal_of_existing(names),
-            },
+            Command::IfCreate(t, names) => self.refusal_of_created(*t, names),
             _ => None,
         }
     }
 
+    /// The refusal where the target is among the names, else where one of them has a file.
+    fn refusal_of_created(&self, t: u32, names: &[u32]) -> Option<Refusal>
+        requires { AllBelow (count_of self.now) names.now }
+        ensures refusal { option_map refusal_of result ≡ refusal_or (list_any (λ m. m == t) names.now) replies.Itself (refusal_of_existing (find (has_file (records_of self.now)) names.now)) }
+        ensures below { IfSome result (λ refusal. IsReplyBelow (count_of self.now) (replies.Refused (refusal_of refusal))) }
+    {
+        if is_among(names, t) {
+            Some(Refusal::Itself)
+        } else {
+            self.refusal_of_existing(names)
+        }
+    }
+
+    /// The refusal where one of the names has a file.
     fn refusal_of_existing(&self, names: &[u32]) -> Option<Refusal>
         requires { AllBelow (count_of self.now) names.now }
         ensures refusal { option_map refusal_of result ≡ refusal_of_existing (find (has_file (records_of self.now)) names.now) }

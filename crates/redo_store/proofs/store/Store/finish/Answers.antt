@@ -1,4 +1,4 @@
-use Rattle.std.proofs.Common.{◌+◌, ◌<◌, ◌≤◌, sym, subst, arith}
+use Rattle.std.proofs.Common.{◌<◌, sym, subst, arith}
 use Rattle.redo_records.specs.Cells.{cell_at}
 use Rattle.redo_store.specs.Stored.{HasBuildsLeft}
 use Rattle.redo_store.specs.KeptStore.{stored_of}

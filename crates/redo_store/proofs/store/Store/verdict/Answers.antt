@@ -1,7 +1,7 @@
-use Rattle.std.proofs.Common.{◌≡◌, ◌∙◌, Option, Some, None, option_map, refl, arith}
+use Rattle.std.proofs.Common.{◌≡◌, Some, None, option_map, refl, arith}
 use Rattle.redo_command.specs.Meaning.{command_of, refusal_of, kind_of}
 use Rattle.redo_model.specs.State.{target_state}
-use Rattle.redo_records.specs.Verdict.{verdict_at, refusal_of_names}
+use Rattle.redo_records.specs.Verdict.{verdict_at}
 use Rattle.redo_store.specs.Stored.{Stored, naming_of, records_of}
 use Rattle.redo_store.proofs.Verdicts.{free_without_target, verdict_by_parts}
 use Rattle.redo_store.proofs.store.Store.verdict.Goals as goal

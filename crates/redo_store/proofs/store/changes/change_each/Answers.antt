@@ -1,4 +1,4 @@
-use Rattle.std.proofs.Common.{◌≡◌, ◌∙◌, ℕ, length, take, sym, ap, subst, arith, ◌≤◌}
+use Rattle.std.proofs.Common.{◌≡◌, ◌∙◌, ℕ, take, ap, arith}
 use Rattle.std.proofs.lemmas.List.{take_all}
 use Rattle.redo_model.specs.Command as commands
 use Rattle.redo_model.specs.State.{Records}
