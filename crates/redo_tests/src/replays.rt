@@ -113,9 +113,21 @@ fn right_replies(rt: HostRuntime) -> Result<(), Fail> {
 #[test]
 fn wrong_replies(rt: HostRuntime) -> Result<(), Fail> {
     for (start, lock, want) in [
-        (Answer::Okay, Answer::Granted(2), "differs 5 refused not-locked\n"),
-        (Answer::NotLocked, Answer::Granted(1), "differs 8 granted 2\n"),
-        (Answer::Okay, Answer::Granted(1), "differs 5 refused not-locked\n"),
+        (
+            Answer::Okay,
+            Answer::Granted(2),
+            "differs 5 refused not-locked\n",
+        ),
+        (
+            Answer::NotLocked,
+            Answer::Granted(1),
+            "differs 8 granted 2\n",
+        ),
+        (
+            Answer::Okay,
+            Answer::Granted(1),
+            "differs 5 refused not-locked\n",
+        ),
     ] {
         check(&rt, &two_sessions(start, lock), want)?;
     }
