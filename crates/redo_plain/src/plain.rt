@@ -48,23 +48,40 @@ impl Plain {
                     None
                 }
             }
-            Command::Stamp(t, _) | Command::Done(t, _) | Command::Failed(t) => {
-                self.refusal_of_build(session, *t)
+            Command::IfChange(t, _)
+            | Command::IfCreate(t, _)
+            | Command::Always(t)
+            | Command::Stamp(t, _)
+            | Command::Done(t, _)
+            | Command::Failed(t) => {
+                if !self.builds(session, *t) {
+                    Some(Refusal::NotBuilding)
+                } else {
+                    self.refusal_of_names(command)
+                }
             }
-            Command::File(..) | Command::Gone(_) | Command::Lock(_) | Command::Targets => None,
+            Command::File(..)
+            | Command::Gone(_)
+            | Command::Lock(_)
+            | Command::Ood
+            | Command::Targets
+            | Command::Sources => None,
         }
     }
 
-    fn refusal_of_build(&self, session: u8, t: u32) -> Option<Refusal> {
-        if self.builds(session, t) {
-            None
-        } else {
-            Some(Refusal::NotBuilding)
+    /// Why the command is refused for the names after its target, where it is.
+    fn refusal_of_names(&self, command: &Command) -> Option<Refusal> {
+        match command {
+            Command::IfChange(t, names) | Command::IfCreate(t, names) if names.contains(t) => {
+                Some(Refusal::Itself)
+            }
+            Command::IfCreate(_, names) => Some(Refusal::Exists(self.first_file(names)?)),
+            _ => None,
         }
     }
 
     /// The first of these names that has a file.
-    pub(crate) fn first_file(&self, names: &[u32]) -> Option<u32> {
+    fn first_file(&self, names: &[u32]) -> Option<u32> {
         names.iter().copied().find(|n| self.has_file(*n))
     }
 
@@ -72,14 +89,28 @@ impl Plain {
     fn reply(&self, alloc: Global, command: &Command) -> Result<Reply, AllocError> {
         Ok(match command {
             Command::Lock(t) => self.lock_reply(*t),
+            Command::IfChange(_, names) => self.stale_reply(alloc, names)?,
             Command::Stamp(_, content) => Reply::Stamped(Sha1::digest(content)),
+            Command::Ood => Reply::Ood(self.old_targets(alloc)?),
             Command::Targets => Reply::Targets(self.targets(alloc)?),
+            Command::Sources => Reply::Sources(self.sources(alloc)?),
             Command::File(..)
             | Command::Gone(_)
             | Command::Unlock(_)
             | Command::Start(_)
+            | Command::IfCreate(..)
+            | Command::Always(_)
             | Command::Done(..)
             | Command::Failed(_) => Reply::Okay,
+        })
+    }
+
+    fn stale_reply(&self, alloc: Global, names: &[u32]) -> Result<Reply, AllocError> {
+        let stale = self.stale(alloc, names)?;
+        Ok(if stale.is_empty() {
+            Reply::Okay
+        } else {
+            Reply::Stale(stale)
         })
     }
 
@@ -98,10 +129,13 @@ impl Plain {
             Command::Lock(t) => self.lock(session, *t),
             Command::Unlock(t) => self.unlock(*t),
             Command::Start(t) => self.start(session, *t),
+            Command::IfChange(t, names) => self.put_changes(*t, names)?,
+            Command::IfCreate(t, names) => self.put_created(*t, names)?,
+            Command::Always(t) => self.put_always(*t),
             Command::Stamp(t, content) => self.stamp(*t, Sha1::digest(content)),
             Command::Done(t, stamp) => self.finish(*t, *stamp),
             Command::Failed(t) => self.fail(*t),
-            Command::Targets => {}
+            Command::Ood | Command::Targets | Command::Sources => {}
         }
         Ok(())
     }
@@ -135,7 +169,7 @@ impl Plain {
     }
 
     /// Records a change row of the target on each of these names, with the mark that the name has now.
-    pub(crate) fn put_changes(&mut self, t: u32, names: &[u32]) -> Result<(), AllocError> {
+    fn put_changes(&mut self, t: u32, names: &[u32]) -> Result<(), AllocError> {
         for n in names {
             let mark = self.mark(*n);
             if let Some(known) = self.names.get_mut(t as usize) {
@@ -146,14 +180,14 @@ impl Plain {
     }
 
     /// Records a created row of the target on each of these names.
-    pub(crate) fn put_created(&mut self, t: u32, names: &[u32]) -> Result<(), AllocError> {
+    fn put_created(&mut self, t: u32, names: &[u32]) -> Result<(), AllocError> {
         if let Some(known) = self.names.get_mut(t as usize) {
             known.created.extend_from_slice(names)?;
         }
         Ok(())
     }
 
-    pub(crate) fn put_always(&mut self, t: u32) {
+    fn put_always(&mut self, t: u32) {
         if let Some(known) = self.names.get_mut(t as usize) {
             known.always = true;
         }

@@ -1,10 +1,8 @@
-//! The tests over all crates.
+//! The tests of texts and of whole runs.
 #![tactic(auto)]
 
 #[cfg(test)]
 mod devices;
-#[cfg(test)]
-mod digests;
 #[cfg(test)]
 mod faults;
 #[cfg(test)]
@@ -12,18 +10,14 @@ mod limits;
 #[cfg(test)]
 mod names;
 #[cfg(test)]
-mod oracle;
-#[cfg(test)]
-mod random;
-#[cfg(test)]
-mod records;
-#[cfg(test)]
-mod refusals;
+mod replays;
 #[cfg(test)]
 mod runs;
 #[cfg(test)]
-mod stores;
-#[cfg(test)]
 mod texts;
 #[cfg(test)]
+mod told;
+#[cfg(test)]
 mod watched;
+#[cfg(test)]
+mod worked;

@@ -30,6 +30,61 @@ fn words<R: Abort + AllocGlobal>(rt: &R) -> Result<(), Fail> {
     Ok(())
 }
 
+/// The word, the target `t`, and as many names of that line's own.
+fn list_line(alloc: Global, word: &str, line: u32, count: u32) -> Result<String, AllocError> {
+    let mut text = String::new(alloc);
+    write!(text, "{word} t")?;
+    for name in 0..count {
+        write!(text, " n{line}.{name}")?;
+    }
+    Ok(text)
+}
+
+/// A target has up to 64 names after it, and more are a fault before any bad name.
+fn listed_names<R: Abort + AllocGlobal>(rt: &R) -> Result<(), Fail> {
+    let alloc = rt.alloc();
+    for (word, count, last, want) in [
+        ("ifchange", 64, "", None),
+        ("ifchange", 65, "", Some((2, LineFault::TooManyNames))),
+        ("ifcreate", 64, "", None),
+        ("ifcreate", 65, "", Some((2, LineFault::TooManyNames))),
+        ("ifchange", 63, " -", Some((2, LineFault::BadName))),
+        ("ifchange", 65, " -", Some((2, LineFault::TooManyNames))),
+    ] {
+        let mut line = list_line(alloc, word, 0, count)?;
+        line.push_str(last)?;
+        let fault = fault_after_targets(alloc, line.as_bytes())?;
+        assert_eq!(rt; fault, want, "{word} {count}{last}");
+    }
+    Ok(())
+}
+
+/// The session file of 1,024 lines with 64 new names each after `t`, but the last line with that many.
+fn full_lists(alloc: Global, last: u32) -> Result<String, AllocError> {
+    let mut text = String::new(alloc);
+    for line in 0..1024 {
+        let count = if line < 1023 { 64 } else { last };
+        let listed = list_line(alloc, "ifchange", line, count)?;
+        writeln!(text, "{listed}")?;
+    }
+    Ok(text)
+}
+
+#[test]
+fn full_lists_of_names(rt: HostRuntime) -> Result<(), Fail> {
+    let alloc = rt.alloc();
+    let mut names = Names::new(alloc);
+    let text = full_lists(alloc, 63)?;
+    let script = read_script(alloc, text.as_bytes(), &mut names)?;
+    assert_eq!(rt; script.commands().len(), 1024);
+    assert_eq!(rt; names.len(), 65536);
+    let mut names = Names::new(alloc);
+    let text = full_lists(alloc, 64)?;
+    let fault = fault_of(read_script(alloc, text.as_bytes(), &mut names))?;
+    assert_eq!(rt; fault, Some((1024, LineFault::TooManyNames)));
+    Ok(())
+}
+
 /// A session file has up to 4,096 commands.
 fn commands<R: Abort + AllocGlobal>(rt: &R) -> Result<(), Fail> {
     let alloc = rt.alloc();
@@ -100,6 +155,7 @@ fn longest_stamp(rt: HostRuntime) -> Result<(), Fail> {
 #[test]
 fn limits(rt: HostRuntime) -> Result<(), Fail> {
     words(&rt)?;
+    listed_names(&rt)?;
     commands(&rt)?;
     sessions(&rt)
 }

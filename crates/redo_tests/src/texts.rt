@@ -47,7 +47,24 @@ fn commands_print<R: Abort + AllocGlobal>(rt: &R) -> Result<(), Fail> {
     check_command(rt, alloc, Command::Done(0, Some(stamp)), "done a.o 10")?;
     check_command(rt, alloc, Command::Done(0, None), "done a.o -")?;
     check_command(rt, alloc, Command::Failed(0), "failed a.o")?;
-    check_command(rt, alloc, Command::Targets, "targets")
+    check_command(rt, alloc, Command::Always(0), "always a.o")?;
+    check_command(rt, alloc, Command::Ood, "ood")?;
+    check_command(rt, alloc, Command::Targets, "targets")?;
+    check_command(rt, alloc, Command::Sources, "sources")
+}
+
+/// Names are printed in their order, and as often as they are there.
+fn name_lists_print<R: Abort + AllocGlobal>(rt: &R) -> Result<(), Fail> {
+    let alloc = rt.alloc();
+    let names = vec![in alloc; 0]?;
+    check_command(rt, alloc, Command::IfChange(0, names), "ifchange a.o a.o")?;
+    let names = vec![in alloc; 0, 0]?;
+    check_command(
+        rt,
+        alloc,
+        Command::IfCreate(0, names),
+        "ifcreate a.o a.o a.o",
+    )
 }
 
 /// Content is printed in digits of lower case.
@@ -68,12 +85,19 @@ fn commands_read_back<R: Abort + AllocGlobal>(rt: &R) -> Result<(), Fail> {
         "lock c",
         "unlock a.o",
         "start d",
+        "ifchange d e",
+        "ifchange d b a.o b d",
+        "ifcreate f c",
+        "ifcreate d c g c",
+        "always d",
         "stamp d 00abff",
         "stamp d -",
         "done d 10",
         "done d -",
         "failed e",
+        "ood",
         "targets",
+        "sources",
     ] {
         let command = read_command(alloc, line.as_bytes(), &mut names)?;
         let text = command_text(alloc, &command, &names)?;
@@ -94,10 +118,15 @@ fn commands_have_kinds<R: Abort + AllocGlobal>(rt: &R) -> Result<(), Fail> {
         ("lock a", Kind::Lock),
         ("unlock a", Kind::Unlock),
         ("start a", Kind::Start),
+        ("ifchange a b", Kind::IfChange),
+        ("ifcreate a b", Kind::IfCreate),
+        ("always a", Kind::Always),
         ("stamp a 61", Kind::Stamp),
         ("done a -", Kind::Done),
         ("failed a", Kind::Failed),
+        ("ood", Kind::Ood),
         ("targets", Kind::Targets),
+        ("sources", Kind::Sources),
     ] {
         let command = read_command(alloc, line.as_bytes(), &mut names)?;
         assert_eq!(rt; command.kind(), want, "{line:?}");
@@ -113,10 +142,28 @@ fn replies_print<R: Abort + AllocGlobal>(rt: &R) -> Result<(), Fail> {
     check_reply(rt, alloc, Reply::Busy(4294967295), "busy 4294967295")?;
     let digest = *b"abcdefghijklmnopqrst";
     let want = "stamped 6162636465666768696a6b6c6d6e6f7071727374";
-    check_reply(rt, alloc, Reply::Stamped(digest), want)?;
-    check_reply(rt, alloc, Reply::Targets(Vec::new(alloc)), "targets")?;
+    check_reply(rt, alloc, Reply::Stamped(digest), want)
+}
+
+/// Each list has its text.
+fn lists_print<R: Abort + AllocGlobal>(rt: &R) -> Result<(), Fail> {
+    let alloc = rt.alloc();
     let both = vec![in alloc; 0, 1]?;
-    check_reply(rt, alloc, Reply::Targets(both), "targets a b")
+    check_reply(rt, alloc, Reply::Stale(both), "stale a b")?;
+    let both = vec![in alloc; 0, 1]?;
+    check_reply(rt, alloc, Reply::Ood(both), "ood a b")?;
+    let both = vec![in alloc; 0, 1]?;
+    check_reply(rt, alloc, Reply::Targets(both), "targets a b")?;
+    let both = vec![in alloc; 1, 0]?;
+    check_reply(rt, alloc, Reply::Sources(both), "sources b a")
+}
+
+/// A list may be empty.
+fn empty_lists_print<R: Abort + AllocGlobal>(rt: &R) -> Result<(), Fail> {
+    let alloc = rt.alloc();
+    check_reply(rt, alloc, Reply::Ood(Vec::new(alloc)), "ood")?;
+    check_reply(rt, alloc, Reply::Targets(Vec::new(alloc)), "targets")?;
+    check_reply(rt, alloc, Reply::Sources(Vec::new(alloc)), "sources")
 }
 
 /// Each refusal has its text.
@@ -127,15 +174,22 @@ fn refusals_print<R: Abort + AllocGlobal>(rt: &R) -> Result<(), Fail> {
     let refused = Reply::Refused(Refusal::Building);
     check_reply(rt, alloc, refused, "refused building")?;
     let refused = Reply::Refused(Refusal::NotBuilding);
-    check_reply(rt, alloc, refused, "refused not-building")
+    check_reply(rt, alloc, refused, "refused not-building")?;
+    let refused = Reply::Refused(Refusal::Itself);
+    check_reply(rt, alloc, refused, "refused self")?;
+    let refused = Reply::Refused(Refusal::Exists(1));
+    check_reply(rt, alloc, refused, "refused exists b")
 }
 
 #[test]
 fn texts(rt: HostRuntime) -> Result<(), Fail> {
     commands_print(&rt)?;
+    name_lists_print(&rt)?;
     contents_print(&rt)?;
     commands_read_back(&rt)?;
     commands_have_kinds(&rt)?;
     replies_print(&rt)?;
+    lists_print(&rt)?;
+    empty_lists_print(&rt)?;
     refusals_print(&rt)
 }

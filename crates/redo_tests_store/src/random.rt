@@ -1,5 +1,5 @@
 //! Commands that are drawn at random, the same for the same seed.
-ghost use Rattle.std.specs.Prelude.{◌≡◌, ◌<◌, IfOk};
+ghost use Rattle.std.specs.Prelude.{◌<◌, ◌≤◌, IfOk};
 ghost use Rattle.redo_model.specs.Renaming.{AllBelow, IsBelow};
 ghost use Rattle.redo_command.specs.Meaning.{command_of};
 
@@ -9,7 +9,7 @@ use std::alloc::{AllocError, Global};
 /// How many names the commands speak of, and how many sessions ask them.
 pub(crate) const NAMES: u32 = 8;
 
-pub(crate) const SESSIONS: u32 = 4;
+const SESSIONS: u32 = 4;
 
 /// A generator of numbers: the state moves on by a fixed step, and each number is the state, mixed.
 #[derive(Drop)]
@@ -38,15 +38,23 @@ impl Random {
         (self.number() % u64::from(count)) as u32
     }
 
-    /// A name.
-    pub(crate) fn name(&mut self) -> u32
+    fn name(&mut self) -> u32
         ensures { result < NAMES }
     {
         self.below(NAMES)
     }
 
+    /// One of the first names.
+    pub(crate) fn target(&mut self, count: u32) -> u32
+        requires some { 0 < count }
+        requires few { count ≤ NAMES }
+        ensures { result < NAMES }
+    {
+        self.below(count)
+    }
+
     /// One to three names, of which two may be the same.
-    pub(crate) fn few_names(&mut self, alloc: Global) -> Result<Vec<u32>, AllocError>
+    fn few_names(&mut self, alloc: Global) -> Result<Vec<u32>, AllocError>
         ensures { IfOk result (λ names. AllBelow NAMES names.items) }
     {
         Ok(match self.below(3) {
@@ -56,12 +64,12 @@ impl Random {
         })
     }
 
-    /// A session: for the most part the one that works on this name.
-    pub(crate) fn session(&mut self, name: u32) -> u8 {
-        let session = if self.below(8) == 0 {
+    /// A session: for the most part the one that works on this target.
+    pub(crate) fn session(&mut self, t: u32) -> u8 {
+        let session = if self.below(12) == 0 {
             self.below(SESSIONS)
         } else {
-            name % SESSIONS
+            t % SESSIONS
         };
         session as u8
     }
@@ -85,31 +93,46 @@ impl Random {
         }
     }
 
-    /// The name has another file, or none.
-    fn file(&mut self, n: u32) -> Command
-        requires { n < NAMES }
+    /// Some name has another file, or none.
+    fn file(&mut self) -> Command
         ensures { IsBelow NAMES (command_of result) }
     {
+        let n = self.name();
         match self.stamp() {
-            Some(stamp) => Command::File(n, stamp),
-            None => Command::Gone(n),
+            Some(stamp) if self.below(4) > 0 => Command::File(n, stamp),
+            _ => Command::Gone(n),
         }
     }
 
-    /// A command on this name.
-    pub(crate) fn command(&mut self, alloc: Global, name: u32) -> Result<Command, AllocError>
-        requires { name < NAMES }
+    /// A command on this target, or on any file.
+    pub(crate) fn command(&mut self, alloc: Global, t: u32) -> Result<Command, AllocError>
+        requires { t < NAMES }
         ensures { IfOk result (λ command. IsBelow NAMES (command_of command)) }
     {
-        Ok(match self.below(20) {
-            0..=2 => self.file(name),
-            3..=5 => Command::Lock(name),
-            6 => Command::Unlock(name),
-            7..=10 => Command::Start(name),
-            11..=13 => Command::Stamp(name, self.content(alloc)?),
-            14..=16 => Command::Done(name, self.stamp()),
-            17 => Command::Failed(name),
-            _ => Command::Targets,
+        Ok(match self.below(32) {
+            0..=3 => self.file(),
+            4 | 5 => Command::Lock(t),
+            6 => Command::Unlock(t),
+            7..=11 => Command::Start(t),
+            12..=19 => self.rows(alloc, t)?,
+            20..=22 => Command::Stamp(t, self.content(alloc)?),
+            23..=26 => Command::Done(t, self.stamp()),
+            27 => Command::Failed(t),
+            28 | 29 => Command::Ood,
+            30 => Command::Targets,
+            _ => Command::Sources,
+        })
+    }
+
+    /// A command on this target's rows.
+    fn rows(&mut self, alloc: Global, t: u32) -> Result<Command, AllocError>
+        requires { t < NAMES }
+        ensures { IfOk result (λ command. IsBelow NAMES (command_of command)) }
+    {
+        Ok(match self.below(8) {
+            0..=3 => Command::IfChange(t, self.few_names(alloc)?),
+            4..=6 => Command::IfCreate(t, self.few_names(alloc)?),
+            _ => Command::Always(t),
         })
     }
 }

@@ -2,32 +2,13 @@
 ghost use Rattle.std.specs.Prelude.{◌≡◌};
 ghost use Rattle.redo_store.specs.Tables.{count_of};
 
-use crate::names::added;
-use redo_command::{Refusal, Reply, read_command};
+use crate::answers::{Answer, answer_of, names_of};
+use redo_command::{Refusal, read_command};
 use redo_names::Names;
 use redo_store::Redo;
 use std::alloc::Global;
 use std::process::Abort;
 use std::test::Fail;
-
-/// The replies that have no list.
-#[derive(Clone, Copy, Debug, PartialEq, Eq)]
-pub(crate) enum Answer {
-    Okay,
-    Granted(u32),
-    Busy(u32),
-    Refused(Refusal),
-}
-
-pub(crate) fn answer_of(reply: &Reply) -> Option<Answer> {
-    match reply {
-        Reply::Okay => Some(Answer::Okay),
-        Reply::Granted(grant) => Some(Answer::Granted(*grant)),
-        Reply::Busy(grant) => Some(Answer::Busy(*grant)),
-        Reply::Refused(refusal) => Some(Answer::Refused(*refusal)),
-        _ => None,
-    }
-}
 
 /// The answer to a command over the two names.
 fn called(
@@ -54,17 +35,18 @@ fn answers(rt: &impl Abort, alloc: Global, redo: &mut Redo, names: &mut Names) -
     for (session, line, want) in [
         (0, "start T", Answer::Refused(Refusal::NotLocked)),
         (0, "lock T", Answer::Granted(1)),
-        (0, "stamp T 61", Answer::Refused(Refusal::NotBuilding)),
         (1, "start T", Answer::Refused(Refusal::NotLocked)),
         (0, "start T", Answer::Okay),
         (0, "start T", Answer::Refused(Refusal::Building)),
         (0, "unlock T", Answer::Refused(Refusal::Building)),
         (1, "unlock T", Answer::Refused(Refusal::NotLocked)),
+        (0, "ifchange T T", Answer::Refused(Refusal::Itself)),
         (0, "file x 1", Answer::Okay),
+        (0, "ifcreate T x T", Answer::Refused(Refusal::Itself)),
         (1, "done T 5", Answer::Refused(Refusal::NotBuilding)),
-        (1, "stamp T 61", Answer::Refused(Refusal::NotBuilding)),
         (1, "lock T", Answer::Busy(1)),
         (0, "done T 5", Answer::Okay),
+        (0, "ifchange T T", Answer::Refused(Refusal::NotBuilding)),
         (0, "unlock T", Answer::Okay),
         (0, "unlock T", Answer::Refused(Refusal::NotLocked)),
         (1, "lock T", Answer::Granted(2)),
@@ -78,12 +60,10 @@ fn answers(rt: &impl Abort, alloc: Global, redo: &mut Redo, names: &mut Names) -
 #[test]
 fn order_of_refusals(rt: HostRuntime) -> Result<(), Fail> {
     let alloc = rt.alloc();
-    let mut names = Names::new(alloc);
-    added(&rt, &mut names, "T")?;
-    added(&rt, &mut names, "x")?;
+    let mut names = names_of(&rt, alloc, &["T", "x"])?;
     assert_eq!(rt; names.len(), 2);
     let mut redo = Redo::new(alloc, &names)?;
     answers(&rt, alloc, &mut redo, &mut names)?;
-    assert_eq!(rt; redo.calls(), 16);
+    assert_eq!(rt; redo.calls(), 17);
     Ok(())
 }

@@ -1,0 +1,8 @@
+use Rattle.std.specs.Prelude.{◌≡◌}
+use Rattle.redo_store.specs.Tables.{count_of}
+use Rattle.redo_tests_store.specs.declared.random.TheConstants.{NAMES}
+use Rattle.redo_tests_store.proofs.oracle.compare.Given as goal
+
+-- the database is over the names
+abbrev pub invariant-loop-draws : goal.invariant-loop-draws
+invariant-loop-draws g l = count_of l.redo ≡ NAMES

@@ -1,0 +1,93 @@
+//! The search over long chains and rings of targets.
+ghost use Rattle.std.specs.Prelude.{◌≡◌, ◌<◌, ◌≤◌, length, IfOk};
+ghost use Rattle.redo_rows.specs.Rows.{count_of};
+
+use redo_command::FileStamp;
+use redo_ood::Ood;
+use redo_records::{Mark, Records, State};
+use redo_rows::DepRows;
+use std::alloc::Global;
+use std::process::Abort;
+use std::test::Fail;
+
+const CHAIN: u32 = 65_000;
+
+const RING: u32 = 60_000;
+
+/// The target is built for the first time.
+fn build(rt: &impl Abort, records: &mut Records, t: u32)
+    requires { t < length records.old }
+    ensures { length records.new ≡ length records.old }
+{
+    assert!(rt; records.state(t) == State::Idle);
+    records.start(0, t);
+    assert!(rt; records.state(t) == State::Building(0) && records.builds(t) == 0);
+    records.done(t, FileStamp::new(b"1"));
+}
+
+/// Each of the names is a target that was built once.
+fn all_built(rt: &impl Abort, alloc: Global, count: u32) -> Result<Records, Fail>
+    ensures { IfOk result (λ records. length records ≡ count) }
+{
+    let mut records = Records::new(alloc, count)?;
+    for t in 0..count {
+        build(rt, &mut records, t);
+    }
+    Ok(records)
+}
+
+/// The target has a change row on a name that was built once.
+fn link(rt: &impl Abort, rows: &mut DepRows, t: u32, n: u32) -> Result<(), Fail>
+    requires target { t < count_of rows.old }
+    requires name { n < count_of rows.old }
+    ensures { count_of rows.new ≡ count_of rows.old }
+{
+    rows.reserve(t, &[n])?;
+    assert!(rt; rows.has_room(t, n));
+    rows.put_change(t, n, Mark::Builds(1));
+    Ok(())
+}
+
+/// Each target needs the next one.
+fn chain(rt: &impl Abort, alloc: Global, count: u32) -> Result<DepRows, Fail>
+    requires { 0 < count }
+    ensures { IfOk result (λ rows. count_of rows ≡ count) }
+{
+    let mut rows = DepRows::new(alloc, count)?;
+    for t in 1..count {
+        link(rt, &mut rows, t - 1, t)?;
+    }
+    Ok(rows)
+}
+
+/// How many targets are out of date.
+fn out_of_date(alloc: Global, count: u32, records: &Records, rows: &DepRows) -> Result<usize, Fail>
+    requires records { length records.now ≡ count }
+    requires rows { count_of rows.now ≡ count }
+{
+    let ood = Ood::search(alloc, count, records, rows)?;
+    Ok(ood.list(alloc)?.len())
+}
+
+#[test]
+fn long_chain(rt: HostRuntime) -> Result<(), Fail> {
+    let alloc = rt.alloc();
+    let records = all_built(&rt, alloc, CHAIN)?;
+    let mut rows = chain(&rt, alloc, CHAIN)?;
+    assert_eq!(rt; out_of_date(alloc, CHAIN, &records, &rows)?, 0);
+    rows.put_always(CHAIN - 1);
+    assert_eq!(rt; out_of_date(alloc, CHAIN, &records, &rows)?, CHAIN as usize);
+    Ok(())
+}
+
+#[test]
+fn long_ring(rt: HostRuntime) -> Result<(), Fail> {
+    let alloc = rt.alloc();
+    let mut records = all_built(&rt, alloc, RING)?;
+    let mut rows = chain(&rt, alloc, RING)?;
+    link(&rt, &mut rows, RING - 1, 0)?;
+    assert_eq!(rt; out_of_date(alloc, RING, &records, &rows)?, 0);
+    records.set_file(7, None);
+    assert_eq!(rt; out_of_date(alloc, RING, &records, &rows)?, RING as usize);
+    Ok(())
+}

@@ -1,0 +1,23 @@
+//! The tests of the database and of the layers below it.
+#![tactic(auto)]
+
+#[cfg(test)]
+mod answers;
+#[cfg(test)]
+mod chains;
+#[cfg(test)]
+mod digests;
+#[cfg(test)]
+mod graphs;
+#[cfg(test)]
+mod oracle;
+#[cfg(test)]
+mod random;
+#[cfg(test)]
+mod records;
+#[cfg(test)]
+mod refusals;
+#[cfg(test)]
+mod rows;
+#[cfg(test)]
+mod stores;

@@ -1,0 +1,71 @@
+//! Rows, and the lists of those that stand on a name.
+ghost use Rattle.std.specs.Prelude.{◌≡◌, ◌<◌};
+ghost use Rattle.redo_rows.specs.Rows.{count_of};
+
+use redo_records::Mark;
+use redo_rows::DepRows;
+use std::process::Abort;
+use std::test::Fail;
+
+const NAMES: u32 = 4;
+
+/// A change row, for which there is room.
+fn put_change(rt: &impl Abort, rows: &mut DepRows, t: u32, n: u32, mark: Mark)
+    requires target { t < count_of rows.old }
+    requires name { n < count_of rows.old }
+    ensures { count_of rows.new ≡ count_of rows.old }
+{
+    assert!(rt; rows.has_room(t, n));
+    rows.put_change(t, n, mark);
+}
+
+/// Room for some rows, and those rows.
+fn put_rows(rt: &impl Abort, rows: &mut DepRows) -> Result<(), Fail>
+    requires { count_of rows.old ≡ NAMES }
+    ensures { count_of rows.new ≡ NAMES }
+{
+    rows.reserve(0, &[1, 2])?;
+    rows.reserve(3, &[1])?;
+    put_change(rt, rows, 0, 1, Mark::Absent);
+    assert!(rt; rows.has_room(0, 2));
+    rows.put_created(0, 2);
+    put_change(rt, rows, 3, 1, Mark::Pending);
+    rows.put_always(0);
+    Ok(())
+}
+
+/// What stands before the rows of 0 are taken away.
+fn check_rows(rt: &impl Abort, rows: &DepRows)
+    requires { count_of rows.now ≡ NAMES }
+{
+    assert_eq!(rt; rows.needed_by(1), [0, 3].as_slice());
+    assert_eq!(rt; rows.awaited_by(2), [0].as_slice());
+    assert_eq!(rt; rows.of(0), [1, 2].as_slice());
+    assert_eq!(rt; rows.change_of(0, 1), Some(Mark::Absent));
+    assert_eq!(rt; rows.change_of(0, 2), None);
+    assert!(rt; rows.created(0, 2) && !rows.created(0, 1));
+    assert!(rt; rows.always(0) && !rows.always(3));
+    assert!(rt; !rows.has_room(3, 2));
+}
+
+/// What stands after that.
+fn check_rest(rt: &impl Abort, rows: &DepRows)
+    requires { count_of rows.now ≡ NAMES }
+{
+    assert_eq!(rt; rows.needed_by(1), [3].as_slice());
+    assert!(rt; rows.awaited_by(2).is_empty());
+    assert!(rt; rows.of(0).is_empty());
+    assert_eq!(rt; rows.change_of(3, 1), Some(Mark::Pending));
+    assert!(rt; !rows.always(0));
+    assert!(rt; !rows.has_room(0, 1) && rows.has_room(3, 1));
+}
+
+#[test]
+fn inverse_rows(rt: HostRuntime) -> Result<(), Fail> {
+    let mut rows = DepRows::new(rt.alloc(), NAMES)?;
+    put_rows(&rt, &mut rows)?;
+    check_rows(&rt, &rows);
+    rows.clear(0);
+    check_rest(&rt, &rows);
+    Ok(())
+}
