@@ -1,13 +1,37 @@
 //! Rows, and the lists of those that stand on a name.
-ghost use Rattle.std.specs.Prelude.{◌≡◌, ◌<◌};
+ghost use Rattle.std.specs.Prelude.{◌≡◌, ◌<◌, IfOk};
+ghost use Rattle.redo_model.specs.Renaming.{AllBelow};
 ghost use Rattle.redo_rows.specs.Rows.{count_of};
 
 use redo_records::Mark;
 use redo_rows::DepRows;
+use std::alloc::{AllocError, Global};
 use std::process::Abort;
 use std::test::Fail;
 
 const NAMES: u32 = 4;
+
+/// No rows. Where a request for memory is refused, the next try succeeds.
+fn no_rows(alloc: Global) -> Result<DepRows, AllocError>
+    ensures { IfOk result (λ rows. count_of rows ≡ NAMES) }
+{
+    match DepRows::new(alloc, NAMES) {
+        Ok(rows) => Ok(rows),
+        Err(_) => DepRows::new(alloc, NAMES),
+    }
+}
+
+/// Room for rows on these names. Where a request for memory is refused, the next try succeeds.
+fn reserve(rows: &mut DepRows, t: u32, names: &[u32]) -> Result<(), AllocError>
+    requires target { t < count_of rows.old }
+    requires names { AllBelow (count_of rows.old) names.now }
+    ensures { count_of rows.new ≡ count_of rows.old }
+{
+    match rows.reserve(t, names) {
+        Ok(()) => Ok(()),
+        Err(_) => rows.reserve(t, names),
+    }
+}
 
 /// A change row, for which there is room.
 fn put_change(rt: &impl Abort, rows: &mut DepRows, t: u32, n: u32, mark: Mark)
@@ -24,8 +48,8 @@ fn put_rows(rt: &impl Abort, rows: &mut DepRows) -> Result<(), Fail>
     requires { count_of rows.old ≡ NAMES }
     ensures { count_of rows.new ≡ NAMES }
 {
-    rows.reserve(0, &[1, 2])?;
-    rows.reserve(3, &[1])?;
+    reserve(rows, 0, &[1, 2])?;
+    reserve(rows, 3, &[1])?;
     put_change(rt, rows, 0, 1, Mark::Absent);
     assert!(rt; rows.has_room(0, 2));
     rows.put_created(0, 2);
@@ -60,9 +84,36 @@ fn check_rest(rt: &impl Abort, rows: &DepRows)
     assert!(rt; !rows.has_room(0, 1) && rows.has_room(3, 1));
 }
 
+/// Room for more rows. Where it is refused, all rows and all room are as they were, and the next try succeeds.
+fn more_room(rt: &impl Abort, rows: &mut DepRows) -> Result<(), Fail>
+    requires { count_of rows.old ≡ NAMES }
+    ensures { count_of rows.new ≡ NAMES }
+{
+    if rows.reserve(3, &[0, 1, 2]).is_err() {
+        check_rows(rt, rows);
+        assert!(rt; rows.has_room(0, 1) && rows.has_room(0, 2) && rows.has_room(3, 1));
+        rows.reserve(3, &[0, 1, 2])?;
+    }
+    assert!(rt; rows.has_room(3, 0) && rows.has_room(3, 1) && rows.has_room(3, 2));
+    Ok(())
+}
+
+/// Passes with each request for memory refused in turn, too.
+#[test]
+fn refused_room(rt: HostRuntime) -> Result<(), Fail> {
+    let mut rows = no_rows(rt.alloc())?;
+    put_rows(&rt, &mut rows)?;
+    check_rows(&rt, &rows);
+    more_room(&rt, &mut rows)?;
+    rows.clear(0);
+    check_rest(&rt, &rows);
+    assert!(rt; rows.has_room(3, 0) && rows.has_room(3, 2));
+    Ok(())
+}
+
 #[test]
 fn inverse_rows(rt: HostRuntime) -> Result<(), Fail> {
-    let mut rows = DepRows::new(rt.alloc(), NAMES)?;
+    let mut rows = no_rows(rt.alloc())?;
     put_rows(&rt, &mut rows)?;
     check_rows(&rt, &rows);
     rows.clear(0);
