@@ -13,38 +13,46 @@ pub(crate) fn run_of(alloc: Global, file: &[u8]) -> Result<Vec<u8>, Fail> {
     Ok(out)
 }
 
-/// The session file of these commands.
-fn file_of(alloc: Global, told: &[(&str, &str)]) -> Result<String, AllocError> {
-    let mut file = String::new(alloc);
+/// Writes a line for each command.
+fn put_commands(file: &mut String, told: &[(&str, &str)]) -> Result<(), AllocError> {
     for (command, _) in told {
         writeln!(file, "{command}")?;
     }
-    Ok(file)
+    Ok(())
 }
 
-/// Writes a header with the number of lines, and a line for each command with its reply.
-fn put_part(
-    out: &mut String,
-    header: &str,
-    front: &str,
-    told: &[(&str, &str)],
-) -> Result<(), AllocError> {
-    let count = told.len();
-    writeln!(out, "{header} {count}")?;
+/// Writes a line for each command with its reply.
+fn put_lines(out: &mut String, front: &str, told: &[(&str, &str)]) -> Result<(), AllocError> {
     for (command, reply) in told {
         writeln!(out, "{front}{command} => {reply}")?;
     }
     Ok(())
 }
 
-/// In the run text of one session, each command has this reply.
-pub(crate) fn says<R: Abort + AllocGlobal>(rt: &R, told: &[(&str, &str)]) -> Result<(), Fail> {
+/// In the run text of one session, each command has this reply. Those of `first` come first.
+pub(crate) fn says_after<R: Abort + AllocGlobal>(
+    rt: &R,
+    first: &[(&str, &str)],
+    told: &[(&str, &str)],
+) -> Result<(), Fail> {
     let alloc = rt.alloc();
+    let mut file = String::new(alloc);
+    put_commands(&mut file, first)?;
+    put_commands(&mut file, told)?;
+    let count = first.len().saturating_add(told.len());
     let mut want = String::new(alloc);
-    put_part(&mut want, "history", "1 ", told)?;
-    put_part(&mut want, "session 1", "", told)?;
-    let file = file_of(alloc, told)?;
+    writeln!(want, "history {count}")?;
+    put_lines(&mut want, "1 ", first)?;
+    put_lines(&mut want, "1 ", told)?;
+    writeln!(want, "session 1 {count}")?;
+    put_lines(&mut want, "", first)?;
+    put_lines(&mut want, "", told)?;
     let text = run_of(alloc, file.as_bytes())?;
     assert_eq!(rt; text.as_slice(), want.as_bytes());
     Ok(())
+}
+
+/// In the run text of one session, each command has this reply.
+pub(crate) fn says<R: Abort + AllocGlobal>(rt: &R, told: &[(&str, &str)]) -> Result<(), Fail> {
+    says_after(rt, &[], told)
 }

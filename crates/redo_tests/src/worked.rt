@@ -1,6 +1,5 @@
 //! Worked sessions: each command with its reply.
-use crate::told::says;
-use std::process::Abort;
+use crate::told::{says, says_after};
 use std::test::Fail;
 
 const DIGEST_OF_ABC: &str = "stamped a9993e364706816aba3e25717850c26c9cd0d89d";
@@ -20,16 +19,6 @@ const COMMON_PATH: [(&str, &str); 9] = [
     ("sources", "sources a.c"),
 ];
 
-/// The commands have these replies after the common path.
-fn says_after_common_path<R: Abort + AllocGlobal>(
-    rt: &R,
-    told: &[(&str, &str)],
-) -> Result<(), Fail> {
-    let mut all = Vec::from_slice(rt.alloc(), &COMMON_PATH)?;
-    all.extend_from_slice(told)?;
-    says(rt, &all)
-}
-
 #[test]
 fn common_path(rt: HostRuntime) -> Result<(), Fail> {
     says(&rt, &COMMON_PATH)
@@ -37,8 +26,9 @@ fn common_path(rt: HostRuntime) -> Result<(), Fail> {
 
 #[test]
 fn stamp_that_comes_back(rt: HostRuntime) -> Result<(), Fail> {
-    says_after_common_path(
+    says_after(
         &rt,
+        &COMMON_PATH,
         &[
             ("file a.c 11", "ok"),
             ("ood", "ood a.o"),
@@ -199,8 +189,9 @@ fn names_without_a_file(rt: HostRuntime) -> Result<(), Fail> {
 
 #[test]
 fn target_file_changes_and_always(rt: HostRuntime) -> Result<(), Fail> {
-    says_after_common_path(
+    says_after(
         &rt,
+        &COMMON_PATH,
         &[
             ("file a.o 21", "ok"),
             ("ood", "ood a.o"),

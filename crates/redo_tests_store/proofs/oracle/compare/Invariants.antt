@@ -4,5 +4,5 @@ use Rattle.redo_tests_store.specs.declared.random.TheConstants.{NAMES}
 use Rattle.redo_tests_store.proofs.oracle.compare.Given as goal
 
 -- the database is over the names
-abbrev pub invariant-loop-draws : goal.invariant-loop-draws
-invariant-loop-draws g l = count_of l.redo ≡ NAMES
+abbrev pub invariant-draws : goal.invariant-draws
+invariant-draws g l = count_of l.redo ≡ NAMES
