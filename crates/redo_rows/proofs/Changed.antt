@@ -2,8 +2,9 @@
 use Rattle.std.proofs.Common.{◌≡◌, ◌≢◌, ℕ, ◌<◌, Bool, true, false, cond, ◌||◌, List, length, set, refl, sym, ap, ◌∙◌, subst, get_or, inl, inr, Option, Some, eqb, ne_eqb, eq-eqb}
 use Rattle.std.proofs.Math.Path.{fun_ext}
 use Rattle.std.proofs.lemmas.Bool.{cases_eq}
+use Rattle.redo_model.specs.Names.{put}
 use Rattle.redo_model.specs.State.{Mark, Rows}
-use Rattle.redo_rows.specs.Rows.{Seat, TargetRows, seat_at, has_seat, target_at, rows_of, with_change, with_created, at}
+use Rattle.redo_rows.specs.Rows.{Seat, TargetRows, seat_at, has_seat, target_at, rows_of, with_change, with_created, by_number}
 use Rattle.redo_rows.proofs.Inverses.{found_target, target_same, target_other}
 
 -- rows with the same values are the same
@@ -35,11 +36,11 @@ rows_set targets t target rows below h = rows_ext (rows_of (set targets t target
     (λ u n. each_target (λ x. (seat_at x.seats n).created) (λ k. rows.created k n) targets t target below (h.created n) (λ k off. h.other_created k n off) u)
     (each_target (λ x. x.always) rows.always targets t target below h.always h.other_always)
 
-at_same : {X : Type 0} (n : ℕ) (x : X) (f : ℕ → X) → at n x f n ≡ x
-at_same n x f = ap (λ b. cond b x (f n)) (eq-eqb n n refl)
+put_same : {X : Type 0} (n : ℕ) (x : X) (f : ℕ → X) → put by_number n x f n ≡ x
+put_same n x f = ap (λ b. cond b x (f n)) (eq-eqb n n refl)
 
-at_other : {X : Type 0} (n m : ℕ) (x : X) (f : ℕ → X) → m ≢ n → at n x f m ≡ f m
-at_other n m x f off = ap (λ b. cond b x (f m)) (ne_eqb n m (λ e. off (sym e)))
+put_other : {X : Type 0} (n m : ℕ) (x : X) (f : ℕ → X) → m ≢ n → put by_number n x f m ≡ f m
+put_other n m x f off = ap (λ b. cond b x (f m)) (ne_eqb n m (λ e. off (sym e)))
 
 -- the field of a record or of another
 pub field_of_cond : {X Y : Type 0} (f : X → Y) (b : Bool) (x y : X) → f (cond b x y) ≡ cond b (f x) (f y)
@@ -59,18 +60,18 @@ pub record WritesChange (old new : TargetRows) (n : ℕ) (mark : Mark) : Type 0 
 change_set : (targets : List TargetRows) (t n : ℕ) (new : TargetRows) (mark : Mark) → t < length targets → WritesChange (target_at targets t) new n mark → rows_of (set targets t new) ≡ with_change (rows_of targets) t n mark
 change_set targets t n new mark below w =
     let rows : Rows ℕ = rows_of targets in
-    let row : ℕ → Option Mark = at n (Some mark) (rows.change t) in
+    let row : ℕ → Option Mark = put by_number n (Some mark) (rows.change t) in
     rows_set targets t new (with_change rows t n mark) below (record {
       change = λ k.
           ap (λ (s : Seat). s.change) (w.rows k)
           ∙ (field_of_cond (λ (s : Seat). s.change) (eqb n k) (record (seat_at (target_at targets t).seats k) { change = Some mark }) (seat_at (target_at targets t).seats k)
-          ∙ sym (ap (λ (f : ℕ → Option Mark). f k) (at_same t row rows.change)));
+          ∙ sym (ap (λ (f : ℕ → Option Mark). f k) (put_same t row rows.change)));
       created = λ k.
           ap (λ (s : Seat). s.created) (w.rows k)
           ∙ (field_of_cond (λ (s : Seat). s.created) (eqb n k) (record (seat_at (target_at targets t).seats k) { change = Some mark }) (seat_at (target_at targets t).seats k)
           ∙ cond_same (eqb n k) (rows.created t k));
       always = w.always;
-      other_change = λ u k off. sym (ap (λ (f : ℕ → Option Mark). f k) (at_other t u row rows.change off));
+      other_change = λ u k off. sym (ap (λ (f : ℕ → Option Mark). f k) (put_other t u row rows.change off));
       other_created = λ u k off. refl;
       other_always = λ u off. refl;
     })
@@ -84,7 +85,7 @@ pub record WritesCreated (old new : TargetRows) (n : ℕ) : Type 0 where
 created_set : (targets : List TargetRows) (t n : ℕ) (new : TargetRows) → t < length targets → WritesCreated (target_at targets t) new n → rows_of (set targets t new) ≡ with_created (rows_of targets) t n
 created_set targets t n new below w =
     let rows : Rows ℕ = rows_of targets in
-    let row : ℕ → Bool = at n true (rows.created t) in
+    let row : ℕ → Bool = put by_number n true (rows.created t) in
     rows_set targets t new (with_created rows t n) below (record {
       change = λ k.
           ap (λ (s : Seat). s.change) (w.rows k)
@@ -93,10 +94,10 @@ created_set targets t n new below w =
       created = λ k.
           ap (λ (s : Seat). s.created) (w.rows k)
           ∙ (field_of_cond (λ (s : Seat). s.created) (eqb n k) (record (seat_at (target_at targets t).seats k) { created = true }) (seat_at (target_at targets t).seats k)
-          ∙ sym (ap (λ (f : ℕ → Bool). f k) (at_same t row rows.created)));
+          ∙ sym (ap (λ (f : ℕ → Bool). f k) (put_same t row rows.created)));
       always = w.always;
       other_change = λ u k off. refl;
-      other_created = λ u k off. sym (ap (λ (f : ℕ → Bool). f k) (at_other t u row rows.created off));
+      other_created = λ u k off. sym (ap (λ (f : ℕ → Bool). f k) (put_other t u row rows.created off));
       other_always = λ u off. refl;
     })
 

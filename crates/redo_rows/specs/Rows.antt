@@ -2,7 +2,7 @@
 use Rattle.std.specs.Prelude.{ℕ, Bool, true, false, List, [], ◌∷◌, Option, Some, None, IsSome, IsTrue, ◌⊎◌, ◌==◌, if◌then◌else◌, slice_index_or, length}
 use Rattle.std.specs.List.{list_any}
 use Rattle.std.specs.Ordering.{nat_cmp}
-use Rattle.redo_model.specs.Names.{Naming, numbers}
+use Rattle.redo_model.specs.Names.{Naming, numbers, put}
 use Rattle.redo_model.specs.State.{Cell, Mark, Records, Rows}
 use Rattle.redo_records.specs.Cells.{cell_at}
 
@@ -48,28 +48,28 @@ rows_of targets = record {
 abbrev pub room_of : List TargetRows → ℕ → ℕ → Bool
 room_of targets t n = has_seat (target_at targets t).seats n
 
--- the function f with the value x at n
-abbrev pub at : {X : Type 0} → ℕ → X → (ℕ → X) → ℕ → X
-at n x f m = if n == m then x else f m
+-- numbers by their size
+abbrev pub by_number : Naming ℕ
+by_number = numbers nat_cmp
 
 -- the rows with a change row of t on n, in place of an earlier one
 abbrev pub with_change : Rows ℕ → ℕ → ℕ → Mark → Rows ℕ
-with_change rows t n mark = record rows { change = at t (at n (Some mark) (rows.change t)) rows.change }
+with_change rows t n mark = record rows { change = put by_number t (put by_number n (Some mark) (rows.change t)) rows.change }
 
 -- the rows with a created row of t on n
 abbrev pub with_created : Rows ℕ → ℕ → ℕ → Rows ℕ
-with_created rows t n = record rows { created = at t (at n true (rows.created t)) rows.created }
+with_created rows t n = record rows { created = put by_number t (put by_number n true (rows.created t)) rows.created }
 
 -- the rows with an always row of t
 abbrev pub with_always : Rows ℕ → ℕ → Rows ℕ
-with_always rows t = record rows { always = at t true rows.always }
+with_always rows t = record rows { always = put by_number t true rows.always }
 
 -- the rows without those of t
 abbrev pub without_rows : Rows ℕ → ℕ → Rows ℕ
 without_rows rows t = record {
-  change = at t (λ n. None) rows.change;
-  created = at t (λ n. false) rows.created;
-  always = at t false rows.always;
+  change = put by_number t (λ n. None) rows.change;
+  created = put by_number t (λ n. false) rows.created;
+  always = put by_number t false rows.always;
 }
 
 abbrev pub HasChangeRowOn : Rows ℕ → ℕ → ℕ → Type 0
@@ -81,10 +81,6 @@ HasCreatedRowOn rows t n = IsTrue (rows.created t n)
 -- t has a row on n
 abbrev pub HasRowOn : Rows ℕ → ℕ → ℕ → Type 0
 HasRowOn rows t n = HasChangeRowOn rows t n ⊎ HasCreatedRowOn rows t n
-
--- numbers by their size
-abbrev pub by_number : Naming ℕ
-by_number = numbers nat_cmp
 
 -- what is known of each name, with these rows
 abbrev pub records_of : List Cell → List TargetRows → Records ℕ

@@ -1,5 +1,5 @@
 -- Rows that are written one by one, and what a command makes of the records by them.
-use Rattle.std.proofs.Common.{◌≡◌, ℕ, ◌+◌, ◌<◌, ◌==◌, Bool, true, false, cond, ◌||◌, List, [], Option, Some, None, length, get_or, take, refl, sym, ap, ◌∙◌, inl, inr}
+use Rattle.std.proofs.Common.{◌≡◌, ℕ, ◌+◌, ◌<◌, ◌==◌, Bool, true, false, cond, ◌||◌, List, Option, Some, None, length, get_or, take, refl, sym, ap, ◌∙◌, inl, inr}
 use Rattle.std.proofs.Math.Path.{fun_ext}
 use Rattle.std.proofs.lemmas.Bool.{cases_eq, eq-eqb, ne_eqb}
 use Rattle.std.proofs.lemmas.List.Folds.{list_any_more}
@@ -10,13 +10,6 @@ use Rattle.redo_records.specs.Cells.{cell_at, with_cell_at}
 use Rattle.redo_rows.specs.Rows.{TargetRows, by_number, rows_of, with_change, with_created, with_always, without_rows}
 use Rattle.redo_store.specs.Stored.{Stored, records_of, naming_of}
 use Rattle.redo_store.proofs.Kept.{set_is_put}
-
--- what is there already changes nothing where it is put
-put_itself : {X : Type 0} (t : ℕ) (x : X) (f : ℕ → X) → x ≡ f t → (u : ℕ) → cond (t == u) x (f u) ≡ f u
-put_itself t x f same u = elim (cases_eq t u) [
-  | inl e ↦ ap (λ b. cond b x (f u)) (eq-eqb t u e) ∙ same ∙ ap f e
-  | inr ne ↦ ap (λ b. cond b x (f u)) (ne_eqb t u ne)
-]
 
 -- of two values put at one place the second stays
 put_again : {X : Type 0} (b : Bool) (x y z : X) → cond b x (cond b y z) ≡ cond b x z
@@ -48,18 +41,6 @@ true_more n k a b = elim (cases_eq n k) [
   | inl e ↦ ap (λ c. cond c true (a || b)) (eq-eqb n k e) ∙ sym (or_last a b) ∙ ap (λ c. (a || c) || b) (sym (eq-eqb n k e))
   | inr ne ↦ ap (λ c. cond c true (a || b)) (ne_eqb n k ne) ∙ ap (λ c. c || b) (sym (or_false a)) ∙ ap (λ c. (a || c) || b) (sym (ne_eqb n k ne))
 ]
-
-module _ (r : Records ℕ) (t : ℕ) where
-  -- no names, no new change rows
-  pub no_changes : r ≡ effect_of by_number r 0 (commands.IfChange t [])
-  no_changes =
-      let same : (λ (u : ℕ). cond (t == u) (λ (n : ℕ). r.rows.change t n) (r.rows.change u)) ≡ r.rows.change = fun_ext (put_itself t (r.rows.change t) r.rows.change refl) in
-      λ i. record r { rows = record r.rows { change = sym same i } }
-
-  pub no_created : r ≡ effect_of by_number r 0 (commands.IfCreate t [])
-  no_created =
-      let same : (λ (u : ℕ). cond (t == u) (λ (n : ℕ). r.rows.created t n) (r.rows.created u)) ≡ r.rows.created = fun_ext (put_itself t (r.rows.created t) r.rows.created refl) in
-      λ i. record r { rows = record r.rows { created = sym same i } }
 
 module _ (r : Records ℕ) (t : ℕ) (ns : List ℕ) (i : ℕ) (below : i < length ns) (before now : Rows ℕ) where
   -- one change row more than on the names before

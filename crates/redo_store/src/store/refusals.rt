@@ -1,9 +1,9 @@
-ghost use Rattle.std.specs.Prelude.{◌≡◌, ◌<◌, ◌==◌, find, option_map, None, IfSome};
+ghost use Rattle.std.specs.Prelude.{◌≡◌, ◌==◌, find, option_map, None};
 ghost use Rattle.std.specs.List.{list_any};
 ghost use Rattle.redo_model.specs.State.{has_file};
 ghost use Rattle.redo_model.specs.Reply as replies;
 ghost use Rattle.redo_model.specs.Step.{refusal_or, refusal_of_existing, is_among};
-ghost use Rattle.redo_model.specs.Renaming.{AllBelow, IsBelow, IsReplyBelow};
+ghost use Rattle.redo_model.specs.Renaming.{AllBelow, IsBelow};
 ghost use Rattle.redo_command.specs.Meaning.{command_of, refusal_of};
 ghost use Rattle.redo_records.specs.Verdict.{refusal_of_names};
 ghost use Rattle.redo_store.specs.Stored.{records_of, naming_of, count_of};
@@ -32,8 +32,7 @@ impl Store {
     /// The first refusal for the names after the command's target.
     pub(crate) fn refusal_of_names(&self, command: &Command) -> Option<Refusal>
         requires { IsBelow (count_of self.now) (command_of command.now) }
-        ensures refusal { option_map refusal_of result ≡ refusal_of_names (naming_of self.now) (records_of self.now) (command_of command.now) }
-        ensures below { IfSome result (λ refusal. IsReplyBelow (count_of self.now) (replies.Refused (refusal_of refusal))) }
+        ensures { option_map refusal_of result ≡ refusal_of_names (naming_of self.now) (records_of self.now) (command_of command.now) }
     {
         match command {
             Command::IfChange(t, names) => refusal_of_target(*t, names),
@@ -45,8 +44,7 @@ impl Store {
     /// The refusal where the target is among the names, else where one of them has a file.
     fn refusal_of_created(&self, t: u32, names: &[u32]) -> Option<Refusal>
         requires { AllBelow (count_of self.now) names.now }
-        ensures refusal { option_map refusal_of result ≡ refusal_or (list_any (λ m. m == t) names.now) replies.Itself (refusal_of_existing (find (has_file (records_of self.now)) names.now)) }
-        ensures below { IfSome result (λ refusal. IsReplyBelow (count_of self.now) (replies.Refused (refusal_of refusal))) }
+        ensures { option_map refusal_of result ≡ refusal_or (list_any (λ m. m == t) names.now) replies.Itself (refusal_of_existing (find (has_file (records_of self.now)) names.now)) }
     {
         if is_among(names, t) {
             Some(Refusal::Itself)
@@ -58,8 +56,7 @@ impl Store {
     /// The refusal where one of the names has a file.
     fn refusal_of_existing(&self, names: &[u32]) -> Option<Refusal>
         requires { AllBelow (count_of self.now) names.now }
-        ensures refusal { option_map refusal_of result ≡ refusal_of_existing (find (has_file (records_of self.now)) names.now) }
-        ensures below { IfSome result (λ refusal. IsReplyBelow (count_of self.now) (replies.Refused (refusal_of refusal))) }
+        ensures { option_map refusal_of result ≡ refusal_of_existing (find (has_file (records_of self.now)) names.now) }
     {
         match self.existing(names) {
             Some(n) => Some(Refusal::Exists(n)),
@@ -70,8 +67,7 @@ impl Store {
     /// The first of the names that has a file.
     fn existing(&self, names: &[u32]) -> Option<u32>
         requires { AllBelow (count_of self.now) names.now }
-        ensures first { result ≡ find (has_file (records_of self.now)) names.now }
-        ensures below { IfSome result (λ n. n < count_of self.now) }
+        ensures { result ≡ find (has_file (records_of self.now)) names.now }
     {
         for &n in names {
             if self.has_file(n) {

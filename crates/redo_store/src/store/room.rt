@@ -12,7 +12,7 @@ use std::alloc::AllocError;
 impl Store {
     /// Whether there is room for all rows of the command.
     pub fn has_room(&self, command: &Command) -> bool
-        requires { IsBelow (count_of self.now) (command_of command.now) }
+        requires numbers { IsBelow (count_of self.now) (command_of command.now) }
         ensures { result ≡ has_room_for self.now (command_of command.now) }
     {
         match command {
@@ -25,7 +25,7 @@ impl Store {
     /// Makes room for all rows of the command, and changes nothing else. Room that was there stays, also where memory
     /// runs out.
     pub fn reserve(&mut self, command: &Command) -> Result<(), AllocError>
-        requires { IsBelow (count_of self.old) (command_of command.now) }
+        requires numbers { IsBelow (count_of self.old) (command_of command.now) }
         ensures same { IsSameButRoom self.old self.new }
         ensures made { OnOk result (has_room_for self.new (command_of command.now) ≡ true) }
     {
@@ -38,7 +38,7 @@ impl Store {
 
     /// Room for all rows of the command. Where there is room already, no memory is asked for.
     pub(crate) fn make_room(&mut self, command: &Command) -> Result<(), AllocError>
-        requires { IsBelow (count_of self.old) (command_of command.now) }
+        requires numbers { IsBelow (count_of self.old) (command_of command.now) }
         ensures same { IsSameButRoom self.old self.new }
         ensures made { OnOk result (has_room_for self.new (command_of command.now) ≡ true) }
         ensures ok { has_room_for self.old (command_of command.now) ≡ true → IsOk result }

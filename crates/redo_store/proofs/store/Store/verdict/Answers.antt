@@ -25,4 +25,4 @@ returns-in-None c =
     let by_cell : None ≡ verdict_at (target_state (records_of now) c.in_ok-t.t) c.args.s c.args.holds (kind_of c.args.command.now) =
     rw (← c.self.view_is, ← c.kind.ensures) c.in-None.ensures
     in
-    verdict_by_parts (naming_of now) (records_of now) c.args.s c.args.holds c.args.command.now c.in_ok-t.t None (option_map refusal_of c.refusal_of_names.result) c.in_ok-t.ensures by_cell c.refusal_of_names.ensures.refusal
+    verdict_by_parts (naming_of now) (records_of now) c.args.s c.args.holds c.args.command.now c.in_ok-t.t None (option_map refusal_of c.refusal_of_names.result) c.in_ok-t.ensures by_cell c.refusal_of_names.ensures
