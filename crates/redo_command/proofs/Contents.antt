@@ -5,7 +5,7 @@ use Rattle.std.specs.List.{AllByRecursion}
 use Rattle.std.proofs.lemmas.List.Elements.{recursion_from_All}
 use Rattle.std.proofs.lemmas.Bool.Decides.{nat_tests}
 use Rattle.std.proofs.lemmas.Slice.Eq.{bytes_eq-Decides}
-use Rattle.hex.specs.Hex.{IsBytes, decode_of, is_hex_digit}
+use Rattle.hex.specs.Hex.{IsBytes, decode_of, decode_pairs, is_hex_digit}
 use Rattle.hex.specs.declared.error.FromHexError.{FromHexError}
 use Rattle.hex.proofs.HexLemmas.{decode_of-ok, decode_of-encode_lower}
 use Rattle.redo_names.specs.Names.{is_visible}
@@ -19,12 +19,12 @@ use Rattle.redo_command.proofs.Spaced.{IsVisible}
 abbrev AreBytes : Text → Type 0
 AreBytes content = AllByRecursion (λ b. b < 256) content
 
-bytes_by_place : (xs : List ℕ) → AreBytes xs → IsBytes xs
+pub bytes_by_place : (xs : List ℕ) → AreBytes xs → IsBytes xs
 bytes_by_place [] all i = lit< tt
 bytes_by_place (x ∷ xs) all zero = all.0
 bytes_by_place (x ∷ xs) all (suc i) = bytes_by_place xs all.1 i
 
-bytes_one_by_one : (xs : List ℕ) → IsBytes xs → AreBytes xs
+pub bytes_one_by_one : (xs : List ℕ) → IsBytes xs → AreBytes xs
 bytes_one_by_one [] each = tt
 bytes_one_by_one (x ∷ xs) each = (each 0, bytes_one_by_one xs (λ i. each (suc i)))
 
@@ -83,7 +83,7 @@ content_read word content is = elim is [
 digit_is_visible : (c : ℕ) → is_hex_digit c ≡ true → is_visible c ≡ true
 digit_is_visible c h = grind (arith, nat_tests)
 
-digits_are_visible : (word : Text) → AllByRecursion (λ c. is_hex_digit c ≡ true) word → IsVisible word
+pub digits_are_visible : (word : Text) → AllByRecursion (λ c. is_hex_digit c ≡ true) word → IsVisible word
 digits_are_visible [] all = refl
 digits_are_visible (c ∷ cs) all =
     let first = digit_is_visible c all.0 in
@@ -100,3 +100,11 @@ content_is_visible word content is = elim is [
 pub content_word_says : (content : Text) → AllByRecursion (λ b. b < 256) content → IsContentWord (content_word content) content
 content_word_says [] bytes = inl (refl, refl)
 content_word_says (b ∷ bs) bytes = inr (λ e. cc, decode_of-encode_lower (b ∷ bs) (bytes_by_place (b ∷ bs) bytes))
+
+-- the arrow of a history stands for no content
+pub arrow_is_no_content : (content : Text) → IsContentWord (codes "=>") content → ⊥
+unfolding decode_pairs
+arrow_is_no_content content is = elim is [
+  | inl h ↦ let same = h.0 in absurd cc
+  | inr h ↦ let decoded : decode_of (codes "=>") ≡ Ok content = h.1 in absurd cc
+]

@@ -5,6 +5,10 @@ pub mod FormsRead
 pub mod LineLaws
 pub mod Lines
 pub mod NameLists
+pub mod RepliesFound
+pub mod RepliesRead
+pub mod ReplyNames
+pub mod ReplyWords
 pub mod ScriptLaws
 pub mod ScriptParts
 pub mod ScriptSteps

@@ -144,15 +144,15 @@ pub record IsTargetAndNames (args : List Text) (t : Text) (ns : List Text) : Typ
   pub target : IsTrue (is_name t)
   pub list : IsNameList ns
 
-not_false : (b : Bool) → not b ≡ false → b ≡ true
+pub not_false : (b : Bool) → not b ≡ false → b ≡ true
 not_false true e = refl
 not_false false e = absurd cc
 
-each_name : (ns : List Text) → list_all is_name ns ≡ true → AllByRecursion (λ n. IsTrue (is_name n)) ns
+pub each_name : (ns : List Text) → list_all is_name ns ≡ true → AllByRecursion (λ n. IsTrue (is_name n)) ns
 each_name [] all = tt
 each_name (n ∷ ns) all = let k = both (is_name n) (list_all is_name ns) all in (k.0, each_name ns k.1)
 
-all_names : (ns : List Text) → AllByRecursion (λ n. IsTrue (is_name n)) ns → list_all is_name ns ≡ true
+pub all_names : (ns : List Text) → AllByRecursion (λ n. IsTrue (is_name n)) ns → list_all is_name ns ≡ true
 all_names [] each = refl
 all_names (n ∷ ns) each =
     let first : is_name n ≡ true = each.0 in

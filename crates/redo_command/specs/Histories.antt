@@ -17,8 +17,12 @@ answer_text_of line = command_text_of line.command ++ codes " => " ++ reply_text
 abbrev pub line_text_of : Line Text → Text
 line_text_of line = ended (decimal (line.session + 1) ++ codes " " ++ answer_text_of line)
 
+-- how many lines there are
+abbrev pub header_of : ℕ → Text
+header_of count = ended (codes "history " ++ decimal count)
+
 abbrev pub history_text_of : List (Line Text) → Text
-history_text_of lines = ended (codes "history " ++ decimal (length lines)) ++ flat_map line_text_of lines
+history_text_of lines = header_of (length lines) ++ flat_map line_text_of lines
 
 -- a session's header, and its lines
 abbrev pub session_text_of : ℕ → List (Line Text) → Text

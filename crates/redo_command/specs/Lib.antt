@@ -4,4 +4,6 @@ pub mod Texts
 pub mod Histories
 pub mod Grammar
 pub mod Reading
+pub mod Replies
+pub mod ReplyReading
 pub mod Watched

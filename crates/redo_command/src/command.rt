@@ -29,7 +29,7 @@ pub enum Command {
     Ood,
     /// Which targets have a file?
     Targets,
-    /// Which idle names have a file that some target depends on?
+    /// Which idle names have a file, and a row of some target on them?
     Sources,
 }
 

@@ -55,6 +55,16 @@ impl<T: Drop> From<AllocFailed<T>> for ReadFault {
     }
 }
 
+/// Why a text could not be read as a reply.
+#[derive(Clone, Copy, Debug, PartialEq, Eq, Error)]
+pub enum ReplyFault {
+    #[error("out of memory")]
+    Memory,
+    /// It is no reply's text, or there is no room for its names.
+    #[error("not a reply")]
+    BadReply,
+}
+
 /// Why a line could not be read, apart from its number.
 #[derive(Debug, Drop)]
 pub(crate) enum Unread {

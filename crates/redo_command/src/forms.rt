@@ -2,9 +2,11 @@ ghost use Rattle.std.specs.Prelude.{◌≡◌, ◌<◌, List, map, length, IfOk}
 ghost use Rattle.redo_names.specs.Names.{text_at, Extends};
 ghost use Rattle.redo_model.specs.Names.{Text};
 ghost use Rattle.redo_model.specs.Command as commands;
+ghost use Rattle.redo_model.specs.Reply as replies;
 ghost use Rattle.redo_model.specs.Renaming.{IsBelow};
 ghost use Rattle.redo_command.specs.Meaning.{command_of, command_at};
 ghost use Rattle.redo_command.specs.Reading.{Reads, one_name_in, names_form_in, file_in, stamp_in, done_in, no_words_in, words_in};
+ghost use Rattle.redo_command.specs.ReplyReading.{okay_in};
 
 use crate::command::Command;
 use crate::fault::{LineFault, Unread};
@@ -144,8 +146,9 @@ fn done_of(names: &mut Names, args: &[&[u8]]) -> Result<Command, Unread>
 
 /// Whether a form without words has none.
 #[tactic(auto, unfolding(crate::specs::Reading::no_words_in))]
-fn check_no_words(args: &[&[u8]]) -> Result<(), Unread>
-    ensures { (form : commands.Command Text) (names : List Text) → Reads (λ _. (form, names)) result (no_words_in form names (map (λ w. w.now) args.now)) }
+pub(crate) fn check_no_words(args: &[&[u8]]) -> Result<(), Unread>
+    ensures command { (form : commands.Command Text) (names : List Text) → Reads (λ _. (form, names)) result (no_words_in form names (map (λ w. w.now) args.now)) }
+    ensures reply { Reads (λ _. replies.Okay) result (okay_in (map (λ w. w.now) args.now)) }
 {
     if args.is_empty() {
         Ok(())

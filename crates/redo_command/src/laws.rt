@@ -1,9 +1,11 @@
-// What command lines are.
+// What command lines and the texts of replies are.
 ghost use Rattle.std.specs.Prelude.{◌≡◌};
 ghost use Rattle.redo_model.specs.Names.{Text};
 ghost use Rattle.redo_model.specs.Command.{Command};
-ghost use Rattle.redo_command.specs.Texts.{command_text_of};
+ghost use Rattle.redo_model.specs.Reply.{Reply};
+ghost use Rattle.redo_command.specs.Texts.{command_text_of, reply_text_of};
 ghost use Rattle.redo_command.specs.Grammar.{HasForm, IsShort, IsCommandLine};
+ghost use Rattle.redo_command.specs.Replies.{HasReplyForm, IsReplyText};
 
 /// The text of a command is a line of that command, where it is not too long.
 pub fn command_reads_back()
@@ -13,4 +15,14 @@ pub fn command_reads_back()
 /// A line is the line of at most one command.
 pub fn one_command_a_line()
     ensures { (line : Text) (a b : Command Text) → IsCommandLine line a → IsCommandLine line b → a ≡ b }
+{}
+
+/// The text of a reply is that reply's.
+pub fn reply_reads_back()
+    ensures { (reply : Reply Text) → HasReplyForm reply → IsReplyText (reply_text_of reply) reply }
+{}
+
+/// A text is the text of at most one reply.
+pub fn one_reply_a_text()
+    ensures { (text : Text) (a b : Reply Text) → IsReplyText text a → IsReplyText text b → a ≡ b }
 {}

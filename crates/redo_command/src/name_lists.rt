@@ -15,7 +15,7 @@ use std::alloc::Global;
 pub const MOST_LISTED_NAMES: usize = 64;
 
 /// Whether each word is a name.
-fn are_names(words: &[&[u8]]) -> bool
+pub(crate) fn are_names(words: &[&[u8]]) -> bool
     ensures { result ≡ list_all name_test (map (λ w. w.now) words.now) }
 {
     for word in words {
@@ -49,7 +49,11 @@ fn target_and_names<'a, 'b>(args: &'b [&'a [u8]]) -> Result<(&'a [u8], &'b [&'a 
 }
 
 /// The numbers of names, each of which is added if it is new.
-fn numbers_of(alloc: Global, names: &mut Names, words: &[&[u8]]) -> Result<Vec<u32>, Unread>
+pub(crate) fn numbers_of(
+    alloc: Global,
+    names: &mut Names,
+    words: &[&[u8]],
+) -> Result<Vec<u32>, Unread>
     requires few { length names.old ≤ MOST_NAMES }
     requires names { list_all name_test (map (λ w. w.now) words.now) ≡ true }
     ensures reads { Reads (λ _. names.new) result (all_added names.old (map (λ w. w.now) words.now)) }
