@@ -1,3 +1,6 @@
 pub mod Recorded
 pub mod Kept
 pub mod Verdicts
+pub mod HistoryTexts
+pub mod HistoryFaults
+pub mod Replays

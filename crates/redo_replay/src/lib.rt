@@ -1,14 +1,22 @@
-//! Histories: their text, and whether the database gives their replies.
+//! Histories: their text, how it is read, and whether the database gives their replies.
 #![tactic(auto)]
 
+mod cuts;
+mod fault;
 mod history;
 mod laws;
+mod numbers;
 mod printed;
+mod read;
 mod replays;
+mod texts;
 mod verdict;
 
+pub use fault::{HistoryFault, ReplayFault};
 pub use history::{History, MOST_LINES, MOST_SESSIONS};
-pub use laws::{one_verdict, same_where_legal};
+pub use laws::{history_reads_back, no_fault, one_history, one_verdict, same_where_legal};
 pub use printed::{history_text, put_answer, put_number};
+pub use read::read_history;
 pub use replays::replay;
+pub use texts::{INPUT_LIMIT, replay_text};
 pub use verdict::{Verdict, verdict_text};

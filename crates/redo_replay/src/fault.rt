@@ -1,0 +1,88 @@
+use redo_command::LineFault;
+use std::alloc::{AllocError, AllocFailed};
+use thiserror::Error;
+
+/// Why a text could not be read as a history. Lines are counted from 1, without the header.
+#[derive(Clone, Copy, Debug, PartialEq, Eq, Error)]
+pub enum HistoryFault {
+    #[error("out of memory")]
+    Memory,
+    /// It does not begin with the header of a history.
+    #[error("bad header")]
+    BadHeader,
+    /// It ends before all the lines are there that the header counts.
+    #[error("cut")]
+    Cut,
+    /// The line does not begin with a session's number.
+    #[error("line {0}: no session")]
+    BadSession(usize),
+    /// What stands after the session's number is no command.
+    #[error("line {0}: {1}")]
+    BadLine(usize, LineFault),
+    /// What stands after the command is no reply.
+    #[error("line {0}: no reply")]
+    BadReply(usize),
+}
+
+/// Why a replay is refused.
+#[derive(Clone, Copy, Debug, PartialEq, Eq, Error)]
+pub enum ReplayFault {
+    #[error("out of memory")]
+    Memory,
+    /// The fault of the history, but for want of memory.
+    #[error("{0}")]
+    History(HistoryFault),
+    #[error("a read failed")]
+    Device,
+    #[error("too long")]
+    TooLong,
+    #[error("a write failed")]
+    Write,
+}
+
+impl From<AllocError> for HistoryFault {
+    ghost use Rattle.std.specs.Prelude.{◌≡◌};
+    ghost use Rattle.redo_replay.specs.declared.fault.HistoryFault.TheVariants.{Memory};
+
+    ghost from_gives = { λ _ fault. fault ≡ Memory };
+
+    fn from(_: AllocError) -> HistoryFault {
+        HistoryFault::Memory
+    }
+}
+
+impl<T: Drop> From<AllocFailed<T>> for HistoryFault {
+    ghost use Rattle.std.specs.Prelude.{◌≡◌};
+    ghost use Rattle.redo_replay.specs.declared.fault.HistoryFault.TheVariants.{Memory};
+
+    ghost from_gives = { λ _ fault. fault ≡ Memory };
+
+    fn from(_: AllocFailed<T>) -> HistoryFault {
+        HistoryFault::Memory
+    }
+}
+
+impl From<AllocError> for ReplayFault {
+    ghost use Rattle.std.specs.Prelude.{◌≡◌};
+    ghost use Rattle.redo_replay.specs.declared.fault.ReplayFault.TheVariants.{Memory};
+
+    ghost from_gives = { λ _ fault. fault ≡ Memory };
+
+    fn from(_: AllocError) -> ReplayFault {
+        ReplayFault::Memory
+    }
+}
+
+impl From<HistoryFault> for ReplayFault {
+    ghost use Rattle.std.specs.Prelude.{◌≡◌};
+    ghost use Rattle.redo_replay.specs.Replays.{replay_fault};
+
+    ghost from_gives = { λ history fault. fault ≡ replay_fault history };
+
+    fn from(fault: HistoryFault) -> ReplayFault {
+        match fault {
+            HistoryFault::Memory => ReplayFault::Memory,
+            other => ReplayFault::History(other),
+        }
+    }
+}

@@ -1,0 +1,88 @@
+ghost use Rattle.std.specs.Prelude.{◌≡◌, ◌≢◌, ◌↔◌, ◌⊎◌, List, Some, true, false, IfSome, IfOk, IfErr, IsErrOf, IsErrAnd};
+ghost use Rattle.std.specs.Io.KnownBytes.{Keeps};
+ghost use Rattle.redo_model.specs.Names.{Text, texts};
+ghost use Rattle.redo_model.specs.History.{Line, Legal};
+ghost use Rattle.redo_command.specs.Watched.{is_faulted, inner_of};
+ghost use Rattle.redo_replay.specs.Recorded.{lines_of};
+ghost use Rattle.redo_replay.specs.Verdicts.{IsSame};
+ghost use Rattle.redo_replay.specs.Replays.{IsReadAs, HasVerdict, WritesVerdict, WritesPart, IsCause, IsDeviceFault};
+
+use crate::fault::ReplayFault;
+use crate::history::History;
+use crate::read::read_history;
+use crate::replays::replay;
+use crate::verdict::{Verdict, verdict_text};
+use redo_command::{Watched, WholeFault, WriteFault, read_whole, write_whole};
+use std::alloc::Global;
+use std::io::{Read, Write};
+
+/// An input of more bytes is refused.
+pub const INPUT_LIMIT: usize = 1_073_741_824;
+
+/// Reads all of the input as a history.
+fn history_of<R: Read>(alloc: Global, input: &mut Watched<R>) -> Result<History, ReplayFault>
+    ensures read { IfOk result (λ history. IfSome (R.remaining (inner_of input.old)) (λ bytes. IsReadAs bytes history.names (lines_of history))) }
+    ensures only { (bytes : Text) (names : List Text) (lines : List (Line Text)) → R.remaining (inner_of input.old) ≡ Some bytes → IsReadAs bytes names lines
+        → IfErr result (λ fault. (fault ≡ ReplayFault.Memory) ⊎ IsDeviceFault fault) }
+    ensures same { (bytes : Text) (names : List Text) (lines : List (Line Text)) → R.remaining (inner_of input.old) ≡ Some bytes → IsReadAs bytes names lines
+        → IfOk result (λ history. lines_of history ≡ lines) }
+    ensures cause { IfErr result (IsCause (R.remaining (inner_of input.old)) (is_faulted input.new) false) }
+    ensures flag { ¬ (IsErrAnd result IsDeviceFault) → is_faulted input.new ≡ is_faulted input.old }
+{
+    let bytes = match read_whole(alloc, input, INPUT_LIMIT) {
+        Ok(bytes) => bytes,
+        Err(WholeFault::Memory) => return Err(ReplayFault::Memory),
+        Err(WholeFault::Device) => return Err(ReplayFault::Device),
+        Err(WholeFault::TooLong) => return Err(ReplayFault::TooLong),
+    };
+    Ok(read_history(alloc, &bytes)?)
+}
+
+/// The verdict on the input's lines, and its text.
+fn verdict_on_input<R: Read>(
+    alloc: Global,
+    input: &mut Watched<R>,
+) -> Result<(Verdict, Vec<u8>), ReplayFault>
+    ensures verdict { IfOk result (λ judged. HasVerdict (R.remaining (inner_of input.old)) judged.0 judged.1.items) }
+    ensures only { (bytes : Text) (names : List Text) (lines : List (Line Text)) → R.remaining (inner_of input.old) ≡ Some bytes → IsReadAs bytes names lines
+        → IfErr result (λ fault. (fault ≡ ReplayFault.Memory) ⊎ IsDeviceFault fault) }
+    ensures same { (bytes : Text) (names : List Text) (lines : List (Line Text)) → R.remaining (inner_of input.old) ≡ Some bytes → IsReadAs bytes names lines
+        → IfOk result (λ judged. IsSame judged.0 ↔ Legal texts lines) }
+    ensures cause { IfErr result (IsCause (R.remaining (inner_of input.old)) (is_faulted input.new) false) }
+    ensures flag { ¬ (IsErrAnd result IsDeviceFault) → is_faulted input.new ≡ is_faulted input.old }
+{
+    let history = history_of(alloc, input)?;
+    let verdict = replay(alloc, &history)?;
+    let text = verdict_text(alloc, &verdict, history.names())?;
+    Ok((verdict, text))
+}
+
+/// Reads a history, does its commands again, and writes the verdict. Nothing is written before the verdict stands.
+pub fn replay_text<R: Read, W: Write>(
+    alloc: Global,
+    input: &mut Watched<R>,
+    out: &mut Watched<W>,
+) -> Result<Verdict, ReplayFault>
+    // The input is a history, the verdict is the right one, and its text was written.
+    ensures verdict { IfOk result (λ verdict. WritesVerdict (R.remaining (inner_of input.old)) verdict (W.contents (inner_of out.old)) (W.contents (inner_of out.new))) }
+    // A history is refused for want of memory and by devices alone, and is the same exactly where its lines are legal.
+    ensures only { (bytes : Text) (names : List Text) (lines : List (Line Text)) → R.remaining (inner_of input.old) ≡ Some bytes → IsReadAs bytes names lines
+        → IfErr result (λ fault. (fault ≡ ReplayFault.Memory) ⊎ IsDeviceFault fault) }
+    ensures same { (bytes : Text) (names : List Text) (lines : List (Line Text)) → R.remaining (inner_of input.old) ≡ Some bytes → IsReadAs bytes names lines
+        → IfOk result (λ verdict. IsSame verdict ↔ Legal texts lines) }
+
+    // Each fault has its cause.
+    ensures cause { IfErr result (IsCause (R.remaining (inner_of input.old)) (is_faulted input.new) (is_faulted out.new)) }
+    ensures nothing_written { IfErr result (λ fault. fault ≢ ReplayFault.Write → Keeps (W.contents (inner_of out.old)) (W.contents (inner_of out.new))) }
+    ensures part_written { IsErrOf result ReplayFault.Write → WritesPart (R.remaining (inner_of input.old)) (W.contents (inner_of out.old)) (W.contents (inner_of out.new)) }
+
+    // A device's fault is answered exactly where a read or a write failed.
+    ensures device { is_faulted input.old ≡ false → is_faulted out.old ≡ false
+        → (IsErrAnd result IsDeviceFault ↔ ((is_faulted input.new ≡ true) ⊎ (is_faulted out.new ≡ true))) }
+{
+    let (verdict, text) = verdict_on_input(alloc, input)?;
+    match write_whole(out, &text) {
+        Ok(()) => Ok(verdict),
+        Err(WriteFault::Write) => Err(ReplayFault::Write),
+    }
+}
