@@ -1,6 +1,14 @@
 pub mod Accepted
 pub mod Causes
+pub mod CommandsSaid
 pub mod Devices
+pub mod Digests
+pub mod Grants
+pub mod KnownFiles
+pub mod KnownNames
+pub mod LinesFit
 pub mod OneRun
 pub mod Parts
 pub mod Ran
+pub mod RepliesFit
+pub mod RunReplays

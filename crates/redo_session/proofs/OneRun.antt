@@ -12,7 +12,7 @@ use Rattle.redo_session.specs.Runs.{IsRun}
 use Rattle.redo_session.proofs.Parts.{whole_part}
 
 -- below 1 there is session 0 alone
-alone : {N : Type 0} (lines : List (Line N)) → AllByRecursion (λ line. line.session < 1) lines → AllByRecursion (λ line. line.session ≡ 0) lines
+pub alone : {N : Type 0} (lines : List (Line N)) → AllByRecursion (λ line. line.session < 1) lines → AllByRecursion (λ line. line.session ≡ 0) lines
 alone [] h = tt
 alone (line ∷ lines) h = (omega (arith, h.0), alone lines h.1)
 
@@ -39,11 +39,11 @@ module _ {N : Type 0} {naming : Naming N} (law : IsNaming naming) where
       let first = one_line st a b sessions commands p.0 q.0 in
       λ i. first i ∷ rest i
 
+-- the lines of one session's run say its commands
+pub one_said : (commands : List (Command Text)) (lines : List (Line Text)) → IsRun (commands ∷ []) lines → map (λ line. line.command) lines ≡ commands
+one_said commands lines run = ap (map (λ (line : Line Text). line.command)) (sym (whole_part lines (alone lines run.sessions))) ∙ run.parts 0 (lit< tt)
+
 -- one run for the commands of one session
 pub one_run : (commands : List (Command Text)) (a b : List (Line Text)) → IsRun (commands ∷ []) a → IsRun (commands ∷ []) b → a ≡ b
 one_run commands a b p q =
-    let a_alone = alone a p.sessions in
-    let b_alone = alone b q.sessions in
-    let a_said : map (λ (line : Line Text). line.command) a ≡ commands = ap (map (λ (line : Line Text). line.command)) (sym (whole_part a a_alone)) ∙ p.parts 0 (lit< tt) in
-    let b_said : map (λ (line : Line Text). line.command) b ≡ commands = ap (map (λ (line : Line Text). line.command)) (sym (whole_part b b_alone)) ∙ q.parts 0 (lit< tt) in
-    one_history texts_are_names empty a b a_alone b_alone (a_said ∙ sym b_said) p.legal q.legal
+    one_history texts_are_names empty a b (alone a p.sessions) (alone b q.sessions) (one_said commands a p ∙ sym (one_said commands b q)) p.legal q.legal

@@ -4,6 +4,7 @@ use Rattle.std.specs.Prelude.{bytes_eq, slice_index_or}
 use Rattle.std.specs.List.{AllByRecursion, IsDistinct}
 use Rattle.std.specs.declared.cmp.Ordering.{Ordering}
 use Rattle.std.proofs.lemmas.List.{map-append}
+use Rattle.std.proofs.lemmas.List.Elements.{All-from_recursion, recursion_from_All, All-weaker}
 use Rattle.std.proofs.lemmas.Simd.{map-map}
 use Rattle.redo_names.specs.Names.{text_at}
 use Rattle.redo_model.specs.Names.{Text, numbers, texts}
@@ -20,6 +21,7 @@ use Rattle.redo_model.proofs.HistoriesByName.{legal_by_name}
 use Rattle.redo_command.specs.Meaning.{command_of, reply_of, line_of, command_at, line_at}
 use Rattle.redo_command.specs.declared.command.Command.{Command}
 use Rattle.redo_command.specs.declared.reply.Line.{Line}
+use Rattle.redo_replay.proofs.Replayed.{all_more, all_map}
 use Rattle.redo_session.specs.Runs.{IsRun}
 use Rattle.redo_session.proofs.Parts.{whole_part}
 
@@ -30,14 +32,6 @@ pub record Ran (count : ℕ) (order : ℕ → ℕ → Ordering) (commands : List
   pub said : map (λ line. command_of line.command) lines ≡ map command_of commands
   pub alone : AllByRecursion (λ line. line.session ≡ 0) lines
   pub below : AllByRecursion (λ line. IsLineBelow count (line_of line)) lines
-
-all_more : {X : Type 0} (P : X → Type 0) (xs : List X) (y : X) → AllByRecursion P xs → P y → AllByRecursion P (xs ++ y ∷ [])
-all_more P [] y h k = (k, tt)
-all_more P (x ∷ xs) y h k = (h.0, all_more P xs y h.1 k)
-
-all_map : {X Y : Type 0} (f : X → Y) (P : X → Type 0) (Q : Y → Type 0) → ((x : X) → P x → Q (f x)) → (xs : List X) → AllByRecursion P xs → AllByRecursion Q (map f xs)
-all_map f P Q each [] h = tt
-all_map f P Q each (x ∷ xs) h = (each x h.0, all_map f P Q each xs h.1)
 
 -- one command more is run
 ran_more : (count : ℕ) (order : ℕ → ℕ → Ordering) (commands : List Command) (state next : State ℕ) (lines : List Line) (command : Command) (line : Line) →
@@ -77,12 +71,14 @@ commands_said names commands lines said =
 pub ran_is_run : (names : List Text) (order : ℕ → ℕ → Ordering) (commands : List Command) (state : State ℕ) (lines : List Line) →
     IsDistinct bytes_eq names → OrdersAlike (numbering names) texts order → Ran (length names) order commands state lines → IsRun (map (command_at names) commands ∷ []) (map (line_at names) lines)
 ran_is_run names order commands state lines distinct orders ran =
-    let below = all_map line_of (λ (l : Line). IsLineBelow (length names) (line_of l)) (IsLineBelow (length names)) (λ (l : Line) h. h) lines ran.below in
-    let alone = all_map (line_at names) (λ (l : Line). l.session ≡ 0) (λ (l : histories.Line Text). l.session ≡ 0) (λ (l : Line) e. e) lines ran.alone in
+    let below = all_map line_of (IsLineBelow (length names)) lines ran.below in
+    let alone = all_map (line_at names) (λ (l : histories.Line Text). l.session ≡ 0) lines ran.alone in
+    let told : List (histories.Line Text) = map (line_at names) lines in
+    let first = All-weaker (λ (l : histories.Line Text). l.session ≡ 0) (λ (l : histories.Line Text). l.session < 1) (λ (l : histories.Line Text) e. omega (arith, e)) told (All-from_recursion (λ (l : histories.Line Text). l.session ≡ 0) told alone) in
     record {
       legal = subst (λ ls. Legal texts ls) (map-map (named_line (text_at names)) line_of lines)
           ((legal_by_name (numbering_is_renaming names distinct) texts texts_are_names order orders (map line_of lines) below).0 ran.legal);
-      sessions = all_map (line_at names) (λ (l : Line). l.session ≡ 0) (λ (l : histories.Line Text). l.session < 1) (λ (l : Line) e. omega (arith, e)) lines ran.alone;
+      sessions = recursion_from_All (λ (l : histories.Line Text). l.session < 1) told first;
       parts = λ s below. let zero : s ≡ 0 = omega arith in
           subst (λ k. map (λ (l : histories.Line Text). l.command) (part_of k (map (line_at names) lines)) ≡ slice_index_or (map (command_at names) commands ∷ []) k []) (sym zero)
           (ap (map (λ (l : histories.Line Text). l.command)) (whole_part (map (line_at names) lines) alone) ∙ commands_said names commands lines ran.said);

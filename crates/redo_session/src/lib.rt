@@ -9,7 +9,7 @@ mod run;
 mod texts;
 
 pub use fault::TextFault;
-pub use laws::one_run;
+pub use laws::{one_run, run_replays};
 pub use printed::run_text;
 pub use run::Outcome;
 pub use texts::run_texts;
