@@ -5,13 +5,24 @@ use Rattle.redo_command.specs.declared.fault.LineFault.{LineFault}
 use Rattle.redo_command.specs.declared.fault.LineFault.TheVariants.{LineTooLong, BadByte, UnknownCommand, WrongWords, BadName, BadStamp, BadHex, TooManyLines, TooManyNames}
 use Rattle.redo_session.specs.declared.fault.TextFault.{TextFault}
 use Rattle.redo_session.specs.declared.fault.TextFault.TheVariants as texts
+use Rattle.redo_replay.specs.declared.fault.HistoryFault.{HistoryFault}
+use Rattle.redo_replay.specs.declared.fault.HistoryFault.TheVariants as histories
+use Rattle.redo_replay.specs.declared.fault.ReplayFault.{ReplayFault}
+use Rattle.redo_replay.specs.declared.fault.ReplayFault.TheVariants as replays
+use Rattle.redo_replay.specs.declared.verdict.Verdict.{Verdict}
+use Rattle.redo_replay.specs.declared.verdict.Verdict.TheVariants.{Same, Differs}
 use Rattle.redo_cli.specs.declared.fault.Fault.{Fault}
-use Rattle.redo_cli.specs.declared.fault.Fault.TheVariants.{Memory, Usage, Text}
+use Rattle.redo_cli.specs.declared.fault.Fault.TheVariants.{Memory, Usage, CannotOpen, Text, Replay}
 
 -- a run's fault as the program's: want of memory is its own
 abbrev pub run_fault : TextFault → Fault
 run_fault texts.Memory = Memory
 run_fault fault = Text fault
+
+-- a replay's fault as the program's, in the same way
+abbrev pub replay_fault : ReplayFault → Fault
+replay_fault replays.Memory = Memory
+replay_fault fault = Replay fault
 
 -- the word for a line's fault
 abbrev pub word_of : LineFault → List ℕ
@@ -39,18 +50,48 @@ said text = codes "redodb: " ++ text ++ codes "\n"
 abbrev pub said_of_file : List (String Global) → ℕ → List ℕ → List ℕ
 said_of_file files file text = said (file_name files file ++ codes ": " ++ text)
 
+-- the same for a faulty line
+abbrev pub said_of_line : List (String Global) → ℕ → ℕ → List ℕ → List ℕ
+said_of_line files file line word = said_of_file files file (codes "line " ++ decimal line ++ codes ": " ++ word)
+
+-- the line for a run's fault
+abbrev pub text_line : List (String Global) → TextFault → List ℕ
+text_line files texts.Memory = said (codes "memory")
+text_line files (texts.Read file line fault) = said_of_line files file line (word_of fault)
+text_line files texts.TooManySessions = said (codes "too many sessions")
+text_line files texts.NoSession = said (codes "no session")
+text_line files texts.Write = said (codes "write")
+text_line files (texts.Device file) = said_of_file files file (codes "read")
+text_line files (texts.TooLong file) = said_of_file files file (codes "too long")
+
+-- the line for a history's fault: the history is the first file
+abbrev pub history_line : List (String Global) → HistoryFault → List ℕ
+history_line files histories.Memory = said (codes "memory")
+history_line files histories.BadHeader = said_of_file files 0 (codes "bad header")
+history_line files histories.Cut = said_of_file files 0 (codes "cut")
+history_line files (histories.BadSession line) = said_of_line files 0 line (codes "bad-session")
+history_line files (histories.BadLine line fault) = said_of_line files 0 line (word_of fault)
+history_line files (histories.BadReply line) = said_of_line files 0 line (codes "bad-reply")
+
+-- the line for a replay's fault
+abbrev pub replay_line : List (String Global) → ReplayFault → List ℕ
+replay_line files replays.Memory = said (codes "memory")
+replay_line files (replays.History fault) = history_line files fault
+replay_line files replays.Device = said_of_file files 0 (codes "read")
+replay_line files replays.TooLong = said_of_file files 0 (codes "too long")
+replay_line files replays.Write = said (codes "write")
+
 -- the line on standard error
 abbrev pub fault_line : List (String Global) → Fault → List ℕ
 fault_line files Memory = said (codes "memory")
 fault_line files Usage = said (codes "usage")
-fault_line files (Text texts.Memory) = said (codes "memory")
-fault_line files (Text (texts.Read file line fault)) = said_of_file files file (codes "line " ++ decimal line ++ codes ": " ++ word_of fault)
-fault_line files (Text texts.TooManySessions) = said (codes "too many sessions")
-fault_line files (Text texts.NoSession) = said (codes "no session")
-fault_line files (Text texts.Write) = said (codes "write")
-fault_line files (Text (texts.Device file)) = said_of_file files file (codes "read")
-fault_line files (Text (texts.TooLong file)) = said_of_file files file (codes "too long")
+fault_line files (CannotOpen file) = said_of_file files file (codes "cannot open")
+fault_line files (Text fault) = text_line files fault
+fault_line files (Replay fault) = replay_line files fault
 
-abbrev pub status_of : {T : Type 0} → Result T Fault → ℕ
-status_of (Ok value) = 0
+-- 1 for a history that differs, 2 for a fault, and else 0
+abbrev pub status_of : Result (Option Verdict) Fault → ℕ
+status_of (Ok None) = 0
+status_of (Ok (Some (Same count))) = 0
+status_of (Ok (Some (Differs line reply))) = 1
 status_of (Err fault) = 2

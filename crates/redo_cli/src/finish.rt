@@ -1,11 +1,12 @@
 ghost use Rattle.std.specs.Prelude.{◌≡◌, ◌++◌, IfErr, OnOk, OnErr, false, true, codes, decimal};
 ghost use Rattle.std.specs.Io.KnownBytes.{Appends, Keeps};
 ghost use Rattle.redo_command.specs.Watched.{is_faulted, inner_of};
-ghost use Rattle.redo_cli.specs.Lines.{word_of, file_name, fault_line, said, status_of};
+ghost use Rattle.redo_cli.specs.Lines.{word_of, file_name, text_line, history_line, replay_line, fault_line, said, status_of};
 
 use crate::fault::Fault;
 use itoa::Buffer;
 use redo_command::{LineFault, Watched, WriteFault, write_whole};
+use redo_replay::{HistoryFault, ReplayFault, Verdict};
 use redo_session::TextFault;
 use std::io::Write;
 
@@ -61,9 +62,9 @@ fn say_line<W: Write>(
     err: &mut Watched<W>,
     name: &str,
     line: usize,
-    fault: LineFault,
+    word: &str,
 ) -> Result<(), WriteFault>
-    ensures line { OnOk result (Appends (W.contents (inner_of err.old)) (W.contents (inner_of err.new)) (said (name.now ++ codes ": " ++ (codes "line " ++ decimal line ++ codes ": " ++ word_of fault)))) }
+    ensures line { OnOk result (Appends (W.contents (inner_of err.old)) (W.contents (inner_of err.new)) (said (name.now ++ codes ": " ++ (codes "line " ++ decimal line ++ codes ": " ++ word.now)))) }
     ensures failed { OnErr result (is_faulted err.new ≡ true) }
 {
     let mut digits = Buffer::new();
@@ -72,8 +73,68 @@ fn say_line<W: Write>(
     write_whole(err, b": line ")?;
     write_whole(err, digits.format(line).as_bytes())?;
     write_whole(err, b": ")?;
-    write_whole(err, word(fault).as_bytes())?;
+    write_whole(err, word.as_bytes())?;
     write_whole(err, b"\n")
+}
+
+/// Writes the line of a run's fault.
+fn tell_text<W: Write>(
+    err: &mut Watched<W>,
+    files: &[String],
+    fault: &TextFault,
+) -> Result<(), WriteFault>
+    ensures line { OnOk result (Appends (W.contents (inner_of err.old)) (W.contents (inner_of err.new)) (text_line files.now fault.now)) }
+    ensures failed { OnErr result (is_faulted err.new ≡ true) }
+{
+    match fault {
+        TextFault::Memory => say(err, "memory"),
+        TextFault::Read { file, line, fault } => {
+            say_line(err, name(files, *file), *line, word(*fault))
+        }
+        TextFault::TooManySessions => say(err, "too many sessions"),
+        TextFault::NoSession => say(err, "no session"),
+        TextFault::Write => say(err, "write"),
+        TextFault::Device { file } => say_of_file(err, name(files, *file), "read"),
+        TextFault::TooLong { file } => say_of_file(err, name(files, *file), "too long"),
+    }
+}
+
+/// Writes the line of a history's fault.
+fn tell_history<W: Write>(
+    err: &mut Watched<W>,
+    files: &[String],
+    fault: HistoryFault,
+) -> Result<(), WriteFault>
+    ensures line { OnOk result (Appends (W.contents (inner_of err.old)) (W.contents (inner_of err.new)) (history_line files.now fault)) }
+    ensures failed { OnErr result (is_faulted err.new ≡ true) }
+{
+    let name = name(files, 0);
+    match fault {
+        HistoryFault::Memory => say(err, "memory"),
+        HistoryFault::BadHeader => say_of_file(err, name, "bad header"),
+        HistoryFault::Cut => say_of_file(err, name, "cut"),
+        HistoryFault::BadSession(line) => say_line(err, name, line, "bad-session"),
+        HistoryFault::BadLine(line, fault) => say_line(err, name, line, word(fault)),
+        HistoryFault::BadReply(line) => say_line(err, name, line, "bad-reply"),
+    }
+}
+
+/// Writes the line of a replay's fault.
+fn tell_replay<W: Write>(
+    err: &mut Watched<W>,
+    files: &[String],
+    fault: ReplayFault,
+) -> Result<(), WriteFault>
+    ensures line { OnOk result (Appends (W.contents (inner_of err.old)) (W.contents (inner_of err.new)) (replay_line files.now fault)) }
+    ensures failed { OnErr result (is_faulted err.new ≡ true) }
+{
+    match fault {
+        ReplayFault::Memory => say(err, "memory"),
+        ReplayFault::History(fault) => tell_history(err, files, fault),
+        ReplayFault::Device => say_of_file(err, name(files, 0), "read"),
+        ReplayFault::TooLong => say_of_file(err, name(files, 0), "too long"),
+        ReplayFault::Write => say(err, "write"),
+    }
 }
 
 /// Writes the fault's line.
@@ -82,34 +143,36 @@ fn tell<W: Write>(err: &mut Watched<W>, files: &[String], fault: &Fault) -> Resu
     ensures failed { OnErr result (is_faulted err.new ≡ true) }
 {
     match fault {
-        Fault::Memory | Fault::Text(TextFault::Memory) => say(err, "memory"),
+        Fault::Memory => say(err, "memory"),
         Fault::Usage => say(err, "usage"),
-        Fault::Text(TextFault::Read { file, line, fault }) => {
-            say_line(err, name(files, *file), *line, *fault)
-        }
-        Fault::Text(TextFault::TooManySessions) => say(err, "too many sessions"),
-        Fault::Text(TextFault::NoSession) => say(err, "no session"),
-        Fault::Text(TextFault::Write) => say(err, "write"),
-        Fault::Text(TextFault::Device { file }) => say_of_file(err, name(files, *file), "read"),
-        Fault::Text(TextFault::TooLong { file }) => {
-            say_of_file(err, name(files, *file), "too long")
-        }
+        Fault::CannotOpen { file } => say_of_file(err, name(files, *file), "cannot open"),
+        Fault::Text(fault) => tell_text(err, files, fault),
+        Fault::Replay(fault) => tell_replay(err, files, *fault),
     }
 }
 
-/// Writes the fault's line to `err`, if there is a fault, and answers the program's status. FILE is the word in
-/// `files`, or `-` where there is none. It takes no memory, and a fault of `err` changes nothing in the answer.
-pub fn finish<W: Write>(answer: &Result<(), Fault>, files: &[String], err: &mut Watched<W>) -> u8
+/// Writes the fault's line to `err`, if there is a fault, and answers the program's status: 1 for a history that
+/// differs, 2 for a fault, and else 0. FILE is the word in `files`, or `-` where there is none. It takes no memory,
+/// and a fault of `err` changes nothing in the answer.
+pub fn finish<W: Write>(
+    answer: &Result<Option<Verdict>, Fault>,
+    files: &[String],
+    err: &mut Watched<W>,
+) -> u8
     ensures status { result ≡ status_of answer.now }
     ensures silent { OnOk answer.now (Keeps (W.contents (inner_of err.old)) (W.contents (inner_of err.new))) }
     ensures line { IfErr answer.now (λ fault. is_faulted err.old ≡ false → is_faulted err.new ≡ false
         → Appends (W.contents (inner_of err.old)) (W.contents (inner_of err.new)) (fault_line files.now fault)) }
 {
     match answer {
-        Ok(()) => 0,
+        Ok(None | Some(Verdict::Same(_))) => 0,
+        Ok(Some(Verdict::Differs { .. })) => 1,
         Err(fault) => {
             let _ = tell(err, files, fault);
             2
         }
     }
 }
+
+#[cfg(test)]
+mod tests;

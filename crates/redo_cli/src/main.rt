@@ -1,5 +1,7 @@
-//! The program `redodb`: a session file on standard input, its run text on standard output.
+//! The program `redodb`: runs of session files, and replays of histories.
 #![tactic(auto)]
+
+ghost use Rattle.std.specs.Prelude.{◌≡◌, ◌⊎◌, length, IfOk, IfErr};
 
 mod fault;
 mod finish;
@@ -9,10 +11,12 @@ mod words;
 use fault::Fault;
 use finish::finish;
 use redo_command::Watched;
+use redo_replay::{ReplayFault, Verdict, replay_text};
 use redo_session::{TextFault, run_texts};
+use std::io::Read;
 use std::process::ExitCode;
-use std::rt::Env;
-use std::{env, io};
+use std::rt::{Env, Files};
+use std::{env, fs, io};
 use task::Job;
 
 /// The words after the program's name.
@@ -27,31 +31,94 @@ fn given_words<R: Env + AllocGlobal>(rt: &R) -> Result<Vec<String>, Fault> {
     }
 }
 
-/// Does the job, and flushes standard output.
-fn done<R: Input + Print + AllocGlobal>(rt: &R, job: Job) -> Result<(), Fault> {
+/// Opens the file of this number.
+fn open<R: Files>(rt: &R, file: usize, name: &str) -> Result<Watched<R::File>, Fault>
+    ensures { IfErr result (λ fault. (fault ≡ Fault.Memory) ⊎ (fault ≡ Fault.CannotOpen file)) }
+{
+    match fs::open(rt, name) {
+        Ok(opened) => Ok(Watched::new(opened)),
+        Err(error) if error.kind() == io::ErrorKind::OutOfMemory => Err(Fault::Memory),
+        Err(_) => Err(Fault::CannotOpen { file }),
+    }
+}
+
+/// Opens each file, in order.
+fn open_all<R: Files + AllocGlobal>(
+    rt: &R,
+    names: &[String],
+) -> Result<Vec<Watched<R::File>>, Fault>
+    ensures { IfOk result (λ files. length files.items ≡ length names.now) }
+{
+    let mut opened = Vec::new(rt.alloc());
+    for (file, name) in names.iter().enumerate() {
+        if opened.push(open(rt, file, name)?).is_err() {
+            return Err(Fault::Memory);
+        }
+    }
+    Ok(opened)
+}
+
+/// Runs the files' sessions, and flushes standard output.
+fn run<I: Read, R: Print + AllocGlobal>(rt: &R, files: &mut [Watched<I>]) -> Result<(), Fault> {
+    let mut out = Watched::new(io::writer(rt));
+    run_texts(rt.alloc(), files, &mut out)?;
+    match out.flush() {
+        Ok(()) => Ok(()),
+        Err(_) => Err(Fault::Text(TextFault::Write)),
+    }
+}
+
+/// Replays the history, and flushes standard output.
+fn replay<I: Read, R: Print + AllocGlobal>(
+    rt: &R,
+    input: &mut Watched<I>,
+) -> Result<Verdict, Fault> {
+    let mut out = Watched::new(io::writer(rt));
+    let verdict = replay_text(rt.alloc(), input, &mut out)?;
+    match out.flush() {
+        Ok(()) => Ok(verdict),
+        Err(_) => Err(Fault::Replay(ReplayFault::Write)),
+    }
+}
+
+/// Does the job. Only a replay has a verdict.
+fn done<R: Files + Input + Print + AllocGlobal>(
+    rt: &R,
+    job: &Job,
+) -> Result<Option<Verdict>, Fault> {
     match job {
         Job::Input => {
-            let mut out = Watched::new(io::writer(rt));
             let mut files = Vec::new(rt.alloc());
             if files.push(Watched::new(rt.reader())).is_err() {
                 return Err(Fault::Memory);
             }
-            run_texts(rt.alloc(), &mut files, &mut out)?;
-            match out.flush() {
-                Ok(()) => Ok(()),
-                Err(_) => Err(Fault::Text(TextFault::Write)),
-            }
+            run(rt, &mut files)?;
+            Ok(None)
+        }
+        Job::Run(names) => {
+            let mut files = open_all(rt, names)?;
+            run(rt, &mut files)?;
+            Ok(None)
+        }
+        Job::Replay(name) => {
+            let mut input = open(rt, 0, name)?;
+            Ok(Some(replay(rt, &mut input)?))
         }
     }
 }
 
-fn run<R: Env + Input + Print + AllocGlobal>(rt: &R) -> Result<(), Fault> {
+fn asked<R: Env + AllocGlobal>(rt: &R) -> Result<Job, Fault> {
     let words = given_words(rt)?;
-    done(rt, words::job(&words)?)
+    words::job(rt.alloc(), &words)
 }
 
 fn main(rt: HostRuntime) -> ExitCode {
     let mut err = Watched::new(rt.stderr());
-    let answer = run(&rt);
-    ExitCode::from(finish(&answer, &[], &mut err))
+    match asked(&rt) {
+        Ok(job) => {
+            let answer = done(&rt, &job);
+            ExitCode::from(finish(&answer, job.files(), &mut err))
+        }
+        Err(fault) => ExitCode::from(finish(&Err(fault), &[], &mut err)),
+    }
 }

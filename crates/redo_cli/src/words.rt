@@ -1,16 +1,170 @@
-ghost use Rattle.std.specs.Prelude.{◌≡◌, ◌≢◌, ◌↔◌, [], IsOk, IsErrOf};
+ghost use Rattle.std.specs.Prelude.{◌≡◌, ◌≢◌, ◌↔◌, ◌⊎◌, [], map, string_bytes, IfOk, IfErr, IfSome, IsSome, OnOk, IsOkAnd};
+ghost use Rattle.clap.specs.Words.{app_of, fault_of, kind_of, subcommand_of, subcommand_rows_of};
+ghost use Rattle.redo_cli.specs.Words.{redodb, Asks};
 
 use crate::fault::Fault;
 use crate::task::Job;
+use clap::error::ErrorKind;
+use clap::{Arg, ArgAction, ArgMatches, Command, Error};
+use std::alloc::{AllocError, Global};
 
-/// The job that the words after the program's name ask for: none is known yet that has words.
-pub fn job(words: &[String]) -> Result<Job, Fault>
-    ensures input { IsOk result ↔ (words.now ≡ []) }
-    ensures usage { IsErrOf result Fault.Usage ↔ (words.now ≢ []) }
+/// `run FILE...` and `replay FILE`.
+fn command<'a>(alloc: Global) -> Result<Command<'a>, AllocError>
+    ensures { IfOk result (λ command. app_of command ≡ redodb) }
+{
+    let files = Arg::new(alloc, "FILE")
+        .required(true)
+        .num_args(1..)
+        .action(ArgAction::Append);
+    let file = Arg::new(alloc, "FILE")
+        .required(true)
+        .action(ArgAction::Set);
+    let run = Command::new(alloc, "run").arg(files)?;
+    let replay = Command::new(alloc, "replay").arg(file)?;
+    Command::new(alloc, "redodb")
+        .no_binary_name(true)
+        .subcommand_required(true)
+        .subcommand(run)?
+        .subcommand(replay)
+}
+
+fn copies(alloc: Global, texts: &[&str]) -> Result<Vec<String>, AllocError>
+    ensures { IfOk result (λ copies. map string_bytes copies.items ≡ map (λ text. text.now) texts.now) }
+{
+    let mut copies = Vec::new(alloc);
+    for text in texts {
+        copies.push(text.to_string(alloc)?)?;
+    }
+    Ok(copies)
+}
+
+/// `None` where the matches are those of another command.
+fn job_of(alloc: Global, matches: &ArgMatches<'_>) -> Result<Option<Job>, AllocError>
+    ensures asked { IfOk result (λ found. IfSome found (Asks (subcommand_rows_of matches.now))) }
+    ensures only { (job : Job) → Asks (subcommand_rows_of matches.now) job → IfOk result (λ found. IsSome found) }
+{
+    match matches.subcommand() {
+        Some(("run", run)) => match run.get_strs("FILE") {
+            Some(files) => Ok(Some(Job::Run(copies(alloc, files)?))),
+            None => Ok(None),
+        },
+        Some(("replay", replay)) => match replay.get_str("FILE") {
+            Some(file) => Ok(Some(Job::Replay(file.to_string(alloc)?))),
+            None => Ok(None),
+        },
+        _ => Ok(None),
+    }
+}
+
+/// Whatever is refused for another cause than memory is no use of the program, a call for help included.
+fn refusal(error: &Error) -> Fault
+    ensures memory { (result ≡ Fault.Memory) ↔ (kind_of error.now ≡ ErrorKind.OutOfMemory) }
+    ensures usage { (result ≡ Fault.Usage) ↔ (kind_of error.now ≢ ErrorKind.OutOfMemory) }
+{
+    match error.kind() {
+        ErrorKind::OutOfMemory => Fault::Memory,
+        _ => Fault::Usage,
+    }
+}
+
+/// The job that the words after the program's name ask for. Without words no memory is taken.
+pub fn job(alloc: Global, words: &[String]) -> Result<Job, Fault>
+    ensures input { IsOkAnd result (λ job. job ≡ Job.Input) ↔ (words.now ≡ []) }
+    ensures others { IfErr result (λ fault. (fault ≡ Fault.Memory) ⊎ (fault ≡ Fault.Usage)) }
+
+    // A job is that of its words, in which clap finds no fault.
+    ensures asked { IfOk result (λ job. words.now ≢ [] → Asks (subcommand_of redodb (map string_bytes words.now)) job) }
+    ensures sound { OnOk result (words.now ≢ [] → fault_of redodb (map string_bytes words.now) ≡ []) }
+
+    // Words that ask for a job, and in which clap finds no fault, are refused for want of memory alone.
+    ensures only { (job : Job) → Asks (subcommand_of redodb (map string_bytes words.now)) job → fault_of redodb (map string_bytes words.now) ≡ []
+        → IfErr result (λ fault. fault ≡ Fault.Memory) }
 {
     if words.is_empty() {
-        Ok(Job::Input)
-    } else {
-        Err(Fault::Usage)
+        return Ok(Job::Input);
+    }
+    let Ok(command) = command(alloc) else {
+        return Err(Fault::Memory);
+    };
+    let matches = match command.try_get_matches_from(words) {
+        Ok(matches) => matches,
+        Err(error) => return Err(refusal(&error)),
+    };
+    match job_of(alloc, &matches) {
+        Ok(Some(job)) => Ok(job),
+        Ok(None) => Err(Fault::Usage),
+        Err(_) => Err(Fault::Memory),
+    }
+}
+
+#[cfg(test)]
+mod tests {
+    use super::job;
+    use crate::fault::Fault;
+    use crate::task::Job;
+    use std::alloc::{AllocError, Global};
+    use std::test::Fail;
+
+    /// The job of the words in a line.
+    fn asked(alloc: Global, line: &str) -> Result<Result<Job, Fault>, AllocError> {
+        let mut words = Vec::new(alloc);
+        for word in line.split_whitespace() {
+            words.push(word.to_string(alloc)?)?;
+        }
+        Ok(job(alloc, &words))
+    }
+
+    #[test]
+    fn words_that_ask(rt: HostRuntime) -> Result<(), Fail> {
+        let alloc = rt.alloc();
+        assert!(rt; matches!(asked(alloc, "")?, Ok(Job::Input)));
+        for (line, want) in [
+            ("run a", "Run([\"a\"])"),
+            ("run a a", "Run([\"a\", \"a\"])"),
+            ("run b a run", "Run([\"b\", \"a\", \"run\"])"),
+            ("run help", "Run([\"help\"])"),
+            ("run -", "Run([\"-\"])"),
+            ("run -- -x", "Run([\"-x\"])"),
+            ("replay a", "Replay(\"a\")"),
+            ("replay -", "Replay(\"-\")"),
+            ("replay -- --help", "Replay(\"--help\")"),
+        ] {
+            let Ok(job) = asked(alloc, line)? else {
+                return Err(Fail::from(AllocError));
+            };
+            assert_eq!(rt; format!(in alloc; "{job:?}")?.as_str(), want, "{line}");
+        }
+        Ok(())
+    }
+
+    #[test]
+    fn words_that_ask_for_nothing(rt: HostRuntime) -> Result<(), Fail> {
+        let alloc = rt.alloc();
+        for line in [
+            "run",
+            "run --",
+            "run -x",
+            "run a --all",
+            "run --help",
+            "run -h a",
+            "replay",
+            "replay a b",
+            "replay --help",
+            "help",
+            "help run",
+            "--help",
+            "-h",
+            "-V",
+            "--version",
+            "-",
+            "--",
+            "a",
+            "Run a",
+            "running a",
+            "ru a",
+        ] {
+            assert!(rt; matches!(asked(alloc, line)?, Err(Fault::Usage)), "{line}");
+        }
+        Ok(())
     }
 }
