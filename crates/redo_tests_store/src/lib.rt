@@ -10,6 +10,8 @@ mod digests;
 #[cfg(test)]
 mod graphs;
 #[cfg(test)]
+mod histories;
+#[cfg(test)]
 mod oracle;
 #[cfg(test)]
 mod random;

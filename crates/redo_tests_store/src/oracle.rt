@@ -1,8 +1,8 @@
 //! The database against its plain form, over commands drawn at random.
-ghost use Rattle.std.specs.Prelude.{◌≡◌, length};
+ghost use Rattle.std.specs.Prelude.{◌≡◌, length, IfOk};
 ghost use Rattle.redo_store.specs.Tables.{count_of};
-ghost use Rattle.redo_model.specs.Renaming.{IsBelow};
-ghost use Rattle.redo_command.specs.Meaning.{command_of};
+ghost use Rattle.redo_model.specs.Renaming.{IsBelow, IsReplyBelow};
+ghost use Rattle.redo_command.specs.Meaning.{command_of, reply_of};
 
 use crate::answers::names_of;
 use crate::random::{NAMES, Random};
@@ -62,21 +62,6 @@ fn sort_of(reply: &Reply) -> Sort {
     }
 }
 
-fn is_same_reply(one: &Reply, other: &Reply) -> bool {
-    match (one, other) {
-        (Reply::Okay, Reply::Okay) => true,
-        (Reply::Granted(one), Reply::Granted(other)) => one == other,
-        (Reply::Busy(one), Reply::Busy(other)) => one == other,
-        (Reply::Stale(one), Reply::Stale(other)) => one.as_slice() == other.as_slice(),
-        (Reply::Stamped(one), Reply::Stamped(other)) => one == other,
-        (Reply::Ood(one), Reply::Ood(other)) => one.as_slice() == other.as_slice(),
-        (Reply::Targets(one), Reply::Targets(other)) => one.as_slice() == other.as_slice(),
-        (Reply::Sources(one), Reply::Sources(other)) => one.as_slice() == other.as_slice(),
-        (Reply::Refused(one), Reply::Refused(other)) => one == other,
-        _ => false,
-    }
-}
-
 /// The reply of both databases, which is the same.
 pub(crate) fn same_reply(
     rt: &impl Abort,
@@ -88,13 +73,14 @@ pub(crate) fn same_reply(
 ) -> Result<Reply, Fail>
     requires count { count_of redo.old ≡ NAMES }
     requires numbers { IsBelow NAMES (command_of command.now) }
-    ensures { count_of redo.new ≡ NAMES }
+    ensures count { count_of redo.new ≡ NAMES }
+    ensures below { IfOk result (λ reply. IsReplyBelow NAMES (reply_of reply)) }
 {
     assert!(rt; redo.calls() < 2 * COMMANDS);
     let reply = redo.call(alloc, session, command)?;
     let want = plain.call(alloc, session, command)?;
     assert!(rt;
-        is_same_reply(&reply, &want),
+        reply.is_same(&want),
         "{session} {command:?} gives {reply:?}, not {want:?}"
     );
     Ok(reply)
