@@ -1,36 +1,46 @@
-//! Work on dependency rows, to be measured: `redo_bench SHAPE ROWS TIMES` prints one checksum.
+//! Work to be measured: on dependency rows, and on the history on standard input.
 #![tactic(auto)]
 
+mod history;
 mod pattern;
 mod sums;
+mod task;
 mod work;
 
 use anyhow::{Result, bail};
 use pattern::Shape;
 use std::env;
 use std::rt::Env;
+use task::Task;
 
 /// The words after the program's name.
 fn given_words<R: Env + AllocGlobal>(rt: &R) -> Result<Vec<String>> {
     Ok(env::args(rt)?.skip(1).collect(rt.alloc())?)
 }
 
-fn run<R: Env + Print + AllocGlobal>(rt: &R) -> Result<()> {
-    let words = given_words(rt)?;
-    if words.len() != 3 {
-        bail!("usage: redo_bench SHAPE ROWS TIMES");
-    }
-    let Some(shape) = Shape::of_word(words[0].as_str()) else {
-        bail!("the shape is popular or spread");
-    };
-    let count = words[1].parse::<u32>()? / pattern::ROWS_EACH;
-    let times = words[2].parse::<u32>()?;
+/// Prints the checksum of work on so many rows, done so many times.
+fn print_checksum<R: Print + AllocGlobal>(
+    rt: &R,
+    shape: Shape,
+    rows: u32,
+    times: u32,
+) -> Result<()> {
+    let count = rows / pattern::ROWS_EACH;
     if count < 2 {
         bail!("too few rows");
     }
     let sum = work::repeated(rt.alloc(), shape, count, times)?;
     println!(rt; "{sum}")?;
     Ok(())
+}
+
+fn run<R: Env + Input + Print + AllocGlobal>(rt: &R) -> Result<()> {
+    let words = given_words(rt)?;
+    match task::of_words(&words)? {
+        Task::Rows { shape, rows, times } => print_checksum(rt, shape, rows, times),
+        Task::History { times } => history::read_and_printed(rt, times),
+        Task::Replay => history::replayed(rt),
+    }
 }
 
 fn main(rt: HostRuntime) -> Result<()> {
