@@ -13,16 +13,15 @@ const FILE: &[u8] = b"file a.c 10\nlock a.o\nstart a.o\nifchange a.o a.c\ndone a
     ood\ntargets\nsources\n";
 
 /// Each front of the common path's output: only the nine lines count.
-#[test]
-fn truncated_output(rt: HostRuntime) -> Result<(), Fail> {
+fn fronts_of_output<R: Abort + AllocGlobal>(rt: &R) -> Result<(), Fail> {
     let text = common_path(rt.alloc(), "granted 1")?;
     let output = text.as_bytes();
     for length in 0..=output.len() {
         let front = &output[..length];
         match length {
-            0..=9 => fails(&rt, front, HistoryFault::BadHeader)?,
-            10..=198 => fails(&rt, front, HistoryFault::Cut)?,
-            _ => says(&rt, front, "same 9\n")?,
+            0..=9 => fails(rt, front, HistoryFault::BadHeader)?,
+            10..=198 => fails(rt, front, HistoryFault::Cut)?,
+            _ => says(rt, front, "same 9\n")?,
         }
     }
     Ok(())
@@ -69,10 +68,10 @@ fn check_front<R: Abort + AllocGlobal>(rt: &R, front: &[u8]) -> Result<(), Fail>
     }
 }
 
-#[test]
-fn truncated_file(rt: HostRuntime) -> Result<(), Fail> {
+/// Each front of the common path's file.
+fn fronts_of_file<R: Abort + AllocGlobal>(rt: &R) -> Result<(), Fail> {
     for length in 0..=FILE.len() {
-        check_front(&rt, &FILE[..length])?;
+        check_front(rt, &FILE[..length])?;
     }
     for (length, want) in [
         (3, LineFault::UnknownCommand),
@@ -88,4 +87,10 @@ fn truncated_file(rt: HostRuntime) -> Result<(), Fail> {
     let want = b"history 1\n1 file a.c 1 => ok\nsession 1 1\nfile a.c 1 => ok\n";
     assert_eq!(rt; run.ok().as_deref(), Some(want.as_slice()));
     Ok(())
+}
+
+#[test]
+fn truncated_input(rt: HostRuntime) -> Result<(), Fail> {
+    fronts_of_output(&rt)?;
+    fronts_of_file(&rt)
 }
