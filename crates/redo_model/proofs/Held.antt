@@ -14,6 +14,12 @@ use Rattle.redo_model.proofs.Refused.{refused_locks}
 pub record BuildersHold {N : Type 0} (st : State N) : Type 0 where
   pub held : (t : N) (s : ℕ) → target_state st.records t ≡ Building s → st.locks.holder t ≡ Some s
 
+-- a test that refused nothing was false
+pub test_failed : {N : Type 0} (b : Bool) (refusal : Refusal N) (rest : Option (Refusal N))
+    → refusal_or b refusal rest ≡ None → (b ≡ false) × (rest ≡ None)
+test_failed true refusal rest e = absurd (cc)
+test_failed false refusal rest e = (refl, e)
+
 module _ {N : Type 0} {naming : Naming N} (law : IsNaming naming) where
   -- what stands at m after a put at n
   pub from_put : {X : Type 0} (Q : X → Type 0) (n m : N) (x : X) (f : N → X) → Q (put naming n x f m) → ((n ≡ m) × Q x) ⊎ ((n ≢ m) × Q (f m))
@@ -29,11 +35,6 @@ module _ {N : Type 0} {naming : Naming N} (law : IsNaming naming) where
         | inl e ↦ subst (λ b. Q (cond b x (f m))) (sym e) (here ((law.decides n m).0 e))
         | inr e ↦ subst (λ b. Q (cond b x (f m))) (sym e) (there (λ d. false≢true (sym e ∙ (law.decides n m).1 d)))
       ]
-
-  -- a test that refused nothing was false
-  test_failed : (b : Bool) (refusal : Refusal N) (rest : Option (Refusal N)) → refusal_or b refusal rest ≡ None → (b ≡ false) × (rest ≡ None)
-  test_failed true refusal rest e = absurd (cc)
-  test_failed false refusal rest e = (refl, e)
 
   holder_is : (s : ℕ) (o : Option ℕ) → not (is_held_by s o) ≡ false → o ≡ Some s
   holder_is s None e = absurd (cc)

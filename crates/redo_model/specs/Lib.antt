@@ -5,5 +5,10 @@ pub mod Reply
 pub mod OutOfDate
 pub mod Step
 pub mod History
+pub mod Placed
+pub mod Journals
+pub mod Seen
+pub mod Words
 pub mod Renaming
 pub mod Rows
+pub mod Merging

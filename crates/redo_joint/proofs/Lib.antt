@@ -1,0 +1,16 @@
+pub mod Exchange
+pub mod Greedy
+pub mod Own
+pub mod Moved
+pub mod Counts
+pub mod Tied
+pub mod Answered
+pub mod Bridge
+pub mod Orders
+pub mod Replayed
+pub mod EndMore
+pub mod ByName
+pub mod FromName
+pub mod Standing
+pub mod TwoSessions
+pub mod OneOrder

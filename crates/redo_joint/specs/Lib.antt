@@ -1,0 +1,4 @@
+pub mod ByRows
+pub mod Replayed
+pub mod Events
+pub mod Named

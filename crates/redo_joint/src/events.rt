@@ -1,0 +1,64 @@
+//! How a legal placed history goes on: by the events of the board.
+
+ghost use Rattle.std.specs.Prelude.{◌%◌, ◌+◌, ◌-◌, ◌/◌, ◌≡◌, List, Some, false, map, true, ℕ};
+ghost use Rattle.redo_joint.specs.ByRows.{records_left};
+ghost use Rattle.redo_joint.specs.Events.{GoesOnBy};
+ghost use Rattle.redo_model.specs.Command.{Command, Lock, Unlock, target_of};
+ghost use Rattle.redo_model.specs.History.{Legal, left_by};
+ghost use Rattle.redo_model.specs.Merging.{placed_at};
+ghost use Rattle.redo_model.specs.Names.{Text, texts};
+ghost use Rattle.redo_model.specs.Placed.{Busy, Granted, IsPlaced, PlacedLine, Released, Row, grants_in, holds_by, is_claim, line_of, part_of, rows_in};
+ghost use Rattle.redo_model.specs.Reply as replies;
+ghost use Rattle.redo_model.specs.Reply.{Okay, Reply};
+ghost use Rattle.redo_model.specs.State.{empty, target_state};
+ghost use Rattle.redo_model.specs.Step.{Replies, is_built_by, is_held_by};
+ghost use Rattle.redo_model.specs.Words.{claim_word_of};
+
+/// What a session holds is told by its own lines, and the number of grants by all lines.
+pub fn locks_by_lines()
+    ensures grants { (lines : List (PlacedLine Text)) (t : Text) →
+        IsPlaced texts lines → Legal texts (map line_of lines) →
+        (left_by texts empty (map line_of lines)).locks.grants t ≡ grants_in texts lines t }
+    ensures holders { (lines : List (PlacedLine Text)) (t : Text) (s : ℕ) →
+        IsPlaced texts lines → Legal texts (map line_of lines) →
+        is_held_by s ((left_by texts empty (map line_of lines)).locks.holder t)
+        ≡ holds_by texts (part_of s lines) (Some t) }
+{}
+
+/// A row may be won by any command that is no claim, with the reply of the records.
+pub fn row_goes_on()
+    ensures { (lines : List (PlacedLine Text)) (s number : ℕ) (command : Command Text)
+        (reply : Reply Text) →
+        IsPlaced texts lines → Legal texts (map line_of lines) → is_claim command reply ≡ false →
+        let held = holds_by texts (part_of s lines) (target_of command) in
+        Replies texts (records_left texts lines) s held command reply →
+        GoesOnBy texts lines (placed_at s number command reply (Row (rows_in lines))) }
+{}
+
+/// Where the claim word is even, a lock is granted.
+pub fn grant_goes_on()
+    ensures { (lines : List (PlacedLine Text)) (s number : ℕ) (t : Text) →
+        IsPlaced texts lines → Legal texts (map line_of lines) →
+        claim_word_of texts lines t % 2 ≡ 0 →
+        let g = claim_word_of texts lines t / 2 + 1 in
+        GoesOnBy texts lines (placed_at s number (Lock t) (replies.Granted g) (Granted t g)) }
+{}
+
+/// Where it is odd, a lock is busy.
+pub fn busy_goes_on()
+    ensures { (lines : List (PlacedLine Text)) (s number : ℕ) (t : Text) →
+        IsPlaced texts lines → Legal texts (map line_of lines) →
+        claim_word_of texts lines t % 2 ≡ 1 →
+        let g = (claim_word_of texts lines t - 1) / 2 + 1 in
+        GoesOnBy texts lines (placed_at s number (Lock t) (replies.Busy g) (Busy t g)) }
+{}
+
+/// A session that holds a target by its own lines, and doesn't build it, may release it.
+pub fn release_goes_on()
+    ensures { (lines : List (PlacedLine Text)) (s number : ℕ) (t : Text) →
+        IsPlaced texts lines → Legal texts (map line_of lines) →
+        holds_by texts (part_of s lines) (Some t) ≡ true →
+        is_built_by s (target_state (records_left texts lines) t) ≡ false →
+        let g = (claim_word_of texts lines t - 1) / 2 + 1 in
+        GoesOnBy texts lines (placed_at s number (Unlock t) Okay (Released t g)) }
+{}

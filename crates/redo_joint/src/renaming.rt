@@ -1,0 +1,48 @@
+//! What holds of joint orders over numbers holds of those over the names that they stand for.
+
+ghost use Rattle.std.specs.Prelude.{◌≡◌, List, map, ℕ};
+ghost use Rattle.redo_joint.specs.Named.{AreToldBelow, IsPlacedBelow, named_journals, named_placed_line};
+ghost use Rattle.redo_model.specs.Journals.{IsFirstJointOrder, IsJointOrder};
+ghost use Rattle.redo_model.specs.Names.{Text, numbers, texts};
+ghost use Rattle.redo_model.specs.Placed.{PlacedLine};
+ghost use Rattle.redo_model.specs.Renaming.{IsRenaming, Renaming};
+ghost use Rattle.std.specs.List.{AllByRecursion};
+ghost use Rattle.std.specs.declared.cmp.Ordering.{Ordering};
+
+/// A joint order over numbers, under their names, is one over the names.
+pub fn joint_order_by_name()
+    ensures { (to : Renaming Text) (order : ℕ → ℕ → Ordering) (journals : ℕ → List (PlacedLine ℕ))
+        (lines : List (PlacedLine ℕ)) →
+        IsRenaming to → AllByRecursion (IsPlacedBelow to.count) lines →
+        IsJointOrder (numbers order) journals lines →
+        IsJointOrder texts (named_journals to.name journals)
+        (map (named_placed_line to.name) lines) }
+{}
+
+/// Each joint order over the names, of journals over numbers, is that of a joint order over the
+/// numbers.
+pub fn joint_order_from_names()
+    ensures { (to : Renaming Text) (order : ℕ → ℕ → Ordering) (journals : ℕ → List (PlacedLine ℕ))
+        (lines : List (PlacedLine Text)) →
+        IsRenaming to → AreToldBelow to.count journals →
+        IsJointOrder texts (named_journals to.name journals) lines →
+        (over : List (PlacedLine ℕ)) × IsJointOrder (numbers order) journals over
+        × (map (named_placed_line to.name) over ≡ lines) }
+{}
+
+/// The first joint order over numbers, under their names, is the first over the names; and where
+/// there is none over the numbers, there is none over the names.
+pub fn first_joint_order_by_name()
+    ensures first { (to : Renaming Text) (order : ℕ → ℕ → Ordering)
+        (journals : ℕ → List (PlacedLine ℕ)) (lines : List (PlacedLine ℕ)) →
+        IsRenaming to → AreToldBelow to.count journals →
+        IsFirstJointOrder (numbers order) journals lines →
+        IsFirstJointOrder texts (named_journals to.name journals)
+        (map (named_placed_line to.name) lines) }
+    ensures none { (to : Renaming Text) (order : ℕ → ℕ → Ordering)
+        (journals : ℕ → List (PlacedLine ℕ)) →
+        IsRenaming to → AreToldBelow to.count journals →
+        ((lines : List (PlacedLine ℕ)) → IsJointOrder (numbers order) journals lines → ⊥) →
+        (lines : List (PlacedLine Text)) →
+        IsJointOrder texts (named_journals to.name journals) lines → ⊥ }
+{}

@@ -1,0 +1,36 @@
+-- The words of the board that a placed history writes.
+use Rattle.std.specs.Prelude.{ℕ, ◌+◌, ◌*◌, cond, List, [], ◌∷◌, ◌++◌, ◌==◌}
+use Rattle.redo_model.specs.Names.{Naming}
+use Rattle.redo_model.specs.Command.{target_of}
+use Rattle.redo_model.specs.Placed.{Place, Row, Granted, Busy, Released, PlacedLine, part_of, grants_in, releases_in, holds_by}
+
+-- the words with the word of a line in front, where the line has a row
+abbrev pub word_before : {N : Type 0} → Place N → ℕ → List ℕ → List ℕ
+word_before (Row r) word words = word ∷ words
+word_before (Granted t g) word words = words
+word_before (Busy t g) word words = words
+word_before (Released t g) word words = words
+
+module _ {N : Type 0} (naming : Naming N) where
+  -- which command of which session it is, and whether the session holds the command's target, by its
+  -- own lines before
+  abbrev pub row_word_of : List (PlacedLine N) → PlacedLine N → ℕ
+  row_word_of own line =
+      let held = cond (holds_by naming own (target_of line.command)) 1 0 in
+      1 + 2 * (4096 * line.session + line.number) + held
+
+  abbrev pub row_words_after : List (PlacedLine N) → List (PlacedLine N) → List ℕ
+  row_words_after before [] = []
+  row_words_after before (line ∷ lines) =
+      let word = row_word_of (part_of line.session before) line in
+      word_before line.place word (row_words_after (before ++ line ∷ []) lines)
+
+  -- the words of the rows, in order; those of the rows that come after them are 0
+  abbrev pub row_words_of : List (PlacedLine N) → List ℕ
+  row_words_of lines = row_words_after [] lines
+
+  -- twice the releases of the target, and 1 more while it is held
+  abbrev pub claim_word_of : List (PlacedLine N) → N → ℕ
+  claim_word_of lines t =
+      let free = grants_in naming lines t == releases_in naming lines t in
+      2 * releases_in naming lines t + cond free 0 1
