@@ -1,4 +1,5 @@
 use crate::command::Command;
+use std::alloc::{AllocError, Global};
 
 /// Why a command changed nothing.
 #[derive(Clone, Copy, Debug, PartialEq, Eq)]
@@ -37,7 +38,7 @@ pub enum Reply {
 }
 
 impl Reply {
-    ghost use Rattle.std.specs.Prelude.{◌≡◌, ◌↔◌, IsTrue};
+    ghost use Rattle.std.specs.Prelude.{◌≡◌, ◌↔◌, IsTrue, IfOk};
     ghost use Rattle.redo_command.specs.Meaning.{reply_of};
 
     /// Whether the other says the same.
@@ -56,6 +57,23 @@ impl Reply {
             (Reply::Refused(one), Reply::Refused(two)) => one == two,
             _ => false,
         }
+    }
+
+    /// An equal reply.
+    pub fn copy(&self, alloc: Global) -> Result<Reply, AllocError>
+        ensures { IfOk result (λ copy. reply_of copy ≡ reply_of self.now) }
+    {
+        Ok(match self {
+            Reply::Okay => Reply::Okay,
+            Reply::Granted(grant) => Reply::Granted(*grant),
+            Reply::Busy(grant) => Reply::Busy(*grant),
+            Reply::Stale(names) => Reply::Stale(Vec::from_slice(alloc, names)?),
+            Reply::Stamped(digest) => Reply::Stamped(*digest),
+            Reply::Ood(names) => Reply::Ood(Vec::from_slice(alloc, names)?),
+            Reply::Targets(names) => Reply::Targets(Vec::from_slice(alloc, names)?),
+            Reply::Sources(names) => Reply::Sources(Vec::from_slice(alloc, names)?),
+            Reply::Refused(refusal) => Reply::Refused(*refusal),
+        })
     }
 }
 

@@ -1,0 +1,9 @@
+-- What the fields of a plan show, and what they keep.
+use Rattle.redo_journal.specs.Plans.{PlanOf, IsPlan, scripts_of}
+use Rattle.redo_journal.specs.declared.plan.Plan.TheInside.{Inside}
+
+abbrev pub plan_of : Inside → PlanOf
+plan_of inside = record { names = inside.names; scripts = scripts_of inside.scripts.items }
+
+abbrev pub KeepsPlan : Inside → Type 0
+KeepsPlan inside = IsPlan (plan_of inside)

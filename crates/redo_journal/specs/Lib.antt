@@ -1,0 +1,4 @@
+pub mod Plans
+pub mod Kept
+pub mod Journals
+pub mod Numbers

@@ -1,0 +1,81 @@
+ghost use Rattle.std.specs.Prelude.{◌≡◌, ◌<◌, ◌↔◌, length, IfOk, IsErrOf};
+ghost use Rattle.std.specs.List.{AllByRecursion};
+ghost use Rattle.redo_journal.specs.Plans.{AreBelow, IsPlan, scripts_of};
+
+use redo_command::Script;
+use redo_names::Names;
+use std::marker::Model;
+use thiserror::Error;
+
+/// How many sessions there are at most.
+pub const MOST_SESSIONS: usize = 64;
+
+/// Why there is no plan.
+#[derive(Clone, Copy, Debug, PartialEq, Eq, Error)]
+pub enum PlanFault {
+    /// Fault 1: there is no script.
+    #[error("no session")]
+    NoSession,
+    /// Fault 2: there are more than 64 scripts.
+    #[error("too many sessions")]
+    TooManySessions,
+}
+
+/// The scripts of the sessions of a run, with the names that the scripts' numbers stand for.
+#[derive(Drop)]
+pub struct Plan {
+    scripts: Vec<Script>,
+    names: Names,
+}
+
+impl Model for Plan {
+    ghost use Rattle.redo_journal.specs.Plans.{PlanOf};
+
+    ghost Value = { PlanOf };
+
+    ghost use Rattle.redo_journal.specs.Kept.{plan_of, KeepsPlan};
+
+    ghost view = { plan_of };
+
+    ghost invariant = { KeepsPlan };
+}
+
+impl Plan {
+    /// The plan of these scripts, whose names these are.
+    pub fn new(scripts: Vec<Script>, names: Names) -> Result<Plan, PlanFault>
+        requires below { AllByRecursion (AreBelow (length names)) scripts.items }
+        ensures plan { IfOk result (λ plan. plan
+            ≡ record { names = names; scripts = scripts_of scripts.items }) }
+        ensures none { IsErrOf result PlanFault.NoSession ↔ (length scripts.items ≡ 0) }
+        ensures many { IsErrOf result PlanFault.TooManySessions
+            ↔ (64 < length scripts.items) }
+    {
+        if scripts.is_empty() {
+            return Err(PlanFault::NoSession);
+        }
+        if scripts.len() > MOST_SESSIONS {
+            return Err(PlanFault::TooManySessions);
+        }
+        // These calls say that the names are distinct, and that no script is too long.
+        let _ = names.len();
+        for script in &scripts {
+            let _ = script.commands();
+        }
+        Ok(Plan { scripts, names })
+    }
+
+    /// The scripts: one for each session.
+    pub fn scripts(&self) -> &[Script]
+        ensures scripts { scripts_of result.now ≡ self.now.scripts }
+        ensures plan { IsPlan self.now }
+    {
+        &self.scripts
+    }
+
+    /// The names.
+    pub fn names(&self) -> &Names
+        ensures { result.now ≡ self.now.names }
+    {
+        &self.names
+    }
+}
