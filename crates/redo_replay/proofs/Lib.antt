@@ -12,3 +12,7 @@ pub mod OneVerdict
 pub mod ReadOnly
 pub mod Replayed
 pub mod TextCuts
+pub mod Unmerged
+mod BusyCounts
+mod TurnsShown
+mod MergeSteps

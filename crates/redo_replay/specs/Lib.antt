@@ -4,3 +4,5 @@ pub mod Verdicts
 pub mod HistoryTexts
 pub mod HistoryFaults
 pub mod Replays
+pub mod Merges
+pub mod Merging

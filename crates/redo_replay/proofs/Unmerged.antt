@@ -1,0 +1,209 @@
+-- The entries of journals, the lines that they tell, and how many are left.
+use Rattle.std.proofs.Common.{◌≡◌, ◌≢◌, ℕ, zero, suc, ◌+◌, ◌-◌, ◌<◌, ◌≤◌, List, [], ◌∷◌, ◌++◌, Option, Some, None, refl, sym, ap, ◌∙◌, subst, arith, length, get_or, map, slice_get}
+use Rattle.std.specs.Option.{option_map, unwrap_or}
+use Rattle.std.proofs.lemmas.Option.{slice_get_within}
+use Rattle.std.proofs.lemmas.List.{get_or_default, length-append, length-map}
+use lib.ListN.{get_or-map}
+use mathlib.Core.Logic.{dite}
+use native.Mathlib.Decide.{ℕ_discrete}
+use Rattle.redo_model.specs.Command as commands
+use Rattle.redo_model.specs.Placed.{PlacedLine, Fits}
+use Rattle.redo_model.specs.Journals.{Numbered, next_of, IsJournal, IsJournalAfter}
+use Rattle.redo_command.specs.declared.command.Command.{Command}
+use Rattle.redo_command.specs.declared.command.Command.TheVariants.{Ood}
+use Rattle.redo_command.specs.Meaning.{command_of, reply_of}
+use Rattle.redo_journal.specs.declared.entry.Entry.{Entry}
+use Rattle.redo_journal.specs.declared.entry.Journal.{Journal}
+use Rattle.redo_journal.specs.Plans.{PlanOf, scripts_of, script_of}
+use Rattle.redo_journal.specs.Journals.{place_of, line_told, told_by, journals_of, AreJournals}
+use Rattle.redo_replay.specs.Merging.{entries_of, AreOfScript, FitsScript, FitsAt, MisfitsAt, none}
+
+-- the entries of a journal that is there
+pub entries_at : (js : List Journal) (s : ℕ) (d : Journal) → s < length js
+    → entries_of js s ≡ (get_or js s d).entries.items
+entries_at [] s d h = absurd (omega arith)
+entries_at (j ∷ js) zero d h = refl
+entries_at (j ∷ js) (suc s) d h = entries_at js s d (omega arith)
+
+pub entries_past : (js : List Journal) (s : ℕ) → length js ≤ s → entries_of js s ≡ []
+entries_past [] s h = refl
+entries_past (j ∷ js) zero h = absurd (omega arith)
+entries_past (j ∷ js) (suc s) h = entries_past js s (omega arith)
+
+pub next_below : (P : ℕ → Type 0) (s : ℕ) → ((u : ℕ) → u < s → P u) → P s
+    → (u : ℕ) → u < s + 1 → P u
+next_below P s below here u h = dite (ℕ_discrete u s)
+    (λ q. subst P (sym q) here)
+    (λ n. below u (omega arith))
+
+-- how many entries are left
+abbrev pub left : (ℕ → ℕ) → List Journal → ℕ
+left f [] = 0
+left f (j ∷ js) = (length j.entries.items - f 0) + left (λ i. f (suc i)) js
+
+left_same : (f g : ℕ → ℕ) (js : List Journal) → ((i : ℕ) → f i ≡ g i) → left f js ≡ left g js
+left_same f g [] h = refl
+left_same f g (j ∷ js) h =
+    let a = h 0 in
+    let b = left_same (λ i. f (suc i)) (λ i. g (suc i)) js (λ i. h (suc i)) in
+    omega arith
+
+pub left_less : (f g : ℕ → ℕ) (js : List Journal) (s : ℕ) → f s < length (entries_of js s)
+    → g s ≡ f s + 1 → ((i : ℕ) → i ≢ s → g i ≡ f i) → left g js < left f js
+left_less f g [] s h e n = absurd (omega arith)
+left_less f g (j ∷ js) zero h e n =
+    let b =
+    left_same (λ i. f (suc i)) (λ i. g (suc i)) js (λ i. sym (n (suc i) (λ q. omega arith))) in
+    omega arith
+left_less f g (j ∷ js) (suc s) h e n =
+    let a = n 0 (λ q. omega arith) in
+    let b =
+    left_less (λ i. f (suc i)) (λ i. g (suc i)) js s h e
+    (λ i ne. n (suc i) (λ q. ne (omega arith))) in
+    omega arith
+
+-- the script of a session that is there
+pub script_at : (scripts : List (List Command)) (s : ℕ) (d : List Command) → s < length scripts
+    → get_or (scripts_of scripts) s [] ≡ map command_of (get_or scripts s d)
+script_at [] s d h = absurd (omega arith)
+script_at (x ∷ xs) zero d h = refl
+script_at (x ∷ xs) (suc s) d h = script_at xs s d (omega arith)
+
+-- what is read by an index is what stands there
+module _ (commands : List Command) (entries : List Entry) (k : ℕ) (e : Entry) (d : Command)
+    (below : k < length entries) (is : e ≡ get_or entries k e) where
+  entry_is : e ≡ get_or entries k none
+  entry_is = is ∙ get_or_default entries k e none below
+
+  pub fits_here : e.line < length commands → d ≡ get_or commands e.line d
+      → Fits (place_of e.place) (command_of d) (reply_of e.reply)
+      → FitsScript (map command_of commands) (get_or entries k none)
+  fits_here line cmd h =
+      let told = get_or-map command_of commands e.line Ood
+      ∙ ap command_of (get_or_default commands e.line Ood d line ∙ sym cmd) in
+      subst (FitsScript (map command_of commands)) entry_is
+      (subst (λ c. Fits (place_of e.place) c (reply_of e.reply)) (sym told) h)
+
+  pub line_here : AreOfScript (map command_of commands) entries → e.line < length commands
+  line_here h =
+      let a =
+      subst (λ (x : Entry). x.line < length (map command_of commands)) (sym entry_is) (h k below) in
+      let b = length-map commands command_of in
+      omega arith
+
+-- what is found of one journal, of the journals
+module _ (scripts : List (List Command)) (js : List Journal) (s : ℕ) (items : List Entry)
+    (commands : List Command) (here : entries_of js s ≡ items)
+    (script : get_or (scripts_of scripts) s [] ≡ map command_of commands) where
+  pub of_script : AreOfScript (get_or (scripts_of scripts) s []) (entries_of js s)
+      → AreOfScript (map command_of commands) items
+  of_script h = subst (AreOfScript (map command_of commands)) here
+      (subst (λ cs. AreOfScript cs (entries_of js s)) script h)
+
+  pub fits_back : ((k : ℕ) → FitsAt (map command_of commands) items k)
+      → (k : ℕ) → FitsAt (get_or (scripts_of scripts) s []) (entries_of js s) k
+  fits_back h k = subst (λ xs. FitsAt (get_or (scripts_of scripts) s []) xs k) (sym here)
+      (subst (λ cs. FitsAt cs items k) (sym script) (h k))
+
+  pub misfit_back : (k : ℕ) → MisfitsAt (map command_of commands) items k
+      → MisfitsAt (get_or (scripts_of scripts) s []) (entries_of js s) k
+  misfit_back k h = subst (λ xs. MisfitsAt (get_or (scripts_of scripts) s []) xs k) (sym here)
+      (subst (λ cs. MisfitsAt cs items k) (sym script) h)
+
+-- a session's next command is one of its script
+next_in : (script : List (commands.Command ℕ)) (own : List (PlacedLine ℕ)) (n : Numbered ℕ)
+    → next_of script own ≡ Some n → (n.number ≡ length own) × (length own < length script)
+next_in script own n is = read (slice_get script (length own)) refl
+  where
+    read : (o : Option (commands.Command ℕ)) → slice_get script (length own) ≡ o
+        → (n.number ≡ length own) × (length own < length script)
+    read None e = let a : None ≡ Some n = sym (ap (option_map _) e) ∙ is in absurd (cc)
+    read (Some c) e =
+        let a : Some (record { number = length own; command = c }) ≡ Some n =
+        sym (ap (option_map _) e) ∙ is in
+        let b : record { number = length own; command = c } ≡ n = cc in
+        (sym (ap (λ (m : Numbered ℕ). m.number) b), slice_get_within script (length own) c e)
+
+-- the entries of a session's journal
+module _ (s : ℕ) (script : List (commands.Command ℕ)) (session : ℕ) where
+  session_of : (entries : List Entry) → IsJournal s script (map (line_told session script) entries)
+      → 0 < length entries → session ≡ s
+  session_of [] h more = absurd (omega arith)
+  session_of (e ∷ es) h more = h.0
+
+  told_same : (entries : List Entry) → IsJournal s script (map (line_told session script) entries)
+      → map (line_told session script) entries ≡ map (line_told s script) entries
+  told_same [] h = refl
+  told_same (e ∷ es) h = ap (λ (u : ℕ). map (line_told u script) (e ∷ es)) h.0
+
+  lines_below : (before : List (PlacedLine ℕ)) (entries : List Entry)
+      → IsJournalAfter s script before (map (line_told session script) entries)
+      → AreOfScript script entries
+  lines_below before [] h k more = absurd (omega arith)
+  lines_below before (e ∷ es) h zero more = let n = next_in script before _ h.1 in
+      let a = n.0 in
+      let b = n.1 in
+      omega arith
+  lines_below before (e ∷ es) h (suc k) more =
+      lines_below (before ++ line_told session script e ∷ []) es h.2 k (omega arith)
+
+  few_entries : (before : List (PlacedLine ℕ)) (entries : List Entry)
+      → IsJournalAfter s script before (map (line_told session script) entries)
+      → length before ≤ length script → length before + length entries ≤ length script
+  few_entries before [] h fits = omega arith
+  few_entries before (e ∷ es) h fits =
+      let n = (next_in script before _ h.1).1 in
+      let more = before ++ line_told session script e ∷ [] in
+      let l : length more ≡ length before + 1 =
+      length-append before (line_told session script e ∷ []) in
+      let a = few_entries more es h.2 (omega arith) in
+      omega arith
+
+-- the journal at k, where it is that of session s
+module _ (script : List (commands.Command ℕ)) (s : ℕ) where
+  abbrev told_at : List Journal → ℕ → List (PlacedLine ℕ)
+  told_at js k = unwrap_or (option_map (told_by script) (slice_get js k)) []
+
+  told_is_at : (js : List Journal) (k : ℕ)
+      → IsJournal s script (told_at js k)
+      → told_at js k ≡ map (line_told s script) (entries_of js k)
+  told_is_at [] k h = refl
+  told_is_at (j ∷ js) zero h = told_same s script j.session j.entries.items h
+  told_is_at (j ∷ js) (suc k) h = told_is_at js k h
+
+  lines_at : (js : List Journal) (k : ℕ)
+      → IsJournal s script (told_at js k)
+      → AreOfScript script (entries_of js k)
+  lines_at [] k h = λ i more. absurd (omega arith)
+  lines_at (j ∷ js) zero h = lines_below s script j.session [] j.entries.items h
+  lines_at (j ∷ js) (suc k) h = lines_at js k h
+
+  few_at : (js : List Journal) (k : ℕ)
+      → IsJournal s script (told_at js k)
+      → length (entries_of js k) ≤ length script
+  few_at [] k h = omega arith
+  few_at (j ∷ js) zero h =
+      let a = few_entries s script j.session [] j.entries.items h (omega arith) in
+      omega arith
+  few_at (j ∷ js) (suc k) h = few_at js k h
+
+  session_at : (js : List Journal) (k : ℕ) (d : Journal)
+      → IsJournal s script (told_at js k)
+      → 0 < length (entries_of js k) → (get_or js k d).session ≡ s
+  session_at [] k d h more = absurd (omega arith)
+  session_at (j ∷ js) zero d h more = session_of s script j.session j.entries.items h more
+  session_at (j ∷ js) (suc k) d h more = session_at js k d h more
+
+module _ (plan : PlanOf) (js : List Journal) (are : AreJournals plan js) (s : ℕ) where
+  pub told_is : journals_of plan js s ≡ map (line_told s (script_of plan s)) (entries_of js s)
+  told_is = told_is_at (script_of plan s) s js s (are.each s)
+
+  -- each entry is of a command of its script
+  pub lines_of : AreOfScript (script_of plan s) (entries_of js s)
+  lines_of = lines_at (script_of plan s) s js s (are.each s)
+
+  pub few_of : length (entries_of js s) ≤ length (script_of plan s)
+  few_of = few_at (script_of plan s) s js s (are.each s)
+
+  pub session_is : (d : Journal) → 0 < length (entries_of js s) → (get_or js s d).session ≡ s
+  session_is d more = session_at (script_of plan s) s js s d (are.each s) more

@@ -1,0 +1,8 @@
+use Rattle.std.proofs.Common.{◌≡◌, ℕ}
+use Rattle.redo_replay.specs.Merging.{entries_of}
+use Rattle.redo_replay.specs.Merging.{tally, busy_below}
+use Rattle.redo_replay.proofs.merging.counts.busy_answers.Given as goal
+
+abbrev pub invariant-counting : goal.invariant-counting
+invariant-counting l =
+    (t g : ℕ) → tally l.counts t g ≡ busy_below t g (entries_of l.journals) l.journal-index

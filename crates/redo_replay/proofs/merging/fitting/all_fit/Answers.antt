@@ -1,0 +1,56 @@
+use Rattle.std.proofs.Common.{arith, ℕ, ◌≡◌, [], ap, sym, ◌∙◌, map, get_or, slice_index_or}
+use Rattle.redo_command.specs.Meaning.{command_of}
+use Rattle.redo_journal.specs.Plans.{scripts_of}
+use Rattle.redo_replay.specs.Merging.{entries_of, FitsAt}
+use Rattle.redo_replay.proofs.Unmerged.{next_below, entries_at, script_at, of_script, fits_back, misfit_back}
+use Rattle.redo_replay.proofs.merging.fitting.all_fit.Goals as goal
+
+pub journal_fits-requires : goal.journal_fits-requires
+journal_fits-requires c =
+    let js = c.args.journals.now in
+    let s = c.checking.s in
+    let here : entries_of js s ≡ c.deref.result.now =
+    entries_at js s c.index-journals-s.result c.checking-test.true ∙ sym c.deref.ensures.value in
+    let script : get_or (scripts_of c.args.scripts.now) s []
+    ≡ map command_of c.commands.result.now =
+    script_at c.args.scripts.now s c.index-scripts-s.result
+    (let a = c.requires.sized in let b = c.checking-test.true in omega arith)
+    ∙ ap (map command_of) (sym c.index-scripts-s.is ∙ sym c.commands.ensures.commands) in
+    of_script c.args.scripts.now js s c.deref.result.now c.commands.result.now here script
+    (c.requires.lines s)
+
+pub returns-then-not-journal_fits : goal.returns-then-not-journal_fits
+returns-then-not-journal_fits c =
+    let js = c.args.journals.now in
+    let s = c.checking.s in
+    let here : entries_of js s ≡ c.deref.result.now =
+    entries_at js s c.index-journals-s.result c.checking-test.true ∙ sym c.deref.ensures.value in
+    let script : get_or (scripts_of c.args.scripts.now) s []
+    ≡ map command_of c.commands.result.now =
+    script_at c.args.scripts.now s c.index-scripts-s.result
+    (let a = c.requires.sized in let b = c.checking-test.true in omega arith)
+    ∙ ap (map command_of) (sym c.index-scripts-s.is ∙ sym c.commands.ensures.commands) in
+    let bad = c.if-not-journal_fits.ensures in (
+      s,
+      bad.0,
+      misfit_back c.args.scripts.now js s c.deref.result.now c.commands.result.now here script
+          bad.0 bad.1,
+    )
+
+pub checking-preserved : goal.checking-preserved
+checking-preserved c =
+    let js = c.args.journals.now in
+    let s = c.checking.s in
+    let here : entries_of js s ≡ c.deref.result.now =
+    entries_at js s c.index-journals-s.result c.checking-test.true ∙ sym c.deref.ensures.value in
+    let script : get_or (scripts_of c.args.scripts.now) s []
+    ≡ map command_of c.commands.result.now =
+    script_at c.args.scripts.now s c.index-scripts-s.result
+    (let a = c.requires.sized in let b = c.checking-test.true in omega arith)
+    ∙ ap (map command_of) (sym c.index-scripts-s.is ∙ sym c.commands.ensures.commands) in
+    next_below
+    (λ (u : ℕ). (k : ℕ)
+    → FitsAt (slice_index_or (scripts_of c.args.scripts.now) u []) (entries_of js u) k)
+    s c.checking.invariant
+    (fits_back c.args.scripts.now js s c.deref.result.now c.commands.result.now here script
+    c.if-not-journal_fits.ensures)
