@@ -2,11 +2,9 @@
 use Rattle.std.proofs.Common.{◌≡◌, ℕ, ◌+◌, ◌<◌, suc, Bool, false, Option, None, Result, Ok, Err, ◌⊎◌, inl, inr, List, [], ◌∷◌, ◌++◌, map, take, length, get_or, refl, sym, ap, ◌∙◌, subst, arith}
 use Rattle.std.proofs.lemmas.List.{length-map, nil_from_length, take_more}
 use Rattle.std.specs.Prelude.{IfErr}
-use Rattle.std.specs.List.{AllByRecursion}
 use Rattle.redo_names.specs.Names.{Extends}
 use Rattle.redo_model.specs.Names.{Text}
 use Rattle.redo_model.specs.Command as commands
-use Rattle.redo_model.specs.Renaming.{IsBelow}
 use Rattle.redo_command.specs.declared.command.Command.{Command}
 use Rattle.redo_command.specs.Meaning.{command_of, command_at}
 use Rattle.redo_command.proofs.Added.{command_at-Extends, IsBelow-Extends}
@@ -14,6 +12,7 @@ use Rattle.redo_session.specs.declared.fault.TextFault.{TextFault}
 use Rattle.redo_session.specs.declared.fault.TextFault.TheVariants.{Memory, Read, TooManySessions, NoSession, Write, Device, TooLong}
 use Rattle.redo_session.specs.Runs.{IsAccepted, AreAccepted}
 use Rattle.redo_session.specs.Faults.{IsCause}
+use Rattle.redo_session.specs.Files.{IsScriptBelow, AreScriptsBelow, scripts_at}
 use Rattle.redo_session.proofs.Causes.{shown_at}
 
 -- one more file is accepted with the names of those before it
@@ -32,17 +31,6 @@ AreAccepted-length names [] [] after are = refl
 AreAccepted-length names [] (s ∷ scripts) after are = absurd are
 AreAccepted-length names (f ∷ files) [] after are = absurd are
 AreAccepted-length names (f ∷ files) (s ∷ scripts) after are = ap suc (AreAccepted-length are.0 files scripts after are.2)
-
--- a script's numbers have names
-abbrev pub IsScriptBelow : List Text → List Command → Type 0
-IsScriptBelow names script = AllByRecursion (λ command. IsBelow (length names) (command_of command)) script
-
-abbrev pub AreScriptsBelow : List Text → List (List Command) → Type 0
-AreScriptsBelow names scripts = AllByRecursion (IsScriptBelow names) scripts
-
--- what the scripts' commands say
-abbrev pub scripts_at : List Text → List (List Command) → List (List (commands.Command Text))
-scripts_at names scripts = map (λ script. map (command_at names) script) scripts
 
 script_below-Extends : (old new : List Text) (script : List Command) → Extends old new → IsScriptBelow old script → IsScriptBelow new script
 script_below-Extends old new [] x below = tt

@@ -9,9 +9,8 @@ use Rattle.redo_model.specs.History.{Line, part_of, Legal}
 use Rattle.redo_command.specs.declared.read.TheConstants.{MOST_COMMANDS}
 use Rattle.redo_command.specs.Grammar.{IsScript, with_names}
 use Rattle.redo_command.specs.Histories.{history_text_of, session_text_of, sessions_below}
-use Rattle.redo_replay.specs.declared.history.TheConstants.{MOST_LINES}
 use Rattle.redo_replay.proofs.HistoryReadsBack.{history_reads_back}
-use Rattle.redo_replay.specs.HistoryTexts.{IsHistory, HasLineForm, AreNamesOf}
+use Rattle.redo_replay.specs.HistoryTexts.{IsHistory, AreNamesOf}
 use Rattle.redo_session.specs.Runs.{AreAccepted, IsRun, IsRunText, RunsAs}
 use Rattle.redo_session.proofs.CommandsSaid.{IsSaid, commands_said}
 use Rattle.redo_session.proofs.Grants.{few_at_first}

@@ -1,10 +1,9 @@
 ghost use Rattle.std.specs.Prelude.{◌≡◌, ◌<◌, false, [], length, map, IfOk, IfErr, IsErrAnd, OnErr};
-ghost use Rattle.std.specs.List.{AllByRecursion};
 ghost use Rattle.redo_names.specs.Names.{Extends};
-ghost use Rattle.redo_model.specs.Renaming.{IsBelow};
-ghost use Rattle.redo_command.specs.Meaning.{command_of, command_at};
+ghost use Rattle.redo_command.specs.Meaning.{command_at};
 ghost use Rattle.redo_command.specs.Watched.{is_faulted, inner_of};
 ghost use Rattle.redo_session.specs.Runs.{IsAccepted, AreAccepted};
+ghost use Rattle.redo_session.specs.Files.{bytes_of_files, flags_of_files, scripts_at, IsScriptBelow, AreScriptsBelow};
 ghost use Rattle.redo_session.specs.Faults.{IsFileCause, IsCause, IsDeviceFault};
 
 use crate::fault::TextFault;
@@ -23,10 +22,12 @@ fn read_file<R: Read>(
     file: &mut Watched<R>,
     names: &mut Names,
 ) -> Result<Script, TextFault>
-    ensures accepted { IfOk result (λ script. IsAccepted names.old (R.remaining (inner_of file.old)) (map (command_at names.new) script) names.new) }
-    ensures below { IfOk result (λ script. AllByRecursion (λ command. IsBelow (length names.new) (command_of command)) script) }
+    ensures accepted { IfOk result (λ script. IsAccepted names.old
+        (R.remaining (inner_of file.old)) (map (command_at names.new) script) names.new) }
+    ensures below { IfOk result (IsScriptBelow names.new) }
     ensures kept { Extends names.old names.new }
-    ensures cause { IfErr result (IsFileCause names.old (R.remaining (inner_of file.old)) (is_faulted file.new) at) }
+    ensures cause { IfErr result (IsFileCause names.old
+        (R.remaining (inner_of file.old)) (is_faulted file.new) at) }
     ensures flag { ¬ (IsErrAnd result IsDeviceFault) → is_faulted file.new ≡ is_faulted file.old }
 {
     let text = match read_whole(alloc, file, FILE_LIMIT) {
@@ -46,18 +47,28 @@ fn read_file<R: Read>(
     }
 }
 
-/// Reads each file in order, with the names of those before it. The first fault ends it.
-pub(crate) fn read_files<R: Read>(
+/// Reads a script from each file, in order, over the names of those before it. The first fault ends
+/// it; the names are then those of the files before the faulty one, and some of that one's.
+pub fn read_files<R: Read>(
     alloc: Global,
     files: &mut [Watched<R>],
     names: &mut Names,
 ) -> Result<Vec<Script>, TextFault>
     requires { names.old ≡ [] }
-    ensures accepted { IfOk result (λ scripts. AreAccepted [] (map (λ file. R.remaining (inner_of file)) files.old) (map (λ script. map (command_at names.new) script) scripts.items) names.new) }
-    ensures below { IfOk result (λ scripts. AllByRecursion (λ script. AllByRecursion (λ command. IsBelow (length names.new) (command_of command)) script) scripts.items) }
-    ensures cause { IfErr result (IsCause (map (λ file. R.remaining (inner_of file)) files.old) (map (λ file. is_faulted file) files.new) false) }
+
+    // Each file is a script, and what is answered are their commands.
+    ensures accepted { IfOk result (λ scripts. AreAccepted []
+        (bytes_of_files R.remaining files.old) (scripts_at names.new scripts.items) names.new) }
+    ensures below { IfOk result (λ scripts. AreScriptsBelow names.new scripts.items) }
+
+    // Each fault has its cause; without a file there is none.
+    ensures cause { IfErr result (IsCause
+        (bytes_of_files R.remaining files.old) (flags_of_files files.new) false) }
     ensures some { OnErr result (0 < length files.old) }
-    ensures flags { ¬ (IsErrAnd result IsDeviceFault) → map (λ file. is_faulted file) files.new ≡ map (λ file. is_faulted file) files.old }
+
+    // Only where a device failed, a file remembers that it did.
+    ensures flags { ¬ (IsErrAnd result IsDeviceFault)
+        → flags_of_files files.new ≡ flags_of_files files.old }
 {
     let mut scripts = Vec::new(alloc);
     for (at, file) in files.iter_mut().enumerate() {

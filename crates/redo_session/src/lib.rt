@@ -9,6 +9,7 @@ mod run;
 mod texts;
 
 pub use fault::TextFault;
+pub use files::read_files;
 pub use laws::{one_run, run_replays};
 pub use printed::run_text;
 pub use run::Outcome;

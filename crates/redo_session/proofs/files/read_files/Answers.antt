@@ -3,7 +3,8 @@ use Rattle.std.proofs.lemmas.Result.{err_from_is_err_and}
 use Rattle.std.proofs.Math.Seq.{map-set_same}
 use Rattle.redo_command.specs.Watched.{is_faulted, inner_of}
 use Rattle.redo_session.proofs.Causes.{IsCause-read, shown_after}
-use Rattle.redo_session.proofs.Accepted.{AreScriptsBelow-append, scripts_at, files_more}
+use Rattle.redo_session.specs.Files.{scripts_at}
+use Rattle.redo_session.proofs.Accepted.{AreScriptsBelow-append, files_more}
 use Rattle.redo_session.proofs.files.read_files.Goals as goal
 
 pub returns-in_err-script-clause-cause : goal.returns-in_err-script-clause-cause

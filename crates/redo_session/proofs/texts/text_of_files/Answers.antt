@@ -5,7 +5,8 @@ use Rattle.redo_command.specs.declared.command.Command.{Command}
 use Rattle.redo_command.specs.Meaning.{command_at}
 use Rattle.redo_command.specs.Watched.{is_faulted, inner_of}
 use Rattle.redo_session.specs.Runs.{AreAccepted, IsRunText, RunsAs}
-use Rattle.redo_session.proofs.Accepted.{scripts_at, IsCause-sessions, AreAccepted-length}
+use Rattle.redo_session.specs.Files.{scripts_at}
+use Rattle.redo_session.proofs.Accepted.{IsCause-sessions, AreAccepted-length}
 use Rattle.redo_session.proofs.texts.text_of_files.Goals as goal
 
 pub returns : goal.returns

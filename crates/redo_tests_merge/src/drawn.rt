@@ -1,0 +1,169 @@
+//! Plans that are drawn, and what their sessions were told in an order that was drawn.
+ghost use Rattle.std.specs.Prelude.{◌<◌};
+
+use crate::plans::{command_at, plan_of};
+use crate::random::Random;
+use crate::told::{Answer, Told};
+use redo_command::Command;
+use redo_journal::{Place, Plan};
+use std::alloc::{AllocError, Global};
+use std::test::Fail;
+
+/// A plan, an order of its sessions' lines, and what each session was told.
+#[derive(Drop)]
+pub(crate) struct Drawn {
+    pub(crate) plan: Plan,
+    pub(crate) order: Vec<u8>,
+    pub(crate) told: Vec<Vec<Told>>,
+}
+
+/// How many lines a session has at most: two of four sessions have few, so that the orders are few.
+fn most_lines(sessions: usize, session: usize) -> usize
+    ensures { 0 < result }
+{
+    if sessions == 4 && session >= 2 { 2 } else { 4 }
+}
+
+/// A session file of so many lines.
+fn text_of(alloc: Global, random: &mut Random, lines: usize) -> Result<String, Fail> {
+    let mut text = String::new(alloc);
+    for _ in 0..lines {
+        let word = match random.below(8) {
+            0..=2 => "lock",
+            3..=5 => "unlock",
+            _ => "start",
+        };
+        let name = if random.below(4) == 0 { "b" } else { "a" };
+        writeln!(text, "{word} {name}")?;
+    }
+    Ok(text)
+}
+
+/// A plan of one to four sessions.
+fn drawn_plan(alloc: Global, random: &mut Random) -> Result<Plan, Fail> {
+    let sessions = random.below(4) + 1;
+    let mut texts = Vec::new(alloc);
+    for session in 0..sessions {
+        let lines = random.below(most_lines(sessions, session)) + 1;
+        texts.push(text_of(alloc, random, lines)?)?;
+    }
+    let files: Vec<&str> = texts.iter().map(|text| text.as_str()).collect(alloc)?;
+    plan_of(alloc, &files)
+}
+
+/// The claims on a target: how often it was granted, and who holds it.
+#[derive(Clone, Copy)]
+struct Held {
+    grants: u32,
+    holder: Option<u8>,
+}
+
+/// The rows and the claims of a simple database.
+#[derive(Drop)]
+struct Simple {
+    rows: u32,
+    held: Vec<Held>,
+}
+
+impl Simple {
+    fn new(alloc: Global, targets: usize) -> Result<Simple, AllocError> {
+        let free = Held {
+            grants: 0,
+            holder: None,
+        };
+        Ok(Simple {
+            rows: 0,
+            held: Vec::from_elem(alloc, free, targets)?,
+        })
+    }
+
+    fn row(&mut self, answer: Answer) -> Told {
+        let place = Place::Row(self.rows);
+        self.rows = self.rows.wrapping_add(1);
+        Told { answer, place }
+    }
+
+    fn locked(&mut self, session: u8, target: u32) -> Option<Told> {
+        let held = self.held.get_mut(target as usize)?;
+        if held.holder.is_some() {
+            return Some(Told {
+                answer: Answer::Busy(held.grants),
+                place: Place::Busy(target, held.grants),
+            });
+        }
+        held.grants = held.grants.wrapping_add(1);
+        held.holder = Some(session);
+        Some(Told {
+            answer: Answer::Granted(held.grants),
+            place: Place::Granted(target, held.grants),
+        })
+    }
+
+    fn unlocked(&mut self, session: u8, target: u32) -> Option<Told> {
+        let held = self.held.get_mut(target as usize)?;
+        if held.holder != Some(session) {
+            return Some(self.row(Answer::NotLocked));
+        }
+        held.holder = None;
+        Some(Told {
+            answer: Answer::Okay,
+            place: Place::Released(target, held.grants),
+        })
+    }
+
+    fn told(&mut self, session: u8, command: &Command) -> Option<Told> {
+        match command {
+            Command::Lock(t) => self.locked(session, *t),
+            Command::Unlock(t) => self.unlocked(session, *t),
+            _ => Some(self.row(Answer::Okay)),
+        }
+    }
+}
+
+/// What a session is told next, which it is told.
+fn tell(plan: &Plan, simple: &mut Simple, told: &mut [Vec<Told>], session: u8) -> Result<(), Fail> {
+    let own = told.get_mut(session as usize).ok_or("a session")?;
+    let command = command_at(plan, session as usize, own.len()).ok_or("a command")?;
+    own.push(simple.told(session, command).ok_or("a target")?)?;
+    Ok(())
+}
+
+/// What the sessions are told in this order.
+fn told_in(alloc: Global, plan: &Plan, order: &[u8]) -> Result<Vec<Vec<Told>>, Fail> {
+    let mut told = Vec::new(alloc);
+    for _ in plan.scripts() {
+        told.push(Vec::new(alloc))?;
+    }
+    let mut simple = Simple::new(alloc, plan.names().len() as usize)?;
+    for session in order {
+        tell(plan, &mut simple, &mut told, *session)?;
+    }
+    Ok(told)
+}
+
+/// The sessions, each as often as it has commands.
+fn turns_of(alloc: Global, plan: &Plan) -> Result<Vec<u8>, AllocError> {
+    let mut turns = Vec::new(alloc);
+    for (session, script) in plan.scripts().iter().enumerate() {
+        for _ in script.commands() {
+            turns.push(session as u8)?;
+        }
+    }
+    Ok(turns)
+}
+
+fn shuffle(random: &mut Random, order: &mut [u8]) {
+    for at in 0..order.len() {
+        let other = random.below(order.len());
+        order.swap(at, other);
+    }
+}
+
+/// A plan, and what its sessions were told.
+pub(crate) fn draw(alloc: Global, random: &mut Random) -> Result<Drawn, Fail> {
+    let plan = drawn_plan(alloc, random)?;
+    let mut order = turns_of(alloc, &plan)?;
+    shuffle(random, &mut order);
+    let told = told_in(alloc, &plan, &order)?;
+    Ok(Drawn { plan, order, told })
+}

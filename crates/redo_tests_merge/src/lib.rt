@@ -1,0 +1,25 @@
+//! The tests of merging: a search over all orders, and journals that are drawn and changed.
+#![tactic(auto)]
+
+#[cfg(test)]
+mod cases;
+#[cfg(test)]
+mod changed;
+#[cfg(test)]
+mod drawn;
+#[cfg(test)]
+mod exhaustive;
+#[cfg(test)]
+mod merging;
+#[cfg(test)]
+mod orders;
+#[cfg(test)]
+mod plans;
+#[cfg(test)]
+mod random;
+#[cfg(test)]
+mod rules;
+#[cfg(test)]
+mod sessions;
+#[cfg(test)]
+mod told;

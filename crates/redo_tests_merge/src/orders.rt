@@ -1,0 +1,80 @@
+//! All orders of the lines of some sessions: lists of the sessions, each as often as it has lines.
+ghost use Rattle.std.specs.Prelude.{◌≡◌, ◌+◌, ◌<◌, length, IfSome};
+
+use crate::rules::{Standing, all_fit, is_placed};
+use crate::told::Told;
+use redo_journal::Plan;
+use std::alloc::{AllocError, Global};
+use std::test::Fail;
+
+/// More orders than any case here has.
+const MOST_ORDERS: u32 = 1_000_000;
+
+/// The first order: each session's lines after those of the sessions before it.
+pub(crate) fn sorted_order(alloc: Global, told: &[Vec<Told>]) -> Result<Vec<u8>, AllocError> {
+    let mut order = Vec::new(alloc);
+    for (session, own) in (0..=u8::MAX).zip(told) {
+        for _ in own {
+            order.push(session)?;
+        }
+    }
+    Ok(order)
+}
+
+/// The last place that has a smaller session than the next one.
+fn last_rise(order: &[u8]) -> Option<usize>
+    ensures { IfSome result (λ at. at + 1 < length order.now) }
+{
+    let mut rise = None;
+    for at in 1..order.len() {
+        if order[at - 1] < order[at] {
+            rise = Some(at - 1);
+        }
+    }
+    rise
+}
+
+/// The last place with a larger session.
+fn last_above(order: &[u8], session: u8) -> usize
+    requires { 0 < length order.now }
+    ensures { result < length order.now }
+{
+    let mut last = 0;
+    for at in 0..order.len() {
+        if session < order[at] {
+            last = at;
+        }
+    }
+    last
+}
+
+/// Makes the order the next one in dictionary order; false where it is the last.
+pub(crate) fn advance(order: &mut [u8]) -> bool {
+    let Some(rise) = last_rise(order) else {
+        return false;
+    };
+    let above = last_above(order, order[rise]);
+    order.swap(rise, above);
+    order[rise + 1..].reverse();
+    true
+}
+
+/// Of all orders in which the lines are a placed history the first in dictionary order.
+pub(crate) fn first_order(
+    alloc: Global,
+    plan: &Plan,
+    told: &[Vec<Told>],
+) -> Result<Option<Vec<u8>>, Fail> {
+    let mut order = sorted_order(alloc, told)?;
+    let mut standing = Standing::new(alloc, told.len(), plan.names().len() as usize)?;
+    let fit = all_fit(plan, told);
+    for _ in 0..MOST_ORDERS {
+        if is_placed(told, &order, &mut standing) && fit {
+            return Ok(Some(order));
+        }
+        if !advance(&mut order) {
+            return Ok(None);
+        }
+    }
+    None.ok_or("too many orders")?
+}

@@ -1,0 +1,157 @@
+//! The rules of places, written once more: by what stands so far, a place may come next or may not.
+use crate::plans::command_at;
+use crate::told::{Answer, Told};
+use redo_command::Command;
+use redo_journal::{Place, Plan};
+use std::alloc::{AllocError, Global};
+
+/// How often a target was granted, and whether that grant is in force.
+#[derive(Clone, Copy)]
+struct Claim {
+    grants: u32,
+    is_held: bool,
+}
+
+/// The claims on a target that nobody asked for.
+const FREE: Claim = Claim {
+    grants: 0,
+    is_held: false,
+};
+
+impl Claim {
+    /// The next grant, if nobody holds the target.
+    fn grant(&mut self, grant: u32) -> bool {
+        let is_next = !self.is_held && self.grants.checked_add(1) == Some(grant);
+        self.is_held = true;
+        self.grants = grant;
+        is_next
+    }
+
+    /// Whether this grant is in force.
+    fn is_in_force(&self, grant: u32) -> bool {
+        self.is_held && self.grants == grant
+    }
+
+    /// The end of this grant, if it is in force.
+    fn release(&mut self, grant: u32) -> bool {
+        let is_next = self.is_in_force(grant);
+        self.is_held = false;
+        is_next
+    }
+}
+
+/// What stands so far: how many lines of each session, how many rows, and the claims on each target.
+#[derive(Drop)]
+pub(crate) struct Standing {
+    lines: Vec<usize>,
+    rows: u32,
+    claims: Vec<Claim>,
+}
+
+impl Standing {
+    /// Nothing of these sessions and targets.
+    pub(crate) fn new(
+        alloc: Global,
+        sessions: usize,
+        targets: usize,
+    ) -> Result<Standing, AllocError> {
+        Ok(Standing {
+            lines: Vec::from_elem(alloc, 0, sessions)?,
+            rows: 0,
+            claims: Vec::from_elem(alloc, FREE, targets)?,
+        })
+    }
+
+    /// Back to nothing.
+    pub(crate) fn clear(&mut self) {
+        self.lines.fill(0);
+        self.rows = 0;
+        self.claims.fill(FREE);
+    }
+
+    /// What the session was told next.
+    pub(crate) fn next_of(&mut self, told: &[Vec<Told>], session: u8) -> Option<Told> {
+        let own = told.get(session as usize)?;
+        let number = self.lines.get_mut(session as usize)?;
+        let one = own.get(*number)?;
+        *number = number.wrapping_add(1);
+        Some(*one)
+    }
+
+    /// Whether the place may come next; it stands from now on.
+    pub(crate) fn takes(&mut self, place: Place) -> bool {
+        let (target, grant) = match place {
+            Place::Row(row) => {
+                let is_next = row == self.rows;
+                self.rows = row.wrapping_add(1);
+                return is_next;
+            }
+            Place::Granted(target, grant) => (target, grant),
+            Place::Busy(target, grant) => (target, grant),
+            Place::Released(target, grant) => (target, grant),
+        };
+        match self.claims.get_mut(target as usize) {
+            Some(claim) => match place {
+                Place::Granted(..) => claim.grant(grant),
+                Place::Busy(..) => claim.is_in_force(grant),
+                _ => claim.release(grant),
+            },
+            None => false,
+        }
+    }
+}
+
+/// Whether the place is one for this command and answer.
+fn fits(command: &Command, told: Told) -> bool {
+    match told.place {
+        Place::Row(_) => match command {
+            Command::Lock(_) => !matches!(told.answer, Answer::Granted(_) | Answer::Busy(_)),
+            Command::Unlock(_) => told.answer != Answer::Okay,
+            _ => true,
+        },
+        Place::Granted(t, g) => is_lock(command, t) && told.answer == Answer::Granted(g),
+        Place::Busy(t, g) => is_lock(command, t) && told.answer == Answer::Busy(g),
+        Place::Released(t, _) => is_unlock(command, t) && told.answer == Answer::Okay,
+    }
+}
+
+fn is_lock(command: &Command, target: u32) -> bool {
+    matches!(command, Command::Lock(t) if *t == target)
+}
+
+fn is_unlock(command: &Command, target: u32) -> bool {
+    matches!(command, Command::Unlock(t) if *t == target)
+}
+
+/// Whether all places of a session fit.
+fn session_fits(plan: &Plan, session: usize, own: &[Told]) -> bool {
+    for (line, one) in own.iter().enumerate() {
+        match command_at(plan, session, line) {
+            Some(command) if fits(command, *one) => {}
+            _ => return false,
+        }
+    }
+    true
+}
+
+/// Whether all places fit.
+pub(crate) fn all_fit(plan: &Plan, told: &[Vec<Told>]) -> bool {
+    for (session, own) in told.iter().enumerate() {
+        if !session_fits(plan, session, own) {
+            return false;
+        }
+    }
+    true
+}
+
+/// Whether the lines in this order of their sessions are a placed history.
+pub(crate) fn is_placed(told: &[Vec<Told>], order: &[u8], standing: &mut Standing) -> bool {
+    standing.clear();
+    for session in order {
+        match standing.next_of(told, *session) {
+            Some(one) if standing.takes(one.place) => {}
+            _ => return false,
+        }
+    }
+    true
+}
