@@ -1,7 +1,9 @@
-//! Work to be measured: on dependency rows, and on the history on standard input.
+//! Work to be measured: on dependency rows, on the history on standard input, and on journals.
 #![tactic(auto)]
 
 mod history;
+mod journals;
+mod merging;
 mod pattern;
 mod sums;
 mod task;
@@ -39,6 +41,11 @@ fn run<R: Env + Input + Print + AllocGlobal>(rt: &R) -> Result<()> {
     match task::of_words(&words)? {
         Task::Rows { shape, rows, times } => print_checksum(rt, shape, rows, times),
         Task::History { times } => history::read_and_printed(rt, times),
+        Task::Merge {
+            sessions,
+            entries,
+            times,
+        } => merging::merged(rt, sessions, entries, times),
         Task::Replay => history::replayed(rt),
     }
 }

@@ -5,18 +5,35 @@ use anyhow::{Result, bail};
 #[derive(Clone, Copy)]
 pub enum Task {
     /// Work on this many dependency rows.
-    Rows { shape: Shape, rows: u32, times: u32 },
+    Rows {
+        shape: Shape,
+        rows: u32,
+        times: u32,
+    },
     /// Reading and printing the history on standard input.
-    History { times: u32 },
+    History {
+        times: u32,
+    },
+    /// Merging the journals of so many sessions, of so many entries each.
+    Merge {
+        sessions: usize,
+        entries: usize,
+        times: u32,
+    },
     /// Replaying the history on standard input.
     Replay,
 }
 
-/// `SHAPE ROWS TIMES`, `history TIMES` or `replay`.
+/// `SHAPE ROWS TIMES`, `history TIMES`, `merge SESSIONS ENTRIES TIMES` or `replay`.
 pub fn of_words(words: &[String]) -> Result<Task> {
     match words {
         [word] if word.as_str() == "replay" => Ok(Task::Replay),
         [word, times] if word.as_str() == "history" => Ok(Task::History {
+            times: times.parse::<u32>()?,
+        }),
+        [word, sessions, entries, times] if word.as_str() == "merge" => Ok(Task::Merge {
+            sessions: sessions.parse::<usize>()?,
+            entries: entries.parse::<usize>()?,
             times: times.parse::<u32>()?,
         }),
         [word, rows, times] => {
@@ -29,6 +46,8 @@ pub fn of_words(words: &[String]) -> Result<Task> {
                 times: times.parse::<u32>()?,
             })
         }
-        _ => bail!("usage: redo_bench SHAPE ROWS TIMES | history TIMES | replay"),
+        _ => bail!(
+            "usage: redo_bench SHAPE ROWS TIMES | history TIMES | merge SESSIONS ENTRIES TIMES | replay"
+        ),
     }
 }
