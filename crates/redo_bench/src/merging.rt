@@ -16,8 +16,7 @@ fn checksum(lines: &[Line]) -> u64 {
     sum
 }
 
-/// Merges the journals of so many sessions, of so many entries each, so many times, and prints a
-/// checksum.
+/// Merges so many times the journals of so many sessions, of so many entries each, and prints a checksum.
 pub fn merged<R: Print + AllocGlobal>(
     rt: &R,
     sessions: usize,

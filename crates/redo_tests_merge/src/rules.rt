@@ -40,7 +40,7 @@ impl Claim {
     }
 }
 
-/// What stands so far: how many lines of each session, how many rows, and the claims on targets.
+/// What stands so far: how many lines of each session, how many rows, and the claims on each target.
 #[derive(Drop)]
 pub(crate) struct Standing {
     lines: Vec<usize>,
