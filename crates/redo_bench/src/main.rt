@@ -1,10 +1,14 @@
-//! Work to be measured: on dependency rows, on the history on standard input, and on journals.
+//! Work to be measured: on dependency rows, on the history on standard input, on journals, and on
+//! boards.
 #![tactic(auto)]
 
+mod board;
+mod calls;
 mod history;
 mod journals;
 mod merging;
 mod pattern;
+mod plans;
 mod sums;
 mod task;
 mod work;
@@ -46,6 +50,18 @@ fn run<R: Env + Input + Print + AllocGlobal>(rt: &R) -> Result<()> {
             entries,
             times,
         } => merging::merged(rt, sessions, entries, times),
+        Task::Board {
+            sessions,
+            names,
+            commands,
+            times,
+        } => board::worked(rt, sessions, names, commands, times),
+        Task::Calls {
+            sessions,
+            names,
+            commands,
+            times,
+        } => calls::called(rt, sessions, names, commands, times),
         Task::Replay => history::replayed(rt),
     }
 }

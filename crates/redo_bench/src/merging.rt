@@ -16,7 +16,8 @@ fn checksum(lines: &[Line]) -> u64 {
     sum
 }
 
-/// Merges so many times the journals of so many sessions, of so many entries each, and prints a checksum.
+/// Merges the journals of so many sessions, of so many entries each, so many times, and prints a
+/// checksum.
 pub fn merged<R: Print + AllocGlobal>(
     rt: &R,
     sessions: usize,

@@ -20,11 +20,26 @@ pub enum Task {
         entries: usize,
         times: u32,
     },
+    /// So many commands of each of so many sessions over so many names, on a board.
+    Board {
+        sessions: usize,
+        names: usize,
+        commands: usize,
+        times: u32,
+    },
+    /// The same commands, on one database.
+    Calls {
+        sessions: usize,
+        names: usize,
+        commands: usize,
+        times: u32,
+    },
     /// Replaying the history on standard input.
     Replay,
 }
 
-/// `SHAPE ROWS TIMES`, `history TIMES`, `merge SESSIONS ENTRIES TIMES` or `replay`.
+/// `SHAPE ROWS TIMES`, `history TIMES`, `merge SESSIONS ENTRIES TIMES`,
+/// `board SESSIONS NAMES COMMANDS TIMES`, `calls SESSIONS NAMES COMMANDS TIMES` or `replay`.
 pub fn of_words(words: &[String]) -> Result<Task> {
     match words {
         [word] if word.as_str() == "replay" => Ok(Task::Replay),
@@ -34,6 +49,18 @@ pub fn of_words(words: &[String]) -> Result<Task> {
         [word, sessions, entries, times] if word.as_str() == "merge" => Ok(Task::Merge {
             sessions: sessions.parse::<usize>()?,
             entries: entries.parse::<usize>()?,
+            times: times.parse::<u32>()?,
+        }),
+        [word, sessions, names, commands, times] if word.as_str() == "board" => Ok(Task::Board {
+            sessions: sessions.parse::<usize>()?,
+            names: names.parse::<usize>()?,
+            commands: commands.parse::<usize>()?,
+            times: times.parse::<u32>()?,
+        }),
+        [word, sessions, names, commands, times] if word.as_str() == "calls" => Ok(Task::Calls {
+            sessions: sessions.parse::<usize>()?,
+            names: names.parse::<usize>()?,
+            commands: commands.parse::<usize>()?,
             times: times.parse::<u32>()?,
         }),
         [word, rows, times] => {
@@ -47,7 +74,8 @@ pub fn of_words(words: &[String]) -> Result<Task> {
             })
         }
         _ => bail!(
-            "usage: redo_bench SHAPE ROWS TIMES | history TIMES | merge SESSIONS ENTRIES TIMES | replay"
+            "usage: redo_bench SHAPE ROWS TIMES | history TIMES | merge SESSIONS ENTRIES TIMES | \
+            board SESSIONS NAMES COMMANDS TIMES | calls SESSIONS NAMES COMMANDS TIMES | replay"
         ),
     }
 }

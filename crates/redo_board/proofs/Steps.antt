@@ -1,0 +1,151 @@
+-- What a worker knows after a step.
+use Rattle.std.proofs.Common.{◌≡◌, ℕ, ◌+◌, ◌%◌, ◌^◌, ◌<◌, eqb, true, List, [], ◌∷◌, ◌++◌, length, get_or, Option, Some, None, refl, sym, ap, ◌∙◌, subst, inl, arith, length-append}
+use Rattle.std.specs.Int.Bits.{bit_or}
+use mathlib.Core.Option.{none}
+use prog.Atomic.{either}
+use Rattle.atomic_table.specs.Table.{step, Allows}
+use Rattle.redo_model.specs.Command.{Command, Ood, asked_lock}
+use Rattle.redo_model.specs.Reply.{Reply}
+use Rattle.redo_model.specs.Placed.{part_of}
+use Rattle.redo_model.specs.Journals.{Numbered}
+use Rattle.redo_journal.specs.Plans.{PlanOf, script_of}
+use Rattle.redo_board.specs.Rows.{rows_of, takes_row}
+use Rattle.redo_board.specs.Core.{Line, start, after_all, word, row, claim, free}
+use Rattle.redo_board.specs.Views.{ViewOf, view}
+use Rattle.redo_board.specs.Rule.{HasPart, Orderly, Told}
+use Rattle.redo_board.specs.Plays.{own, own_way, next, SaysRow, row_line, Goes, Lone, Lost, Won, tried, claimed, freed}
+use Rattle.redo_board.proofs.Counts.{used, used-lt}
+use Rattle.redo_board.proofs.Nexts.{next_named}
+use Rattle.redo_board.proofs.Parts.{own-part}
+use Rattle.redo_board.proofs.Sound.{counts, sound}
+use Rattle.redo_board.proofs.Rows.{tries}
+use Rattle.redo_board.proofs.Claims.{locks, frees}
+
+-- the view of a worker of the session t, whose lines are j
+abbrev pub IsWorker : PlanOf → ℕ → List Line → ViewOf → Type 0
+IsWorker p t j m = m ≡ view p ((t, j) ∷ []) m.seen m.also
+
+abbrev Slots : Type 0
+Slots = List (ℕ × Unit {0})
+
+pub lone : (p : PlanOf) (t : ℕ) (j : List Line) (m : ViewOf) → IsWorker p t j m → Lone m t j
+lone p t j m is = ap (λ (v : ViewOf). v.parts) is
+
+module _ (p q : PlanOf) (slots id t : ℕ) (j : List Line) (m : ViewOf) (c : Slots) (key : q ≡ p)
+    (is : IsWorker p t j m) (is-session : t < length p.scripts) (n : Numbered ℕ)
+    (is-next : next p t j ≡ Some n) where
+  pub tries_as : (r w : ℕ) → w ≡ word t n.number (own j n.command) → r ≡ length m.seen
+      → r < rows_of p → own_way j n.command ≡ row → (reply : Reply ℕ)
+      → SaysRow (view p ((t, j) ∷ []) m.seen m.also) t j n.command reply
+      → Allows (Orderly q) slots id (m, c) (r + 1) (λ n. either (eqb n 0) w n)
+      (tried (step slots (r + 1) 0 w none) (m, c))
+  tries_as r w word-is at near in-row reply says =
+      let F : PlanOf × (ViewOf × ℕ)
+      → Type 0 = λ x.
+      Allows (Orderly x.0) slots id (x.1.0, c) (r + 1) (λ n. either (eqb n 0) x.1.1 n)
+      (tried (step slots (r + 1) 0 x.1.1 none) (x.1.0, c)) in
+      subst F (λ i. (sym key i, (sym is i, sym word-is i)))
+      (tries p slots id t r j m.seen m.also c n is-session is-next at near in-row reply says)
+
+  pub locks_as : (i u : ℕ) → i ≡ rows_of p + 1 + u → u < length p.names
+      → own_way j n.command ≡ claim u
+      → Allows (Orderly q) slots id (m, c) i (λ n. bit_or n 1)
+      (claimed (step slots i 1 0 none) (m, c))
+  locks_as i u at low to-lock =
+      let F : PlanOf × (ViewOf × ℕ)
+      → Type 0 = λ x.
+      Allows (Orderly x.0) slots id (x.1.0, c) x.1.1 (λ n. bit_or n 1)
+      (claimed (step slots x.1.1 1 0 none) (x.1.0, c)) in
+      subst F (λ k. (sym key k, (sym is k, sym at k)))
+      (locks p slots id t u j m.seen m.also c n is-session is-next low to-lock)
+
+  pub frees_as : (i u : ℕ) → i ≡ rows_of p + 1 + u → u < length p.names
+      → own_way j n.command ≡ free u
+      → Allows (Orderly q) slots id (m, c) i (λ n. (n + 1) % 2 ^ 64)
+      (freed (step slots i 1 0 none) (m, c))
+  frees_as i u at low to-free =
+      let F : PlanOf × (ViewOf × ℕ)
+      → Type 0 = λ x.
+      Allows (Orderly x.0) slots id (x.1.0, c) x.1.1 (λ n. (n + 1) % 2 ^ 64)
+      (freed (step slots x.1.1 1 0 none) (x.1.0, c)) in
+      subst F (λ k. (sym key k, (sym is k, sym at k)))
+      (frees p slots id t u j m.seen m.also c n is-session is-next low to-free)
+
+-- what a worker's view keeps: its lines, and that a legal history fits it
+pub record Keeps (p : PlanOf) (t : ℕ) (j : List Line) (seen : List ℕ) (w : ViewOf) : Type 0 where
+  pub is : IsWorker p t j w
+  pub saw : w.seen ≡ seen
+  pub told : Told w
+
+-- after a line
+pub goes_keeps : (p : PlanOf) (t : ℕ) (j j' : List Line) (l : Line) (seen : List ℕ) (m w : ViewOf)
+    → IsWorker p t j m → Goes m t j l seen w → j' ≡ j ++ l ∷ [] → Keeps p t j' seen w
+goes_keeps p t j j' l seen m w is g j-is =
+    let at : w.seen ≡ seen = ap (λ (v : ViewOf). v.seen) g.now in
+    record {
+      is =
+          g.now
+          ∙
+          (λ i. view (is i).plan ((t, sym j-is i) ∷ []) (sym at i)
+          (ap (λ (v : ViewOf). v.also) (sym g.now) i));
+      saw = at;
+      told =
+          record {
+            log = g.ends.before ++ l ∷ [];
+            plan = g.ends.plan;
+            legal = g.ends.legal;
+            fits = g.ends.fits;
+          };
+    }
+
+-- after a row was lost
+pub lost_keeps : (p : PlanOf) (t n : ℕ) (j : List Line) (m w : ViewOf) → IsWorker p t j m
+    → Lost m n w → Keeps p t j (m.seen ++ n ∷ []) w
+lost_keeps p t n j m w is lost =
+    let seen : w.seen ≡ m.seen ++ n ∷ [] = ap (λ (v : ViewOf). v.seen) lost.now in
+    record {
+      is =
+          lost.now
+          ∙
+          (λ i. view (is i).plan (is i).parts (sym seen i)
+          (ap (λ (v : ViewOf). v.also) (sym lost.now) i));
+      saw = seen;
+      told = lost.told;
+    }
+
+-- a command without a lock takes a row
+takes : (x : Command ℕ) → asked_lock x ≡ None → takes_row x ≡ true
+takes x e = grind arith
+
+-- a row command that is not placed finds a row
+pub room : (p : PlanOf) (t : ℕ) (j : List Line) (m : ViewOf) (n : Numbered ℕ) → IsWorker p t j m
+    → Told m → t < length p.scripts → next p t j ≡ Some n → asked_lock n.command ≡ None
+    → length m.seen < rows_of p
+room p t j m n is told is-session is-next in-row =
+    let q : m.plan ≡ p = ap (λ (v : ViewOf). v.plan) is in
+    let s = sound m.plan told.log told.plan told.legal in
+    let named = next_named (script_of p t) j n is-next in
+    let own : part_of t told.log ≡ j =
+    told.fits.own t j (subst (λ (v : ViewOf). HasPart v.parts t j) (sym is) (inl (refl, refl))) in
+    let f : ℕ → ℕ = counts (after_all m.plan start told.log) in
+    let now : f t ≡ length j = ap length (own-part m.plan told.log t ∙ own) in
+    let number : f t ≡ n.number = now ∙ sym named.number in
+    let less : f t < length (script_of p t) = let a = named.more in omega arith in
+    let here : takes_row (get_or (script_of p t) (f t) Ood) ≡ true =
+    ap (λ k. takes_row (get_or (script_of p t) k Ood)) number
+    ∙ ap takes_row (sym named.command) ∙ takes n.command in-row in
+    let a = used-lt f p.scripts t is-session less here in
+    let b = ap length told.fits.seen.1 in
+    let d = length-append m.seen told.fits.seen.0 in
+    let e = s.counted in
+    let g = ap (λ (x : PlanOf). used f x.scripts) q in omega arith
+
+-- the row's play, over the worker's own session
+pub won_goes : (p : PlanOf) (t : ℕ) (j : List Line) (m w : ViewOf) (n : Numbered ℕ)
+    (reply : Reply ℕ)
+    → IsWorker p t j m → Won m w → next p t j ≡ Some n
+    → SaysRow (view p ((t, j) ∷ []) m.seen m.also) t j n.command reply
+    → Goes m t j (row_line m t n reply) (m.seen ++ word t n.number (own j n.command) ∷ []) w
+won_goes p t j m w n reply is won is-next says =
+    won t j n reply (lone p t j m is) (ap (λ (v : ViewOf). next v.plan t j) is ∙ is-next)
+    (subst (λ (v : ViewOf). SaysRow v t j n.command reply) (sym is) says)

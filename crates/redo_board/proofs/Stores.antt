@@ -1,0 +1,146 @@
+-- A worker's store: as far as the row words that were seen, or one behind.
+use Rattle.std.proofs.Common.{◌≡◌, ℕ, ◌+◌, ◌<◌, ◌≤◌, ◌^◌, Bool, List, [], ◌∷◌, ◌++◌, length, get_or, Option, Some, None, refl, sym, ap, ◌∙◌, subst, arith, length-append}
+use Rattle.std.proofs.lemmas.List.{length_push}
+use Rattle.redo_model.specs.Names.{texts}
+use Rattle.redo_model.specs.State.{Records, empty}
+use Rattle.redo_model.specs.Command.{Command}
+use Rattle.redo_model.specs.Reply.{Reply}
+use Rattle.redo_model.specs.Step.{Replies, records_after}
+use Rattle.redo_model.specs.Renaming.{OrdersAlike, numbering, IsReplyBelow}
+use Rattle.redo_store.specs.Orders.{by_place}
+use Rattle.redo_store.specs.Stored.{Stored, records_of, count_of, order_of, applied_of, naming_of, IsSameButRoom}
+use Rattle.redo_journal.specs.Plans.{PlanOf}
+use Rattle.redo_board.specs.Rows as rows
+use Rattle.redo_board.specs.Rows.{command}
+use Rattle.redo_board.specs.Core.{replay, row_words, word, session_of, number_of, holds_of, IsWord, Begins}
+use Rattle.redo_board.specs.Views.{ViewOf}
+use Rattle.redo_board.specs.Rule.{Told}
+use Rattle.redo_board.specs.Kept.{Lags}
+use Rattle.redo_board.proofs.Orders.{same_records, replies_too}
+use Rattle.redo_board.proofs.Words.{replay-push, replay-word}
+use Rattle.redo_board.proofs.Sound.{sound, few, few_rows}
+
+get_or_begins : (all xs rest : List ℕ) (n : ℕ) → all ≡ (xs ++ n ∷ []) ++ rest
+    → (get_or all (length xs) 0 ≡ n) × (length xs < length all)
+get_or_begins all xs rest n e = (
+  ap (λ l. get_or l (length xs) 0) e ∙ seam xs rest n,
+  let a = ap length e in
+      let b = length-append (xs ++ n ∷ []) rest in
+      let c = length_push xs n in
+      omega arith,
+)
+  where
+    seam : (xs rest : List ℕ) (n : ℕ) → get_or ((xs ++ n ∷ []) ++ rest) (length xs) 0 ≡ n
+    seam [] rest n = refl
+    seam (x ∷ xs) rest n = seam xs rest n
+
+-- a word that was seen names a command
+pub seen_word : (p : PlanOf) (v : ViewOf) (words : List ℕ) (n : ℕ) → v.plan ≡ p → Told v
+    → v.seen ≡ words ++ n ∷ [] → IsWord p n
+seen_word p v words n q told e =
+    let b : Begins (row_words v.plan told.log) (words ++ n ∷ []) =
+    subst (Begins (row_words v.plan told.log)) e told.fits.seen in
+    let at = get_or_begins (row_words v.plan told.log) words b.0 n b.1 in
+    subst (λ (x : PlanOf × ℕ). IsWord x.0 x.1) (λ i. (q i, at.0 i))
+    ((sound v.plan told.log told.plan told.legal).words (length words) at.1)
+
+-- few words were seen
+pub few_seen : (v : ViewOf) → Told v → length v.seen ≤ 262144
+few_seen v told =
+    let a = few v.plan told.log told.plan told.legal in
+    let b = few_rows v.plan told.plan in
+    let d = ap length told.fits.seen.1 in
+    let e = length-append v.seen told.fits.seen.0 in
+    omega arith
+
+-- room is no matter
+pub lags_same : (p : PlanOf) (old new : Stored) (pending : Option ℕ) (seen : List ℕ)
+    → IsSameButRoom old new → Lags p old pending seen → Lags p new pending seen
+lags_same p old new pending seen same lags = record {
+  words = lags.words;
+  behind = lags.behind;
+  records = same.records ∙ lags.records;
+  applied = same.applied ∙ lags.applied;
+  count = same.count ∙ lags.count;
+  order = subst (OrdersAlike (numbering p.names) texts) (ap by_place (sym same.sorted)) lags.order;
+}
+
+pub lags_few : (p : PlanOf) (v : ViewOf) (stored : Stored) (pending : Option ℕ) → Told v
+    → Lags p stored pending v.seen → applied_of stored + 1 < 2 ^ 32
+lags_few p v stored None told lags = let a = few_seen v told in
+    let b = ap length lags.behind in
+    let c = lags.applied in
+    omega arith
+lags_few p v stored (Some n) told lags = let a = few_seen v told in
+    let b = ap length lags.behind in
+    let d = length_push lags.words n in
+    let c = lags.applied in
+    omega arith
+
+module _ (p : PlanOf) (old new : Stored) (seen : List ℕ)
+    (count : count_of new ≡ count_of old) (order : order_of new ≡ order_of old)
+    (applied : applied_of new ≡ applied_of old + 1) where
+  -- the pending word is applied
+  pub lags_caught : (n : ℕ) (x : Command ℕ) → Lags p old (Some n) seen
+      → x ≡ command p (session_of n) (number_of n)
+      → records_of new
+      ≡ records_after (naming_of old) (records_of old) (session_of n) (holds_of n) x
+      → Lags p new None seen
+  lags_caught n x lags is after = record {
+    words = seen;
+    behind = refl;
+    records =
+        after
+        ∙ same_records (order_of old) (rows.naming_of p).order (records_of old) (session_of n)
+        (holds_of n) x
+        ∙
+        (λ i. records_after (rows.naming_of p) (lags.records i) (session_of n) (holds_of n)
+        (is i))
+        ∙ sym (replay-push p empty.records lags.words n)
+        ∙ ap (replay p) (sym lags.behind);
+    applied = let a = lags.applied in
+        let b = ap length lags.behind in
+        let d = length_push lags.words n in
+        omega arith;
+    count = count ∙ lags.count;
+    order = subst (OrdersAlike (numbering p.names) texts) (sym order) lags.order;
+  }
+
+  -- the session's own command is applied
+  pub lags_won : (s k : ℕ) (h : Bool) (x : Command ℕ) → k < 4096 → Lags p old None seen
+      → x ≡ command p s k → records_of new ≡ records_after (naming_of old) (records_of old) s h x
+      → Lags p new None (seen ++ word s k h ∷ [])
+  lags_won s k h x small lags is after = record {
+    words = seen ++ word s k h ∷ [];
+    behind = refl;
+    records =
+        after
+        ∙ same_records (order_of old) (rows.naming_of p).order (records_of old) s h x
+        ∙ ap (λ r. records_after (rows.naming_of p) r s h x)
+        (lags.records ∙ ap (replay p) (sym lags.behind))
+        ∙ sym (replay-word p empty.records seen s k h x small is);
+    applied = let a = lags.applied in
+        let b = ap length lags.behind in
+        let d = length_push seen (word s k h) in
+        omega arith;
+    count = count ∙ lags.count;
+    order = subst (OrdersAlike (numbering p.names) texts) (sym order) lags.order;
+  }
+
+-- the store's reply is the database's after the words that were seen
+pub says : (p : PlanOf) (stored : Stored) (seen : List ℕ) (s : ℕ) (h g : Bool) (x : Command ℕ)
+    (reply : Reply ℕ)
+    → Lags p stored None seen → h ≡ g
+    → Replies (naming_of stored) (records_of stored) s h x reply
+    → IsReplyBelow (count_of stored) reply
+    → Replies (rows.naming_of p) (replay p seen) s g x reply × IsReplyBelow (length p.names) reply
+says p stored seen s h g x reply lags same r below =
+    let b : IsReplyBelow (length p.names) reply =
+    subst (λ n. IsReplyBelow n reply) lags.count below in (
+      subst
+          (λ (z : Records ℕ × Bool). Replies (rows.naming_of p) z.0 s z.1 x reply)
+          (λ i. ((lags.records ∙ ap (replay p) (sym lags.behind)) i, same i))
+          (replies_too (order_of stored) (rows.naming_of p).order (length p.names)
+          (λ k m. lags.order.alike k m) (records_of stored) s h x reply b r),
+      b,
+    )

@@ -1,0 +1,270 @@
+-- A worker after a step.
+use Rattle.std.proofs.Common.{◌≡◌, ◌≢◌, ℕ, ◌+◌, ◌-◌, ◌<◌, ◌≤◌, List, [], ◌∷◌, ◌++◌, length, get_or, Option, Some, None, refl, sym, ap, ◌∙◌, subst, inl, arith}
+use Rattle.std.specs.Prelude.{vec_capacity}
+use Rattle.std.specs.Option.{unwrap_or}
+use Rattle.std.proofs.lemmas.List.{length_push, append-nil}
+use Rattle.redo_model.specs.Command.{Command, Ood, names_in}
+use Rattle.redo_model.specs.Reply.{Reply}
+use Rattle.redo_model.specs.Renaming.{IsBelow, AllBelow}
+use Rattle.redo_model.specs.Placed.{Place, Row}
+use Rattle.redo_model.specs.Journals.{Numbered, numbered}
+use Rattle.redo_command.specs.Meaning.{reply_of}
+use Rattle.redo_store.specs.Stored.{Stored}
+use Rattle.redo_journal.specs.Plans.{PlanOf, IsPlan, script_of}
+use Rattle.redo_journal.specs.Journals.{place_of, line_told}
+use Rattle.redo_journal.specs.declared.entry.Entry.{Entry}
+use Rattle.redo_board.specs.Core.{Line, Begins, Way, row}
+use Rattle.redo_board.specs.Histories.{EndsWith}
+use Rattle.redo_board.specs.Views.{Part, ViewOf, view}
+use Rattle.redo_board.specs.Rule.{HasPart}
+use Rattle.redo_board.specs.Plays.{Goes, Lost, made, next, own_way}
+use Rattle.redo_board.specs.Shown.{NeedsNoRow, IsNextBy, session_of, journal_of, seen_by, next_by, told, past, rows_up_to}
+use Rattle.redo_board.specs.Kept.{IsBoardOf, Works, WorksAt, Lags, view_of}
+use Rattle.redo_board.specs.Outcomes.{Made, Waits}
+use Rattle.redo_board.specs.declared.board.Board.{Board}
+use Rattle.redo_board.specs.declared.worker.Worker.{Worker}
+use Rattle.redo_board.proofs.Nexts.{IsNamed, next_named, command_below}
+use Rattle.redo_board.proofs.Sound.{few_rows}
+use Rattle.redo_board.proofs.Ended.{ends-with}
+use Rattle.redo_board.proofs.Steps.{Keeps, goes_keeps, lost_keeps}
+use Rattle.redo_board.proofs.Told.{told-push}
+
+pub few_words : (p : PlanOf) (b : Board) → IsBoardOf p b → b.rows ≤ 262144
+few_words p b is = let a = is.rows in let c = few_rows p is.plan in omega arith
+
+pub plan_is : (p : PlanOf) (w : Worker) → Works p w → IsPlan p
+plan_is p w k = subst IsPlan (ap (λ (v : ViewOf). v.plan) k.view) k.told.plan
+
+pub named_next : (p : PlanOf) (w : Worker) (n : Numbered ℕ) → next_by p w ≡ Some n
+    → IsNamed (script_of p w.session) (journal_of p w) n
+named_next p w n e = next_named (script_of p w.session) (journal_of p w) n e
+
+-- what a session does next is of the plan's names
+pub next_below : (p : PlanOf) (w : Worker) (n : Numbered ℕ) → Works p w → next_by p w ≡ Some n
+    → IsBelow (length p.names) n.command
+next_below p w n k is =
+    subst (IsBelow (length p.names)) (sym (named_next p w n is).command)
+    (command_below p w.session n.number (plan_is p w k))
+
+pub target_low : (p : PlanOf) (w : Worker) (n : Numbered ℕ) (t : ℕ) → Works p w
+    → next_by p w ≡ Some n → names_in n.command ≡ t ∷ [] → t < length p.names
+target_low p w n t k is names =
+    (subst (AllBelow (length p.names)) names (next_below p w n k is)).0
+
+-- the entry of what a session does next
+pub entry_tells : (p : PlanOf) (w : Worker) (n : Numbered ℕ) (e : Entry) (reply : Reply ℕ)
+    (place : Place ℕ)
+    → next_by p w ≡ Some n → e.line ≡ n.number → reply_of e.reply ≡ reply
+    → place_of e.place ≡ place
+    → line_told w.session (script_of p w.session) e ≡ made w.session n reply place
+entry_tells p w n e reply place is line said at =
+    let command : get_or (script_of p w.session) e.line Ood ≡ n.command =
+    ap (λ k. get_or (script_of p w.session) k Ood) line
+    ∙ sym (named_next p w n is).command in
+    λ i. record {
+      session = w.session;
+      number = line i;
+      command = command i;
+      reply = said i;
+      place = at i;
+    }
+
+pub rows-push : (m : ℕ) (ls : List Line) (l : Line)
+    → rows_up_to m (ls ++ l ∷ []) ≡ past l.place (rows_up_to m ls)
+rows-push m [] l = refl
+rows-push m (x ∷ ls) l = rows-push (past x.place m) ls l
+
+-- one that needs no row is next
+pub needs-none : (p : PlanOf) (w : Worker) (n : Numbered ℕ) → next_by p w ≡ Some n
+    → own_way (journal_of p w) n.command ≢ row → NeedsNoRow p w
+needs-none p w n is off m other e =
+    let same : m ≡ n = ap (λ o. unwrap_or o m) (sym other ∙ is) in
+    off (ap (λ (x : Numbered ℕ). own_way (journal_of p w) x.command) (sym same) ∙ e)
+
+-- after the line of the session's next command
+module _ (p : PlanOf) (b : Board) (w w' : Worker) (n : Numbered ℕ) (reply : Reply ℕ)
+    (place : Place ℕ) (seen : List ℕ) (k : WorksAt p b w) (is-next : next_by p w ≡ Some n)
+    (goes : Goes (view_of w) w.session (journal_of p w) (made w.session n reply place) seen
+    (view_of w'))
+    (e : Entry) (items : w'.entries.items ≡ w.entries.items ++ e ∷ [])
+    (line : e.line ≡ n.number) (said : reply_of e.reply ≡ reply) (at : place_of e.place ≡ place)
+    (session : w'.session ≡ w.session) (table : w'.seat.table_id ≡ w.seat.table_id)
+    (slots : w'.seat.me.1 ≡ w.seat.me.1)
+    (capacity : vec_capacity w.entries ≤ vec_capacity w'.entries) where
+  abbrev l₀ : Line
+  l₀ = made w.session n reply place
+
+  grown : journal_of p w' ≡ journal_of p w ++ l₀ ∷ []
+  grown =
+      (λ i. told (session i) (script_of p (session i)) w'.entries.items)
+      ∙ told-push w.session (script_of p w.session) w.entries.items w'.entries.items e items
+      ∙ ap (λ x. journal_of p w ++ x ∷ []) (entry_tells p w n e reply place is-next line said at)
+
+  keeps : Keeps p w.session (journal_of p w') seen (view_of w')
+  keeps =
+      goes_keeps p w.session (journal_of p w) (journal_of p w') l₀ seen (view_of w) (view_of w')
+      k.works.view goes grown
+
+  module _ (tries : w'.tries ≡ length seen)
+      (spent : w'.tries ≡ past place (rows_up_to 0 (journal_of p w)))
+      (lags : Lags p w'.store w'.pending seen) where
+    spent' : w'.tries ≡ rows_up_to 0 (journal_of p w')
+    spent' = spent ∙ sym (rows-push 0 (journal_of p w) l₀) ∙ ap (rows_up_to 0) (sym grown)
+
+    pub works_on : WorksAt p b w'
+    works_on = record {
+      table = table ∙ k.table;
+      works = record {
+        view =
+            subst
+            (λ s. view_of w' ≡ view p ((s, journal_of p w') ∷ []) (seen_by w') (view_of w').also)
+            (sym session) keeps.is;
+        slots = slots ∙ k.works.slots;
+        session = subst (λ s. s < length p.scripts) (sym session) k.works.session;
+        room =
+            subst (λ s. length (script_of p s) ≤ vec_capacity w'.entries) (sym session)
+            (let a = k.works.room in omega arith);
+        tries = tries ∙ ap length (sym keeps.saw);
+        told = keeps.told;
+        lags = subst (Lags p w'.store w'.pending) (sym keeps.saw) lags;
+        spent = λ _. spent';
+      };
+    }
+
+    pub made_on : Begins seen (seen_by w) → Made p w w'
+    made_on begins =
+        let parts : (view_of w').parts ≡ (w.session, journal_of p w') ∷ [] =
+        ap (λ (v : ViewOf). v.parts) keeps.is in
+        let has : HasPart (view_of w').parts w.session (journal_of p w') =
+        subst (λ (ps : List Part). HasPart ps w.session (journal_of p w')) (sym parts)
+        (inl (refl, refl)) in
+        record {
+          line = l₀;
+          grown = grown;
+          session = refl;
+          next = is-next;
+          ends =
+              subst (λ q. EndsWith q (journal_of p w') (seen_by w') l₀)
+              (ap (λ (v : ViewOf). v.plan) keeps.is)
+              (ends-with (view_of w') (journal_of p w') l₀ has goes.ends);
+          begins = subst (λ xs. Begins xs (seen_by w)) (sym keeps.saw) begins;
+          tries = spent';
+        }
+
+-- after a step on a claim word
+module _ (p : PlanOf) (b : Board) (w w' : Worker) (n : Numbered ℕ) (reply : Reply ℕ)
+    (place : Place ℕ) (k : WorksAt p b w) (is-next : next_by p w ≡ Some n)
+    (goes : Goes (view_of w) w.session (journal_of p w) (made w.session n reply place) (seen_by w)
+    (view_of w'))
+    (e : Entry) (items : w'.entries.items ≡ w.entries.items ++ e ∷ [])
+    (line : e.line ≡ n.number) (said : reply_of e.reply ≡ reply) (at : place_of e.place ≡ place)
+    (session : w'.session ≡ w.session) (table : w'.seat.table_id ≡ w.seat.table_id)
+    (slots : w'.seat.me.1 ≡ w.seat.me.1)
+    (capacity : vec_capacity w.entries ≤ vec_capacity w'.entries)
+    (tries : w'.tries ≡ w.tries) (store : w'.store ≡ w.store) (pending : w'.pending ≡ w.pending)
+    (no-row : own_way (journal_of p w) n.command ≢ row) (still : (m : ℕ) → past place m ≡ m) where
+  spent₁ : w'.tries ≡ past place (rows_up_to 0 (journal_of p w))
+  spent₁ =
+      tries ∙ k.works.spent (needs-none p w n is-next no-row)
+      ∙ sym (still (rows_up_to 0 (journal_of p w)))
+
+  lags₁ : Lags p w'.store w'.pending (seen_by w)
+  lags₁ =
+      subst (λ (x : Stored × Option ℕ). Lags p x.0 x.1 (seen_by w))
+      (λ i. (sym store i, sym pending i)) k.works.lags
+
+  pub works_claimed : WorksAt p b w'
+  works_claimed =
+      works_on p b w w' n reply place (seen_by w) k is-next goes e items line said at session table
+      slots capacity (tries ∙ k.works.tries) spent₁ lags₁
+
+  pub made_claimed : Made p w w'
+  made_claimed =
+      made_on p b w w' n reply place (seen_by w) k is-next goes e items line said at session table
+      slots capacity (tries ∙ k.works.tries) spent₁ lags₁ ([], sym (append-nil (seen_by w)))
+
+-- after a row was lost
+module _ (p : PlanOf) (b : Board) (w w' : Worker) (found : ℕ) (k : WorksAt p b w)
+    (lost : Lost (view_of w) found (view_of w')) (session : w'.session ≡ w.session)
+    (same : w'.entries ≡ w.entries) (slots : w'.seat.me.1 ≡ w.seat.me.1) where
+  kept : Keeps p w.session (journal_of p w) (seen_by w ++ found ∷ []) (view_of w')
+  kept =
+      lost_keeps p w.session found (journal_of p w) (view_of w) (view_of w') k.works.view lost
+
+  journal-same : journal_of p w' ≡ journal_of p w
+  journal-same = λ i. told (session i) (script_of p (session i)) (same i).items
+
+  next-same : next_by p w' ≡ next_by p w
+  next-same = λ i. next p (session i) (journal-same i)
+
+  pub works_lost : (n : Numbered ℕ) → next_by p w ≡ Some n
+      → own_way (journal_of p w) n.command ≡ row → w'.seat.table_id ≡ w.seat.table_id
+      → w'.tries ≡ w.tries + 1 → w'.store ≡ w.store → w'.pending ≡ Some found
+      → w.pending ≡ None → WorksAt p b w'
+  works_lost n is-next in-row table tries store pending none = record {
+    table = table ∙ k.table;
+    works = record {
+      view =
+          kept.is
+          ∙
+          (λ i. view p ((sym session i, sym journal-same i) ∷ []) (seen_by w')
+          (view_of w').also);
+      slots = slots ∙ k.works.slots;
+      session = subst (λ s. s < length p.scripts) (sym session) k.works.session;
+      room =
+          subst (λ (x : ℕ × ℕ). length (script_of p x.0) ≤ x.1)
+          (λ i. (sym session i, vec_capacity (sym same i))) k.works.room;
+      tries = let a = k.works.tries in
+          let b = ap length kept.saw in
+          let d = length_push (seen_by w) found in
+          omega arith;
+      told = kept.told;
+      lags =
+          subst (λ (x : Stored × Option ℕ). Lags p x.0 x.1 (seen_by w'))
+          (λ i. (sym store i, sym pending i)) (
+          let l = subst (λ o. Lags p w.store o (seen_by w)) none k.works.lags in record {
+            words = l.words;
+            behind = kept.saw ∙ ap (λ x. x ++ found ∷ []) l.behind;
+            records = l.records;
+            applied = l.applied;
+            count = l.count;
+            order = l.order;
+          });
+      spent =
+          λ no.
+          absurd
+          (no n (next-same ∙ is-next)
+          (ap (λ j. own_way j n.command) journal-same ∙ in-row));
+    };
+  }
+
+  pub waits_lost : Waits p w w'
+  waits_lost =
+      record { same = journal-same; next = next-same; begins = (found ∷ [], kept.saw) }
+
+-- what is on a row needs one
+pub needs-row : (p : PlanOf) (w : Worker) (k : ℕ) (x : Command ℕ) → IsNextBy p w k x
+    → own_way (journal_of p w) x ≡ row → NeedsNoRow p w → ⊥
+needs-row p w k x is in-row off = off (record { number = k; command = x }) is.next in-row
+
+-- another worker with the same entries waits as well
+pub waits-same : (p : PlanOf) (w v u : Worker) → Waits p w v → u.session ≡ v.session
+    → u.entries ≡ v.entries → u.seat ≡ v.seat → Waits p w u
+waits-same p w v u waits session entries seat = record {
+  same = journal ∙ waits.same;
+  next = (λ i. next p (session i) (journal i)) ∙ waits.next;
+  begins = subst (λ (x : List ℕ). Begins x (seen_by w)) (λ i. (sym seat i).me.0.seen) waits.begins;
+}
+  where
+    journal : journal_of p u ≡ journal_of p v
+    journal = λ i. told (session i) (script_of p (session i)) (entries i).items
+
+-- each step that does something leaves less to do
+pub made_less : (p : PlanOf) (old new : Worker) → Made p old new
+    → length (script_of p (session_of old)) - length (journal_of p new)
+    < length (script_of p (session_of old)) - length (journal_of p old)
+made_less p old new made =
+    let a = (named_next p old (numbered made.line) made.next).more in
+    let b = ap length made.grown in
+    let c = length_push (journal_of p old) made.line in
+    omega arith

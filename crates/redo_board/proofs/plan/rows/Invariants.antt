@@ -1,0 +1,11 @@
+use Rattle.std.proofs.Common.{◌≡◌, ◌≤◌, ◌*◌, map, take}
+use Rattle.redo_command.specs.Meaning.{command_of}
+use Rattle.redo_board.specs.Rows.{rows_in_all}
+use Rattle.redo_board.proofs.plan.rows.Given as goal
+
+abbrev pub invariant-loop-script : goal.invariant-loop-script
+invariant-loop-script l =
+    (l.rows
+    ≡ rows_in_all
+    (map (λ script. map command_of script) (take l.script-index l.script-items)))
+    × (l.rows ≤ 4096 * l.script-index)

@@ -1,0 +1,112 @@
+use Rattle.std.proofs.Common.{◌≡◌, ◌≢◌, ℕ, ◌+◌, ◌<◌, ◌∷◌, [], ◌++◌, length, cond, eqb, Bool, true, false, ◌%◌, ◌/◌, arith, refl, sym, ap, ◌∙◌}
+use Rattle.redo_model.specs.Command.{Unlock}
+use Rattle.redo_model.specs.Reply.{Okay}
+use Rattle.redo_model.specs.Placed.{Place, Granted, Busy, Released}
+use Rattle.redo_model.specs.Journals.{Numbered}
+use Rattle.redo_board.specs.Rows.{rows_of}
+use Rattle.redo_board.specs.Core.{Way, row, claim, free}
+use Rattle.redo_board.specs.Views.{ViewOf}
+use Rattle.redo_board.specs.Plays.{next, own_way, lock_line, free_line, lock_said, lock_place, Goes}
+use Rattle.redo_board.specs.Shown.{journal_of, seen_by, past}
+use Rattle.redo_board.specs.Kept.{view_of}
+use Rattle.redo_board.specs.declared.worker.Worker.{Worker}
+use Rattle.redo_board.proofs.Steps.{frees_as, lone}
+use Rattle.redo_board.proofs.Works.{few_words, target_low, works_claimed, made_claimed}
+use Rattle.redo_board.proofs.worker.Worker.free.Goals as goal
+
+pub overflow_add-word : goal.overflow_add-word
+overflow_add-word c = let a = few_words c.args.plan.now c.args.board.now c.requires.belongs.0 in
+    omega arith
+
+pub overflow_add-word-2 : goal.overflow_add-word-2
+overflow_add-word-2 c = let a = few_words c.args.plan.now c.args.board.now c.requires.belongs.0 in
+    omega arith
+
+no-row : (t : ℕ) (w : Way) → w ≡ free t → w ≢ row
+no-row t w e f = absurd (let g : free t ≡ row = sym e ∙ f in cc)
+
+pub fetch_add-found-requires : goal.fetch_add-found-requires
+fetch_add-found-requires c =
+    let p = c.args.plan.now in
+    let w = c.args.self.now in
+    let b = c.requires.belongs.0 in
+    let k = c.requires.belongs.1 in
+    let u : ℕ = c.args.target in
+    let n : Numbered ℕ = record { number = c.args.number; command = Unlock u } in
+    let low : u < length p.names =
+    target_low p w n u k.works c.requires.command.next refl in (
+      k.table,
+      (let x = b.words in let y = b.rows in omega arith),
+      frees_as p c.args.board.now.table.shared.key c.args.board.now.table.shared.table_id.slots
+          w.seat.id w.session (journal_of p w) (view_of w) w.seat.me.1 b.key k.works.view
+          k.works.session n c.requires.command.next (c.args.board.now.rows + 1 + u) u
+          (ap (λ m. m + 1 + u) b.rows) low c.requires.way,
+    )
+
+pub returns-clause-works : goal.returns-clause-works
+returns-clause-works c =
+    let p = c.args.plan.now in
+    let w = c.args.self.now in
+    let k = c.requires.belongs.1 in
+    let u : ℕ = c.args.target in
+    let n : Numbered ℕ = record { number = c.args.number; command = Unlock u } in
+    let e = c.fetch_add-found.ensures in
+    let found : ℕ = c.fetch_add-found.result in
+    let cap = c.push_reserved.ensures in
+    let w' : Worker =
+    record {
+      seat = c.fetch_add-found.new.seat;
+      session = w.session;
+      entries = c.push_reserved.new.self;
+      store = w.store;
+      pending = w.pending;
+      tries = w.tries;
+    } in
+    let word-at : c.args.board.now.rows + 1 + u ≡ rows_of (view_of w).plan + 1 + u =
+    ap (λ x. x + 1 + u)
+    (c.requires.belongs.0.rows
+    ∙ ap rows_of (sym (ap (λ (v : ViewOf). v.plan) k.works.view))) in
+    let goes : Goes (view_of w) w.session (journal_of p w) (free_line w.session n u found) (seen_by w)
+    (view_of w') =
+    e.2.0 w.session u (journal_of p w) n
+    (lone p w.session (journal_of p w) (view_of w) k.works.view)
+    (ap (λ (v : ViewOf). next v.plan w.session (journal_of p w)) k.works.view
+    ∙ c.requires.command.next)
+    word-at in
+    works_claimed p c.args.board.now w w' n Okay (Released u (found / 2 + 1)) k c.requires.command.next goes
+    _ cap.items refl refl refl refl e.0 e.2.2
+    (let m = cap.capacity in omega arith) refl refl refl (no-row u _ c.requires.way) (λ m. refl)
+
+pub returns-clause-made : goal.returns-clause-made
+returns-clause-made c =
+    let p = c.args.plan.now in
+    let w = c.args.self.now in
+    let k = c.requires.belongs.1 in
+    let u : ℕ = c.args.target in
+    let n : Numbered ℕ = record { number = c.args.number; command = Unlock u } in
+    let e = c.fetch_add-found.ensures in
+    let found : ℕ = c.fetch_add-found.result in
+    let cap = c.push_reserved.ensures in
+    let w' : Worker =
+    record {
+      seat = c.fetch_add-found.new.seat;
+      session = w.session;
+      entries = c.push_reserved.new.self;
+      store = w.store;
+      pending = w.pending;
+      tries = w.tries;
+    } in
+    let word-at : c.args.board.now.rows + 1 + u ≡ rows_of (view_of w).plan + 1 + u =
+    ap (λ x. x + 1 + u)
+    (c.requires.belongs.0.rows
+    ∙ ap rows_of (sym (ap (λ (v : ViewOf). v.plan) k.works.view))) in
+    let goes : Goes (view_of w) w.session (journal_of p w) (free_line w.session n u found) (seen_by w)
+    (view_of w') =
+    e.2.0 w.session u (journal_of p w) n
+    (lone p w.session (journal_of p w) (view_of w) k.works.view)
+    (ap (λ (v : ViewOf). next v.plan w.session (journal_of p w)) k.works.view
+    ∙ c.requires.command.next)
+    word-at in
+    made_claimed p c.args.board.now w w' n Okay (Released u (found / 2 + 1)) k c.requires.command.next goes
+    _ cap.items refl refl refl refl e.0 e.2.2
+    (let m = cap.capacity in omega arith) refl refl refl (no-row u _ c.requires.way) (λ m. refl)

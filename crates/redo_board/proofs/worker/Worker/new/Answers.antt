@@ -1,0 +1,64 @@
+use Rattle.std.proofs.Common.{◌≡◌, ℕ, ◌-◌, ◌<◌, sym, ap, subst, ◌∙◌, arith, refl, [], ◌∷◌, length}
+use Rattle.std.proofs.lemmas.List.{length-map}
+use Rattle.redo_model.specs.Names.{texts}
+use Rattle.redo_model.specs.Renaming.{OrdersAlike, numbering}
+use Rattle.redo_store.specs.Stored.{order_of}
+use Rattle.redo_command.specs.Meaning.{command_of}
+use Rattle.redo_journal.specs.Plans.{script_of}
+use Rattle.redo_board.specs.Views.{ViewOf, view}
+use Rattle.redo_board.specs.Rule.{range, Told}
+use Rattle.redo_board.specs.Shown.{told, rows_up_to}
+use Rattle.redo_board.proofs.Ranges.{fresh_told}
+use Rattle.redo_board.proofs.worker.Worker.new.Goals as goal
+
+pub returns-clause-journal : goal.returns-clause-journal
+returns-clause-journal c =
+    let n : ℕ = c.session_number-session.result in
+    ap (told n (script_of c.args.plan.now n)) c.in-Ok.ensures.items
+
+pub returns-clause-works : goal.returns-clause-works
+returns-clause-works c board sits =
+    let p = c.args.plan.now in
+    let s = c.args.seat in
+    let m = s.seat.me.0 in
+    let e = c.in-Ok.ensures in
+    let f = c.requires in
+    let d = c.in-Ok-new.ensures in
+    let n : ℕ = c.session_number-session.result in
+    let at : n ≡ s.first = c.session_number-session.ensures.number in
+    let none-yet : told n (script_of p n) c.in-Ok.entries.items ≡ [] =
+    ap (told n (script_of p n)) e.items in
+    let one : s.end - s.first ≡ 1 = let x = f.fresh.1 in omega arith in
+    let is : m ≡ view p (range s.first 1) [] [] =
+    f.fresh.0.view ∙ (λ i. view (f.plan.0.plan i) (range s.first (one i)) [] []) in
+    let seen : [] ≡ m.seen = ap (λ (v : ViewOf). v.seen) (sym is) in
+    record {
+      table = sits.table;
+      works = record {
+        view =
+            is
+            ∙
+            (λ i. view p ((sym at i, sym none-yet i) ∷ []) (seen i)
+            (ap (λ (v : ViewOf). v.also) (sym is) i));
+        slots = f.plan.0.slots;
+        session = subst (λ k. k < length p.scripts) (sym at) f.plan.1;
+        room = let x = e.capacity in
+            let y = ap length c.commands.ensures.commands in
+            let z = length-map c.commands.result.now command_of in
+            omega arith;
+        tries = ap length seen;
+        told = subst Told (sym is) (fresh_told p s.first 1 c.session_number-session.ensures.plan);
+        lags =
+            record {
+              words = [];
+              behind = sym seen;
+              records = d.empty;
+              applied = d.applied;
+              count = d.count ∙ ap length c.names.ensures;
+              order = subst
+                  (λ names. OrdersAlike (numbering names) texts (order_of c.in-Ok-new.store))
+                  c.names.ensures d.order;
+            };
+        spent = λ _. ap (rows_up_to 0) (sym none-yet);
+      };
+    }

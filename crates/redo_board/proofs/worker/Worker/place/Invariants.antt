@@ -1,0 +1,12 @@
+use Rattle.std.proofs.Common.{◌-◌, ◌≡◌}
+use Rattle.redo_board.specs.Kept.{WorksAt}
+use Rattle.redo_board.specs.Outcomes.{Waits}
+use Rattle.redo_board.proofs.worker.Worker.place.Given as goal
+
+abbrev pub invariant-loop-self : goal.invariant-loop-self
+invariant-loop-self g l =
+    WorksAt l.plan l.board l.self × (l.self.session ≡ l.initial.self.session)
+    × Waits l.plan l.initial.self l.self
+
+abbrev pub decreases-loop-self : goal.decreases-loop-self
+decreases-loop-self g l = l.board.rows - l.self.tries

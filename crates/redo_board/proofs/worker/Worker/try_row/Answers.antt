@@ -1,0 +1,248 @@
+use Rattle.std.proofs.Common.{◌≡◌, ℕ, ◌+◌, ◌*◌, ◌<◌, ◌∷◌, [], ◌++◌, length, List, arith, refl, sym, ap, ◌∙◌, subst, None, Some, Bool}
+use Rattle.std.proofs.lemmas.List.{length_push}
+use Rattle.redo_model.specs.Command.{asked_lock}
+use Rattle.redo_model.specs.Placed.{Row}
+use Rattle.redo_model.specs.Renaming.{IsBelow}
+use Rattle.redo_model.specs.Journals.{Numbered}
+use Rattle.redo_model.specs.Step.{records_after}
+use Rattle.redo_store.specs.Stored.{records_of, naming_of}
+use Rattle.redo_command.specs.Meaning.{command_of, reply_of}
+use Rattle.redo_journal.specs.Plans.{PlanOf}
+use Rattle.redo_board.specs.Rows.{rows_of}
+use Rattle.redo_board.specs.Core.{word, row}
+use Rattle.redo_board.specs.Views.{view}
+use Rattle.redo_board.specs.Plays.{own, own_build, own_way, SaysRow, Goes, row_line}
+use Rattle.redo_board.specs.Shown.{journal_of, seen_by, next_by}
+use Rattle.redo_board.specs.Kept.{Works, Lags, view_of}
+use Rattle.redo_board.specs.declared.worker.Worker.{Worker}
+use Rattle.redo_board.proofs.Steps.{tries_as, won_goes, room}
+use Rattle.redo_board.proofs.Stores.{says, lags_few, lags_won}
+use Rattle.redo_board.proofs.Told.{way-row}
+use Rattle.redo_board.proofs.Works.{few_words, plan_is, named_next, next_below, works_on, made_on, works_lost, waits_lost}
+use Rattle.redo_board.proofs.worker.Worker.try_row.Goals as goal
+
+-- there is a row for the command
+there : (p : PlanOf) (w : Worker) (n : Numbered ℕ) → Works p w → next_by p w ≡ Some n
+    → own_way (journal_of p w) n.command ≡ row → w.tries < rows_of p
+there p w n k is-next in-row =
+    let no-lock : asked_lock n.command ≡ None =
+    way-row n.command (own (journal_of p w) n.command) (own_build (journal_of p w) n.command)
+    in-row in
+    let a = room p w.session (journal_of p w) (view_of w) n k.view k.told k.session is-next no-lock in
+    let b = k.tries in
+    omega arith
+
+lags_now : (p : PlanOf) (w : Worker) → Works p w → w.pending ≡ None
+    → Lags p w.store None (seen_by w)
+lags_now p w k e = subst (λ o. Lags p w.store o (seen_by w)) e k.lags
+
+pub compare_exchange-found-requires : goal.compare_exchange-found-requires
+compare_exchange-found-requires c =
+    let p = c.args.plan.now in
+    let w = c.args.self.now in
+    let b = c.requires.belongs.0 in
+    let k = c.requires.belongs.1 in
+    let r = c.requires.reply in
+    let x = command_of c.args.command.now in
+    let n : Numbered ℕ = record { number = c.args.number; command = x } in
+    let is-next = c.requires.command.next in
+    let near = there p w n k.works is-next c.requires.way in (
+      k.table,
+      (let x = b.words in omega arith),
+      tries_as p c.args.board.now.table.shared.key c.args.board.now.table.shared.table_id.slots
+          w.seat.id w.session (journal_of p w) (view_of w) w.seat.me.1 b.key k.works.view
+          k.works.session n is-next w.tries
+          (1 + 2 * (4096 * w.session + c.args.number) + c.flag.result)
+          (ap (λ z. 1 + 2 * (4096 * w.session + c.args.number) + z) c.flag.ensures
+          ∙ ap (word w.session c.args.number) c.requires.holds)
+          k.works.tries near c.requires.way
+          (reply_of c.args.reply)
+          (says p w.store (seen_by w) w.session c.args.holds (own (journal_of p w) x) x
+          (reply_of c.args.reply) (lags_now p w k.works c.requires.ready.0) c.requires.holds r.0
+          r.1),
+    )
+
+pub overflow_add-self : goal.overflow_add-self
+overflow_add-self c =
+    let p = c.args.plan.now in
+    let n : Numbered ℕ =
+    record { number = c.args.number; command = command_of c.args.command.now } in
+    let near = there p c.args.self.now n c.requires.belongs.1.works c.requires.command.next
+    c.requires.way in
+    let a = few_words p c.args.board.now c.requires.belongs.0 in
+    let b = c.requires.belongs.0.rows in
+    omega arith
+
+pub returns-then-found-ne0-clause-row : goal.returns-then-found-ne0-clause-row
+returns-then-found-ne0-clause-row c =
+    let n : Numbered ℕ =
+    record { number = c.args.number; command = command_of c.args.command.now } in
+    there c.args.plan.now c.args.self.now n c.requires.belongs.1.works c.requires.command.next
+    c.requires.way
+
+pub returns-clause-row : goal.returns-clause-row
+returns-clause-row c =
+    let n : Numbered ℕ =
+    record { number = c.args.number; command = command_of c.args.command.now } in
+    there c.args.plan.now c.args.self.now n c.requires.belongs.1.works c.requires.command.next
+    c.requires.way
+
+pub apply-requires-clause-numbers : goal.apply-requires-clause-numbers
+apply-requires-clause-numbers c =
+    let p = c.args.plan.now in
+    let w = c.args.self.now in
+    let k = c.requires.belongs.1.works in
+    let n : Numbered ℕ =
+    record { number = c.args.number; command = command_of c.args.command.now } in
+    subst (λ m. IsBelow m n.command) (sym k.lags.count)
+    (next_below p w n k c.requires.command.next)
+
+pub apply-requires-clause-applied : goal.apply-requires-clause-applied
+apply-requires-clause-applied c =
+    let k = c.requires.belongs.1.works in
+    lags_few c.args.plan.now (view_of c.args.self.now) c.args.self.now.store c.args.self.now.pending
+    k.told k.lags
+
+pub returns-then-found-ne0-clause-works : goal.returns-then-found-ne0-clause-works
+returns-then-found-ne0-clause-works c =
+    let p = c.args.plan.now in
+    let w = c.args.self.now in
+    let k = c.requires.belongs.1 in
+    let e = c.compare_exchange-found.ensures in
+    let found : ℕ = c.compare_exchange-found.result in
+    let n : Numbered ℕ =
+    record { number = c.args.number; command = command_of c.args.command.now } in
+    let w' : Worker =
+    record {
+      seat = c.compare_exchange-found.new.seat;
+      session = w.session;
+      entries = w.entries;
+      store = w.store;
+      pending = Some found;
+      tries = w.tries + 1;
+    } in
+    works_lost p c.args.board.now w w' found k (e.2.1 c.if-found-ne0.true) refl refl e.2.2 n
+    c.requires.command.next c.requires.way e.0 refl refl refl c.requires.ready.0
+
+pub returns-then-found-ne0-clause-result : goal.returns-then-found-ne0-clause-result
+returns-then-found-ne0-clause-result c =
+    let p = c.args.plan.now in
+    let w = c.args.self.now in
+    let k = c.requires.belongs.1 in
+    let e = c.compare_exchange-found.ensures in
+    let found : ℕ = c.compare_exchange-found.result in
+    let w' : Worker =
+    record {
+      seat = c.compare_exchange-found.new.seat;
+      session = w.session;
+      entries = w.entries;
+      store = w.store;
+      pending = Some found;
+      tries = w.tries + 1;
+    } in
+    waits_lost p c.args.board.now w w' found k (e.2.1 c.if-found-ne0.true) refl refl e.2.2
+
+pub returns-clause-works : goal.returns-clause-works
+returns-clause-works c =
+    let p = c.args.plan.now in
+    let w = c.args.self.now in
+    let k = c.requires.belongs.1 in
+    let r = c.requires.reply in
+    let e = c.compare_exchange-found.ensures in
+    let cap = c.push_reserved.ensures in
+    let x = command_of c.args.command.now in
+    let n : Numbered ℕ = record { number = c.args.number; command = x } in
+    let is-next = c.requires.command.next in
+    let named = named_next p w n is-next in
+    let h : Bool = own (journal_of p w) x in
+    let lags = lags_now p w k.works c.requires.ready.0 in
+    let reply = reply_of c.args.reply in
+    let seen : List ℕ = seen_by w ++ word w.session c.args.number h ∷ [] in
+    let w' : Worker =
+    record {
+      seat = c.compare_exchange-found.new.seat;
+      session = w.session;
+      entries = c.push_reserved.new.self;
+      store = c.apply.new.self;
+      pending = w.pending;
+      tries = w.tries + 1;
+    } in
+    let said : SaysRow (view p ((w.session, journal_of p w) ∷ []) (seen_by w) (view_of w).also)
+    w.session (journal_of p w) x reply =
+    says p w.store (seen_by w) w.session c.args.holds h x reply lags c.requires.holds r.0 r.1 in
+    let goes : Goes (view_of w) w.session (journal_of p w) (row_line (view_of w) w.session n reply)
+    seen (view_of w') =
+    won_goes p w.session (journal_of p w) (view_of w) (view_of w') n reply k.works.view
+    (e.2.0 c.if-found-ne0.false) is-next said in
+    let small : c.args.number < 4096 =
+    let a = (plan_is p w k.works).short w.session in
+    let b = c.requires.command.within in
+    omega arith in
+    let won : Lags p c.apply.new.self None seen =
+    lags_won p w.store c.apply.new.self (seen_by w) c.apply.ensures.count c.apply.ensures.order
+    c.in-Ok.ensures.applied w.session c.args.number h x small lags named.command
+    (c.in-Ok.ensures.after
+    ∙ ap
+    (λ z. records_after (naming_of w.store) (records_of w.store) w.session z x)
+    c.requires.holds) in
+    let tried : w.tries + 1 ≡ length seen =
+    let a = k.works.tries in
+    let b = length_push (seen_by w) (word w.session c.args.number h) in
+    omega arith in
+    works_on p c.args.board.now w w' n reply (Row (length (seen_by w))) seen k is-next goes
+    _ cap.items refl refl (ap Row k.works.tries) refl e.0 e.2.2
+    (let m = cap.capacity in omega arith) tried (ap (λ m. m + 1) k.works.tries)
+    (subst (λ o. Lags p c.apply.new.self o seen) (sym c.requires.ready.0) won)
+
+pub returns-clause-result : goal.returns-clause-result
+returns-clause-result c =
+    let p = c.args.plan.now in
+    let w = c.args.self.now in
+    let k = c.requires.belongs.1 in
+    let r = c.requires.reply in
+    let e = c.compare_exchange-found.ensures in
+    let cap = c.push_reserved.ensures in
+    let x = command_of c.args.command.now in
+    let n : Numbered ℕ = record { number = c.args.number; command = x } in
+    let is-next = c.requires.command.next in
+    let named = named_next p w n is-next in
+    let h : Bool = own (journal_of p w) x in
+    let lags = lags_now p w k.works c.requires.ready.0 in
+    let reply = reply_of c.args.reply in
+    let seen : List ℕ = seen_by w ++ word w.session c.args.number h ∷ [] in
+    let w' : Worker =
+    record {
+      seat = c.compare_exchange-found.new.seat;
+      session = w.session;
+      entries = c.push_reserved.new.self;
+      store = c.apply.new.self;
+      pending = w.pending;
+      tries = w.tries + 1;
+    } in
+    let said : SaysRow (view p ((w.session, journal_of p w) ∷ []) (seen_by w) (view_of w).also)
+    w.session (journal_of p w) x reply =
+    says p w.store (seen_by w) w.session c.args.holds h x reply lags c.requires.holds r.0 r.1 in
+    let goes : Goes (view_of w) w.session (journal_of p w) (row_line (view_of w) w.session n reply)
+    seen (view_of w') =
+    won_goes p w.session (journal_of p w) (view_of w) (view_of w') n reply k.works.view
+    (e.2.0 c.if-found-ne0.false) is-next said in
+    let small : c.args.number < 4096 =
+    let a = (plan_is p w k.works).short w.session in
+    let b = c.requires.command.within in
+    omega arith in
+    let won : Lags p c.apply.new.self None seen =
+    lags_won p w.store c.apply.new.self (seen_by w) c.apply.ensures.count c.apply.ensures.order
+    c.in-Ok.ensures.applied w.session c.args.number h x small lags named.command
+    (c.in-Ok.ensures.after
+    ∙ ap
+    (λ z. records_after (naming_of w.store) (records_of w.store) w.session z x)
+    c.requires.holds) in
+    let tried : w.tries + 1 ≡ length seen =
+    let a = k.works.tries in
+    let b = length_push (seen_by w) (word w.session c.args.number h) in
+    omega arith in
+    made_on p c.args.board.now w w' n reply (Row (length (seen_by w))) seen k is-next goes
+    _ cap.items refl refl (ap Row k.works.tries) refl e.0 e.2.2
+    (let m = cap.capacity in omega arith) tried (ap (λ m. m + 1) k.works.tries)
+    (subst (λ o. Lags p c.apply.new.self o seen) (sym c.requires.ready.0) won)
+    (word w.session c.args.number h ∷ [], refl)

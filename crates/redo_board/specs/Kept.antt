@@ -1,0 +1,72 @@
+-- What fits together, and what boards, seats and workers keep.
+use Rattle.std.specs.Prelude.{◌≡◌, ℕ, ◌+◌, ◌-◌, ◌<◌, ◌≤◌, List, [], ◌∷◌, ◌++◌, length, Option, MatchOption, vec_capacity}
+use Rattle.redo_model.specs.Names.{texts}
+use Rattle.redo_model.specs.Renaming.{OrdersAlike, numbering}
+use Rattle.redo_store.specs.Stored.{Stored, records_of, count_of, order_of, applied_of}
+use Rattle.redo_journal.specs.Plans.{PlanOf, IsPlan, script_of}
+use Rattle.redo_board.specs.declared.board.Board.{Board}
+use Rattle.redo_board.specs.declared.seat.Seat.{Seat}
+use Rattle.redo_board.specs.declared.worker.Worker.{Worker}
+use Rattle.redo_board.specs.Rows.{rows_of}
+use Rattle.redo_board.specs.Core.{replay, row}
+use Rattle.redo_board.specs.Views.{ViewOf, view}
+use Rattle.redo_board.specs.Rule.{Told, range}
+use Rattle.redo_board.specs.Shown.{plan_of, first_of, end_of, told, journal_of, seen_by, rows_up_to, NeedsNoRow}
+
+-- the words of a board: one for the seats, one for each row, one for each name
+pub record IsBoardOf (p : PlanOf) (b : Board) : Type 0 where
+  pub key : plan_of b ≡ p
+  pub plan : IsPlan p
+  pub rows : b.rows ≡ rows_of p
+  pub words : b.table.shared.table_id.words ≡ rows_of p + 1 + length p.names
+  pub slots : b.table.shared.table_id.slots ≡ 0
+
+-- a seat that knows this plan
+pub record IsSeatOf (p : PlanOf) (s : Seat) : Type 0 where
+  pub plan : s.seat.me.0.plan ≡ p
+  pub slots : s.seat.me.1 ≡ []
+
+-- a seat at this board
+pub record SitsAt (p : PlanOf) (b : Board) (s : Seat) : Type 0 where
+  pub table : s.seat.table_id ≡ b.table.shared.table_id
+  pub seat : IsSeatOf p s
+
+-- a seat whose sessions have no worker yet
+pub record IsFresh (s : Seat) : Type 0 where
+  pub ordered : first_of s ≤ end_of s
+  pub view : s.seat.me.0 ≡ view s.seat.me.0.plan (range s.first (s.end - s.first)) [] []
+
+-- a fresh seat of the sessions from this one on, and below that one
+pub record IsFreshOf (from below : ℕ) (s : Seat) : Type 0 where
+  pub fresh : IsFresh s
+  pub first : first_of s ≡ from
+  pub end : end_of s ≡ below
+
+-- the store is the replay of the row words that were seen, or of all but the last, which is pending
+pub record Lags (p : PlanOf) (stored : Stored) (pending : Option ℕ) (seen : List ℕ) : Type 0 where
+  pub words : List ℕ
+  pub behind : MatchOption pending (seen ≡ words) (λ word. seen ≡ words ++ word ∷ [])
+  pub records : records_of stored ≡ replay p words
+  pub applied : applied_of stored ≡ length words
+  pub count : count_of stored ≡ length p.names
+  pub order : OrdersAlike (numbering p.names) texts (order_of stored)
+
+-- what the worker knows
+abbrev pub view_of : Worker → ViewOf
+view_of w = w.seat.me.0
+
+-- what a worker keeps
+pub record Works (p : PlanOf) (w : Worker) : Type 0 where
+  pub view : view_of w ≡ view p ((w.session, journal_of p w) ∷ []) (seen_by w) (view_of w).also
+  pub slots : w.seat.me.1 ≡ []
+  pub session : w.session < length p.scripts
+  pub room : length (script_of p w.session) ≤ vec_capacity w.entries
+  pub tries : w.tries ≡ length (seen_by w)
+  pub told : Told (view_of w)
+  pub lags : Lags p w.store w.pending (seen_by w)
+  pub spent : NeedsNoRow p w → w.tries ≡ rows_up_to 0 (journal_of p w)
+
+-- a worker at this board
+pub record WorksAt (p : PlanOf) (b : Board) (w : Worker) : Type 0 where
+  pub table : w.seat.table_id ≡ b.table.shared.table_id
+  pub works : Works p w

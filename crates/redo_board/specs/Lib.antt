@@ -1,0 +1,10 @@
+pub mod Rows
+pub mod Core
+pub mod Views
+pub mod Rule
+pub mod Plays
+pub mod Histories
+pub mod Shown
+pub mod Kept
+pub mod Outcomes
+pub mod Steps

@@ -1,0 +1,72 @@
+-- What the calls leave.
+use Rattle.std.specs.Prelude.{◌≡◌, ℕ, ◌+◌, ◌-◌, ◌<◌, ◌≤◌, List, [], ◌∷◌, ◌++◌, length, Some, slice_index}
+use Rattle.redo_model.specs.Placed.{rows_in}
+use Rattle.redo_model.specs.Journals.{numbered, IsJointOrder}
+use Rattle.redo_model.specs.Words.{claim_word_of}
+use Rattle.redo_journal.specs.Plans.{PlanOf, script_of}
+use Rattle.redo_journal.specs.Journals.{told_by}
+use Rattle.redo_journal.specs.declared.entry.Journal.{Journal}
+use Rattle.redo_board.specs.declared.board.Board.{Board}
+use Rattle.redo_board.specs.declared.seat.Seat.{Seat}
+use Rattle.redo_board.specs.declared.worker.Worker.{Worker}
+use Rattle.redo_board.specs.Rows.{rows_of, naming_of}
+use Rattle.redo_board.specs.Core.{Line, Begins, row}
+use Rattle.redo_board.specs.Views.{Part}
+use Rattle.redo_board.specs.Plays.{next}
+use Rattle.redo_board.specs.Histories.{IsHistoryOf, HasParts, EndsWith, words_of}
+use Rattle.redo_board.specs.Shown.{parts_of, seen_at, lines_in, session_of, told, journal_of, seen_by, tries_of, rows_up_to, next_by}
+use Rattle.redo_board.specs.Kept.{SitsAt}
+
+-- one command more was done: the next of the script. A legal history ends with its line, and no row
+-- word that was seen is forgotten
+pub record Made (p : PlanOf) (old new : Worker) : Type 0 where
+  pub line : Line
+  pub grown : journal_of p new ≡ journal_of p old ++ line ∷ []
+  pub session : line.session ≡ session_of old
+  pub next : next_by p old ≡ Some (numbered line)
+  pub ends : EndsWith p (journal_of p new) (seen_by new) line
+  pub begins : Begins (seen_by new) (seen_by old)
+  pub tries : tries_of new ≡ rows_up_to 0 (journal_of p new)
+
+-- nothing was done, the same command is next, and rows may have been seen
+pub record Waits (p : PlanOf) (old new : Worker) : Type 0 where
+  pub same : journal_of p new ≡ journal_of p old
+  pub next : next_by p new ≡ next_by p old
+  pub begins : Begins (seen_by new) (seen_by old)
+
+-- the seat that a worker leaves, with its journal
+pub record Leaves (p : PlanOf) (b : Board) (w : Worker) (seat : Seat) (journal : Journal) : Type 0
+  where
+    pub sits : SitsAt p b seat
+    pub told : told_by (script_of p (session_of w)) journal ≡ journal_of p w
+    pub parts : parts_of seat ≡ (session_of w, journal_of p w) ∷ []
+    pub seen : seen_at seat ≡ seen_by w
+
+-- one legal placed history in which the lines that the seat has are whole parts, and whose row
+-- words begin with what either had seen, and with what the seat has seen
+pub record Together (p : PlanOf) (seat a b : Seat) : Type 0 where
+  pub lines : List Line
+  pub history : IsHistoryOf p lines
+  pub parts : HasParts (parts_of seat) lines
+  pub first : Begins (words_of p lines) (seen_at a)
+  pub second : Begins (words_of p lines) (seen_at b)
+  pub seen : Begins (words_of p lines) (seen_at seat)
+
+-- one legal joint order of the lines that the seat has, which has n rows
+pub record Closes (p : PlanOf) (s : Seat) (n : ℕ) : Type 0 where
+  pub lines : List Line
+  pub history : IsHistoryOf p lines
+  pub joint : IsJointOrder (naming_of p) (lines_in (parts_of s)) lines
+  pub rows : rows_in lines ≡ n
+
+-- one legal joint order of the lines that the seat has, whose words these are
+pub record AreLastWords (p : PlanOf) (parts : List Part) (words : List ℕ) : Type 0 where
+  pub lines : List Line
+  pub history : IsHistoryOf p lines
+  pub joint : IsJointOrder (naming_of p) (lines_in parts) lines
+  pub rows : (r : ℕ) → r < rows_of p → slice_index words (r + 1) ≡ slice_index (words_of p lines) r
+  pub claims : (t : ℕ) → t < length p.names
+      → slice_index words (rows_of p + 1 + t) ≡ claim_word_of (naming_of p) lines t
+  pub few : rows_in lines ≤ rows_of p
+  pub filled : (r : ℕ) → r < rows_in lines → 0 < slice_index (words_of p lines) r
+  pub empty : (r : ℕ) → rows_in lines ≤ r → slice_index (words_of p lines) r ≡ 0

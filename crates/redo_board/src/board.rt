@@ -1,0 +1,80 @@
+ghost use Rattle.std.specs.Prelude.{◌≡◌, ◌+◌, length, IfOk};
+ghost use Rattle.std.specs.Mem.Slots.{slots_items, slots_len, IsFull};
+ghost use Rattle.redo_board.specs.Rows.{rows_of};
+ghost use Rattle.redo_board.specs.Shown.{plan_of, parts_of};
+ghost use Rattle.redo_board.specs.Kept.{IsBoardOf, SitsAt, IsFreshOf};
+ghost use Rattle.redo_board.specs.Shown.{IsForAll};
+ghost use Rattle.redo_board.specs.Outcomes.{Closes, AreLastWords};
+
+use crate::plan::{rows, sessions};
+use crate::rule::Running;
+use crate::seat::Seat;
+use crate::view::View;
+use atomic_table::{Closed, Table};
+use redo_journal::Plan;
+use std::alloc::{AllocError, Global};
+
+/// The words that all workers share: one for the seats, one for each row, one for each name's
+/// claim.
+#[derive(Drop)]
+pub struct Board {
+    pub(crate) table: Table<(), View, Plan, Running, Global>,
+    pub(crate) rows: usize,
+}
+
+impl Board {
+    /// The board of a plan, all words 0, and a fresh seat for all sessions.
+    pub fn open(alloc: Global, plan: &Plan) -> Result<(Board, Seat), AllocError>
+        ensures board { IfOk result (λ r. IsBoardOf plan.now r.0) }
+        ensures seat { IfOk result (λ r. SitsAt plan.now r.0 r.1) }
+        ensures fresh { IfOk result (λ r. IsFreshOf 0 (length plan.now.scripts) r.1) }
+    {
+        let rows = rows(plan);
+        let end = sessions(plan);
+        let words = vec![in alloc; 0u64; rows + 1 + plan.names().len() as usize]?;
+        let (table, seat) = Table::of_words(alloc, words.as_slice(), plan)?;
+        Ok((
+            Board { table, rows },
+            Seat {
+                seat,
+                first: 0,
+                end,
+            },
+        ))
+    }
+
+    /// The number of filled rows.
+    pub fn close(self, seat: Seat) -> usize
+        requires belongs { IsBoardOf (plan_of self) self × SitsAt (plan_of self) self seat }
+        requires all { IsForAll (plan_of self) seat }
+        ensures { Closes (plan_of self) seat result }
+    {
+        let rows = self.rows;
+        let closed = self.last_words(seat);
+        let mut filled = 0;
+        while filled < rows && closed.word(filled + 1) != 0 {
+            filled += 1;
+        }
+        closed.free();
+        filled
+    }
+
+    // The words are those of one legal joint order of what all sessions did.
+    fn last_words(self, seat: Seat) -> Closed<(), Global>
+        requires belongs { IsBoardOf (plan_of self) self × SitsAt (plan_of self) self seat }
+        requires all { IsForAll (plan_of self) seat }
+        ensures words { AreLastWords (plan_of self) (parts_of seat) (slots_items result.words) }
+        ensures full { IsFull result.words }
+        ensures count { slots_len result.words
+            ≡ rows_of (plan_of self) + 1 + length (plan_of self).names }
+        ensures slots { slots_len result.slots ≡ 0 }
+    {
+        let Board { table, rows: _ } = self;
+        let Seat {
+            seat,
+            first: _,
+            end: _,
+        } = seat;
+        table.close_with(seat)
+    }
+}

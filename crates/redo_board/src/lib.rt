@@ -1,0 +1,21 @@
+//! Sessions that work on one redo database without a lock.
+#![tactic(auto)]
+
+mod board;
+mod gate;
+mod laws;
+mod plan;
+mod rule;
+mod seat;
+#[cfg(test)]
+mod tests;
+mod view;
+mod worker;
+
+pub use board::Board;
+pub use gate::{Gate, Open};
+pub use laws::{the_rule_runs, words_fix_the_state};
+pub use redo_journal::{Entry, Journal, Place, Plan, PlanFault};
+pub use seat::Seat;
+pub use view::View;
+pub use worker::Worker;

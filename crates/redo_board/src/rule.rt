@@ -1,0 +1,79 @@
+// The rule of the board's table, and its steps.
+use crate::view::View;
+use atomic_table::{Join, Play, Split, TableRule};
+use redo_journal::Plan;
+use std::marker::{Brand, PhantomData};
+
+pub struct Running;
+
+impl TableRule<(), View, Plan> for Running {
+    ghost use Rattle.redo_board.specs.Rule.{Orderly, first_view};
+
+    ghost holds = { Orderly };
+
+    ghost first = { first_view };
+}
+
+pub struct Try;
+
+impl Play<(), View> for Try {
+    ghost use Rattle.redo_board.specs.Plays.{tried};
+
+    ghost then = { tried };
+}
+
+pub struct Claim;
+
+impl Play<(), View> for Claim {
+    ghost use Rattle.redo_board.specs.Plays.{claimed};
+
+    ghost then = { claimed };
+}
+
+pub struct Free;
+
+impl Play<(), View> for Free {
+    ghost use Rattle.redo_board.specs.Plays.{freed};
+
+    ghost then = { freed };
+}
+
+pub struct Look;
+
+impl Play<(), View> for Look {
+    ghost use Rattle.redo_board.specs.Plays.{looked};
+
+    ghost then = { looked };
+}
+
+/// Where a seat is cut. Each call picks it.
+pub trait Middle {
+    ghost use Rattle.std.specs.Prelude.{ℕ};
+
+    ghost middle: { ℕ };
+}
+
+impl Middle for Brand {
+    ghost middle = { 0 };
+}
+
+pub struct Cut<M>(PhantomData<M>);
+
+impl<M: Middle> Split<View> for Cut<M> {
+    ghost use Rattle.redo_board.specs.Rule.{left_of, right_of};
+
+    ghost left = { left_of M.middle };
+
+    ghost right = { right_of M.middle };
+}
+
+pub struct Both;
+
+impl Join<View> for Both {
+    ghost use Rattle.redo_board.specs.Rule.{met};
+    ghost use Rattle.redo_board.specs.Views.{nobody};
+
+    ghost both = { met };
+
+    ghost spent = { nobody };
+}

@@ -1,0 +1,149 @@
+ghost use Rattle.std.specs.Prelude.{◌≡◌, ◌+◌, ◌<◌, [], ◌++◌, ◌∷◌, length, IfOk, IfErr, IsOk};
+ghost use Rattle.std.specs.Prelude.{OnErr, MatchBool, None};
+ghost use Rattle.redo_model.specs.Journals.{next_of};
+ghost use Rattle.redo_journal.specs.Plans.{PlanOf, script_of};
+ghost use Rattle.redo_board.specs.declared.board.Board.{Board as BoardOf};
+ghost use Rattle.redo_board.specs.Shown.{session_of, journal_of, tries_of, seen_by, first_of};
+ghost use Rattle.redo_board.specs.Shown.{end_of};
+ghost use Rattle.redo_board.specs.Kept.{IsBoardOf, IsSeatOf, SitsAt, IsFresh, WorksAt};
+ghost use Rattle.redo_board.specs.Shown.{entries_of, NeedsNoRow, IsAtEnd, IsLast};
+ghost use Rattle.redo_board.specs.Outcomes.{Made, Waits, Leaves};
+
+use crate::board::Board;
+use crate::gate::Gate;
+use crate::plan::{command_at, commands, session_number};
+use crate::seat::{Seat, Token};
+use crate::worker::told::Way;
+use redo_command::FileStamp;
+use redo_journal::{Entry, Journal, Plan};
+use redo_store::Store;
+use std::alloc::{AllocError, Global};
+
+mod claims;
+mod rows;
+mod told;
+
+/// One session at work: its journal, the rows that it saw, and a store of its own that is as far as
+/// these rows, or one row behind.
+#[derive(Drop)]
+pub struct Worker {
+    pub(crate) seat: Token,
+    pub(crate) session: u8,
+    pub(crate) entries: Vec<Entry>,
+    pub(crate) store: Store,
+    pub(crate) pending: Option<u64>,
+    pub(crate) tries: u32,
+}
+
+impl Worker {
+    /// A worker of the seat's one session. Where memory runs out the seat comes back.
+    pub fn new(alloc: Global, plan: &Plan, seat: Seat) -> Result<Worker, Seat>
+        requires fresh { IsFresh seat × (end_of seat ≡ first_of seat + 1) }
+        requires plan { IsSeatOf plan.now seat × (first_of seat < length plan.now.scripts) }
+        ensures session { IfOk result (λ worker. session_of worker ≡ first_of seat) }
+        ensures journal { IfOk result (λ worker. journal_of plan.now worker ≡ []) }
+        ensures tries { IfOk result (λ worker. tries_of worker ≡ 0) }
+        ensures works { IfOk result (λ worker. (board : BoardOf) → SitsAt plan.now board seat
+            → WorksAt plan.now board worker) }
+        ensures err { IfErr result (λ back. back ≡ seat) }
+    {
+        let session = session_number(plan, seat.first);
+        let Ok(entries) = Vec::with_capacity(alloc, commands(plan, session).len()) else {
+            return Err(seat);
+        };
+        let Ok(store) = Store::new(alloc, plan.names()) else {
+            return Err(seat);
+        };
+        let Seat {
+            seat,
+            first: _,
+            end: _,
+        } = seat;
+        Ok(Worker {
+            seat,
+            session,
+            entries,
+            store,
+            pending: None,
+            tries: 0,
+        })
+    }
+
+    /// Does the next command of the script, and says whether there was one. Where memory runs out
+    /// the command isn't done, and the next step does it.
+    pub fn step<G: Gate>(
+        &mut self,
+        alloc: Global,
+        board: &Board,
+        plan: &Plan,
+        gate: &G,
+    ) -> Result<bool, AllocError>
+        requires { IsBoardOf plan.now board.now × WorksAt plan.now board.now self.old }
+        ensures works { WorksAt plan.now board.now self.new }
+        ensures session { session_of self.new ≡ session_of self.old }
+        ensures ok { IfOk result (λ made. MatchBool made (Made plan.now self.old self.new)
+            (IsAtEnd plan.now self.old × (self.new ≡ self.old))) }
+        ensures err { OnErr result (Waits plan.now self.old self.new) }
+        ensures no_row { NeedsNoRow plan.now self.old → tries_of self.new ≡ tries_of self.old }
+        ensures no_memory { NeedsNoRow plan.now self.old → IsOk result }
+    {
+        let Some(number) = self.next(plan) else {
+            return Ok(false);
+        };
+        // The check only knows how to move a command where the types within it are met.
+        let _none: Option<FileStamp> = None;
+        let command = command_at(plan, self.session, number as usize);
+        gate.before(self.session, number);
+        match self.way(commands(plan, self.session), command) {
+            Way::Claim(target) => self.lock(board, plan, number, target),
+            Way::Free(target) => self.free(board, plan, number, target),
+            Way::Row => self.place(alloc, board, plan, gate, number, command)?,
+        }
+        gate.after(self.session, number);
+        Ok(true)
+    }
+
+    /// The last entry, if there is one.
+    pub fn last(&self) -> Option<&Entry>
+        ensures { IsLast (entries_of self.now) result }
+    {
+        self.entries.last()
+    }
+
+    /// How many exchanges on rows were tried: one for each row word that was seen.
+    pub fn tries(&self) -> u32
+        ensures tries { result ≡ tries_of self.now }
+        ensures seen { (plan : PlanOf) (board : BoardOf) → WorksAt plan board self.now
+            → result ≡ length (seen_by self.now) }
+    {
+        self.tries
+    }
+
+    /// The seat, which isn't fresh, and the journal.
+    pub fn leave(self) -> (Seat, Journal)
+        ensures journal { (result.1.session ≡ session_of self) × (result.1.tries ≡ tries_of self) }
+        ensures leaves { (plan : PlanOf) (board : BoardOf) → WorksAt plan board self
+            → Leaves plan board self result.0 result.1 }
+    {
+        let Worker {
+            seat,
+            session,
+            entries,
+            store: _,
+            pending: _,
+            tries,
+        } = self;
+        let session_at = session as usize;
+        let left = Seat {
+            seat,
+            first: session_at,
+            end: session_at,
+        };
+        let journal = Journal {
+            session,
+            entries,
+            tries,
+        };
+        (left, journal)
+    }
+}

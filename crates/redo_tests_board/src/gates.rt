@@ -1,0 +1,102 @@
+//! Gates that hold sessions back until others have come to some moment.
+use redo_board::Gate;
+use std::hint::spin_loop;
+use std::sync::atomic::{AtomicU64, Ordering};
+
+/// How many turns a session waits at most.
+const TURNS: u32 = 100_000_000;
+
+/// A moment of a step: its session, the number of its command, and at `Ready` the row.
+#[derive(Clone, Copy, PartialEq, Eq)]
+pub(crate) enum Moment {
+    Before(u8, u32),
+    Ready(u8, u32, u32),
+    After(u8, u32),
+}
+
+/// Who comes to the first moment is held there until the second has come.
+#[derive(Drop)]
+pub(crate) struct Hold {
+    at: Moment,
+    until: Moment,
+    has_come: AtomicU64,
+}
+
+impl Hold {
+    pub(crate) fn new(at: Moment, until: Moment) -> Hold {
+        Hold {
+            at,
+            until,
+            has_come: AtomicU64::new(0),
+        }
+    }
+
+    /// Whether the second moment came within so many turns.
+    fn comes(&self) -> bool {
+        for _ in 0..TURNS {
+            if self.has_come.load(Ordering::SeqCst) != 0 {
+                return true;
+            }
+            spin_loop();
+        }
+        false
+    }
+}
+
+/// A gate with some holds. It knows whether one took too long, and how often the first session was
+/// ready.
+#[derive(Drop)]
+pub(crate) struct Holds {
+    holds: Vec<Hold>,
+    is_late: AtomicU64,
+    ready: AtomicU64,
+}
+
+impl Holds {
+    pub(crate) fn new(holds: Vec<Hold>) -> Holds {
+        Holds {
+            holds,
+            is_late: AtomicU64::new(0),
+            ready: AtomicU64::new(0),
+        }
+    }
+
+    pub(crate) fn is_late(&self) -> bool {
+        self.is_late.load(Ordering::SeqCst) != 0
+    }
+
+    pub(crate) fn ready_calls(&self) -> u64 {
+        self.ready.load(Ordering::SeqCst)
+    }
+
+    /// Lets go of who waits for this moment, and then waits where there is a hold.
+    fn come(&self, moment: Moment) {
+        for hold in &self.holds {
+            if hold.until == moment {
+                hold.has_come.store(1, Ordering::SeqCst);
+            }
+        }
+        for hold in &self.holds {
+            if hold.at == moment && !hold.comes() {
+                self.is_late.store(1, Ordering::SeqCst);
+            }
+        }
+    }
+}
+
+impl Gate for Holds {
+    fn before(&self, session: u8, line: u32) {
+        self.come(Moment::Before(session, line));
+    }
+
+    fn ready(&self, session: u8, line: u32, row: u32) {
+        if session == 0 {
+            self.ready.fetch_add(1, Ordering::SeqCst);
+        }
+        self.come(Moment::Ready(session, line, row));
+    }
+
+    fn after(&self, session: u8, line: u32) {
+        self.come(Moment::After(session, line));
+    }
+}

@@ -1,0 +1,99 @@
+//! The histories that journals are merged to.
+ghost use Rattle.std.specs.Prelude.{IsTrue};
+ghost use Rattle.std.specs.List.{AllByRecursion};
+ghost use Rattle.redo_model.specs.Renaming.{AllBelow, IsBelow, IsReplyBelow, IsLineBelow};
+ghost use Rattle.redo_command.specs.Meaning.{command_of, reply_of, line_of};
+
+use redo_command::{Command, Line, Refusal, Reply};
+use redo_journal::{Entry, Journal, Place, Plan, are_journals};
+use redo_replay::{Verdict, history_text, merge, read_history, replay};
+use std::alloc::{AllocError, Global};
+use std::process::Abort;
+use std::test::Fail;
+
+fn all_below(count: u32, numbers: &[u32]) -> bool
+    ensures { IsTrue result → AllBelow count numbers.now }
+{
+    numbers.iter().all(|&number| number < count)
+}
+
+fn is_command_below(count: u32, command: &Command) -> bool
+    ensures { IsTrue result → IsBelow count (command_of command.now) }
+{
+    match command {
+        Command::File(n, _)
+        | Command::Gone(n)
+        | Command::Lock(n)
+        | Command::Unlock(n)
+        | Command::Start(n)
+        | Command::Always(n)
+        | Command::Stamp(n, _)
+        | Command::Done(n, _)
+        | Command::Failed(n) => *n < count,
+        Command::IfChange(n, names) | Command::IfCreate(n, names) => {
+            *n < count && all_below(count, names)
+        }
+        Command::Ood | Command::Targets | Command::Sources => true,
+    }
+}
+
+fn is_reply_below(count: u32, reply: &Reply) -> bool
+    ensures { IsTrue result → IsReplyBelow count (reply_of reply.now) }
+{
+    match reply {
+        Reply::Stale(names) | Reply::Ood(names) | Reply::Targets(names) | Reply::Sources(names) =>
+            all_below(count, names),
+        Reply::Refused(Refusal::Exists(n)) => *n < count,
+        _ => true,
+    }
+}
+
+/// Whether the numbers of each line are those of names.
+fn are_below(count: u32, lines: &[Line]) -> bool
+    ensures { IsTrue result → AllByRecursion (λ line. IsLineBelow count (line_of line)) lines.now }
+{
+    lines.iter().all(|line| is_command_below(count, &line.command)
+        && is_reply_below(count, &line.reply))
+}
+
+/// The text of the history that the journals are merged to.
+pub(crate) fn history_of(
+    rt: &impl Abort,
+    alloc: Global,
+    plan: &Plan,
+    journals: &[Journal],
+) -> Result<Vec<u8>, AllocError> {
+    assert!(rt; are_journals(plan, journals));
+    let lines = merge(alloc, plan, journals)?.expect(rt, "a joint order");
+    let names = plan.names();
+    assert!(rt; are_below(names.len(), &lines));
+    history_text(alloc, &lines, names)
+}
+
+/// The database answers as the history says that it did.
+pub(crate) fn replays(rt: &impl Abort, alloc: Global, history: &[u8]) -> Result<(), Fail> {
+    let told = read_history(alloc, history)?;
+    let is_same = matches!(replay(alloc, &told)?, Verdict::Same(_));
+    assert!(rt; is_same, "{history:?}");
+    Ok(())
+}
+
+/// How many entries are at rows.
+fn row_count(entries: &[Entry]) -> usize {
+    let mut rows: usize = 0;
+    for entry in entries {
+        if let Place::Row(_) = entry.place {
+            rows = rows.saturating_add(1);
+        }
+    }
+    rows
+}
+
+/// How many entries of the journals are at rows.
+pub(crate) fn rows_in(journals: &[Journal]) -> usize {
+    let mut rows: usize = 0;
+    for journal in journals {
+        rows = rows.saturating_add(row_count(&journal.entries));
+    }
+    rows
+}

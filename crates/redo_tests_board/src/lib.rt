@@ -1,0 +1,27 @@
+//! The tests of the board: sessions on threads of their own, and every schedule of small plans.
+#![tactic(auto)]
+
+#[cfg(test)]
+mod gates;
+#[cfg(test)]
+mod histories;
+#[cfg(test)]
+mod leaving;
+#[cfg(test)]
+mod order;
+#[cfg(test)]
+mod plans;
+#[cfg(test)]
+mod refusals;
+#[cfg(test)]
+mod schedules;
+#[cfg(test)]
+mod seats;
+#[cfg(test)]
+mod threads;
+#[cfg(test)]
+mod two_threads;
+#[cfg(test)]
+mod worked;
+#[cfg(test)]
+mod workers;

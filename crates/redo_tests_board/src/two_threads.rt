@@ -1,0 +1,47 @@
+//! Two sessions of one command each, on two threads.
+use crate::gates::{Hold, Holds, Moment};
+use crate::plans::plan_of;
+use crate::threads::{have_history, journals_of};
+use redo_board::Open;
+use std::alloc::Global;
+use std::process::Abort;
+use std::test::Fail;
+use std::thread::Threads;
+
+const FILES: [&str; 2] = ["file a 1\n", "file b 1\n"];
+
+#[test]
+fn two_seats(rt: HostRuntime) -> Result<(), Fail> {
+    let alloc = rt.alloc();
+    let plan = plan_of(&rt, alloc, &FILES)?;
+    assert_eq!(rt; plan.scripts().len(), 2);
+    let journals = journals_of(&rt, alloc, &plan, &Open)?;
+    let sessions = journals.iter().map(|journal| journal.session);
+    assert!(rt; sessions.eq([0, 1]));
+    Ok(())
+}
+
+/// A session that is held until the other one's command is done comes second.
+fn comes_second<R: Threads + Abort + AllocGlobal + Sync>(
+    rt: &R,
+    held: u8,
+    other: u8,
+    want: &str,
+) -> Result<(), Fail> {
+    let alloc = rt.alloc();
+    let plan = plan_of(rt, alloc, &FILES)?;
+    let hold = Hold::new(Moment::Before(held, 0), Moment::After(other, 0));
+    let gate = Holds::new(vec![in alloc; hold]?);
+    have_history(rt, alloc, &plan, &gate, want)?;
+    Ok(())
+}
+
+#[test]
+fn gate_a(rt: HostRuntime) -> Result<(), Fail> {
+    comes_second(&rt, 0, 1, "history 2\n2 file b 1 => ok\n1 file a 1 => ok\n")
+}
+
+#[test]
+fn gate_b(rt: HostRuntime) -> Result<(), Fail> {
+    comes_second(&rt, 1, 0, "history 2\n1 file a 1 => ok\n2 file b 1 => ok\n")
+}

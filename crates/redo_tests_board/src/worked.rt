@@ -1,0 +1,75 @@
+//! Runs whose history is written down.
+use crate::gates::{Hold, Holds, Moment};
+use crate::plans::plan_of;
+use crate::threads::have_history;
+use std::alloc::{AllocError, Global};
+use std::test::Fail;
+
+/// The first session's commands for a target, and its question; the second session's file.
+pub(crate) const LOST_TRY: [&str; 2] = [
+    "file a.c 10\nlock a.o\nstart a.o\nifchange a.o a.c\ndone a.o 20\nunlock a.o\nood\n",
+    "file a.c 11\n",
+];
+
+/// What comes of them where the file comes between the question and its reply.
+pub(crate) const LOST_TRY_HISTORY: &str = "history 8\n\
+    1 file a.c 10 => ok\n\
+    1 lock a.o => granted 1\n\
+    1 start a.o => ok\n\
+    1 ifchange a.o a.c => ok\n\
+    1 done a.o 20 => ok\n\
+    1 unlock a.o => ok\n\
+    2 file a.c 11 => ok\n\
+    1 ood => ood a.o\n";
+
+/// The second session is held until the first is ready for its question at the fifth row, and the
+/// first is held there until the second's file is told.
+pub(crate) fn lost_try(alloc: Global) -> Result<Holds, AllocError> {
+    let asks = Moment::Ready(0, 6, 4);
+    Ok(Holds::new(vec![in alloc;
+        Hold::new(Moment::Before(1, 0), asks),
+        Hold::new(asks, Moment::After(1, 0)),
+    ]?))
+}
+
+#[test]
+fn lost_try_changes_the_reply(rt: HostRuntime) -> Result<(), Fail> {
+    let alloc = rt.alloc();
+    let plan = plan_of(&rt, alloc, &LOST_TRY)?;
+    let gate = lost_try(alloc)?;
+    let journals = have_history(&rt, alloc, &plan, &gate, LOST_TRY_HISTORY)?;
+    let tries = journals.iter().map(|journal| journal.tries);
+    assert!(rt; tries.eq([6, 5]));
+    assert_eq!(rt; gate.ready_calls(), 6);
+    Ok(())
+}
+
+#[test]
+fn busy_across_a_release(rt: HostRuntime) -> Result<(), Fail> {
+    let alloc = rt.alloc();
+    let plan = plan_of(
+        &rt,
+        alloc,
+        &[
+            "lock t\nunlock t\n",
+            "lock t\nlock t\n",
+            "lock t\ntargets\n",
+        ],
+    )?;
+    let gate = Holds::new(vec![in alloc;
+        Hold::new(Moment::Before(1, 0), Moment::After(0, 0)),
+        Hold::new(Moment::Before(0, 1), Moment::After(1, 0)),
+        Hold::new(Moment::Before(2, 0), Moment::After(0, 1)),
+        Hold::new(Moment::Before(1, 1), Moment::After(2, 0)),
+        Hold::new(Moment::Before(2, 1), Moment::After(1, 1)),
+    ]?);
+    let want = "history 6\n\
+        1 lock t => granted 1\n\
+        2 lock t => busy 1\n\
+        1 unlock t => ok\n\
+        3 lock t => granted 2\n\
+        2 lock t => busy 2\n\
+        3 targets => targets\n";
+    have_history(&rt, alloc, &plan, &gate, want)?;
+    Ok(())
+}

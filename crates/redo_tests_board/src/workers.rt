@@ -1,0 +1,77 @@
+//! Workers that try a refused step once more.
+ghost use Rattle.std.specs.Prelude.{◌≡◌, ◌+◌, ◌<◌, length, IfOk, IsTrue};
+ghost use Rattle.redo_board.specs.declared.board.Board.{Board as BoardOf};
+ghost use Rattle.redo_board.specs.Kept.{first_of, end_of, session_of};
+ghost use Rattle.redo_board.specs.Kept.{IsBoardOf, IsSeatOf, SitsAt, IsFresh, WorksAt};
+ghost use Rattle.redo_tests_board.specs.Workers.{HasFrom, left_by};
+
+use redo_board::{Board, Gate, Seat, Worker};
+use redo_journal::{Journal, Place, Plan};
+use std::alloc::{AllocError, Global};
+use std::process::Abort;
+
+/// The worker of a seat. Where it is refused, the seat comes back, and the next try succeeds.
+pub(crate) fn worker_of(alloc: Global, plan: &Plan, seat: Seat) -> Result<Worker, AllocError>
+    requires fresh { IsFresh seat × (end_of seat ≡ first_of seat + 1) }
+    requires plan { IsSeatOf plan.now seat × (first_of seat < length plan.now.scripts) }
+    ensures session { IfOk result (λ worker. session_of worker ≡ first_of seat) }
+    ensures works { IfOk result (λ worker. (board : BoardOf) → SitsAt plan.now board seat
+        → WorksAt plan.now board worker) }
+{
+    match Worker::new(alloc, plan, seat) {
+        Ok(worker) => Ok(worker),
+        Err(seat) => match Worker::new(alloc, plan, seat) {
+            Ok(worker) => Ok(worker),
+            Err(_) => Err(AllocError),
+        },
+    }
+}
+
+/// The number and the place of the last entry.
+fn last_of(worker: &Worker) -> Option<(u32, Place)> {
+    worker.last().map(|entry| (entry.line, entry.place))
+}
+
+/// One step. Where it is refused, the journal is as it was, and the next step does the command.
+pub(crate) fn step<G: Gate>(
+    rt: &impl Abort,
+    alloc: Global,
+    board: &Board,
+    plan: &Plan,
+    gate: &G,
+    worker: &mut Worker,
+) -> Result<bool, AllocError>
+    requires { IsBoardOf plan.now board.now × WorksAt plan.now board.now worker.old }
+    ensures works { WorksAt plan.now board.now worker.new }
+    ensures session { session_of worker.new ≡ session_of worker.old }
+    ensures fewer { IfOk result (λ made. IsTrue made
+        → left_by plan.now worker.new < left_by plan.now worker.old) }
+{
+    let last = last_of(worker);
+    match worker.step(alloc, board, plan, gate) {
+        Ok(made) => Ok(made),
+        Err(_) => {
+            assert!(rt; last_of(worker) == last);
+            worker.step(alloc, board, plan, gate)
+        }
+    }
+}
+
+/// Does the whole script of the seat's session, and leaves.
+pub(crate) fn work<G: Gate>(
+    rt: &impl Abort,
+    alloc: Global,
+    board: &Board,
+    plan: &Plan,
+    gate: &G,
+    seat: Seat,
+) -> Result<(Seat, Journal), AllocError>
+    requires board { IsBoardOf plan.now board.now × SitsAt plan.now board.now seat }
+    requires fresh { IsFresh seat × (end_of seat ≡ first_of seat + 1) }
+    requires session { first_of seat < length plan.now.scripts }
+    ensures { IfOk result (λ r. HasFrom plan.now board.now (first_of seat) (end_of seat) r.0) }
+{
+    let mut worker = worker_of(alloc, plan, seat)?;
+    while step(rt, alloc, board, plan, gate, &mut worker)? {}
+    Ok(worker.leave())
+}
