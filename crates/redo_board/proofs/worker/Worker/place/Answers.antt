@@ -13,6 +13,7 @@ returns-in_err-reserve-clause-err g c =
       seat = c.catch_up.new.self.seat;
       session = c.catch_up.new.self.session;
       entries = c.catch_up.new.self.entries;
+      own = c.catch_up.new.self.own;
       store = c.reserve.new.self;
       pending = c.catch_up.new.self.pending;
       tries = c.catch_up.new.self.tries;
