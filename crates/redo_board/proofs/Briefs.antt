@@ -1,5 +1,5 @@
 -- A command that is answered no list has a reply, whatever the records are.
-use Rattle.std.proofs.Common.{◌≡◌, ℕ, List, Bool, false, Option, Some, None, refl, sym, ap, ◌∙◌, subst}
+use Rattle.std.proofs.Common.{◌≡◌, ℕ, List, Bool, false, Option, Some, None, refl, sym, subst}
 use Rattle.std.specs.Prelude.{MatchOption}
 use Rattle.std.specs.declared.cmp.Ordering.{Ordering}
 use Rattle.redo_model.specs.Names.{numbers}
@@ -11,7 +11,7 @@ use Rattle.redo_model.specs.Renaming.{IsBelow, IsReplyBelow}
 use Rattle.redo_model.proofs.VerdictsByName.{RefusesBelow, verdict_below}
 use Rattle.redo_command.specs.Meaning.{reply_of}
 use Rattle.redo_command.specs.declared.reply.Reply as coded
-use Rattle.redo_store.specs.Stored.{IsSameButRoom, count_of, order_of, naming_of, records_of, lists_names}
+use Rattle.redo_store.specs.Stored.{IsSameButRoom, count_of, order_of, records_of, lists_names}
 use Rattle.redo_store.specs.Orders.{by_place}
 use Rattle.redo_board.specs.Own.{has}
 use Rattle.redo_board.specs.Steps.{IsSaidBy, IsReadyBy}
@@ -47,12 +47,12 @@ module _ (count : ℕ) (order : ℕ → ℕ → Ordering) (r : Records ℕ) (s :
       by : (v : Option (Refusal ℕ)) → verdict_of (numbers order) r s h x ≡ v
           → RefusesBelow count v → Answer x
       by None e under = let y = accepted x a b in (
-          y.0,
-          subst
-              (λ v. MatchOption v (Tells (numbers order) r x y.0) (λ f. y.0 ≡ Refused f))
-              (sym e) y.1,
-          y.2,
-        )
+        y.0,
+        subst
+            (λ v. MatchOption v (Tells (numbers order) r x y.0) (λ f. y.0 ≡ Refused f))
+            (sym e) y.1,
+        y.2,
+      )
       by (Some f) e under = (
         Refused f,
         subst

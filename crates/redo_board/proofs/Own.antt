@@ -3,14 +3,13 @@ use Rattle.std.proofs.Common.{◌≡◌, ℕ, ◌+◌, ◌<◌, ◌≤◌, List,
 use Rattle.std.specs.Prelude.{count_by}
 use Rattle.std.proofs.lemmas.Bool.{cases_Bool}
 use Rattle.redo_model.specs.Command.{Command, File, Gone, Lock, Unlock, Start, IfChange, IfCreate, Always, Stamp, Done, Failed, Ood, Targets, Sources, target_of}
-use Rattle.redo_model.specs.Reply.{Reply, Okay}
-use Rattle.redo_model.specs.Reply as replies
+use Rattle.redo_model.specs.Reply.{Reply}
 use Rattle.redo_model.specs.Step.{is_held_by}
 use Rattle.redo_model.specs.Renaming.{IsBelow}
 use Rattle.redo_model.specs.Placed.{Place, Row, Granted, Busy, Released, Fits, IsPlacedAfter, part_of, is_claim, is_grant, is_release, grants_in, releases_in, holds_by}
 use Rattle.redo_journal.specs.Plans.{PlanOf, IsPlan}
 use Rattle.redo_board.specs.Rows.{naming_of, bit}
-use Rattle.redo_board.specs.Core.{Line, IsLegal, start, after_all, built, turn_build, way}
+use Rattle.redo_board.specs.Core.{Line, IsLegal, start, after_all, turn_build, way}
 use Rattle.redo_board.specs.Plays.{by_number, built_name, own, own_build, own_way}
 use Rattle.redo_board.specs.Own.{Says, Notes, holds_name, builds_name, has, way_by, turn_held}
 use Rattle.redo_board.specs.declared.worker.own.Hold.{Hold}
@@ -77,75 +76,75 @@ row_keeps x reply t b e = grind arith
 
 module _ (ls : List Line) (l : Line) (t : ℕ) (before : InTurn ls) (after : InTurn (ls ++ l ∷ []))
   where
-  abbrev held : Bool
-  held = holds_by by_number ls (Some t)
+    abbrev held : Bool
+    held = holds_by by_number ls (Some t)
 
-  abbrev later : Bool
-  later = holds_by by_number (ls ++ l ∷ []) (Some t)
+    abbrev later : Bool
+    later = holds_by by_number (ls ++ l ∷ []) (Some t)
 
-  grants : (place : Place ℕ) → l.place ≡ place
-      → grants_in by_number (ls ++ l ∷ []) t
-      ≡ grants_in by_number ls t + bit (is_grant by_number t place)
-  grants place is =
-      count-push (λ (x : Line). is_grant by_number t x.place) ls l
-      ∙ ap (λ z. grants_in by_number ls t + bit (is_grant by_number t z)) is
+    grants : (place : Place ℕ) → l.place ≡ place
+        → grants_in by_number (ls ++ l ∷ []) t
+        ≡ grants_in by_number ls t + bit (is_grant by_number t place)
+    grants place is =
+        count-push (λ (x : Line). is_grant by_number t x.place) ls l
+        ∙ ap (λ z. grants_in by_number ls t + bit (is_grant by_number t z)) is
 
-  releases : (place : Place ℕ) → l.place ≡ place
-      → releases_in by_number (ls ++ l ∷ []) t
-      ≡ releases_in by_number ls t + bit (is_release by_number t place)
-  releases place is =
-      count-push (λ (x : Line). is_release by_number t x.place) ls l
-      ∙ ap (λ z. releases_in by_number ls t + bit (is_release by_number t z)) is
+    releases : (place : Place ℕ) → l.place ≡ place
+        → releases_in by_number (ls ++ l ∷ []) t
+        ≡ releases_in by_number ls t + bit (is_release by_number t place)
+    releases place is =
+        count-push (λ (x : Line). is_release by_number t x.place) ls l
+        ∙ ap (λ z. releases_in by_number ls t + bit (is_release by_number t z)) is
 
-  -- no count of the target's changes
-  still : (place : Place ℕ) → l.place ≡ place → is_grant by_number t place ≡ false
-      → is_release by_number t place ≡ false → later ≡ held
-  still place is no-grant no-release =
-      let a = grants place is ∙ ap (λ b. grants_in by_number ls t + bit b) no-grant in
-      let b = releases place is ∙ ap (λ c. releases_in by_number ls t + bit c) no-release in
-      let more : grants_in by_number (ls ++ l ∷ []) t ≡ grants_in by_number ls t =
-      omega arith in
-      let less : releases_in by_number (ls ++ l ∷ []) t ≡ releases_in by_number ls t =
-      omega arith in
-      λ i. eqb (more i) (less i + 1)
+    -- no count of the target's changes
+    still : (place : Place ℕ) → l.place ≡ place → is_grant by_number t place ≡ false
+        → is_release by_number t place ≡ false → later ≡ held
+    still place is no-grant no-release =
+        let a = grants place is ∙ ap (λ b. grants_in by_number ls t + bit b) no-grant in
+        let b = releases place is ∙ ap (λ c. releases_in by_number ls t + bit c) no-release in
+        let more : grants_in by_number (ls ++ l ∷ []) t ≡ grants_in by_number ls t =
+        omega arith in
+        let less : releases_in by_number (ls ++ l ∷ []) t ≡ releases_in by_number ls t =
+        omega arith in
+        λ i. eqb (more i) (less i + 1)
 
-  granted : (u g : ℕ) → l.place ≡ Granted u g → later ≡ cond (eqb u t) true held
-  granted u g is = elim (cases_Bool (eqb u t)) [
-    | inl e ↦
-        let a = grants (Granted u g) is ∙ ap (λ b. grants_in by_number ls t + bit b) e in
-        let b = releases (Granted u g) is in
-        let c = before.least t in
-        let d = after.most t in
-        eq-eqb (grants_in by_number (ls ++ l ∷ []) t)
-        (releases_in by_number (ls ++ l ∷ []) t + 1) (omega arith)
-        ∙ sym (ap (λ b. cond b true held) e)
-    | inr e ↦ still (Granted u g) is e refl ∙ sym (ap (λ b. cond b true held) e)
-  ]
+    granted : (u g : ℕ) → l.place ≡ Granted u g → later ≡ cond (eqb u t) true held
+    granted u g is = elim (cases_Bool (eqb u t)) [
+      | inl e ↦
+          let a = grants (Granted u g) is ∙ ap (λ b. grants_in by_number ls t + bit b) e in
+          let b = releases (Granted u g) is in
+          let c = before.least t in
+          let d = after.most t in
+          eq-eqb (grants_in by_number (ls ++ l ∷ []) t)
+          (releases_in by_number (ls ++ l ∷ []) t + 1) (omega arith)
+          ∙ sym (ap (λ b. cond b true held) e)
+      | inr e ↦ still (Granted u g) is e refl ∙ sym (ap (λ b. cond b true held) e)
+    ]
 
-  released : (u g : ℕ) → l.place ≡ Released u g → later ≡ cond (eqb u t) false held
-  released u g is = elim (cases_Bool (eqb u t)) [
-    | inl e ↦
-        let a = grants (Released u g) is in
-        let b = releases (Released u g) is ∙ ap (λ c. releases_in by_number ls t + bit c) e in
-        let c = before.most t in
-        let d = after.least t in
-        ne_eqb (grants_in by_number (ls ++ l ∷ []) t)
-        (releases_in by_number (ls ++ l ∷ []) t + 1) (λ q. absurd (omega arith))
-        ∙ sym (ap (λ b. cond b false held) e)
-    | inr e ↦ still (Released u g) is refl e ∙ sym (ap (λ b. cond b false held) e)
-  ]
+    released : (u g : ℕ) → l.place ≡ Released u g → later ≡ cond (eqb u t) false held
+    released u g is = elim (cases_Bool (eqb u t)) [
+      | inl e ↦
+          let a = grants (Released u g) is in
+          let b = releases (Released u g) is ∙ ap (λ c. releases_in by_number ls t + bit c) e in
+          let c = before.most t in
+          let d = after.least t in
+          ne_eqb (grants_in by_number (ls ++ l ∷ []) t)
+          (releases_in by_number (ls ++ l ∷ []) t + 1) (λ q. absurd (omega arith))
+          ∙ sym (ap (λ b. cond b false held) e)
+      | inr e ↦ still (Released u g) is refl e ∙ sym (ap (λ b. cond b false held) e)
+    ]
 
-  -- what is held after a line is told by its command and reply
-  held_after : (place : Place ℕ) → l.place ≡ place → Fits place l.command l.reply
-      → later ≡ turn_held l.command l.reply t held
-  held_after (Row r) is fits =
-      still (Row r) is refl refl ∙ sym (row_keeps l.command l.reply t held fits)
-  held_after (Granted u g) is fits =
-      granted u g is ∙ (λ i. turn_held (sym fits.0 i) (sym fits.1 i) t held)
-  held_after (Busy u g) is fits =
-      still (Busy u g) is refl refl ∙ (λ i. turn_held (sym fits.0 i) (sym fits.1 i) t held)
-  held_after (Released u g) is fits =
-      released u g is ∙ (λ i. turn_held (sym fits.0 i) (sym fits.1 i) t held)
+    -- what is held after a line is told by its command and reply
+    held_after : (place : Place ℕ) → l.place ≡ place → Fits place l.command l.reply
+        → later ≡ turn_held l.command l.reply t held
+    held_after (Row r) is fits =
+        still (Row r) is refl refl ∙ sym (row_keeps l.command l.reply t held fits)
+    held_after (Granted u g) is fits =
+        granted u g is ∙ (λ i. turn_held (sym fits.0 i) (sym fits.1 i) t held)
+    held_after (Busy u g) is fits =
+        still (Busy u g) is refl refl ∙ (λ i. turn_held (sym fits.0 i) (sym fits.1 i) t held)
+    held_after (Released u g) is fits =
+        released u g is ∙ (λ i. turn_held (sym fits.0 i) (sym fits.1 i) t held)
 
 pub says_on : (count : ℕ) (old new : Own) (ls : List Line) (l : Line) → Says count old ls
     → Notes old l.command l.reply new → InTurn ls → InTurn (ls ++ l ∷ [])

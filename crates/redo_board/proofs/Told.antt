@@ -1,18 +1,12 @@
 -- What one line more tells of what a session holds and builds.
-use Rattle.std.proofs.Common.{◌≡◌, ℕ, ◌+◌, ◌<◌, ◌≤◌, List, [], ◌∷◌, ◌++◌, length, get_or, take, Bool, true, false, not, ◌&&◌, cond, None, refl, sym, ap, ◌∙◌}
-use Rattle.std.proofs.lemmas.List.{take_more, map-append, get_or_past}
+use Rattle.std.proofs.Common.{◌≡◌, ℕ, List, [], ◌∷◌, ◌++◌, Bool, true, false, not, ◌&&◌, cond, None, refl, ap, ◌∙◌}
+use Rattle.std.proofs.lemmas.List.{map-append}
 use Rattle.redo_model.specs.Command as commands
 use Rattle.redo_model.specs.Command.{asked_lock}
-use Rattle.redo_model.specs.Placed.{is_grant, is_release, grants_in, releases_in}
-use Rattle.redo_command.specs.Meaning.{reply_of}
-use Rattle.redo_journal.specs.Journals.{place_of, line_told}
+use Rattle.redo_journal.specs.Journals.{line_told}
 use Rattle.redo_journal.specs.declared.entry.Entry.{Entry}
-use Rattle.redo_board.specs.Core.{Line, built, turn_build, is_okay, Way, way, row, claim, free}
+use Rattle.redo_board.specs.Core.{Line, built, turn_build, Way, way, row, claim, free}
 use Rattle.redo_board.specs.Shown.{told}
-use Rattle.redo_board.specs.Rows.{bit}
-use Rattle.redo_board.specs.Plays.{by_number}
-use Rattle.redo_board.proofs.Bridge.{count-push}
-use Rattle.redo_board.proofs.Builds.{cond_both}
 
 pub built-push : (t : ℕ) (b : Bool) (ls : List Line) (l : Line)
     → built t b (ls ++ l ∷ []) ≡ turn_build l.command l.reply t (built t b ls)

@@ -6,14 +6,14 @@ use Rattle.std.proofs.lemmas.List.{length_push, append-nil}
 use Rattle.redo_model.specs.Command.{Command, Ood, names_in}
 use Rattle.redo_model.specs.Reply.{Reply}
 use Rattle.redo_model.specs.Renaming.{IsBelow, AllBelow}
-use Rattle.redo_model.specs.Placed.{Place, Row}
+use Rattle.redo_model.specs.Placed.{Place}
 use Rattle.redo_model.specs.Journals.{Numbered, numbered}
 use Rattle.redo_command.specs.Meaning.{reply_of}
 use Rattle.redo_store.specs.Stored.{Stored}
 use Rattle.redo_journal.specs.Plans.{PlanOf, IsPlan, script_of}
 use Rattle.redo_journal.specs.Journals.{place_of, line_told}
 use Rattle.redo_journal.specs.declared.entry.Entry.{Entry}
-use Rattle.redo_board.specs.Core.{Line, Begins, Way, row}
+use Rattle.redo_board.specs.Core.{Line, Begins, row}
 use Rattle.redo_board.specs.Histories.{EndsWith}
 use Rattle.redo_board.specs.Views.{Part, ViewOf, view}
 use Rattle.redo_board.specs.Rule.{HasPart, Told}
@@ -240,7 +240,8 @@ module _ (p : PlanOf) (b : Board) (w w' : Worker) (n : Numbered ℕ) (reply : Re
   pub made_claimed : Made p w w'
   made_claimed =
       made_on p b w w' n reply place (seen_by w) k is-next goes e items line said at notes
-      session table slots capacity (tries ∙ k.works.tries) spent₁ lags₁ ([], sym (append-nil (seen_by w)))
+      session table slots capacity (tries ∙ k.works.tries) spent₁ lags₁ ([], sym (append-nil
+          (seen_by w)))
 
 -- after a row was lost
 module _ (p : PlanOf) (b : Board) (w w' : Worker) (found : ℕ) (k : WorksAt p b w)

@@ -8,11 +8,11 @@ use Rattle.redo_board.specs.declared.board.Board.{Board}
 use Rattle.redo_board.specs.declared.seat.Seat.{Seat}
 use Rattle.redo_board.specs.declared.worker.Worker.{Worker}
 use Rattle.redo_board.specs.Rows.{rows_of}
-use Rattle.redo_board.specs.Core.{replay, row}
+use Rattle.redo_board.specs.Core.{replay}
 use Rattle.redo_board.specs.Own.{Says}
 use Rattle.redo_board.specs.Views.{ViewOf, view}
 use Rattle.redo_board.specs.Rule.{Told, range}
-use Rattle.redo_board.specs.Shown.{plan_of, first_of, end_of, told, journal_of, seen_by, rows_up_to, NeedsNoRow}
+use Rattle.redo_board.specs.Shown.{plan_of, first_of, end_of, journal_of, seen_by, rows_up_to, NeedsNoRow}
 
 -- the words of a board: one for the seats, one for each row, one for each name
 pub record IsBoardOf (p : PlanOf) (b : Board) : Type 0 where

@@ -1,12 +1,11 @@
-use Rattle.std.proofs.Common.{◌≡◌, ◌≢◌, ℕ, ◌+◌, ◌<◌, ◌∷◌, [], ◌++◌, length, cond, eqb, Bool, true, false, ◌%◌, ◌/◌, arith, refl, sym, ap, ◌∙◌}
+use Rattle.std.proofs.Common.{◌≡◌, ◌≢◌, ℕ, ◌+◌, ◌<◌, length, cond, eqb, Bool, true, false, ◌%◌, ◌/◌, arith, refl, sym, ap, ◌∙◌}
 use Rattle.redo_model.specs.Command.{Lock}
-use Rattle.redo_model.specs.Reply.{Okay}
-use Rattle.redo_model.specs.Placed.{Place, Granted, Busy, Released}
+use Rattle.redo_model.specs.Placed.{Granted, Busy}
 use Rattle.redo_model.specs.Journals.{Numbered}
 use Rattle.redo_board.specs.Rows.{rows_of}
-use Rattle.redo_board.specs.Core.{Way, row, claim, free}
+use Rattle.redo_board.specs.Core.{row, claim}
 use Rattle.redo_board.specs.Views.{ViewOf}
-use Rattle.redo_board.specs.Plays.{next, own_way, lock_line, free_line, lock_said, lock_place, Goes}
+use Rattle.redo_board.specs.Plays.{next, lock_line, lock_said, lock_place, Goes}
 use Rattle.redo_board.specs.Shown.{journal_of, seen_by, past}
 use Rattle.redo_board.specs.Kept.{WorksAt, view_of}
 use Rattle.redo_board.specs.Outcomes.{Made}
@@ -68,7 +67,8 @@ returns-clause-works c =
     ap (λ x. x + 1 + u)
     (c.requires.belongs.0.rows
     ∙ ap rows_of (sym (ap (λ (v : ViewOf). v.plan) k.works.view))) in
-    let goes : Goes (view_of w) w.session (journal_of p w) (lock_line w.session n u found) (seen_by w)
+    let goes : Goes (view_of w) w.session (journal_of p w) (lock_line w.session n u found) (seen_by
+        w)
     (view_of w') =
     e.2.0 w.session u (journal_of p w) n
     (lone p w.session (journal_of p w) (view_of w) k.works.view)
@@ -76,7 +76,8 @@ returns-clause-works c =
     ∙ c.requires.command.next)
     word-at in
     entered w₁ c.enter.new.self (Lock u) _ cap (λ v. WorksAt p c.args.board.now v)
-    (works_claimed p c.args.board.now w w' n (lock_said found) (lock_place u found) k c.requires.command.next goes
+    (works_claimed p c.args.board.now w w' n (lock_said found) (lock_place u found) k
+        c.requires.command.next goes
     _ cap.items c.claim_entry.ensures.line c.claim_entry.ensures.said c.claim_entry.ensures.at
     cap.notes refl e.0 e.2.2
     (let m = cap.capacity in omega arith) refl refl refl (no-row u) (still u found))
@@ -98,7 +99,8 @@ returns-clause-made c =
     ap (λ x. x + 1 + u)
     (c.requires.belongs.0.rows
     ∙ ap rows_of (sym (ap (λ (v : ViewOf). v.plan) k.works.view))) in
-    let goes : Goes (view_of w) w.session (journal_of p w) (lock_line w.session n u found) (seen_by w)
+    let goes : Goes (view_of w) w.session (journal_of p w) (lock_line w.session n u found) (seen_by
+        w)
     (view_of w') =
     e.2.0 w.session u (journal_of p w) n
     (lone p w.session (journal_of p w) (view_of w) k.works.view)
@@ -106,7 +108,8 @@ returns-clause-made c =
     ∙ c.requires.command.next)
     word-at in
     entered w₁ c.enter.new.self (Lock u) _ cap (λ v. Made p w v)
-    (made_claimed p c.args.board.now w w' n (lock_said found) (lock_place u found) k c.requires.command.next goes
+    (made_claimed p c.args.board.now w w' n (lock_said found) (lock_place u found) k
+        c.requires.command.next goes
     _ cap.items c.claim_entry.ensures.line c.claim_entry.ensures.said c.claim_entry.ensures.at
     cap.notes refl e.0 e.2.2
     (let m = cap.capacity in omega arith) refl refl refl (no-row u) (still u found))

@@ -1,4 +1,4 @@
-use Rattle.std.proofs.Common.{◌≡◌, ℕ, List, ◌-◌, ◌<◌, sym, ap, subst, ◌∙◌, arith, refl, [], ◌∷◌, length}
+use Rattle.std.proofs.Common.{◌≡◌, ℕ, List, ◌-◌, ◌<◌, sym, ap, subst, ◌∙◌, arith, [], ◌∷◌, length}
 use Rattle.std.proofs.lemmas.List.{length-map}
 use Rattle.redo_model.specs.Names.{texts}
 use Rattle.redo_model.specs.Renaming.{OrdersAlike, numbering}

@@ -1,6 +1,4 @@
-use Rattle.std.proofs.Common.{◌≡◌, ℕ, List, map, ◌∙◌, sym, ap}
-use Rattle.redo_command.specs.Meaning.{command_of}
-use Rattle.redo_journal.specs.Plans.{script_of}
+use Rattle.std.proofs.Common.{ℕ, ◌∙◌, sym, ap}
 use Rattle.redo_model.specs.Journals.{Numbered}
 use Rattle.redo_board.specs.Rows.{command}
 use Rattle.redo_board.specs.Own.{way_by}
