@@ -1,5 +1,5 @@
 -- A command that is answered no list has a reply, whatever the records are.
-use Rattle.std.proofs.Common.{◌≡◌, ℕ, List, Bool, false, Option, Some, None, refl, sym, subst}
+use Rattle.std.proofs.Common.{◌≡◌, ℕ, Bool, false, Option, Some, None, refl, sym, subst}
 use Rattle.std.specs.Prelude.{MatchOption}
 use Rattle.std.specs.declared.cmp.Ordering.{Ordering}
 use Rattle.redo_model.specs.Names.{numbers}
@@ -11,8 +11,7 @@ use Rattle.redo_model.specs.Renaming.{IsBelow, IsReplyBelow}
 use Rattle.redo_model.proofs.VerdictsByName.{RefusesBelow, verdict_below}
 use Rattle.redo_command.specs.Meaning.{reply_of}
 use Rattle.redo_command.specs.declared.reply.Reply as coded
-use Rattle.redo_store.specs.Stored.{IsSameButRoom, count_of, order_of, records_of, lists_names}
-use Rattle.redo_store.specs.Orders.{by_place}
+use Rattle.redo_store.specs.Stored.{count_of, order_of, records_of, lists_names}
 use Rattle.redo_board.specs.Own.{has}
 use Rattle.redo_board.specs.Steps.{IsSaidBy, IsReadyBy}
 use Rattle.redo_board.specs.declared.worker.Worker.{Worker}
@@ -71,17 +70,3 @@ ready_said w x None a below ready =
     briefly (count_of w.store) (order_of w.store) (records_of w.store) w.session (has w.own x) x a
     ready below in
     (y.0, record { replies = y.1; below = y.2 })
-
--- room is no matter
-pub ready_same : (w v : Worker) (x : Command ℕ) (list : Option coded.Reply)
-    → IsSameButRoom w.store v.store → v.session ≡ w.session → v.own ≡ w.own
-    → IsReadyBy w x list → IsReadyBy v x list
-ready_same w v x None same session own ready = ready
-ready_same w v x (Some reply) same session own ready = record {
-  replies =
-      subst (λ (z : (List ℕ × Records ℕ) × (ℕ × Bool)). Replies (numbers (by_place z.0.0)) z.0.1
-      z.1.0 z.1.1 x (reply_of reply))
-      (λ i. ((sym same.sorted i, sym same.records i), (sym session i, has (sym own i) x)))
-      ready.replies;
-  below = subst (λ n. IsReplyBelow n (reply_of reply)) (sym same.count) ready.below;
-}

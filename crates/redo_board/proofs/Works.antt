@@ -240,8 +240,11 @@ module _ (p : PlanOf) (b : Board) (w w' : Worker) (n : Numbered ℕ) (reply : Re
   pub made_claimed : Made p w w'
   made_claimed =
       made_on p b w w' n reply place (seen_by w) k is-next goes e items line said at notes
-      session table slots capacity (tries ∙ k.works.tries) spent₁ lags₁ ([], sym (append-nil
-          (seen_by w)))
+      session table slots capacity (tries ∙ k.works.tries) spent₁ lags₁ (
+        [],
+        sym (append-nil
+            (seen_by w)),
+      )
 
 -- after a row was lost
 module _ (p : PlanOf) (b : Board) (w w' : Worker) (found : ℕ) (k : WorksAt p b w)

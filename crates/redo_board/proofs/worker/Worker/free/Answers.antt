@@ -62,7 +62,7 @@ returns-clause-works c =
     (c.requires.belongs.0.rows
     ∙ ap rows_of (sym (ap (λ (v : ViewOf). v.plan) k.works.view))) in
     let goes : Goes (view_of w) w.session (journal_of p w) (free_line w.session n u found) (seen_by
-        w)
+    w)
     (view_of w') =
     e.2.0 w.session u (journal_of p w) n
     (lone p w.session (journal_of p w) (view_of w) k.works.view)
@@ -71,7 +71,7 @@ returns-clause-works c =
     word-at in
     entered w₁ c.enter.new.self (Unlock u) _ cap (λ v. WorksAt p c.args.board.now v)
     (works_claimed p c.args.board.now w w' n Okay (Released u (found / 2 + 1)) k
-        c.requires.command.next goes
+    c.requires.command.next goes
     _ cap.items refl refl refl cap.notes refl e.0 e.2.2
     (let m = cap.capacity in omega arith) refl refl refl (no-row u _ c.requires.way) (λ m. refl))
 
@@ -93,7 +93,7 @@ returns-clause-made c =
     (c.requires.belongs.0.rows
     ∙ ap rows_of (sym (ap (λ (v : ViewOf). v.plan) k.works.view))) in
     let goes : Goes (view_of w) w.session (journal_of p w) (free_line w.session n u found) (seen_by
-        w)
+    w)
     (view_of w') =
     e.2.0 w.session u (journal_of p w) n
     (lone p w.session (journal_of p w) (view_of w) k.works.view)
@@ -102,6 +102,6 @@ returns-clause-made c =
     word-at in
     entered w₁ c.enter.new.self (Unlock u) _ cap (λ v. Made p w v)
     (made_claimed p c.args.board.now w w' n Okay (Released u (found / 2 + 1)) k
-        c.requires.command.next goes
+    c.requires.command.next goes
     _ cap.items refl refl refl cap.notes refl e.0 e.2.2
     (let m = cap.capacity in omega arith) refl refl refl (no-row u _ c.requires.way) (λ m. refl))

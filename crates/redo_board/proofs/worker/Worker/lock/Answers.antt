@@ -68,7 +68,7 @@ returns-clause-works c =
     (c.requires.belongs.0.rows
     ∙ ap rows_of (sym (ap (λ (v : ViewOf). v.plan) k.works.view))) in
     let goes : Goes (view_of w) w.session (journal_of p w) (lock_line w.session n u found) (seen_by
-        w)
+    w)
     (view_of w') =
     e.2.0 w.session u (journal_of p w) n
     (lone p w.session (journal_of p w) (view_of w) k.works.view)
@@ -77,7 +77,7 @@ returns-clause-works c =
     word-at in
     entered w₁ c.enter.new.self (Lock u) _ cap (λ v. WorksAt p c.args.board.now v)
     (works_claimed p c.args.board.now w w' n (lock_said found) (lock_place u found) k
-        c.requires.command.next goes
+    c.requires.command.next goes
     _ cap.items c.claim_entry.ensures.line c.claim_entry.ensures.said c.claim_entry.ensures.at
     cap.notes refl e.0 e.2.2
     (let m = cap.capacity in omega arith) refl refl refl (no-row u) (still u found))
@@ -100,7 +100,7 @@ returns-clause-made c =
     (c.requires.belongs.0.rows
     ∙ ap rows_of (sym (ap (λ (v : ViewOf). v.plan) k.works.view))) in
     let goes : Goes (view_of w) w.session (journal_of p w) (lock_line w.session n u found) (seen_by
-        w)
+    w)
     (view_of w') =
     e.2.0 w.session u (journal_of p w) n
     (lone p w.session (journal_of p w) (view_of w) k.works.view)
@@ -109,7 +109,7 @@ returns-clause-made c =
     word-at in
     entered w₁ c.enter.new.self (Lock u) _ cap (λ v. Made p w v)
     (made_claimed p c.args.board.now w w' n (lock_said found) (lock_place u found) k
-        c.requires.command.next goes
+    c.requires.command.next goes
     _ cap.items c.claim_entry.ensures.line c.claim_entry.ensures.said c.claim_entry.ensures.at
     cap.notes refl e.0 e.2.2
     (let m = cap.capacity in omega arith) refl refl refl (no-row u) (still u found))

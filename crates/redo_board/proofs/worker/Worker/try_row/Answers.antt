@@ -32,7 +32,7 @@ there p w n k is-next in-row =
     way-row n.command (own (journal_of p w) n.command) (own_build (journal_of p w) n.command)
     in-row in
     let a = room p w.session (journal_of p w) (view_of w) n k.view k.told k.session is-next no-lock
-        in
+    in
     let b = k.tries in
     omega arith
 
