@@ -10,8 +10,10 @@ use Rattle.redo_board.specs.declared.worker.Worker.{Worker}
 use Rattle.redo_board.specs.Core.{Line}
 use Rattle.redo_board.specs.Views.{Part}
 use Rattle.redo_board.specs.Rule.{HasPart}
-use Rattle.redo_board.specs.Kept.{SitsAt, WorksAt, Leaves, IsForAll, parts_of, session_of, journal_of}
-use Rattle.redo_tests_board.specs.Workers.{Has, HasFrom, AreWorkers}
+use Rattle.redo_board.specs.Shown.{IsForAll, parts_of, session_of, journal_of}
+use Rattle.redo_board.specs.Kept.{SitsAt, WorksAt}
+use Rattle.redo_board.specs.Outcomes.{Leaves}
+use Rattle.redo_tests_board.specs.Workers.{HasFrom, AreWorkers}
 
 pub works_at : (p : PlanOf) (b : Board) (s : ℕ) (ws : List Worker) (k : ℕ) (d : Worker)
     → AreWorkers p b s ws → k < length ws → WorksAt p b (get_or ws k d)

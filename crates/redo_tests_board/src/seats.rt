@@ -1,6 +1,6 @@
 //! Seats at the board of a plan.
 ghost use Rattle.std.specs.Prelude.{ℕ, ◌<◌, length};
-ghost use Rattle.redo_board.specs.Kept.{first_of, end_of};
+ghost use Rattle.redo_board.specs.Shown.{first_of, end_of};
 ghost use Rattle.redo_board.specs.Kept.{IsBoardOf, SitsAt, IsFresh, IsFreshOf};
 ghost use Rattle.redo_tests_board.specs.Workers.{HasFrom};
 

@@ -1,6 +1,7 @@
 use Rattle.std.proofs.Common.{rules, ◌≡◌, ℕ, ◌+◌, ◌<◌, ◌≤◌, List, [], ◌∷◌, ◌++◌, length, get_or, set, refl, sym, ap, ◌∙◌, subst, length-append, arith}
 use Rattle.redo_board.specs.declared.worker.Worker.{Worker}
-use Rattle.redo_board.specs.Kept.{IsFreshOf, WorksAt, session_of}
+use Rattle.redo_board.specs.Shown.{session_of}
+use Rattle.redo_board.specs.Kept.{IsFreshOf, WorksAt}
 use Rattle.redo_tests_board.specs.Workers.{AreWorkers}
 use Rattle.redo_tests_board.proofs.SessionWorkers.{push_worker}
 use Rattle.redo_tests_board.proofs.schedules.workers_of.Goals as goal

@@ -1,6 +1,6 @@
 use Rattle.std.proofs.Common.{rules, ◌≡◌, ℕ, ◌+◌, ◌<◌, ◌≤◌, List, [], ◌∷◌, ◌++◌, length, get_or, set, refl, sym, ap, ◌∙◌, subst, length-append, arith}
 use Rattle.redo_board.specs.declared.worker.Worker.{Worker}
-use Rattle.redo_board.specs.Kept.{first_of, session_of}
+use Rattle.redo_board.specs.Shown.{first_of, session_of}
 use Rattle.redo_tests_board.specs.Workers.{HasFrom}
 use Rattle.redo_tests_board.proofs.SessionWorkers.{left_from}
 use Rattle.redo_tests_board.proofs.workers.work.Goals as goal
