@@ -1,5 +1,5 @@
 -- Workers of the sessions from some one on, and the sessions that seats have.
-use Rattle.std.proofs.Common.{◌≡◌, ℕ, zero, suc, ◌+◌, ◌<◌, ◌≤◌, List, [], ◌∷◌, ◌++◌, length, get_or, set, refl, sym, ap, ◌∙◌, subst, length-append, ⊎_elim, inl, inr, arith}
+use Rattle.std.proofs.Common.{◌≡◌, ℕ, zero, suc, ◌+◌, ◌<◌, List, [], ◌∷◌, ◌++◌, length, get_or, set, refl, sym, ap, ◌∙◌, subst, length-append, inl, inr, arith}
 use mathlib.Core.Logic.{dite}
 use native.Mathlib.Decide.{dec_lt}
 use Rattle.redo_journal.specs.Plans.{PlanOf}
@@ -27,7 +27,8 @@ pub set_worker : (p : PlanOf) (b : Board) (s : ℕ) (ws : List Worker) (k : ℕ)
     → AreWorkers p b s (set ws k w)
 set_worker p b s [] k w d a at is = tt
 set_worker p b s (v ∷ ws) zero w d a at is = (at, is ∙ a.1, a.2)
-set_worker p b s (v ∷ ws) (suc k) w d a at is = (a.0, a.1, set_worker p b (s + 1) ws k w d a.2 at is)
+set_worker p b s (v ∷ ws) (suc k) w d a at is =
+    (a.0, a.1, set_worker p b (s + 1) ws k w d a.2 at is)
 
 -- one more
 pub push_worker : (p : PlanOf) (b : Board) (s : ℕ) (ws : List Worker) (w : Worker)

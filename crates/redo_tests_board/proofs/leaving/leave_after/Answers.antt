@@ -1,4 +1,3 @@
-use Rattle.std.proofs.Common.{◌≡◌}
 use Rattle.redo_board.specs.declared.worker.Worker.{Worker}
 use Rattle.redo_board.specs.Shown.{session_of}
 use Rattle.redo_tests_board.proofs.SessionWorkers.{left_from}

@@ -21,10 +21,10 @@ close-rows-requires-clause-seat g c =
     let left = c.in_ok-left.left in
     let right = c.in_ok-right.right in
     let first : session_of c.in_ok-first.first ≡ 0 =
-        c.in_ok-first.ensures.session ∙ cut.below.first ∙ c.in_ok-board.ensures.fresh.first in
+    c.in_ok-first.ensures.session ∙ cut.below.first ∙ c.in_ok-board.ensures.fresh.first in
     let second : session_of c.in_ok-second.second ≡ 1 =
-        c.in_ok-second.ensures.session ∙ cut.from.first in
+    c.in_ok-second.ensures.session ∙ cut.from.first in
     let one = subst (λ n. HasFrom p b n (n + 1) left) first c.in_ok-left.ensures in
     let other = subst (λ n. HasFrom p b n (n + 1) right) second c.in_ok-right.ensures in
     c.meet-all.ensures 0 1 (length p.scripts) one
-        (subst (λ n. HasFrom p b 1 n right) (sym c.requires) other)
+    (subst (λ n. HasFrom p b 1 n right) (sym c.requires) other)
