@@ -3,12 +3,12 @@ pub mod Causes
 pub mod CommandsSaid
 pub mod Devices
 pub mod Digests
+pub mod Ended
 pub mod Grants
 pub mod KnownFiles
 pub mod KnownNames
 pub mod LinesFit
 pub mod OneRun
 pub mod Parts
-pub mod Ran
 pub mod RepliesFit
 pub mod RunReplays

@@ -6,6 +6,8 @@ use Rattle.redo_command.specs.Reading.{IsFirstFault}
 use Rattle.redo_session.specs.Runs.{AreAccepted}
 use Rattle.redo_session.specs.declared.fault.TextFault.{TextFault}
 use Rattle.redo_session.specs.declared.fault.TextFault.TheVariants.{Memory, Read, TooManySessions, NoSession, Write, Device, TooLong}
+use Rattle.redo_journal.specs.declared.plan.PlanFault.{PlanFault}
+use Rattle.redo_journal.specs.declared.plan.PlanFault.TheVariants as plan
 
 -- the files before this one are accepted, and leave these names
 abbrev pub FilesBefore : List (Option Text) → ℕ → List Text → Type 0
@@ -41,3 +43,8 @@ IsFileCause names known faulted at NoSession = ⊥
 IsFileCause names known faulted at Write = ⊥
 IsFileCause names known faulted at (Device file) = (file ≡ at) × IsTrue faulted
 IsFileCause names known faulted at (TooLong file) = (file ≡ at) × IfSome known (λ bytes. 67108864 < length bytes)
+
+-- the fault that a plan's is
+abbrev pub plan_fault : PlanFault → TextFault
+plan_fault plan.NoSession = NoSession
+plan_fault plan.TooManySessions = TooManySessions

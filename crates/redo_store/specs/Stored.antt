@@ -1,7 +1,7 @@
 -- What the store holds.
 use Rattle.std.specs.Prelude.{◌≡◌, ◌↔◌, ℕ, ◌<◌, ◌≤◌, ◌^◌, Bool, true, false, IsTrue, List, length, slice_index_or}
 use Rattle.std.specs.List.{list_all}
-use Rattle.redo_model.specs.Command.{Command, IfChange, IfCreate}
+use Rattle.redo_model.specs.Command.{Command, IfChange, IfCreate, Ood, Targets, Sources}
 use Rattle.std.specs.declared.cmp.Ordering.{Ordering}
 use Rattle.redo_model.specs.Names.{Naming, IsListed, numbers}
 use Rattle.redo_model.specs.State.{Cell, Records}
@@ -60,6 +60,14 @@ abbrev pub has_room_for : Stored → Command ℕ → Bool
 has_room_for stored (IfChange t ns) = list_all (room_of stored.rows t) ns
 has_room_for stored (IfCreate t ns) = list_all (room_of stored.rows t) ns
 has_room_for stored command = true
+
+-- whether a command is answered a list of names, where it isn't refused: that takes memory
+abbrev pub lists_names : Command ℕ → Bool
+lists_names (IfChange t ns) = true
+lists_names Ood = true
+lists_names Targets = true
+lists_names Sources = true
+lists_names command = false
 
 -- the same but for room, of which none is lost
 pub record IsSameButRoom (old new : Stored) : Type 0 where

@@ -1,4 +1,4 @@
-ghost use Rattle.std.specs.Prelude.{◌≡◌, ◌+◌, ◌^◌, ◌<◌, Some, None, length, option_map, IsTrue, IsFalse, true, IfOk, IsOk, OnOk, OnErr};
+ghost use Rattle.std.specs.Prelude.{◌≡◌, ◌+◌, ◌^◌, ◌<◌, Some, None, length, option_map, IsTrue, IsFalse, true, false, IfOk, IsOk, OnOk, OnErr};
 ghost use Rattle.redo_model.specs.Names.{texts};
 ghost use Rattle.redo_model.specs.State.{empty, is_building, target_state};
 ghost use Rattle.redo_model.specs.Command as commands;
@@ -44,7 +44,7 @@ impl Model for Store {
 }
 
 impl Store {
-    ghost use Rattle.redo_store.specs.Stored.{records_of, order_of, naming_of, count_of, applied_of, HasBuildsLeft, KeepsNames, IsSameButRoom, has_room_for};
+    ghost use Rattle.redo_store.specs.Stored.{records_of, order_of, naming_of, count_of, applied_of, HasBuildsLeft, KeepsNames, IsSameButRoom, has_room_for, lists_names};
 
     /// The empty store: each name is idle, and without a file.
     pub fn new(alloc: Global, names: &Names) -> Result<Store, AllocError>
@@ -64,7 +64,8 @@ impl Store {
         })
     }
 
-    /// The reply to a session's command, which is no lock. `holds` says whether the session holds its target.
+    /// The reply to a session's command, which is no lock. `holds` says whether the session holds its target. Only
+    /// lists of names take memory.
     pub fn reply(
         &self,
         alloc: Global,
@@ -76,6 +77,7 @@ impl Store {
         requires no_lock { asked_lock (command_of command.now) ≡ None }
         ensures replies { IfOk result (λ reply. Replies (naming_of self.now) (records_of self.now) s holds (command_of command.now) (reply_of reply)) }
         ensures below { IfOk result (λ reply. IsReplyBelow (count_of self.now) (reply_of reply)) }
+        ensures ok { lists_names (command_of command.now) ≡ false → IsOk result }
     {
         match self.verdict(s, command, holds) {
             Some(refusal) => Ok(Reply::Refused(refusal)),
@@ -132,6 +134,7 @@ impl Store {
         requires no_lock { asked_lock (command_of command.now) ≡ None }
         ensures tells { IfOk result (λ reply. Tells (naming_of self.now) (records_of self.now) (command_of command.now) (reply_of reply)) }
         ensures below { IfOk result (λ reply. IsReplyBelow (count_of self.now) (reply_of reply)) }
+        ensures ok { lists_names (command_of command.now) ≡ false → IsOk result }
     {
         cases!(answers self alloc command)
     }

@@ -1,0 +1,92 @@
+-- Sessions at work: how far one is, and what two ranges that meet have done.
+use Rattle.std.proofs.Common.{◌≡◌, ℕ, zero, suc, ◌+◌, ◌-◌, ◌<◌, List, [], ◌∷◌, ◌++◌, length, option_map, slice_get, Option, Some, None, refl, sym, ap, ◌∙◌, subst, arith}
+use Rattle.std.proofs.lemmas.List.{length_push, length-append}
+use Rattle.std.proofs.lemmas.Option.{slice_get_within, none-some}
+use Rattle.redo_model.specs.Command.{Command}
+use Rattle.redo_model.specs.Placed.{PlacedLine}
+use Rattle.redo_model.specs.Journals.{Numbered, next_of, numbered}
+use Rattle.redo_journal.specs.Plans.{PlanOf, script_of}
+use Rattle.redo_journal.specs.Journals.{told_by}
+use Rattle.redo_journal.specs.declared.entry.Journal.{Journal}
+use Rattle.redo_board.specs.declared.board.Board.{Board}
+use Rattle.redo_board.specs.declared.seat.Seat.{Seat}
+use Rattle.redo_board.specs.declared.worker.Worker.{Worker}
+use Rattle.redo_board.specs.Core.{Line}
+use Rattle.redo_board.specs.Views.{Part}
+use Rattle.redo_board.specs.Shown.{parts_of, session_of, journal_of, tries_of, rows_up_to, IsAtEnd}
+use Rattle.redo_board.specs.Kept.{SitsAt}
+use Rattle.redo_board.specs.Outcomes.{Made, Leaves}
+use Rattle.redo_session.specs.Sessions.{parts_told, IsEnded, AllEnded, AreDone}
+
+-- who has a next command has not yet done all
+next_within : (script : List (Command ℕ)) (own : List (PlacedLine ℕ)) (next : Numbered ℕ)
+    → next_of script own ≡ Some next → length own < length script
+next_within script own next is = found (slice_get script (length own)) refl is
+  where
+    found : (o : Option (Command ℕ)) → slice_get script (length own) ≡ o
+        → option_map (λ command. record { number = length own; command = command }) o ≡ Some next
+        → length own < length script
+    found None got told = absurd (none-some _ told)
+    found (Some command) got told = slice_get_within script (length own) command got
+
+-- each step that does something leaves less to do
+pub made_less : (p : PlanOf) (old new : Worker) → Made p old new
+    → length (script_of p (session_of old)) - length (journal_of p new)
+    < length (script_of p (session_of old)) - length (journal_of p old)
+made_less p old new made =
+    let within =
+    next_within (script_of p (session_of old)) (journal_of p old) (numbered made.line) made.next in
+    let grown = ap length made.grown ∙ length_push (journal_of p old) made.line in
+    omega arith
+
+-- a worker at its end leaves a journal with nothing left to do
+pub left_done : (p : PlanOf) (b : Board) (s : ℕ) (w : Worker) (seat : Seat) (journal : Journal)
+    → session_of w ≡ s → Leaves p b w seat journal → journal.session ≡ session_of w
+    → journal.tries ≡ tries_of w → IsAtEnd p w → tries_of w ≡ rows_up_to 0 (journal_of p w)
+    → AreDone p b s (s + 1) seat (journal ∷ [])
+left_done p b s w seat journal here leaves session tries none rows =
+    subst (λ t. AreDone p b t (t + 1) seat (journal ∷ [])) here (record {
+      sits = leaves.sits;
+      parts = leaves.parts ∙ ap (λ lines. (session_of w, lines) ∷ []) (sym leaves.told);
+      ended = (
+        record {
+          session = session;
+          none = ap (next_of (script_of p (session_of w))) leaves.told ∙ none;
+          tries = tries ∙ rows ∙ ap (rows_up_to 0) (sym leaves.told);
+        },
+        tt,
+      );
+      count = refl;
+    })
+
+told-append : (p : PlanOf) (s t : ℕ) (xs ys : List Journal) → s + length xs ≡ t
+    → parts_told p s (xs ++ ys) ≡ parts_told p s xs ++ parts_told p t ys
+told-append p s t [] ys e = ap (λ n. parts_told p n ys) (let f : s ≡ t = omega arith in f)
+told-append p s t (x ∷ xs) ys e =
+    ap (λ (parts : List Part). (s, told_by (script_of p s) x) ∷ parts)
+    (told-append p (s + 1) t xs ys (omega arith))
+
+ended-append : (p : PlanOf) (s t : ℕ) (xs ys : List Journal) → s + length xs ≡ t
+    → AllEnded p s xs → AllEnded p t ys → AllEnded p s (xs ++ ys)
+ended-append p s t [] ys e a b =
+    subst (λ n. AllEnded p n ys) (let f : t ≡ s = omega arith in f) b
+ended-append p s t (x ∷ xs) ys e a b =
+    (a.0, ended-append p (s + 1) t xs ys (omega arith) a.1 b)
+
+-- two ranges that meet
+pub done_both : (p : PlanOf) (b : Board) (s m e : ℕ) (one two both : Seat)
+    (xs ys all : List Journal) → AreDone p b s m one xs → AreDone p b m e two ys
+    → all ≡ xs ++ ys → SitsAt p b both → parts_of both ≡ parts_of one ++ parts_of two
+    → AreDone p b s e both all
+done_both p b s m e one two both xs ys all h k is sits parts = record {
+  sits = sits;
+  parts =
+      parts ∙ (λ i. h.parts i ++ k.parts i) ∙ sym (told-append p s m xs ys h.count)
+      ∙ ap (parts_told p s) (sym is);
+  ended = subst (AllEnded p s) (sym is) (ended-append p s m xs ys h.count h.ended k.ended);
+  count =
+      let long = ap length is ∙ length-append xs ys in
+      let first = h.count in
+      let second = k.count in
+      omega arith;
+}
