@@ -17,17 +17,7 @@ use Rattle.redo_board.specs.Shown.{parts_of, session_of, journal_of, tries_of, r
 use Rattle.redo_board.specs.Kept.{SitsAt}
 use Rattle.redo_board.specs.Outcomes.{Made, Leaves}
 use Rattle.redo_session.specs.Sessions.{parts_told, IsEnded, AllEnded, AreDone}
-
--- who has a next command has not yet done all
-next_within : (script : List (Command ℕ)) (own : List (PlacedLine ℕ)) (next : Numbered ℕ)
-    → next_of script own ≡ Some next → length own < length script
-next_within script own next is = found (slice_get script (length own)) refl is
-  where
-    found : (o : Option (Command ℕ)) → slice_get script (length own) ≡ o
-        → option_map (λ command. record { number = length own; command = command }) o ≡ Some next
-        → length own < length script
-    found None got told = absurd (none-some _ told)
-    found (Some command) got told = slice_get_within script (length own) command got
+use Rattle.redo_session.proofs.Wholes.{next_within}
 
 -- each step that does something leaves less to do
 pub made_less : (p : PlanOf) (old new : Worker) → Made p old new
@@ -35,7 +25,8 @@ pub made_less : (p : PlanOf) (old new : Worker) → Made p old new
     < length (script_of p (session_of old)) - length (journal_of p old)
 made_less p old new made =
     let within =
-    next_within (script_of p (session_of old)) (journal_of p old) (numbered made.line) made.next in
+    (next_within (script_of p (session_of old)) (journal_of p old) (numbered made.line) made.next).1
+    in
     let grown = ap length made.grown ∙ length_push (journal_of p old) made.line in
     omega arith
 

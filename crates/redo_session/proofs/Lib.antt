@@ -9,6 +9,9 @@ pub mod KnownFiles
 pub mod KnownNames
 pub mod LinesFit
 pub mod OneRun
+pub mod Outcomes
 pub mod Parts
 pub mod RepliesFit
 pub mod RunReplays
+pub mod Served
+pub mod Wholes
