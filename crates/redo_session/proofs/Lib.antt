@@ -8,10 +8,12 @@ pub mod Grants
 pub mod KnownFiles
 pub mod KnownNames
 pub mod LinesFit
+pub mod NoFault
 pub mod OneRun
 pub mod Outcomes
 pub mod Parts
 pub mod RepliesFit
 pub mod RunReplays
+pub mod RunTexts
 pub mod Served
 pub mod Wholes

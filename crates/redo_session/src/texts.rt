@@ -1,7 +1,7 @@
 ghost use Rattle.std.specs.Prelude.{◌≡◌, ◌≢◌, ◌↔◌, ◌⊎◌, ◌<◌, ◌≤◌, [], false, true, length, map, Any, All, IfOk, IfErr, OnOk, IsErrOf, IsErrAnd};
 ghost use Rattle.std.specs.Io.KnownBytes.{Keeps};
 ghost use Rattle.redo_command.specs.Watched.{is_faulted, inner_of};
-ghost use Rattle.redo_session.specs.Runs.{IsRunText, RunsAs, WritesRun, WritesPart};
+ghost use Rattle.redo_session.specs.Runs.{IsRunText, RunsAs, WritesRun, WritesPart, AreKnownSessions};
 ghost use Rattle.redo_session.specs.Files.{bytes_of_files, flags_of_files, scripts_at, AreScriptsBelow};
 ghost use Rattle.redo_session.specs.Faults.{IsCause, IsDeviceFault};
 
@@ -79,6 +79,10 @@ pub fn run_texts<R: Read, W: Write, T: Threads + Sync>(
     ensures part_written { IsErrOf result TextFault.Write
         → WritesPart (bytes_of_files R.remaining files.old)
         (W.contents (inner_of out.old)) (W.contents (inner_of out.new)) }
+
+    // Files whose bytes are known and that are accepted are refused for memory and devices alone.
+    ensures only { AreKnownSessions (bytes_of_files R.remaining files.old)
+        → IfErr result (λ fault. (fault ≡ TextFault.Memory) ⊎ IsDeviceFault fault) }
 
     // A device's fault is answered exactly where a read or a write failed.
     ensures device { All (λ file. is_faulted file ≡ false) files.old → is_faulted out.old ≡ false
