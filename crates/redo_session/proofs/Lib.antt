@@ -1,8 +1,11 @@
 pub mod Accepted
+pub mod Asked
+pub mod ByPart
 pub mod Causes
 pub mod CommandsSaid
 pub mod Devices
 pub mod Digests
+pub mod DistinctNames
 pub mod Ended
 pub mod Grants
 pub mod KnownFiles

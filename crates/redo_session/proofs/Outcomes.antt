@@ -37,17 +37,17 @@ use Rattle.redo_session.specs.Outcomes.{scripts_named, AreWhole, SeenStands}
 use Rattle.redo_session.proofs.Wholes.{whole_commands, of_session}
 use Rattle.redo_session.proofs.Served.{Serves, whole_at}
 
-all-mapped : {A B : Type 0} (f : A → B) (P : B → Type 0) (xs : List A)
+pub all-mapped : {A B : Type 0} (f : A → B) (P : B → Type 0) (xs : List A)
     → AllByRecursion (λ x. P (f x)) xs → AllByRecursion P (map f xs)
 all-mapped f P [] h = tt
 all-mapped f P (x ∷ xs) h = (h.0, all-mapped f P xs h.1)
 
-all-unmapped : {A B : Type 0} (f : A → B) (P : B → Type 0) (xs : List A)
+pub all-unmapped : {A B : Type 0} (f : A → B) (P : B → Type 0) (xs : List A)
     → AllByRecursion P (map f xs) → AllByRecursion (λ x. P (f x)) xs
 all-unmapped f P [] h = tt
 all-unmapped f P (x ∷ xs) h = (h.0, all-unmapped f P xs h.1)
 
-all-weaker : {A : Type 0} (P Q : A → Type 0) → ((x : A) → P x → Q x) → (xs : List A)
+pub all-weaker : {A : Type 0} (P Q : A → Type 0) → ((x : A) → P x → Q x) → (xs : List A)
     → AllByRecursion P xs → AllByRecursion Q xs
 all-weaker P Q f [] h = tt
 all-weaker P Q f (x ∷ xs) h = (f x h.0, all-weaker P Q f xs h.1)
