@@ -1,11 +1,11 @@
 -- The commands that accepted files ask.
-use Rattle.std.proofs.Common.{◌≡◌, ℕ, zero, suc, ◌<◌, ◌≤◌, Some, List, [], ◌∷◌, ◌++◌, length, map, get_or, refl, sym, ap, ◌∙◌, subst, arith}
+use Rattle.std.proofs.Common.{ℕ, zero, suc, ◌<◌, ◌≤◌, Some, List, [], ◌∷◌, ◌++◌, length, map, get_or, sym, ap, subst, arith}
 use Rattle.std.specs.List.{AllByRecursion, flat_map}
 use Rattle.redo_names.specs.declared.names.TheConstants.{MOST_NAMES}
 use Rattle.redo_model.specs.Names.{Text}
 use Rattle.redo_model.specs.Command.{Command, names_in}
 use Rattle.redo_command.specs.declared.read.TheConstants.{MOST_COMMANDS}
-use Rattle.redo_command.specs.Grammar.{IsScript, with_names}
+use Rattle.redo_command.specs.Grammar.{IsScript}
 use Rattle.redo_session.specs.Runs.{AreAccepted}
 use Rattle.redo_session.proofs.CommandsSaid.{IsSaid, commands_said}
 use Rattle.redo_session.proofs.KnownNames.{IsKnown, AreKnown, known-with_names, added_are_known}

@@ -1,5 +1,5 @@
 -- The run text of files is a history, and its lines are legal.
-use Rattle.std.proofs.Common.{◌≡◌, ℕ, ◌*◌, ◌<◌, ◌≤◌, List, [], ◌∷◌, ◌++◌, Some, length, map, get_or, refl, sym, ap, ◌∙◌, subst, arith}
+use Rattle.std.proofs.Common.{◌*◌, ◌<◌, ◌≤◌, List, [], ◌∷◌, ◌++◌, Some, length, map, sym, ap, subst, arith}
 use Rattle.std.specs.List.{AllByRecursion, flat_map}
 use Rattle.std.proofs.lemmas.List.{length-map}
 use Rattle.redo_names.specs.declared.names.TheConstants.{MOST_NAMES}
@@ -7,13 +7,11 @@ use Rattle.redo_model.specs.Names.{Text, texts}
 use Rattle.redo_model.specs.State.{empty}
 use Rattle.redo_model.specs.Command.{Command, names_in}
 use Rattle.redo_model.specs.History.{Line, part_of, Legal}
-use Rattle.redo_command.specs.declared.read.TheConstants.{MOST_COMMANDS}
 use Rattle.redo_command.specs.Grammar.{with_names}
 use Rattle.redo_command.specs.Histories.{history_text_of, session_text_of, sessions_below}
 use Rattle.redo_replay.proofs.HistoryReadsBack.{history_reads_back}
 use Rattle.redo_replay.specs.HistoryTexts.{IsHistory, AreNamesOf}
-use Rattle.redo_replay.specs.declared.history.TheConstants.{MOST_SESSIONS}
-use Rattle.redo_session.specs.Runs.{AreAccepted, IsRun, IsRunText, RunsAs}
+use Rattle.redo_session.specs.Runs.{IsRun, RunsAs}
 use Rattle.redo_session.proofs.Accepted.{AreAccepted-length}
 use Rattle.redo_session.proofs.Asked.{IsAsked, AreAsked, all_asked, few_names, asked_at, all_names_known}
 use Rattle.redo_session.proofs.ByPart.{all_by_part, length_by_part}

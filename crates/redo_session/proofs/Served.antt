@@ -1,11 +1,8 @@
 -- What a closed board tells of the journals of all sessions.
-use Rattle.std.proofs.Common.{◌≡◌, ◌≢◌, ℕ, zero, suc, ◌+◌, ◌<◌, ◌≤◌, ◌⊎◌, List, [], ◌∷◌, length, get_or, option_map, slice_get, Option, Some, None, refl, sym, ap, ◌∙◌, subst, inl, inr, arith}
+use Rattle.std.proofs.Common.{◌≡◌, ◌≢◌, ℕ, zero, suc, ◌+◌, ◌<◌, List, [], ◌∷◌, length, option_map, slice_get, Some, refl, sym, ap, ◌∙◌, subst, inl, inr, arith}
 use Rattle.std.specs.Option.{unwrap_or}
 use Rattle.std.proofs.lemmas.List.{get_or_past}
-use Rattle.std.proofs.lemmas.Option.{slice_get_past, slice_get_cases}
-use mathlib.Core.Logic.{dite}
-use native.Mathlib.Decide.{dec_lt}
-use Rattle.redo_model.specs.Placed.{part_of}
+use Rattle.std.proofs.lemmas.Option.{slice_get_cases}
 use Rattle.redo_model.specs.Journals.{next_of, IsJournal, IsWholeJournal, IsJointOrder}
 use Rattle.redo_journal.specs.Plans.{PlanOf, script_of}
 use Rattle.redo_journal.specs.Journals.{told_by, journals_of, AreJournals}
@@ -14,14 +11,13 @@ use Rattle.redo_joint.proofs.Exchange.{cond_same, cond_other}
 use Rattle.redo_board.specs.declared.board.Board.{Board}
 use Rattle.redo_board.specs.declared.seat.Seat.{Seat}
 use Rattle.redo_board.specs.Core.{Line}
-use Rattle.redo_board.specs.Views.{Part}
 use Rattle.redo_board.specs.Rule.{HasPart}
-use Rattle.redo_board.specs.Shown.{parts_of, lines_in, HasSession, IsForAll}
+use Rattle.redo_board.specs.Shown.{lines_in, IsForAll}
 use Rattle.redo_board.specs.Histories.{IsHistoryOf}
 use Rattle.redo_board.specs.Outcomes.{Closes}
 use Rattle.redo_replay.specs.Merges.{by_number}
 use Rattle.redo_session.specs.Sessions.{parts_told, IsEnded, AllEnded, AreDone}
-use Rattle.redo_session.specs.Outcomes.{IsWholeOf, AreWhole}
+use Rattle.redo_session.specs.Outcomes.{AreWhole}
 
 -- one legal history of the plan is a joint order of the journals
 pub record Serves (p : PlanOf) (js : List Journal) : Type 0 where
