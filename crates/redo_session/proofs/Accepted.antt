@@ -1,7 +1,9 @@
 -- Files that are accepted one after another.
-use Rattle.std.proofs.Common.{◌≡◌, ℕ, ◌+◌, ◌<◌, suc, Bool, false, Option, None, Result, Ok, Err, ◌⊎◌, inl, inr, List, [], ◌∷◌, ◌++◌, map, take, length, get_or, refl, sym, ap, ◌∙◌, subst, arith}
+use Rattle.std.proofs.Common.{◌≡◌, ℕ, ◌+◌, ◌<◌, ◌≤◌, suc, Bool, false, Option, None, Result, Ok, Err, ◌⊎◌, inl, inr, List, [], ◌∷◌, ◌++◌, map, take, length, get_or, refl, sym, ap, ◌∙◌, subst, arith}
 use Rattle.std.proofs.lemmas.List.{length-map, nil_from_length, take_more}
-use Rattle.std.specs.Prelude.{IfErr}
+use Rattle.std.specs.Prelude.{IfErr, IfOk, OnOk, Vec}
+use mathlib.Core.Logic.{dite}
+use native.Mathlib.Decide.{dec_lt}
 use Rattle.redo_names.specs.Names.{Extends}
 use Rattle.redo_model.specs.Names.{Text}
 use Rattle.redo_model.specs.Command as commands
@@ -10,7 +12,7 @@ use Rattle.redo_command.specs.Meaning.{command_of, command_at}
 use Rattle.redo_command.proofs.Added.{command_at-Extends, IsBelow-Extends}
 use Rattle.redo_session.specs.declared.fault.TextFault.{TextFault}
 use Rattle.redo_session.specs.declared.fault.TextFault.TheVariants.{Memory, Read, TooManySessions, NoSession, Write, Device, TooLong}
-use Rattle.redo_session.specs.Runs.{IsAccepted, AreAccepted}
+use Rattle.redo_session.specs.Runs.{IsAccepted, AreAccepted, IsRunText, RunsAs}
 use Rattle.redo_session.specs.Faults.{IsCause}
 use Rattle.redo_session.specs.Files.{IsScriptBelow, AreScriptsBelow, scripts_at}
 use Rattle.redo_session.proofs.Causes.{shown_at}
@@ -87,7 +89,7 @@ files_more known initial files at d old new scripts script long within same x be
 -- the cause of a fault after the files are accepted
 pub IsCause-sessions : {X : Type 0} (result : Result X TextFault) (files : List (Option Text)) (faulted : List Bool) (scripts : List (List (commands.Command Text))) (names : List Text)
     → AreAccepted [] files scripts names
-    → (result ≡ Err TooManySessions → 1 < length scripts) → (result ≡ Err NoSession → scripts ≡ [])
+    → (result ≡ Err TooManySessions → 64 < length scripts) → (result ≡ Err NoSession → scripts ≡ [])
     → IfErr result (λ fault. (fault ≡ Memory) ⊎ (fault ≡ NoSession) ⊎ (fault ≡ TooManySessions))
     → IfErr result (IsCause files faulted false)
 IsCause-sessions (Ok x) files faulted scripts names are many none others = tt
@@ -98,3 +100,19 @@ IsCause-sessions (Err (Read file line fault)) files faulted scripts names are ma
 IsCause-sessions (Err Write) files faulted scripts names are many none others = absurd (elim others [ inl e ↦ cc | inr (inl e) ↦ cc | inr (inr e) ↦ cc ])
 IsCause-sessions (Err (Device file)) files faulted scripts names are many none others = absurd (elim others [ inl e ↦ cc | inr (inl e) ↦ cc | inr (inr e) ↦ cc ])
 IsCause-sessions (Err (TooLong file)) files faulted scripts names are many none others = absurd (elim others [ inl e ↦ cc | inr (inl e) ↦ cc | inr (inr e) ↦ cc ])
+
+-- the text of accepted files, where they are neither none nor too many
+pub runs_as : {A : Type 0} (result : Result (Vec ℕ A) TextFault) (files : List (Option Text))
+    (scripts : List (List Command)) (names : List Text)
+    → AreAccepted [] files (scripts_at names scripts) names
+    → IfOk result (λ text. IsRunText (scripts_at names scripts) text.items)
+    → OnOk result (length scripts ≤ 64) → (length scripts ≡ 0 → result ≡ Err NoSession)
+    → IfOk result (λ text. RunsAs files text.items)
+runs_as (Ok text) files scripts names are run few none =
+    let same = AreAccepted-length [] files (scripts_at names scripts) names are in
+    let long = length-map scripts (λ script. map (command_at names) script) in
+    let some : 1 ≤ length scripts =
+    dite (dec_lt 0 (length scripts)) (λ less. omega arith)
+    (λ no. absurd (let wrong = none (omega arith) in cc)) in
+    (scripts_at names scripts, (omega arith, omega arith, (names, are)), run)
+runs_as (Err fault) files scripts names are run few none = tt

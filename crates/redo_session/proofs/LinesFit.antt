@@ -1,5 +1,5 @@
--- Legal lines of one session: each has a history line's form, and the replies add no names.
-use Rattle.std.proofs.Common.{◌≡◌, ℕ, ◌+◌, ◌≤◌, List, [], ◌∷◌, ◌++◌, length, map, refl, sym, ap, ◌∙◌, arith}
+-- Legal lines: each has a history line's form, and the replies add no names.
+use Rattle.std.proofs.Common.{◌≡◌, ℕ, ◌+◌, ◌<◌, ◌≤◌, List, [], ◌∷◌, ◌++◌, length, map, refl, sym, ap, ◌∙◌, arith}
 use Rattle.std.specs.List.{AllByRecursion, flat_map}
 use Rattle.redo_model.specs.Names.{Text, texts}
 use Rattle.redo_model.specs.State.{State}
@@ -9,6 +9,7 @@ use Rattle.redo_model.specs.History.{Line, LegalFrom}
 use Rattle.redo_command.specs.Grammar.{with_names}
 use Rattle.redo_command.specs.Replies.{AreAllNames, names_in_reply}
 use Rattle.redo_replay.specs.HistoryTexts.{HasLineForm, names_in_line}
+use Rattle.redo_replay.specs.declared.history.TheConstants.{MOST_SESSIONS}
 use Rattle.redo_session.proofs.CommandsSaid.{IsSaid, form_has_names}
 use Rattle.redo_session.proofs.Grants.{AreFewGrants, few_after}
 use Rattle.redo_session.proofs.KnownFiles.{AreFilesKnown, files_known_after}
@@ -21,9 +22,9 @@ pub record IsReached (names : List Text) (count : ℕ) (st : State Text) : Type 
   pub files : AreFilesKnown names st.records
   pub grants : AreFewGrants count st.locks
 
--- session 0 says a command that a script may have
+-- a session of a run says a command that a script may have
 pub record IsLineSaid (line : Line Text) : Type 0 where
-  pub session : line.session ≡ 0
+  pub session : line.session < MOST_SESSIONS
   pub said : IsSaid line.command
 
 more_known : (names ts : List Text) (st : State Text) → AreFilesKnown names st.records → AreFilesKnown (with_names names ts) st.records
@@ -66,7 +67,7 @@ lines_fit names count st (line ∷ lines) reached said room legal =
     let own = names_in line.command in
     let fits = line_fits names count st line reached said.0 (omega arith) (legal.0, tt) in
     let rest = lines_fit (with_names names own) (count + 1) (after texts st line.session line.command) lines (reached_after names count st line reached said.0) said.1 (omega arith) legal.1 in
-    let form : HasLineForm line = record { session = let zeroth = said.0.session in omega arith; command = said.0.said.0; short = said.0.said.1; reply = fits.0 } in
+    let form : HasLineForm line = record { session = said.0.session; command = said.0.said.0; short = said.0.said.1; reply = fits.0 } in
     record {
       forms = (form, rest.forms);
       same_names = reply_adds_none names own (names_in_reply line.reply) (flat_map names_in_line lines) (flat_map names_in (map (λ (l : Line Text). l.command) lines)) fits.1 rest.same_names;

@@ -1,46 +1,84 @@
--- The run text of one file is a history, and its lines are legal.
-use Rattle.std.proofs.Common.{◌≡◌, ◌≤◌, List, [], ◌∷◌, ◌++◌, Some, length, map, sym, ap, ◌∙◌, subst, arith}
+-- The run text of files is a history, and its lines are legal.
+use Rattle.std.proofs.Common.{◌*◌, ◌<◌, ◌≤◌, List, [], ◌∷◌, ◌++◌, Some, length, map, sym, ap, subst, arith}
 use Rattle.std.specs.List.{AllByRecursion, flat_map}
 use Rattle.std.proofs.lemmas.List.{length-map}
+use Rattle.redo_names.specs.declared.names.TheConstants.{MOST_NAMES}
 use Rattle.redo_model.specs.Names.{Text, texts}
 use Rattle.redo_model.specs.State.{empty}
 use Rattle.redo_model.specs.Command.{Command, names_in}
 use Rattle.redo_model.specs.History.{Line, part_of, Legal}
-use Rattle.redo_command.specs.declared.read.TheConstants.{MOST_COMMANDS}
-use Rattle.redo_command.specs.Grammar.{IsScript, with_names}
+use Rattle.redo_command.specs.Grammar.{with_names}
 use Rattle.redo_command.specs.Histories.{history_text_of, session_text_of, sessions_below}
 use Rattle.redo_replay.proofs.HistoryReadsBack.{history_reads_back}
 use Rattle.redo_replay.specs.HistoryTexts.{IsHistory, AreNamesOf}
-use Rattle.redo_session.specs.Runs.{AreAccepted, IsRun, IsRunText, RunsAs}
-use Rattle.redo_session.proofs.CommandsSaid.{IsSaid, commands_said}
+use Rattle.redo_session.specs.Runs.{IsRun, RunsAs}
+use Rattle.redo_session.proofs.Accepted.{AreAccepted-length}
+use Rattle.redo_session.proofs.Asked.{IsAsked, AreAsked, all_asked, few_names, asked_at, all_names_known}
+use Rattle.redo_session.proofs.ByPart.{all_by_part, length_by_part}
+use Rattle.redo_session.proofs.DistinctNames.{few_known}
 use Rattle.redo_session.proofs.Grants.{few_at_first}
 use Rattle.redo_session.proofs.KnownFiles.{files_known_at_first}
 use Rattle.redo_session.proofs.LinesFit.{IsLineSaid, lines_fit}
-use Rattle.redo_session.proofs.OneRun.{alone, one_said}
+use Rattle.redo_session.proofs.Outcomes.{all-mapped, all-unmapped}
 
 -- the text is a history of legal lines
 abbrev pub Replays : Text → Type 0
-Replays text = (names : List Text) × (lines : List (Line Text)) × IsHistory text names lines × Legal texts lines
+Replays text =
+    (names : List Text) × (lines : List (Line Text)) × IsHistory text names lines
+    × Legal texts lines
 
-lines_said : (lines : List (Line Text)) → AllByRecursion (λ line. line.session ≡ 0) lines → AllByRecursion IsSaid (map (λ line. line.command) lines) → AllByRecursion IsLineSaid lines
-lines_said [] sessions said = tt
-lines_said (line ∷ lines) sessions said = (record { session = sessions.0; said = said.0 }, lines_said lines sessions.1 said.1)
+abbrev command_in : Line Text → Command Text
+command_in line = line.command
 
--- the run of one script
-script_replays : (bytes : Text) (script : List (Command Text)) (names : List Text) (lines : List (Line Text)) (rest : Text) → IsScript [] bytes script names → IsRun (script ∷ []) lines → Replays (history_text_of lines ++ rest)
-script_replays bytes script names lines rest is run =
-    let commands : map (λ (line : Line Text). line.command) lines ≡ script = one_said script lines run in
-    let few : length lines ≤ MOST_COMMANDS = let same = length-map lines (λ (line : Line Text). line.command) in let long = ap length commands in omega (arith, is.few) in
-    let said = lines_said lines (alone lines run.sessions) (subst (AllByRecursion IsSaid) (sym commands) (commands_said _ script is.said)) in
-    let fit = lines_fit [] 0 empty lines (record { each = tt; files = files_known_at_first []; grants = few_at_first }) said (omega arith) run.legal in
-    let named : AreNamesOf lines names = (is.named.0 ∙ ap (λ cs. with_names [] (flat_map names_in cs)) (sym commands) ∙ sym fit.same_names, is.named.1) in
-    (names, lines, history_reads_back lines names rest fit.forms (omega arith) named, run.legal)
+module _ (names : List Text) (scripts : List (List (Command Text))) (few : length scripts ≤ 64)
+    (room : length names ≤ MOST_NAMES) (asked : AllByRecursion (AreAsked names) scripts)
+    (lines : List (Line Text)) (run : IsRun scripts lines) where
+  -- each line's command is one of a script
+  lines_asked : AllByRecursion (λ line. IsAsked names line.command) lines
+  lines_asked =
+      all_by_part (λ line. IsAsked names line.command) (length scripts) lines run.sessions
+      (λ s less.
+      all-unmapped command_in (IsAsked names) (part_of s lines)
+      (subst (AllByRecursion (IsAsked names)) (sym (run.parts s less))
+      (asked_at names scripts s asked less).each))
 
-accepted_replays : (bytes text : Text) (scripts : List (List (Command Text))) (names : List Text) → AreAccepted [] (Some bytes ∷ []) scripts names → IsRunText scripts text → Replays text
-accepted_replays bytes text [] names are run = absurd are
-accepted_replays bytes text (script ∷ []) names (middle, accepted, same) (lines, run, e) =
-    subst Replays (sym e) (script_replays bytes script middle lines (flat_map (λ s. session_text_of s (part_of s lines)) (sessions_below 1)) accepted.1 run)
-accepted_replays bytes text (script ∷ second ∷ scripts) names are run = absurd are.2
+  few_lines : length lines ≤ length scripts * 4096
+  few_lines =
+      length_by_part (length scripts) lines run.sessions
+      (λ s less.
+      let long = length-map (part_of s lines) command_in in
+      let same = ap length (run.parts s less) in
+      let most = (asked_at names scripts s asked less).few in
+      omega arith)
 
-pub run_replays : (bytes text : Text) → RunsAs (Some bytes ∷ []) text → Replays text
-run_replays bytes text (scripts, names, are, run) = accepted_replays bytes text scripts names are run
+  lines_said : (ls : List (Line Text)) → AllByRecursion (λ line. line.session < length scripts) ls
+      → AllByRecursion (λ line. IsAsked names line.command) ls → AllByRecursion IsLineSaid ls
+  lines_said [] below all = tt
+  lines_said (line ∷ ls) below all = (
+    record { session = let less = below.0 in omega arith; said = all.0.said },
+    lines_said ls below.1 all.1,
+  )
+
+  run_is_history : (rest : Text) → Replays (history_text_of lines ++ rest)
+  run_is_history rest =
+      let many = few_lines in
+      let fit =
+      lines_fit [] 0 empty lines
+      (record { each = tt; files = files_known_at_first []; grants = few_at_first })
+      (lines_said lines run.sessions lines_asked) (omega arith) run.legal in
+      let commands = map command_in lines in
+      let known =
+      all_names_known names commands (all-mapped command_in (IsAsked names) lines lines_asked) in
+      let less = few_known names (flat_map names_in commands) known in
+      let met = with_names [] (flat_map names_in commands) in
+      let named : AreNamesOf lines met = (sym fit.same_names, omega arith) in
+      (met, lines, history_reads_back lines met rest fit.forms (omega arith) named, run.legal)
+
+pub run_replays : (files : List Text) (text : Text) → RunsAs (map Some files) text → Replays text
+run_replays files text (scripts, (some, few, (names, are)), (lines, run, is)) =
+    let same = AreAccepted-length [] (map Some files) scripts names are in
+    subst Replays (sym is)
+    (run_is_history names scripts (omega arith)
+    (few_names [] files scripts names are (omega arith)) (all_asked [] files scripts names are)
+    lines run
+    (flat_map (λ s. session_text_of s (part_of s lines)) (sessions_below (length scripts))))

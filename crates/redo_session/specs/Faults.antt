@@ -3,9 +3,11 @@ use Rattle.std.specs.Prelude.{◌≡◌, ℕ, ◌<◌, ◌≤◌, Bool, false, L
 use Rattle.redo_model.specs.Names.{Text}
 use Rattle.redo_model.specs.Command.{Command}
 use Rattle.redo_command.specs.Reading.{IsFirstFault}
-use Rattle.redo_session.specs.Runs.{AreAccepted}
+use Rattle.redo_session.specs.Runs.{AreAccepted, AreSessions}
 use Rattle.redo_session.specs.declared.fault.TextFault.{TextFault}
 use Rattle.redo_session.specs.declared.fault.TextFault.TheVariants.{Memory, Read, TooManySessions, NoSession, Write, Device, TooLong}
+use Rattle.redo_journal.specs.declared.plan.PlanFault.{PlanFault}
+use Rattle.redo_journal.specs.declared.plan.PlanFault.TheVariants as plan
 
 -- the files before this one are accepted, and leave these names
 abbrev pub FilesBefore : List (Option Text) → ℕ → List Text → Type 0
@@ -16,9 +18,13 @@ FilesBefore files file names = (file < length files) × ((scripts : List (List (
 abbrev pub IsCause : List (Option Text) → List Bool → Bool → TextFault → Type 0
 IsCause files faulted out_faulted Memory = ⊤
 IsCause files faulted out_faulted (Read file line fault) = (names : List Text) × FilesBefore files file names × IfSome (slice_index_or files file None) (λ bytes. (length bytes ≤ 67108864) × IsFirstFault names bytes line fault)
-IsCause files faulted out_faulted TooManySessions = (1 < length files) × ((scripts : List (List (Command Text))) × (names : List Text) × AreAccepted [] files scripts names)
+IsCause files faulted out_faulted TooManySessions =
+    (64 < length files)
+    × ((scripts : List (List (Command Text))) × (names : List Text)
+    × AreAccepted [] files scripts names)
 IsCause files faulted out_faulted NoSession = files ≡ []
-IsCause files faulted out_faulted Write = (length files ≡ 1) × IsTrue out_faulted
+IsCause files faulted out_faulted Write =
+    ((scripts : List (List (Command Text))) × AreSessions files scripts) × IsTrue out_faulted
 IsCause files faulted out_faulted (Device file) = (names : List Text) × FilesBefore files file names × IsTrue (slice_index_or faulted file false)
 IsCause files faulted out_faulted (TooLong file) = (names : List Text) × FilesBefore files file names × IfSome (slice_index_or files file None) (λ bytes. 67108864 < length bytes)
 
@@ -41,3 +47,8 @@ IsFileCause names known faulted at NoSession = ⊥
 IsFileCause names known faulted at Write = ⊥
 IsFileCause names known faulted at (Device file) = (file ≡ at) × IsTrue faulted
 IsFileCause names known faulted at (TooLong file) = (file ≡ at) × IfSome known (λ bytes. 67108864 < length bytes)
+
+-- the fault that a plan's is
+abbrev pub plan_fault : PlanFault → TextFault
+plan_fault plan.NoSession = NoSession
+plan_fault plan.TooManySessions = TooManySessions

@@ -1,3 +1,5 @@
 pub mod Runs
 pub mod Faults
 pub mod Files
+pub mod Sessions
+pub mod Outcomes

@@ -1,5 +1,5 @@
 -- What a run of some session files is.
-use Rattle.std.specs.Prelude.{◌≡◌, ℕ, ◌<◌, ◌≤◌, List, [], ◌∷◌, ◌++◌, length, map, Option, IfSome, slice_index_or}
+use Rattle.std.specs.Prelude.{◌≡◌, ℕ, ◌<◌, ◌≤◌, List, [], ◌∷◌, ◌++◌, length, map, Option, Some, IfSome, slice_index_or}
 use Rattle.std.specs.List.{AllByRecursion}
 use Rattle.std.specs.Io.KnownBytes.{Appends}
 use Rattle.redo_model.specs.Names.{Text, texts}
@@ -27,16 +27,32 @@ pub record IsRun (scripts : List (List (Command Text))) (lines : List (Line Text
 
 -- the text of such a run
 abbrev pub IsRunText : List (List (Command Text)) → Text → Type 0
-IsRunText scripts text = (lines : List (Line Text)) × IsRun scripts lines × (text ≡ run_text_of (sessions_below (length scripts)) lines)
+IsRunText scripts text =
+    (lines : List (Line Text)) × IsRun scripts lines
+    × (text ≡ run_text_of (sessions_below (length scripts)) lines)
+
+-- 1 to 64 files, one after another, are these scripts
+abbrev pub AreSessions : List (Option Text) → List (List (Command Text)) → Type 0
+AreSessions files scripts =
+    (1 ≤ length files) × (length files ≤ 64)
+    × ((names : List Text) × AreAccepted [] files scripts names)
 
 -- the files are accepted, and this is a run text of their commands
 abbrev pub RunsAs : List (Option Text) → Text → Type 0
-RunsAs files text = (scripts : List (List (Command Text))) × (names : List Text) × AreAccepted [] files scripts names × IsRunText scripts text
+RunsAs files text =
+    (scripts : List (List (Command Text))) × AreSessions files scripts × IsRunText scripts text
 
 -- the files are accepted, and the run text of their commands was written
 abbrev pub WritesRun : List (Option Text) → Option Text → Option Text → Type 0
-WritesRun files before after = (scripts : List (List (Command Text))) × (names : List Text) × (text : Text) × AreAccepted [] files scripts names × IsRunText scripts text × Appends before after text
+WritesRun files before after = (text : Text) × RunsAs files text × Appends before after text
 
 -- the files are accepted, and of the run text of their commands a front was written
 abbrev pub WritesPart : List (Option Text) → Option Text → Option Text → Type 0
-WritesPart files before after = (scripts : List (List (Command Text))) × (names : List Text) × (sent : Text) × (rest : Text) × AreAccepted [] files scripts names × IsRunText scripts (sent ++ rest) × Appends before after sent
+WritesPart files before after =
+    (sent : Text) × (rest : Text) × RunsAs files (sent ++ rest) × Appends before after sent
+
+-- the bytes of the files are known, and they are accepted
+abbrev pub AreKnownSessions : List (Option Text) → Type 0
+AreKnownSessions files =
+    (texts : List Text) × (files ≡ map Some texts)
+    × ((scripts : List (List (Command Text))) × AreSessions files scripts)

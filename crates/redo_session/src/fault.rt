@@ -1,4 +1,6 @@
+use crate::runs::RunFault;
 use redo_command::LineFault;
+use redo_journal::PlanFault;
 use std::alloc::{AllocError, AllocFailed};
 use thiserror::Error;
 
@@ -47,6 +49,31 @@ impl<T: Drop> From<AllocFailed<T>> for TextFault {
     ghost from_gives = { λ _ fault. fault ≡ Memory };
 
     fn from(_: AllocFailed<T>) -> TextFault {
+        TextFault::Memory
+    }
+}
+
+impl From<PlanFault> for TextFault {
+    ghost use Rattle.std.specs.Prelude.{◌≡◌};
+    ghost use Rattle.redo_session.specs.Faults.{plan_fault};
+
+    ghost from_gives = { λ plan fault. fault ≡ plan_fault plan };
+
+    fn from(fault: PlanFault) -> TextFault {
+        match fault {
+            PlanFault::NoSession => TextFault::NoSession,
+            PlanFault::TooManySessions => TextFault::TooManySessions,
+        }
+    }
+}
+
+impl From<RunFault> for TextFault {
+    ghost use Rattle.std.specs.Prelude.{◌≡◌};
+    ghost use Rattle.redo_session.specs.declared.fault.TextFault.TheVariants.{Memory};
+
+    ghost from_gives = { λ _ fault. fault ≡ Memory };
+
+    fn from(_: RunFault) -> TextFault {
         TextFault::Memory
     }
 }

@@ -1,6 +1,6 @@
 //! What follows for runs.
 
-ghost use Rattle.std.specs.Prelude.{◌≡◌, List, [], ◌∷◌, Some};
+ghost use Rattle.std.specs.Prelude.{◌≡◌, List, [], ◌∷◌, Some, map};
 ghost use Rattle.redo_model.specs.Names.{Text, texts};
 ghost use Rattle.redo_model.specs.Command.{Command};
 ghost use Rattle.redo_model.specs.History.{Line, Legal};
@@ -12,7 +12,10 @@ pub fn one_run()
     ensures { (commands : List (Command Text)) (a b : List (Line Text)) → IsRun (commands ∷ []) a → IsRun (commands ∷ []) b → a ≡ b }
 {}
 
-/// The run text of one file is a history, whose lines are legal: to replay it gives that it is the same.
+/// The run text of files whose bytes are known is a history, whose lines are legal: to replay it
+/// gives that it is the same.
 pub fn run_replays()
-    ensures { (bytes text : Text) → RunsAs (Some bytes ∷ []) text → (names : List Text) × (lines : List (Line Text)) × IsHistory text names lines × Legal texts lines }
+    ensures { (files : List Text) (text : Text) → RunsAs (map Some files) text
+        → (names : List Text) × (lines : List (Line Text)) × IsHistory text names lines
+        × Legal texts lines }
 {}

@@ -5,12 +5,13 @@ mod fault;
 mod files;
 mod laws;
 mod printed;
-mod run;
+mod runs;
+mod sessions;
 mod texts;
 
 pub use fault::TextFault;
 pub use files::read_files;
 pub use laws::{one_run, run_replays};
 pub use printed::run_text;
-pub use run::Outcome;
+pub use runs::{Outcome, RunFault, run};
 pub use texts::run_texts;

@@ -5,8 +5,9 @@ ghost use Rattle.redo_model.specs.Renaming.{IsLineBelow};
 ghost use Rattle.redo_command.specs.Meaning.{line_of, line_at};
 ghost use Rattle.redo_command.specs.Histories.{ended, answer_text_of, session_text_of, run_text_of, sessions_below};
 
-use crate::run::Outcome;
+use crate::runs::Outcome;
 use redo_command::Line;
+use redo_journal::Plan;
 use redo_names::Names;
 use redo_replay::{history_text, put_answer, put_number};
 use std::alloc::{AllocError, Global};
@@ -69,15 +70,15 @@ fn put_session(
 }
 
 /// The run text: the history, and then each session's own lines.
-pub fn run_text(
-    alloc: Global,
-    sessions: u8,
-    outcome: &Outcome,
-    names: &Names,
-) -> Result<Vec<u8>, AllocError>
-    requires { AllByRecursion (λ line. IsLineBelow (length names.now) (line_of line)) outcome.now.history.items }
-    ensures { IfOk result (λ text. text.items ≡ run_text_of (sessions_below sessions) (map (line_at names.now) outcome.now.history.items)) }
+pub fn run_text(alloc: Global, plan: &Plan, outcome: &Outcome) -> Result<Vec<u8>, AllocError>
+    requires { AllByRecursion (λ line. IsLineBelow (length plan.now.names) (line_of line))
+        outcome.now.history.items }
+    ensures { IfOk result (λ text. text.items
+        ≡ run_text_of (sessions_below (length plan.now.scripts))
+        (map (line_at plan.now.names) outcome.now.history.items)) }
 {
+    let names = plan.names();
+    let sessions = plan.scripts().len() as u8;
     let mut text = history_text(alloc, &outcome.history, names)?;
     for session in 0..sessions {
         put_session(alloc, &mut text, session, &outcome.history, names)?;

@@ -1,8 +1,10 @@
-use Rattle.std.proofs.Common.{◌∙◌, map, sym, subst, inl, inr}
+use Rattle.std.proofs.Common.{◌∙◌, false, map, sym, subst, inl, inr}
 use Rattle.std.proofs.lemmas.Result.{err_from_is_err_and}
 use Rattle.redo_model.specs.Names.{Text}
 use Rattle.redo_command.specs.Watched.{is_faulted, inner_of}
-use Rattle.redo_session.specs.Runs.{IsRunText}
+use Rattle.redo_session.specs.Runs.{RunsAs}
+use Rattle.redo_session.specs.Files.{bytes_of_files, flags_of_files}
+use Rattle.redo_session.proofs.NoFault.{refused_only}
 use Rattle.redo_session.proofs.Devices.{device_read, no_flag}
 use Rattle.redo_session.proofs.texts.run_texts.Goals as goal
 
@@ -23,6 +25,18 @@ returns-in-Ok-clause-device g c down out_down = (
 
 pub returns-clause-part_written : goal.returns-clause-part_written
 returns-clause-part_written g c same =
-    let runs = c.in_ok-text.ensures.text in
-    let front = c.in-Err-Write.ensures.front in
-    (runs.0, runs.1, front.0, front.1, runs.2, subst (λ (text : Text). IsRunText runs.0 text) (sym c.deref.ensures.value ∙ front.2) runs.3, front.3)
+    let files = bytes_of_files g.R.Read.remaining c.args.files.now in
+    let front = c.in-Err-Write.ensures.front in (
+      front.0,
+      front.1,
+      subst (λ (text : Text). RunsAs files text) (sym c.deref.ensures.value ∙ front.2)
+          c.in_ok-text.ensures.text,
+      front.3,
+    )
+
+pub returns-in_err-text-clause-only : goal.returns-in_err-text-clause-only
+returns-in_err-text-clause-only g c known =
+    let p = err_from_is_err_and c.from_residual.result c.from_residual.ensures.1 in
+    rw (p.1, p.2) (refused_only (bytes_of_files g.R.Read.remaining c.args.files.now)
+    (flags_of_files c.text_of_files.new.files) false c.in_err-text.field-0.0 known
+    c.in_err-text.ensures.cause)

@@ -1,0 +1,44 @@
+-- Sessions at work: how far one is, and what two ranges that meet have done.
+use Rattle.std.proofs.Common.{◌≡◌, ℕ, ◌+◌, ◌-◌, ◌<◌, [], ◌∷◌, length, refl, sym, ap, ◌∙◌, subst, arith}
+use Rattle.std.proofs.lemmas.List.{length_push}
+use Rattle.redo_model.specs.Journals.{next_of, numbered}
+use Rattle.redo_journal.specs.Plans.{PlanOf, script_of}
+use Rattle.redo_journal.specs.declared.entry.Journal.{Journal}
+use Rattle.redo_board.specs.declared.board.Board.{Board}
+use Rattle.redo_board.specs.declared.seat.Seat.{Seat}
+use Rattle.redo_board.specs.declared.worker.Worker.{Worker}
+use Rattle.redo_board.specs.Shown.{session_of, journal_of, tries_of, rows_up_to, IsAtEnd}
+use Rattle.redo_board.specs.Outcomes.{Made, Leaves}
+use Rattle.redo_session.specs.Sessions.{AreDone}
+use Rattle.redo_session.proofs.Wholes.{next_within}
+
+-- each step that does something leaves less to do
+pub made_less : (p : PlanOf) (old new : Worker) → Made p old new
+    → length (script_of p (session_of old)) - length (journal_of p new)
+    < length (script_of p (session_of old)) - length (journal_of p old)
+made_less p old new made =
+    let within =
+    (next_within (script_of p (session_of old)) (journal_of p old) (numbered made.line) made.next).1
+    in
+    let grown = ap length made.grown ∙ length_push (journal_of p old) made.line in
+    omega arith
+
+-- a worker at its end leaves a journal with nothing left to do
+pub left_done : (p : PlanOf) (b : Board) (s : ℕ) (w : Worker) (seat : Seat) (journal : Journal)
+    → session_of w ≡ s → Leaves p b w seat journal → journal.session ≡ session_of w
+    → journal.tries ≡ tries_of w → IsAtEnd p w → tries_of w ≡ rows_up_to 0 (journal_of p w)
+    → AreDone p b s (s + 1) seat (journal ∷ [])
+left_done p b s w seat journal here leaves session tries none rows =
+    subst (λ t. AreDone p b t (t + 1) seat (journal ∷ [])) here (record {
+      sits = leaves.sits;
+      parts = leaves.parts ∙ ap (λ lines. (session_of w, lines) ∷ []) (sym leaves.told);
+      ended = (
+        record {
+          session = session;
+          none = ap (next_of (script_of p (session_of w))) leaves.told ∙ none;
+          tries = tries ∙ rows ∙ ap (rows_up_to 0) (sym leaves.told);
+        },
+        tt,
+      );
+      count = refl;
+    })

@@ -1,0 +1,94 @@
+-- Files that are accepted have no fault but want of memory and the faults of devices.
+use Rattle.std.proofs.Common.{◌≡◌, ℕ, zero, suc, ◌<◌, ◌≤◌, ◌⊎◌, Bool, Option, None, Some, List, [], ◌∷◌, map, take, length, get_or, refl, sym, ap, ◌∙◌, subst, inl, inr, arith}
+use Rattle.std.specs.Prelude.{IfSome}
+use Rattle.std.specs.List.{flat_map}
+use Rattle.redo_model.specs.Names.{Text}
+use Rattle.redo_model.specs.Command.{Command, names_in}
+use Rattle.redo_command.specs.declared.fault.LineFault.{LineFault}
+use Rattle.redo_command.specs.Grammar.{AreCommandLines, IsScript, with_names}
+use Rattle.redo_command.specs.Reading.{IsFirstFault}
+use Rattle.redo_command.proofs.LineLaws.{one_command}
+use Rattle.redo_command.proofs.ScriptSteps.{no_first_fault}
+use Rattle.redo_session.specs.declared.fault.TextFault.{TextFault}
+use Rattle.redo_session.specs.declared.fault.TextFault.TheVariants.{Memory, Read, TooManySessions, NoSession, Write, Device, TooLong}
+use Rattle.redo_session.specs.Runs.{AreAccepted, AreKnownSessions}
+use Rattle.redo_session.specs.Faults.{IsCause, IsDeviceFault}
+
+-- lines say one list of commands
+one_list : (lines : List Text) (a b : List (Command Text)) → AreCommandLines lines a
+    → AreCommandLines lines b → a ≡ b
+one_list [] [] [] p q = refl
+one_list [] [] (y ∷ b) p q = absurd q
+one_list [] (x ∷ a) b p q = absurd p
+one_list (line ∷ lines) [] b p q = absurd p
+one_list (line ∷ lines) (x ∷ a) [] p q = absurd q
+one_list (line ∷ lines) (x ∷ a) (y ∷ b) p q =
+    let first = one_command line x y p.0 q.0 in
+    let rest = one_list lines a b p.1 q.1 in
+    λ i. first i ∷ rest i
+
+-- a script leaves one list of names
+one_after : (names : List Text) (text : Text) (a b : List (Command Text)) (m n : List Text)
+    → IsScript names text a m → IsScript names text b n → m ≡ n
+one_after names text a b m n p q =
+    p.named.0 ∙ ap (λ commands. with_names names (flat_map names_in commands))
+    (one_list _ a b p.said q.said) ∙ sym q.named.0
+
+-- a file of those that are accepted, after those before it
+no_read : (names : List Text) (texts : List Text) (scripts : List (List (Command Text)))
+    (after : List Text) → AreAccepted names (map Some texts) scripts after
+    → (k : ℕ) → k < length (map Some texts) → (before : List (List (Command Text)))
+    (middle : List Text) → AreAccepted names (take k (map Some texts)) before middle
+    → (text : Text) × (get_or (map Some texts) k None ≡ Some text) × (length text ≤ 67108864)
+    × ((line : ℕ) (fault : LineFault) → IsFirstFault middle text line fault → ⊥)
+no_read names [] scripts after are k less before middle front = absurd (omega (arith, less))
+no_read names (t ∷ ts) [] after are k less before middle front = absurd are
+no_read names (t ∷ ts) (s ∷ scripts) after (m, is, are) zero less [] middle front = (
+  t,
+  refl,
+  is.0,
+  λ line fault first.
+      no_first_fault names t s m line fault is.1
+          (subst (λ (ns : List Text). IsFirstFault ns t line fault) front first),
+)
+no_read names (t ∷ ts) (s ∷ scripts) after (m, is, are) zero less (b ∷ before) middle front =
+    absurd front
+no_read names (t ∷ ts) (s ∷ scripts) after (m, is, are) (suc k) less [] middle front = absurd front
+no_read names (t ∷ ts) (s ∷ scripts) after (m, is, are) (suc k) less (b ∷ before) middle
+    (n, other, front) =
+    no_read m ts scripts after are k (omega (arith, less)) before middle
+    (subst (λ (ns : List Text). AreAccepted ns (take k (map Some ts)) before middle)
+    (one_after names t b s n m other.1 is.1) front)
+
+module _ (texts : List Text) (scripts : List (List (Command Text))) (names : List Text)
+    (some : 1 ≤ length (map Some texts)) (few : length (map Some texts) ≤ 64)
+    (are : AreAccepted [] (map Some texts) scripts names) where
+  only_for : (flags : List Bool) (out : Bool) (fault : TextFault)
+      → IsCause (map Some texts) flags out fault → (fault ≡ Memory) ⊎ IsDeviceFault fault
+  only_for flags out Memory cause = inl refl
+  only_for flags out (Read file line fault) (middle, (less, (before, front)), cause) =
+      let no = no_read [] texts scripts names are file less before middle front in
+      let first =
+      subst
+      (λ (o : Option Text). IfSome o (λ bytes. (length bytes ≤ 67108864)
+      × IsFirstFault middle bytes line fault)) no.1 cause in
+      absurd (no.3 line fault first.1)
+  only_for flags out TooManySessions cause = let many = cause.0 in absurd (omega arith)
+  only_for flags out NoSession cause = let none = ap length cause in absurd (omega arith)
+  only_for flags out Write cause = inr tt
+  only_for flags out (Device file) cause = inr tt
+  only_for flags out (TooLong file) (middle, (less, (before, front)), cause) =
+      let no = no_read [] texts scripts names are file less before middle front in
+      let long =
+      subst (λ (o : Option Text). IfSome o (λ bytes. 67108864 < length bytes)) no.1 cause in
+      let short = no.2 in
+      absurd (omega arith)
+
+pub refused_only : (files : List (Option Text)) (flags : List Bool) (out : Bool)
+    (fault : TextFault) → AreKnownSessions files → IsCause files flags out fault
+    → (fault ≡ Memory) ⊎ IsDeviceFault fault
+refused_only files flags out fault (texts, same, (scripts, (some, few, (names, are)))) cause =
+    only_for texts scripts names (subst (λ (fs : List (Option Text)). 1 ≤ length fs) same some)
+    (subst (λ (fs : List (Option Text)). length fs ≤ 64) same few)
+    (subst (λ (fs : List (Option Text)). AreAccepted [] fs scripts names) same are) flags out fault
+    (subst (λ (fs : List (Option Text)). IsCause fs flags out fault) same cause)

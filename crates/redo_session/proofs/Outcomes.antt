@@ -1,0 +1,198 @@
+-- The lines of a joint order of whole journals are a run of the scripts, where one history serves
+-- the journals.
+use Rattle.std.proofs.Common.{◌≡◌, ℕ, ◌<◌, ◌++◌, eqb, Bool, true, false, cond, List, [], ◌∷◌, length, map, get_or, refl, sym, ap, ◌∙◌, subst, arith}
+use Rattle.std.specs.List.{AllByRecursion}
+use Rattle.std.specs.Ordering.{nat_cmp}
+use Rattle.std.proofs.lemmas.List.{get_or_past, length-map}
+use Rattle.std.proofs.lemmas.Simd.{map-map}
+use lib.ListN.{get_or-map}
+use mathlib.Core.Logic.{dite}
+use native.Mathlib.Decide.{dec_lt}
+use Rattle.redo_names.specs.Names.{text_at}
+use Rattle.redo_model.specs.Names.{Text, texts, Naming}
+use Rattle.redo_model.specs.Command.{Command}
+use Rattle.redo_model.specs.History as histories
+use Rattle.redo_model.specs.History.{Legal}
+use Rattle.redo_model.specs.Placed.{Place, Row, Granted, Busy, Released, PlacedLine, line_of, part_of, Fits, IsPlacedAfter}
+use Rattle.redo_model.specs.Journals.{IsJointOrder}
+use Rattle.redo_model.specs.Renaming.{IsBelow, IsLineBelow, named_command, named_line}
+use Rattle.redo_model.proofs.Naming.{numbering_is_renaming}
+use Rattle.redo_model.proofs.Texts.{texts_are_names}
+use Rattle.redo_command.specs.Meaning.{line_at}
+use Rattle.redo_command.specs.Meaning as coded
+use Rattle.redo_command.specs.declared.reply.Line.{Line}
+use Rattle.redo_joint.specs.Named.{named_placed_line, named_journals, IsPlaceBelow, IsPlacedBelow, IsToldBelow}
+use Rattle.redo_joint.proofs.Exchange.{In}
+use Rattle.redo_joint.proofs.Own.{all_by_parts, all_of_part}
+use Rattle.redo_joint.proofs.Orders.{legal_in_every_order, front_placed}
+use Rattle.redo_joint.proofs.ByName.{joint_by_name}
+use Rattle.redo_joint.proofs.Standing.{seen_stands}
+use Rattle.redo_journal.specs.Plans.{PlanOf, IsPlan, script_of}
+use Rattle.redo_journal.specs.Journals.{journals_of}
+use Rattle.redo_journal.specs.declared.entry.Journal.{Journal}
+use Rattle.redo_board.proofs.Orders.{by_text_is_naming}
+use Rattle.redo_replay.specs.Merges.{by_number, AreMerged}
+use Rattle.redo_session.specs.Runs.{IsRun}
+use Rattle.redo_session.specs.Outcomes.{scripts_named, AreWhole, SeenStands}
+use Rattle.redo_session.proofs.Wholes.{whole_commands, of_session}
+use Rattle.redo_session.proofs.Served.{Serves, whole_at}
+
+pub all-mapped : {A B : Type 0} (f : A → B) (P : B → Type 0) (xs : List A)
+    → AllByRecursion (λ x. P (f x)) xs → AllByRecursion P (map f xs)
+all-mapped f P [] h = tt
+all-mapped f P (x ∷ xs) h = (h.0, all-mapped f P xs h.1)
+
+pub all-unmapped : {A B : Type 0} (f : A → B) (P : B → Type 0) (xs : List A)
+    → AllByRecursion P (map f xs) → AllByRecursion (λ x. P (f x)) xs
+all-unmapped f P [] h = tt
+all-unmapped f P (x ∷ xs) h = (h.0, all-unmapped f P xs h.1)
+
+pub all-weaker : {A : Type 0} (P Q : A → Type 0) → ((x : A) → P x → Q x) → (xs : List A)
+    → AllByRecursion P xs → AllByRecursion Q xs
+all-weaker P Q f [] h = tt
+all-weaker P Q f (x ∷ xs) h = (f x h.0, all-weaker P Q f xs h.1)
+
+kept_map : {A B : Type 0} (f : A → B) (b : Bool) (x : A) (xs : List A) (ys : List B)
+    → ys ≡ map f xs → cond b (f x ∷ ys) ys ≡ map f (cond b (x ∷ xs) xs)
+kept_map f true x xs ys e = ap (λ zs. f x ∷ zs) e
+kept_map f false x xs ys e = e
+
+-- the part of a session under names, without its places
+part_named : (name : ℕ → Text) (s : ℕ) (lines : List (PlacedLine ℕ))
+    → histories.part_of s (map (λ l. named_line name (line_of l)) lines)
+    ≡ map (λ l. named_line name (line_of l)) (part_of s lines)
+part_named name s [] = refl
+part_named name s (line ∷ lines) =
+    kept_map (λ (l : PlacedLine ℕ). named_line name (line_of l)) (eqb line.session s) line
+    (part_of s lines)
+    (histories.part_of s (map (λ (l : PlacedLine ℕ). named_line name (line_of l)) lines))
+    (part_named name s lines)
+
+place_below : (n : ℕ) (l : PlacedLine ℕ) (place : Place ℕ) → Fits place l.command l.reply
+    → IsBelow n l.command → IsPlaceBelow n place
+place_below n l (Row r) f b = tt
+place_below n l (Granted t g) f b = (subst (IsBelow n) f.0 b).0
+place_below n l (Busy t g) f b = (subst (IsBelow n) f.0 b).0
+place_below n l (Released t g) f b = (subst (IsBelow n) f.0 b).0
+
+-- placed lines have no numbers but those of their commands and replies
+told_below : (naming : Naming ℕ) (n : ℕ) (before lines : List (PlacedLine ℕ))
+    → IsPlacedAfter naming before lines → AllByRecursion (IsLineBelow n) (map line_of lines)
+    → AllByRecursion (IsToldBelow n) lines
+told_below naming n before [] placed below = tt
+told_below naming n before (l ∷ ls) placed below = (
+  record {
+    placed = record {
+      command = below.0.0;
+      place = place_below n l l.place placed.0 below.0.0;
+    };
+    reply = below.0.1;
+  },
+  told_below naming n (before ++ l ∷ []) ls placed.2 below.1,
+)
+
+module _ (p : PlanOf) (js : List Journal) (plan : IsPlan p) (whole : AreWhole p js) where
+  abbrev Joint : List (PlacedLine ℕ) → Type 0
+  Joint lines = IsJointOrder by_number (journals_of p js) lines
+
+  abbrev at_names : PlacedLine ℕ → histories.Line Text
+  at_names l = named_line (text_at p.names) (line_of l)
+
+  abbrev Below : PlacedLine ℕ → Type 0
+  Below l = IsToldBelow (length p.names) l
+
+  -- all numbers are those of names
+  all_below : Serves p js → (lines : List (PlacedLine ℕ)) → Joint lines
+      → AllByRecursion Below lines
+  all_below serves lines joint =
+      let own =
+      told_below by_number (length p.names) [] serves.lines serves.joint.1 serves.history.below in
+      all_by_parts Below lines
+      (λ s l i. all_of_part Below serves.lines own s l
+      (subst (In l) (joint.0 s ∙ sym (serves.joint.0 s)) i))
+
+  over_names : Serves p js → (lines : List (PlacedLine ℕ)) → Joint lines
+      → IsJointOrder texts (named_journals (text_at p.names) (journals_of p js))
+      (map (named_placed_line (text_at p.names)) lines)
+  over_names serves lines joint =
+      joint_by_name (numbering_is_renaming p.names plan.names.distinct) texts_are_names nat_cmp
+      (journals_of p js) lines
+      (all-weaker Below (IsPlacedBelow (length p.names)) (λ l b. b.placed) lines
+      (all_below serves lines joint))
+      joint
+
+  -- each joint order is legal over the names, since one is
+  legal_too : Serves p js → (lines : List (PlacedLine ℕ)) → Joint lines
+      → Legal texts (map at_names lines)
+  legal_too serves lines joint =
+      let name : PlacedLine ℕ → PlacedLine Text = named_placed_line (text_at p.names) in
+      subst (Legal texts) (map-map line_of name lines)
+      (legal_in_every_order texts_are_names (named_journals (text_at p.names) (journals_of p js))
+      (map name serves.lines) (map name lines) (over_names serves serves.lines serves.joint)
+      (over_names serves lines joint)
+      (subst (Legal texts) (sym (map-map line_of name serves.lines)) serves.history.legal))
+
+  -- each session's commands once, in order
+  commands_once : (lines : List (PlacedLine ℕ)) → Joint lines → (s : ℕ)
+      → map (λ line. line.command) (histories.part_of s (map at_names lines))
+      ≡ get_or (scripts_named p) s []
+  commands_once lines joint s =
+      let name : Command ℕ → Command Text = named_command (text_at p.names) in
+      let own = journals_of p js s in
+      ap (map (λ (l : histories.Line Text). l.command))
+      (part_named (text_at p.names) s lines ∙ ap (map at_names) (joint.0 s))
+      ∙ map-map (λ (l : histories.Line Text). l.command) at_names own
+      ∙ sym (map-map name (λ (l : PlacedLine ℕ). l.command) own)
+      ∙ ap (map name) (whole_commands (script_of p s) s own (whole_at p js whole s))
+      ∙ sym (get_or-map (λ (script : List (Command ℕ)). map name script) p.scripts s [])
+
+  sessions_below : (lines : List (PlacedLine ℕ)) → Joint lines
+      → AllByRecursion (λ line. line.session < length (scripts_named p)) (map at_names lines)
+  sessions_below lines joint =
+      let P : histories.Line Text → Type 0 = λ l. l.session < length (scripts_named p) in
+      let name : List (Command ℕ) → List (Command Text) =
+      λ script. map (named_command (text_at p.names)) script in
+      all-mapped at_names P lines
+      (all_by_parts (λ l. P (at_names l)) lines (λ s l i.
+      let of =
+      of_session (script_of p s) s [] (journals_of p js s) (whole_at p js whole s).0 l
+      (subst (In l) (joint.0 s) i) in
+      let long = length-map p.scripts name in
+      dite (dec_lt s (length p.scripts))
+      (λ less. let e = of.0 in let h : l.session < length (scripts_named p) = omega arith in h)
+      (λ past. let none = ap length (get_or_past p.scripts s [] (omega arith)) in
+      let some = of.1 in absurd (omega arith))))
+
+  -- the history over the names
+  named_history : (history : List Line) (lines : List (PlacedLine ℕ))
+      → map coded.line_of history ≡ map line_of lines
+      → map (line_at p.names) history ≡ map at_names lines
+  named_history history lines says =
+      let name : histories.Line ℕ → histories.Line Text = named_line (text_at p.names) in
+      sym (map-map name coded.line_of history) ∙ ap (map name) says ∙ map-map name line_of lines
+
+  pub is_run : Serves p js → (history : List Line) → AreMerged p js (map coded.line_of history)
+      → IsRun (scripts_named p) (map (line_at p.names) history)
+  is_run serves history (lines, first, says) =
+      subst (IsRun (scripts_named p)) (sym (named_history history lines says)) (record {
+        legal = legal_too serves lines first.joint;
+        sessions = sessions_below lines first.joint;
+        parts = λ s less. commands_once lines first.joint s;
+      })
+
+  pub history_below : Serves p js → (history : List Line)
+      → AreMerged p js (map coded.line_of history)
+      → AllByRecursion (λ line. IsLineBelow (length p.names) (coded.line_of line)) history
+  history_below serves history (lines, first, says) =
+      let below =
+      all-weaker Below (λ l. IsLineBelow (length p.names) (line_of l))
+      (λ l b. (b.placed.command, b.reply)) lines (all_below serves lines first.joint) in
+      all-unmapped coded.line_of (IsLineBelow (length p.names)) history
+      (subst (AllByRecursion (IsLineBelow (length p.names))) (sym says)
+      (all-mapped line_of (IsLineBelow (length p.names)) lines below))
+
+-- what a session had seen stands before
+pub seen_before : (p : PlanOf) (js : List Journal) → SeenStands p js
+seen_before p js before later line place joint seen =
+    seen_stands (by_text_is_naming p.names) line.session before place
+    (front_placed by_number [] before (line ∷ later) joint.1) seen

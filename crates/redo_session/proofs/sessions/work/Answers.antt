@@ -1,0 +1,46 @@
+use Rattle.std.proofs.Common.{rules, ◌≡◌, ◌-◌, ◌<◌, [], ◌∷◌, length, refl, sym, ap, ◌∙◌, subst}
+use Rattle.redo_journal.specs.Plans.{script_of}
+use Rattle.redo_board.specs.Shown.{session_of, journal_of, tries_of, rows_up_to, IsAtEnd}
+use Rattle.redo_board.specs.Outcomes.{Made}
+use Rattle.redo_session.specs.Sessions.{AreDone}
+use Rattle.redo_session.proofs.Ended.{made_less, left_done}
+use Rattle.redo_session.proofs.sessions.work.Goals as goal
+
+pub loop-worker-init : goal.loop-worker-init
+loop-worker-init g c = record {
+  works = c.in-Ok.ensures.works c.args.board.now c.requires.ready.sits;
+  session = refl;
+  tries = c.in-Ok.ensures.tries ∙ ap (rows_up_to 0) (sym c.in-Ok.ensures.journal);
+}
+
+pub loop-worker-smaller : goal.loop-worker-smaller
+loop-worker-smaller g c =
+    let p = c.args.plan.now in
+    let old = c.loop-worker.worker in
+    let new = c.step.new.self in
+    let made : Made p old new = search rules in
+    subst
+    (λ s. length (script_of p s) - length (journal_of p new)
+    < length (script_of p (session_of old)) - length (journal_of p old))
+    (sym c.step.ensures.session) (made_less p old new made)
+
+pub returns : goal.returns
+returns g c =
+    let p = c.args.plan.now in
+    let b = c.args.board.now in
+    let old = c.loop-worker.worker in
+    let w = c.step.new.self in
+    let seat = c.leave.result.0 in
+    let journal = c.leave.result.1 in
+    let ended : IsAtEnd p old × (w ≡ old) = search rules in
+    let here : session_of w ≡ c.args.sessions.first =
+    c.step.ensures.session ∙ c.loop-worker.invariant.session ∙ c.in-Ok.ensures.session
+    ∙ c.requires.ready.fresh.first in
+    let rows : tries_of w ≡ rows_up_to 0 (journal_of p w) =
+    subst (λ v. tries_of v ≡ rows_up_to 0 (journal_of p v)) (sym ended.1)
+    c.loop-worker.invariant.tries in
+    let done =
+    left_done p b c.args.sessions.first w seat journal here
+    (c.leave.ensures.leaves p b c.step.ensures.works) c.leave.ensures.journal.0
+    c.leave.ensures.journal.1 (subst (IsAtEnd p) (sym ended.1) ended.0) rows in
+    subst (λ e. AreDone p b c.args.sessions.first e seat (journal ∷ [])) (sym c.requires.one) done

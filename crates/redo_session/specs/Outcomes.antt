@@ -1,0 +1,37 @@
+-- What a run leaves.
+use Rattle.std.specs.Prelude.{◌≡◌, ℕ, List, ◌∷◌, ◌++◌, length, map, Some, slice_get}
+use Rattle.redo_names.specs.Names.{text_at}
+use Rattle.redo_model.specs.Names.{Text}
+use Rattle.redo_model.specs.Command.{Command}
+use Rattle.redo_model.specs.Placed.{Place, PlacedLine, part_of}
+use Rattle.redo_model.specs.Journals.{IsWholeJournal, IsJointOrder}
+use Rattle.redo_model.specs.Seen.{HasSeen, StandsIn}
+use Rattle.redo_model.specs.Renaming.{named_command}
+use Rattle.redo_journal.specs.Plans.{PlanOf, script_of}
+use Rattle.redo_journal.specs.Journals.{told_by, journals_of}
+use Rattle.redo_journal.specs.declared.entry.Journal.{Journal}
+use Rattle.redo_board.specs.Shown.{rows_up_to}
+use Rattle.redo_replay.specs.Merges.{by_number}
+
+-- the scripts of a plan, over its names
+abbrev pub scripts_named : PlanOf → List (List (Command Text))
+scripts_named p = map (λ script. map (named_command (text_at p.names)) script) p.scripts
+
+-- all that the session does, and how many rows it tried: those up to its own latest
+pub record IsWholeOf (p : PlanOf) (s : ℕ) (journal : Journal) : Type 0 where
+  pub session : journal.session ≡ s
+  pub whole : IsWholeJournal s (script_of p s) (told_by (script_of p s) journal)
+  pub tries : journal.tries ≡ rows_up_to 0 (told_by (script_of p s) journal)
+
+-- one journal for each session, in order, each of all that it does
+pub record AreWhole (p : PlanOf) (journals : List Journal) : Type 0 where
+  pub one_each : length journals ≡ length p.scripts
+  pub each : (s : ℕ) (journal : Journal) → slice_get journals s ≡ Some journal
+      → IsWholeOf p s journal
+
+-- in each joint order of the journals, what a session had seen at a line stands before that line
+abbrev pub SeenStands : PlanOf → List Journal → Type 0
+SeenStands p journals =
+    (before later : List (PlacedLine ℕ)) (line : PlacedLine ℕ) (place : Place ℕ)
+    → IsJointOrder by_number (journals_of p journals) (before ++ line ∷ later)
+    → HasSeen (part_of line.session before) place → StandsIn before place

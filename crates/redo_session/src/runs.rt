@@ -1,0 +1,80 @@
+ghost use Rattle.std.specs.Prelude.{length, map, IfOk};
+ghost use Rattle.std.specs.List.{AllByRecursion};
+ghost use Rattle.redo_model.specs.Renaming.{IsLineBelow};
+ghost use Rattle.redo_command.specs.Meaning.{line_of, line_at};
+ghost use Rattle.redo_replay.specs.Merges.{AreMerged};
+ghost use Rattle.redo_session.specs.Runs.{IsRun};
+ghost use Rattle.redo_session.specs.Outcomes.{scripts_named, AreWhole, SeenStands};
+
+use crate::sessions::{Sessions, run_all};
+use redo_board::{Board, Gate, Journal, Plan};
+use redo_command::Line;
+use redo_replay::merge;
+use std::alloc::{AllocError, AllocFailed, Global};
+use std::sync::Wait;
+use std::thread::Threads;
+use thiserror::Error;
+
+/// What a run left: one history of all sessions, and what each session did.
+#[derive(Debug, Drop)]
+pub struct Outcome {
+    pub history: Vec<Line>,
+    pub journals: Vec<Journal>,
+}
+
+/// Why there is no outcome.
+#[derive(Clone, Copy, Debug, PartialEq, Eq, Error)]
+pub enum RunFault {
+    /// A growth, or the start of a thread, was refused.
+    #[error("out of memory")]
+    Memory,
+}
+
+impl From<AllocError> for RunFault {
+    ghost use Rattle.std.specs.Prelude.{◌≡◌};
+    ghost use Rattle.redo_session.specs.declared.runs.RunFault.TheVariants.{Memory};
+
+    ghost from_gives = { λ _ fault. fault ≡ Memory };
+
+    fn from(_: AllocError) -> RunFault {
+        RunFault::Memory
+    }
+}
+
+/// Runs the plan, each session on a thread of its own, the caller's among them. All threads are
+/// joined before it answers.
+pub fn run<G: Gate + Sync, R: Threads + Wait + Sync>(
+    rt: &R,
+    alloc: Global,
+    plan: &Plan,
+    gate: &G,
+) -> Result<Outcome, RunFault>
+    // The journals of all sessions, in order, each with all that the session does.
+    ensures journals { IfOk result (λ outcome. AreWhole plan.now outcome.journals.items) }
+
+    // The history is that of their first joint order. Whatever a session had seen at a line stands
+    // before it.
+    ensures merged { IfOk result (λ outcome. AreMerged plan.now outcome.journals.items
+        (map line_of outcome.history.items)) }
+    ensures seen { IfOk result (λ outcome. SeenStands plan.now outcome.journals.items) }
+
+    // Over the names it is a run of the scripts: one legal history, with each session's commands
+    // once, in order.
+    ensures run { IfOk result (λ outcome. IsRun (scripts_named plan.now)
+        (map (line_at plan.now.names) outcome.history.items)) }
+    ensures below { IfOk result (λ outcome. AllByRecursion
+        (λ line. IsLineBelow (length plan.now.names) (line_of line)) outcome.history.items) }
+{
+    let (board, seat) = Board::open(alloc, plan)?;
+    let sessions = Sessions {
+        seat,
+        first: 0,
+        end: plan.scripts().len(),
+    };
+    let (seat, journals) = run_all(rt, alloc, &board, plan, gate, sessions)?;
+    let _rows = board.close(seat);
+    match merge(alloc, plan, &journals)? {
+        Some(history) => Ok(Outcome { history, journals }),
+        None => unreachable!(),
+    }
+}
