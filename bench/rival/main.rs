@@ -1,5 +1,5 @@
-// Sessions side by side in plain Rust, to measure against: one database under one Mutex, and a thread for each session. It
-// reads session files, does their commands, and prints the run text, as the program does.
+// Sessions side by side in plain Rust, to measure against: one database under one Mutex, and a thread for each session.
+// It reads session files, does their commands, and prints the run text, as the program does.
 // Usage: rival FILE...
 mod database;
 mod printing;
