@@ -261,7 +261,10 @@ impl Database {
                 Some(Reply::NotBuilding)
             }
             Command::IfChange(t, names) | Command::IfCreate(t, names) if names.contains(t) => Some(Reply::Itself),
-            Command::IfCreate(_, names) => names.iter().find(|n| self.at(**n).file.is_some()).map(|n| Reply::Exists(*n)),
+            Command::IfCreate(_, names) => {
+                let found = names.iter().find(|n| self.at(**n).file.is_some())?;
+                Some(Reply::Exists(*found))
+            }
             _ => None,
         }
     }

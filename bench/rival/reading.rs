@@ -41,8 +41,9 @@ pub enum Command {
     Sources,
 }
 
-fn is_visible(text: &[u8], limit: usize) -> bool {
-    (1..=limit).contains(&text.len()) && text.iter().all(|byte| (33..=126).contains(byte)) && text != b"-" && text != b"=>"
+fn is_word(text: &[u8], limit: usize) -> bool {
+    let is_visible = text.iter().all(|byte| (33..=126).contains(byte));
+    is_visible && (1..=limit).contains(&text.len()) && text != b"-" && text != b"=>"
 }
 
 #[derive(Default)]
@@ -53,7 +54,7 @@ pub struct Reader {
 
 impl Reader {
     fn name(&mut self, text: &[u8]) -> Option<u32> {
-        let fits = is_visible(text, 255) && text[0] != b'#';
+        let fits = is_word(text, 255) && text[0] != b'#';
         let number = fits.then(|| self.names.add(text))?;
         (number < 65536).then_some(number)
     }
@@ -64,7 +65,7 @@ impl Reader {
     }
 
     fn stamp(&mut self, text: &[u8]) -> Option<u32> {
-        is_visible(text, 64).then(|| self.stamps.add(text))
+        is_word(text, 64).then(|| self.stamps.add(text))
     }
 
     fn command(&mut self, line: &[u8]) -> Option<Command> {
