@@ -49,7 +49,7 @@ no_read names (t ∷ ts) (s ∷ scripts) after (m, is, are) zero less [] middle 
   is.0,
   λ line fault first.
       no_first_fault names t s m line fault is.1
-          (subst (λ (ns : List Text). IsFirstFault ns t line fault) front first),
+      (subst (λ (ns : List Text). IsFirstFault ns t line fault) front first),
 )
 no_read names (t ∷ ts) (s ∷ scripts) after (m, is, are) zero less (b ∷ before) middle front =
     absurd front

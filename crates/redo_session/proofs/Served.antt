@@ -114,16 +114,16 @@ pub whole_at : (p : PlanOf) (js : List Journal) → AreWhole p js → (s : ℕ)
     → IsWholeJournal s (script_of p s) (journals_of p js s)
 whole_at p js whole s = elim (slice_get_cases js s).1 [
   | inl at ↦
-    subst
-    (λ o. IsWholeJournal s (script_of p s)
-    (unwrap_or (option_map (told_by (script_of p s)) o) []))
-    (sym at.2) (whole.each s at.0 at.2).whole
+      subst
+      (λ o. IsWholeJournal s (script_of p s)
+      (unwrap_or (option_map (told_by (script_of p s)) o) []))
+      (sym at.2) (whole.each s at.0 at.2).whole
   | inr past ↦
-    let long = whole.one_each in
-    let script : script_of p s ≡ [] =
-    get_or_past p.scripts s [] (let far = past.0 in omega arith) in
-    subst
-    (λ o. IsWholeJournal s (script_of p s)
-    (unwrap_or (option_map (told_by (script_of p s)) o) []))
-    (sym past.1) (tt, ap (λ commands. next_of commands []) script)
+      let long = whole.one_each in
+      let script : script_of p s ≡ [] =
+      get_or_past p.scripts s [] (let far = past.0 in omega arith) in
+      subst
+      (λ o. IsWholeJournal s (script_of p s)
+      (unwrap_or (option_map (told_by (script_of p s)) o) []))
+      (sym past.1) (tt, ap (λ commands. next_of commands []) script)
 ]

@@ -54,7 +54,7 @@ module _ {N : Type 0} (script : List (Command N)) where
         let more = append_assoc before (line ∷ []) lines in
         let long = length_push before line in
         let grown : map (λ (l : PlacedLine N). l.command) (before ++ line ∷ [])
-            ≡ take (length (before ++ line ∷ [])) script =
+        ≡ take (length (before ++ line ∷ [])) script =
         map_push (λ (l : PlacedLine N). l.command) before line
         ∙ (λ i. done i ++ sym next.0 i ∷ [])
         ∙ sym (take_more script (length before) Ood next.1)
