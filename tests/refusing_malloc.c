@@ -1,9 +1,11 @@
 // A malloc for tests: it refuses the request for memory whose number is FAIL_AT, counted from 1. Where no request
-// has that number, it leaves the file FAIL_REPORT behind.
+// has that number, it leaves the file FAIL_REPORT behind. A test with threads ends by _exit, which calls no destructor.
+#include <errno.h>
 #include <fcntl.h>
 #include <stdatomic.h>
 #include <stddef.h>
 #include <stdlib.h>
+#include <sys/syscall.h>
 #include <unistd.h>
 
 extern void *__libc_malloc(size_t);
@@ -24,7 +26,16 @@ __attribute__((destructor)) static void end(void) {
     if (report && fail_at && atomic_load(&requests) < fail_at) close(open(report, O_CREAT | O_WRONLY, 0600));
 }
 
-static int is_refused(void) { return fail_at && atomic_fetch_add(&requests, 1) + 1 == fail_at; }
+void _exit(int status) {
+    end();
+    for (;;) syscall(SYS_exit_group, status);
+}
+
+static int is_refused(void) {
+    if (!fail_at || atomic_fetch_add(&requests, 1) + 1 != fail_at) return 0;
+    errno = ENOMEM;
+    return 1;
+}
 
 void *malloc(size_t n) { return is_refused() ? 0 : __libc_malloc(n); }
 void *calloc(size_t n, size_t m) { return is_refused() ? 0 : __libc_calloc(n, m); }

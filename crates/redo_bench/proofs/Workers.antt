@@ -11,7 +11,9 @@ use Rattle.redo_board.specs.declared.seat.Seat.{Seat}
 use Rattle.redo_board.specs.Core.{Line}
 use Rattle.redo_board.specs.Views.{Part}
 use Rattle.redo_board.specs.Rule.{HasPart}
-use Rattle.redo_board.specs.Kept.{session_of, journal_of, parts_of, SitsAt, WorksAt, Leaves, IsForAll}
+use Rattle.redo_board.specs.Kept.{SitsAt, WorksAt}
+use Rattle.redo_board.specs.Outcomes.{Leaves}
+use Rattle.redo_board.specs.Shown.{session_of, journal_of, parts_of, IsForAll}
 use Rattle.redo_bench.specs.Workers.{HasSession, AreWorkers}
 
 has_more : (ws : List Worker) (w : Worker) (t : ℕ) → HasSession ws t → HasSession (ws ++ w ∷ []) t

@@ -3,7 +3,8 @@ use Rattle.std.specs.Prelude.{◌≡◌, ℕ, ◌<◌, ◌⊎◌, List, [], ◌�
 use Rattle.redo_journal.specs.Plans.{PlanOf}
 use Rattle.redo_board.specs.declared.board.Board.{Board}
 use Rattle.redo_board.specs.declared.worker.Worker.{Worker}
-use Rattle.redo_board.specs.Kept.{session_of, WorksAt}
+use Rattle.redo_board.specs.Kept.{WorksAt}
+use Rattle.redo_board.specs.Shown.{session_of}
 
 -- a worker has the session
 abbrev pub HasSession : List Worker → ℕ → Type 0

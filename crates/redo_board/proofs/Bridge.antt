@@ -12,7 +12,7 @@ use Rattle.redo_model.specs.Command.{Command, Lock, asked_lock}
 use Rattle.redo_model.specs.Reply.{Reply, Okay}
 use Rattle.redo_model.specs.Reply as replies
 use Rattle.redo_model.specs.Step.{Answers, Replies, lock_reply, locks_granted, locks_freed, holds_target}
-use Rattle.redo_model.specs.History.{LegalFrom, Legal}
+use Rattle.redo_model.specs.History.{LegalFrom}
 use Rattle.redo_model.specs.Renaming.{IsBelow, IsLineBelow}
 use Rattle.redo_model.specs.Placed.{Place, Row, Released, line_of, part_of, Fits, Follows, is_row, is_grant, is_release, rows_in, grants_in, releases_in, IsPlacedAfter, IsPlaced}
 use Rattle.redo_model.specs.Journals.{IsJournalAfter, IsOfPlan}

@@ -16,7 +16,7 @@ use Rattle.redo_model.specs.Placed.{Place, Released, is_row}
 use Rattle.redo_model.specs.Journals.{Numbered}
 use Rattle.redo_journal.specs.Plans.{PlanOf}
 use Rattle.redo_board.specs.Rows.{naming_of, rows_of}
-use Rattle.redo_board.specs.Core.{Line, Core, Way, row, claim, free, rows_then, place_at, claim_place, has, way_at, done, word, Begins, claim_of, claim_word}
+use Rattle.redo_board.specs.Core.{Line, Core, Way, claim, free, rows_then, place_at, has, way_at, done, word, Begins, claim_of, claim_word}
 use Rattle.redo_board.specs.Views.{ViewOf, view}
 use Rattle.redo_board.specs.Rule.{Orderly}
 use Rattle.redo_board.specs.Plays.{next, made, own_way, Goes, lock_line, free_line, Claims, claimed, freed}

@@ -1,5 +1,5 @@
 -- What the board's clauses say, in the words of the definitions.
-use Rattle.std.proofs.Common.{◌≡◌, ℕ, ◌<◌, ◌≤◌, ◌⊎◌, ⊎_elim, true, List, [], ◌∷◌, ◌++◌, length, map, refl, sym, ap, ◌∙◌, subst, inl, inr, arith}
+use Rattle.std.proofs.Common.{◌≡◌, ℕ, ◌<◌, ◌≤◌, ◌⊎◌, ⊎_elim, List, [], ◌∷◌, ◌++◌, length, map, refl, sym, ap, ◌∙◌, subst, inl, inr, arith}
 use mathlib.Core.Logic.{dite}
 use native.Mathlib.Decide.{ℕ_discrete, dec_lt}
 use Rattle.redo_model.specs.Names.{texts}
@@ -19,7 +19,7 @@ use Rattle.redo_joint.proofs.Standing.{seen_stands}
 use Rattle.redo_joint.proofs.Replayed as joint
 use Rattle.redo_board.specs.Rows.{naming_of}
 use Rattle.redo_board.specs.Core.{Line, Core, IsLegal, start, done, row_words, Begins}
-use Rattle.redo_board.specs.Histories.{IsHistoryOf, HasParts, EndsWith, words_of}
+use Rattle.redo_board.specs.Histories.{IsHistoryOf, EndsWith, words_of}
 use Rattle.redo_board.specs.Shown.{lines_in}
 use Rattle.redo_board.specs.Views.{Part, ViewOf}
 use Rattle.redo_board.specs.Rule.{HasPart, Fits}

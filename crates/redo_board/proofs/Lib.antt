@@ -19,6 +19,8 @@ pub mod Steps
 pub mod Works
 pub mod Told
 pub mod WordsTold
+pub mod Own
+pub mod Briefs
 pub mod Ended
 pub mod Running
 pub mod Sessions

@@ -10,13 +10,12 @@ use Rattle.redo_model.specs.Command.{Command, Lock, asked_lock}
 use Rattle.redo_model.specs.Reply.{Reply, Okay}
 use Rattle.redo_model.specs.Placed.{Place, Row, Granted, Busy, Released, part_of}
 use Rattle.redo_model.specs.Step.{after, Answers, Replies, locks_after, locks_granted, locks_freed, verdict_of, unless_refused, holds_target, is_held_by, is_built_by, lock_reply}
-use Rattle.redo_journal.specs.Plans.{PlanOf, IsPlan}
+use Rattle.redo_journal.specs.Plans.{PlanOf}
 use Rattle.redo_board.specs.Rows.{naming_of}
 use Rattle.redo_board.specs.Core.{Core, start, word, Way, row, claim, free, rows_then, claim_place, place_at, has, way_at, done, Line, IsNext, IsLegal, after_all, turn_build, is_okay, built, Begins}
 use Rattle.redo_board.proofs.Builds.{cond_both, own_builds, other_builds}
 use Rattle.redo_board.proofs.Ways.{Goes}
 use Rattle.redo_board.proofs.Words.{cond_same, cond_other, set-same, set-other}
-use Rattle.redo_board.proofs.Sound.{Sound, start-sound, done-sound, goes-now}
 
 -- one line more
 pub after-push : (p : PlanOf) (c : Core) (ls : List Line) (l : Line)

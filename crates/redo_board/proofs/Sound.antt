@@ -184,7 +184,8 @@ module _ (p : PlanOf) (c : Core) (l : Line) (plan : IsPlan p) (is : IsNext p c l
         × (Goes order c.state s y (free t) → records' y)
     same-records y t = (
       λ g. subst records' (sym g) refl,
-      λ g. subst records' (sym g.0) (ap (λ v. unless_refused v c.state.records c.state.records) g.1),
+      λ g. subst records' (sym g.0) (ap (λ v. unless_refused v c.state.records c.state.records)
+          g.1),
     )
 
     replayed' : (w : Way) → Goes order c.state s x w

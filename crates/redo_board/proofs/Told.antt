@@ -1,20 +1,14 @@
 -- What one line more tells of what a session holds and builds.
-use Rattle.std.proofs.Common.{◌≡◌, ℕ, ◌+◌, ◌<◌, ◌≤◌, List, [], ◌∷◌, ◌++◌, length, get_or, take, Bool, true, false, not, ◌&&◌, cond, None, refl, sym, ap, ◌∙◌}
-use Rattle.std.proofs.lemmas.List.{take_more, map-append, get_or_past}
+use Rattle.std.proofs.Common.{◌≡◌, ℕ, List, [], ◌∷◌, ◌++◌, Bool, true, false, not, ◌&&◌, cond, None, refl, ap, ◌∙◌}
+use Rattle.std.proofs.lemmas.List.{map-append}
 use Rattle.redo_model.specs.Command as commands
 use Rattle.redo_model.specs.Command.{asked_lock}
-use Rattle.redo_model.specs.Placed.{is_grant, is_release, grants_in, releases_in}
-use Rattle.redo_command.specs.Meaning.{reply_of}
-use Rattle.redo_journal.specs.Journals.{place_of, line_told}
+use Rattle.redo_journal.specs.Journals.{line_told}
 use Rattle.redo_journal.specs.declared.entry.Entry.{Entry}
-use Rattle.redo_board.specs.Core.{Line, built, turn_build, is_okay, Way, way, row, claim, free}
+use Rattle.redo_board.specs.Core.{Line, built, turn_build, Way, way, row, claim, free}
 use Rattle.redo_board.specs.Shown.{told}
-use Rattle.redo_board.specs.Rows.{bit}
-use Rattle.redo_board.specs.Plays.{by_number}
-use Rattle.redo_board.proofs.Bridge.{count-push}
-use Rattle.redo_board.proofs.Builds.{cond_both}
 
-built-push : (t : ℕ) (b : Bool) (ls : List Line) (l : Line)
+pub built-push : (t : ℕ) (b : Bool) (ls : List Line) (l : Line)
     → built t b (ls ++ l ∷ []) ≡ turn_build l.command l.reply t (built t b ls)
 built-push t b [] l = refl
 built-push t b (x ∷ ls) l = built-push t (turn_build x.command x.reply t b) ls l
@@ -23,48 +17,6 @@ pub told-push : (s : ℕ) (script : List (commands.Command ℕ)) (xs ys : List E
     → ys ≡ xs ++ x ∷ [] → told s script ys ≡ told s script xs ++ line_told s script x ∷ []
 told-push s script xs ys x e =
     ap (told s script) e ∙ map-append (line_told s script) xs (x ∷ [])
-
--- the first entries with the one at i
-first-more : (s : ℕ) (script : List (commands.Command ℕ)) (items : List Entry) (i : ℕ) (x : Entry)
-    → i < length items → x ≡ get_or items i x
-    → told s script (take (i + 1) items)
-    ≡ told s script (take i items) ++ line_told s script x ∷ []
-first-more s script items i x less is =
-    told-push s script (take i items) (take (i + 1) items) x
-    (take_more items i x less ∙ ap (λ y. take i items ++ y ∷ []) (sym is))
-
-module _ (s : ℕ) (script : List (commands.Command ℕ)) (t : ℕ) (items : List Entry) (i : ℕ)
-    (x : Entry) (less : i < length items) (is : x ≡ get_or items i x) where
-  pub grants-more : grants_in by_number (told s script (take (i + 1) items)) t
-      ≡ grants_in by_number (told s script (take i items)) t
-      + bit (is_grant by_number t (place_of x.place))
-  grants-more =
-      ap (λ ls. grants_in by_number ls t) (first-more s script items i x less is)
-      ∙ count-push (λ (l : Line). is_grant by_number t l.place) (told s script (take i items))
-      (line_told s script x)
-
-  pub releases-more : releases_in by_number (told s script (take (i + 1) items)) t
-      ≡ releases_in by_number (told s script (take i items)) t
-      + bit (is_release by_number t (place_of x.place))
-  releases-more =
-      ap (λ ls. releases_in by_number ls t) (first-more s script items i x less is)
-      ∙ count-push (λ (l : Line). is_release by_number t l.place) (told s script (take i items))
-      (line_told s script x)
-
-  pub built-more : built t false (told s script (take (i + 1) items))
-      ≡ turn_build (get_or script x.line commands.Ood) (reply_of x.reply) t
-      (built t false (told s script (take i items)))
-  built-more =
-      ap (built t false) (first-more s script items i x less is)
-      ∙ built-push t false (told s script (take i items)) (line_told s script x)
-
--- past the script no command turns anything
-pub past-turns : (xs : List (commands.Command ℕ)) (k t : ℕ)
-    (reply : Rattle.redo_model.specs.Reply.Reply ℕ) (b : Bool)
-    → length xs ≤ k → turn_build (get_or xs k commands.Ood) reply t b ≡ b
-past-turns xs k t reply b past =
-    ap (λ x. turn_build x reply t b) (get_or_past xs k commands.Ood past)
-    ∙ cond_both (is_okay reply) b
 
 -- the command of a way
 way_unlock : (t u : ℕ) (b : Bool) → cond b (free t) row ≡ free u → t ≡ u

@@ -6,28 +6,32 @@ use Rattle.std.proofs.lemmas.List.{length_push, append-nil}
 use Rattle.redo_model.specs.Command.{Command, Ood, names_in}
 use Rattle.redo_model.specs.Reply.{Reply}
 use Rattle.redo_model.specs.Renaming.{IsBelow, AllBelow}
-use Rattle.redo_model.specs.Placed.{Place, Row}
+use Rattle.redo_model.specs.Placed.{Place}
 use Rattle.redo_model.specs.Journals.{Numbered, numbered}
 use Rattle.redo_command.specs.Meaning.{reply_of}
 use Rattle.redo_store.specs.Stored.{Stored}
 use Rattle.redo_journal.specs.Plans.{PlanOf, IsPlan, script_of}
 use Rattle.redo_journal.specs.Journals.{place_of, line_told}
 use Rattle.redo_journal.specs.declared.entry.Entry.{Entry}
-use Rattle.redo_board.specs.Core.{Line, Begins, Way, row}
+use Rattle.redo_board.specs.Core.{Line, Begins, row}
 use Rattle.redo_board.specs.Histories.{EndsWith}
 use Rattle.redo_board.specs.Views.{Part, ViewOf, view}
-use Rattle.redo_board.specs.Rule.{HasPart}
-use Rattle.redo_board.specs.Plays.{Goes, Lost, made, next, own_way}
+use Rattle.redo_board.specs.Rule.{HasPart, Told}
+use Rattle.redo_board.specs.Plays.{Goes, Lost, made, next, own, own_way}
 use Rattle.redo_board.specs.Shown.{NeedsNoRow, IsNextBy, session_of, journal_of, seen_by, next_by, told, past, rows_up_to}
 use Rattle.redo_board.specs.Kept.{IsBoardOf, Works, WorksAt, Lags, view_of}
+use Rattle.redo_board.specs.Own.{Says, Notes, names_of, has, way_by}
 use Rattle.redo_board.specs.Outcomes.{Made, Waits}
+use Rattle.redo_board.specs.Steps.{Enters}
 use Rattle.redo_board.specs.declared.board.Board.{Board}
+use Rattle.redo_board.specs.declared.worker.own.Own.{Own}
 use Rattle.redo_board.specs.declared.worker.Worker.{Worker}
 use Rattle.redo_board.proofs.Nexts.{IsNamed, next_named, command_below}
 use Rattle.redo_board.proofs.Sound.{few_rows}
 use Rattle.redo_board.proofs.Ended.{ends-with}
-use Rattle.redo_board.proofs.Steps.{Keeps, goes_keeps, lost_keeps}
+use Rattle.redo_board.proofs.Steps.{IsWorker, Keeps, lone, goes_keeps, lost_keeps}
 use Rattle.redo_board.proofs.Told.{told-push}
+use Rattle.redo_board.proofs.Own.{InTurn, in_turn, says_on, last_fits, has_is, way_is}
 
 pub few_words : (p : PlanOf) (b : Board) → IsBoardOf p b → b.rows ≤ 262144
 few_words p b is = let a = is.rows in let c = few_rows p is.plan in omega arith
@@ -50,6 +54,48 @@ pub target_low : (p : PlanOf) (w : Worker) (n : Numbered ℕ) (t : ℕ) → Work
     → next_by p w ≡ Some n → names_in n.command ≡ t ∷ [] → t < length p.names
 target_low p w n t k is names =
     (subst (AllBelow (length p.names)) names (next_below p w n k is)).0
+
+-- by its own lines: what it holds, and where it steps
+pub own_below : (p : PlanOf) (w : Worker) (n : Numbered ℕ) → Works p w → next_by p w ≡ Some n
+    → IsBelow (names_of w.own) n.command
+own_below p w n k is =
+    subst (λ m. IsBelow m n.command) (sym k.own.names) (next_below p w n k is)
+
+pub own_has : (p : PlanOf) (w : Worker) (n : Numbered ℕ) → Works p w → next_by p w ≡ Some n
+    → has w.own n.command ≡ own (journal_of p w) n.command
+own_has p w n k is =
+    has_is (length p.names) w.own (journal_of p w) n.command k.own (next_below p w n k is)
+
+pub own_steps : (p : PlanOf) (w : Worker) (n : Numbered ℕ) → Works p w → next_by p w ≡ Some n
+    → way_by w.own n.command ≡ own_way (journal_of p w) n.command
+own_steps p w n k is =
+    way_is (length p.names) w.own (journal_of p w) n.command k.own (next_below p w n k is)
+
+-- the only session's lines are the view's
+has_lone : (p : PlanOf) (s : ℕ) (j : List Line) (v : ViewOf) → IsWorker p s j v
+    → HasPart v.parts s j
+has_lone p s j v is =
+    subst (λ (ps : List Part). HasPart ps s j) (sym (lone p s j v is)) (inl (refl, refl))
+
+-- it was granted and released each target in turn
+turns : (p : PlanOf) (s : ℕ) (j : List Line) (v : ViewOf) → IsWorker p s j v → Told v → InTurn j
+turns p s j v is told =
+    subst InTurn (told.fits.own s j (has_lone p s j v is))
+    (in_turn v.plan told.log s told.plan told.legal)
+
+-- an entry changes the journal, and what is held and built
+pub entered : (old new : Worker) (x : Command ℕ) (e : Entry) → Enters old x e new
+    → (P : Worker → Type 0)
+    → P (record old { entries = new.entries; own = new.own }) → P new
+entered old new x e enters P holds = subst P (λ i. record {
+  seat = sym enters.seat i;
+  session = sym enters.session i;
+  entries = new.entries;
+  own = new.own;
+  store = sym enters.store i;
+  pending = sym enters.pending i;
+  tries = sym enters.tries i;
+}) holds
 
 -- the entry of what a session does next
 pub entry_tells : (p : PlanOf) (w : Worker) (n : Numbered ℕ) (e : Entry) (reply : Reply ℕ)
@@ -88,6 +134,7 @@ module _ (p : PlanOf) (b : Board) (w w' : Worker) (n : Numbered ℕ) (reply : Re
     (view_of w'))
     (e : Entry) (items : w'.entries.items ≡ w.entries.items ++ e ∷ [])
     (line : e.line ≡ n.number) (said : reply_of e.reply ≡ reply) (at : place_of e.place ≡ place)
+    (notes : Notes w.own n.command (reply_of e.reply) w'.own)
     (session : w'.session ≡ w.session) (table : w'.seat.table_id ≡ w.seat.table_id)
     (slots : w'.seat.me.1 ≡ w.seat.me.1)
     (capacity : vec_capacity w.entries ≤ vec_capacity w'.entries) where
@@ -104,6 +151,16 @@ module _ (p : PlanOf) (b : Board) (w w' : Worker) (n : Numbered ℕ) (reply : Re
   keeps =
       goes_keeps p w.session (journal_of p w) (journal_of p w') l₀ seen (view_of w) (view_of w')
       k.works.view goes grown
+
+  says' : Says (length p.names) w'.own (journal_of p w')
+  says' =
+      let after : InTurn (journal_of p w ++ l₀ ∷ []) =
+      subst InTurn grown (turns p w.session (journal_of p w') (view_of w') keeps.is keeps.told) in
+      subst (Says (length p.names) w'.own) (sym grown)
+      (says_on (length p.names) w.own w'.own (journal_of p w) l₀ k.works.own
+      (subst (λ r. Notes w.own n.command r w'.own) said notes)
+      (turns p w.session (journal_of p w) (view_of w) k.works.view k.works.told) after
+      (last_fits (view_of w').plan goes.ends.before l₀ goes.ends.plan goes.ends.legal))
 
   module _ (tries : w'.tries ≡ length seen)
       (spent : w'.tries ≡ past place (rows_up_to 0 (journal_of p w)))
@@ -125,6 +182,7 @@ module _ (p : PlanOf) (b : Board) (w w' : Worker) (n : Numbered ℕ) (reply : Re
             subst (λ s. length (script_of p s) ≤ vec_capacity w'.entries) (sym session)
             (let a = k.works.room in omega arith);
         tries = tries ∙ ap length (sym keeps.saw);
+        own = says';
         told = keeps.told;
         lags = subst (Lags p w'.store w'.pending) (sym keeps.saw) lags;
         spent = λ _. spent';
@@ -158,6 +216,7 @@ module _ (p : PlanOf) (b : Board) (w w' : Worker) (n : Numbered ℕ) (reply : Re
     (view_of w'))
     (e : Entry) (items : w'.entries.items ≡ w.entries.items ++ e ∷ [])
     (line : e.line ≡ n.number) (said : reply_of e.reply ≡ reply) (at : place_of e.place ≡ place)
+    (notes : Notes w.own n.command (reply_of e.reply) w'.own)
     (session : w'.session ≡ w.session) (table : w'.seat.table_id ≡ w.seat.table_id)
     (slots : w'.seat.me.1 ≡ w.seat.me.1)
     (capacity : vec_capacity w.entries ≤ vec_capacity w'.entries)
@@ -175,18 +234,23 @@ module _ (p : PlanOf) (b : Board) (w w' : Worker) (n : Numbered ℕ) (reply : Re
 
   pub works_claimed : WorksAt p b w'
   works_claimed =
-      works_on p b w w' n reply place (seen_by w) k is-next goes e items line said at session table
-      slots capacity (tries ∙ k.works.tries) spent₁ lags₁
+      works_on p b w w' n reply place (seen_by w) k is-next goes e items line said at notes
+      session table slots capacity (tries ∙ k.works.tries) spent₁ lags₁
 
   pub made_claimed : Made p w w'
   made_claimed =
-      made_on p b w w' n reply place (seen_by w) k is-next goes e items line said at session table
-      slots capacity (tries ∙ k.works.tries) spent₁ lags₁ ([], sym (append-nil (seen_by w)))
+      made_on p b w w' n reply place (seen_by w) k is-next goes e items line said at notes
+      session table slots capacity (tries ∙ k.works.tries) spent₁ lags₁ (
+        [],
+        sym (append-nil
+            (seen_by w)),
+      )
 
 -- after a row was lost
 module _ (p : PlanOf) (b : Board) (w w' : Worker) (found : ℕ) (k : WorksAt p b w)
     (lost : Lost (view_of w) found (view_of w')) (session : w'.session ≡ w.session)
-    (same : w'.entries ≡ w.entries) (slots : w'.seat.me.1 ≡ w.seat.me.1) where
+    (same : w'.entries ≡ w.entries) (own-same : w'.own ≡ w.own)
+    (slots : w'.seat.me.1 ≡ w.seat.me.1) where
   kept : Keeps p w.session (journal_of p w) (seen_by w ++ found ∷ []) (view_of w')
   kept =
       lost_keeps p w.session found (journal_of p w) (view_of w) (view_of w') k.works.view lost
@@ -218,6 +282,9 @@ module _ (p : PlanOf) (b : Board) (w w' : Worker) (found : ℕ) (k : WorksAt p b
           let b = ap length kept.saw in
           let d = length_push (seen_by w) found in
           omega arith;
+      own =
+          subst (λ (x : Own × List Line). Says (length p.names) x.0 x.1)
+          (λ i. (sym own-same i, sym journal-same i)) k.works.own;
       told = kept.told;
       lags =
           subst (λ (x : Stored × Option ℕ). Lags p x.0 x.1 (seen_by w'))

@@ -8,10 +8,11 @@ use Rattle.redo_board.specs.declared.board.Board.{Board}
 use Rattle.redo_board.specs.declared.seat.Seat.{Seat}
 use Rattle.redo_board.specs.declared.worker.Worker.{Worker}
 use Rattle.redo_board.specs.Rows.{rows_of}
-use Rattle.redo_board.specs.Core.{replay, row}
+use Rattle.redo_board.specs.Core.{replay}
+use Rattle.redo_board.specs.Own.{Says}
 use Rattle.redo_board.specs.Views.{ViewOf, view}
 use Rattle.redo_board.specs.Rule.{Told, range}
-use Rattle.redo_board.specs.Shown.{plan_of, first_of, end_of, told, journal_of, seen_by, rows_up_to, NeedsNoRow}
+use Rattle.redo_board.specs.Shown.{plan_of, first_of, end_of, journal_of, seen_by, rows_up_to, NeedsNoRow}
 
 -- the words of a board: one for the seats, one for each row, one for each name
 pub record IsBoardOf (p : PlanOf) (b : Board) : Type 0 where
@@ -62,6 +63,7 @@ pub record Works (p : PlanOf) (w : Worker) : Type 0 where
   pub session : w.session < length p.scripts
   pub room : length (script_of p w.session) ≤ vec_capacity w.entries
   pub tries : w.tries ≡ length (seen_by w)
+  pub own : Says (length p.names) w.own (journal_of p w)
   pub told : Told (view_of w)
   pub lags : Lags p w.store w.pending (seen_by w)
   pub spent : NeedsNoRow p w → w.tries ≡ rows_up_to 0 (journal_of p w)

@@ -3,6 +3,7 @@ pub mod Core
 pub mod Views
 pub mod Rule
 pub mod Plays
+pub mod Own
 pub mod Histories
 pub mod Shown
 pub mod Kept

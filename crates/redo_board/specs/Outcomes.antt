@@ -1,5 +1,5 @@
 -- What the calls leave.
-use Rattle.std.specs.Prelude.{◌≡◌, ℕ, ◌+◌, ◌-◌, ◌<◌, ◌≤◌, List, [], ◌∷◌, ◌++◌, length, Some, slice_index}
+use Rattle.std.specs.Prelude.{◌≡◌, ℕ, ◌+◌, ◌<◌, ◌≤◌, List, [], ◌∷◌, ◌++◌, length, Some, slice_index}
 use Rattle.redo_model.specs.Placed.{rows_in}
 use Rattle.redo_model.specs.Journals.{numbered, IsJointOrder}
 use Rattle.redo_model.specs.Words.{claim_word_of}
@@ -10,11 +10,10 @@ use Rattle.redo_board.specs.declared.board.Board.{Board}
 use Rattle.redo_board.specs.declared.seat.Seat.{Seat}
 use Rattle.redo_board.specs.declared.worker.Worker.{Worker}
 use Rattle.redo_board.specs.Rows.{rows_of, naming_of}
-use Rattle.redo_board.specs.Core.{Line, Begins, row}
+use Rattle.redo_board.specs.Core.{Line, Begins}
 use Rattle.redo_board.specs.Views.{Part}
-use Rattle.redo_board.specs.Plays.{next}
 use Rattle.redo_board.specs.Histories.{IsHistoryOf, HasParts, EndsWith, words_of}
-use Rattle.redo_board.specs.Shown.{parts_of, seen_at, lines_in, session_of, told, journal_of, seen_by, tries_of, rows_up_to, next_by}
+use Rattle.redo_board.specs.Shown.{parts_of, seen_at, lines_in, session_of, journal_of, seen_by, tries_of, rows_up_to, next_by}
 use Rattle.redo_board.specs.Kept.{SitsAt}
 
 -- one command more was done: the next of the script. A legal history ends with its line, and no row

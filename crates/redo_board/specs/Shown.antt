@@ -1,5 +1,5 @@
 -- What boards, seats and workers show.
-use Rattle.std.specs.Prelude.{◌≡◌, ◌≢◌, ℕ, ◌+◌, ◌-◌, ◌<◌, ◌==◌, cond, List, [], ◌∷◌, ◌++◌, length, map, Option, Some, None}
+use Rattle.std.specs.Prelude.{◌≡◌, ◌≢◌, ℕ, ◌+◌, ◌<◌, ◌==◌, cond, List, [], ◌∷◌, ◌++◌, length, map, Option, Some, None}
 use Rattle.std.specs.Borrow.{Bor}
 use Rattle.redo_model.specs.Command.{Command}
 use Rattle.redo_model.specs.Placed.{Place, Row, Granted, Busy, Released}

@@ -1,12 +1,20 @@
 -- What the code's values say of a step.
-use Rattle.std.specs.Prelude.{◌≡◌, ℕ}
+use Rattle.std.specs.Prelude.{◌≡◌, ◌≤◌, ℕ, false, Option, Some, None, ◌∷◌, [], ◌++◌, vec_capacity}
 use Rattle.redo_command.specs.Meaning.{reply_of}
+use Rattle.redo_model.specs.Command.{Command}
+use Rattle.redo_model.specs.Reply.{Reply}
+use Rattle.redo_model.specs.Step.{Replies}
+use Rattle.redo_model.specs.Renaming.{IsReplyBelow}
+use Rattle.redo_command.specs.declared.reply.Reply as commands
+use Rattle.redo_store.specs.Stored.{records_of, naming_of, count_of, lists_names}
 use Rattle.redo_journal.specs.Journals.{place_of}
 use Rattle.redo_journal.specs.declared.entry.Entry.{Entry}
 use Rattle.redo_board.specs.Core as core
+use Rattle.redo_board.specs.Own.{has, Notes}
 use Rattle.redo_board.specs.Plays.{lock_said, lock_place}
-use Rattle.redo_board.specs.declared.worker.told.Way.{Way}
-use Rattle.redo_board.specs.declared.worker.told.Way.TheVariants.{Row, Claim, Free}
+use Rattle.redo_board.specs.declared.worker.Worker.{Worker}
+use Rattle.redo_board.specs.declared.worker.own.Way.{Way}
+use Rattle.redo_board.specs.declared.worker.own.Way.TheVariants.{Row, Claim, Free}
 
 abbrev pub way_of : Way → core.Way
 way_of Row = core.row
@@ -18,3 +26,24 @@ pub record TellsLock (number t w : ℕ) (entry : Entry) : Type 0 where
   pub line : entry.line ≡ number
   pub said : reply_of entry.reply ≡ lock_said w
   pub at : place_of entry.place ≡ lock_place t w
+
+-- the reply is that of the worker's store, by what the session holds
+pub record IsSaidBy (w : Worker) (x : Command ℕ) (reply : Reply ℕ) : Type 0 where
+  pub replies : Replies (naming_of w.store) (records_of w.store) w.session (has w.own x) x reply
+  pub below : IsReplyBelow (count_of w.store) reply
+
+-- the reply is there, or takes no memory
+abbrev pub IsReadyBy : Worker → Command ℕ → Option commands.Reply → Type 0
+IsReadyBy w x None = lists_names x ≡ false
+IsReadyBy w x (Some reply) = IsSaidBy w x (reply_of reply)
+
+-- the entry stands in the journal, and what the session holds and builds is noted
+pub record Enters (old : Worker) (x : Command ℕ) (entry : Entry) (new : Worker) : Type 0 where
+  pub items : new.entries.items ≡ old.entries.items ++ entry ∷ []
+  pub capacity : vec_capacity old.entries ≤ vec_capacity new.entries
+  pub notes : Notes old.own x (reply_of entry.reply) new.own
+  pub seat : new.seat ≡ old.seat
+  pub session : new.session ≡ old.session
+  pub store : new.store ≡ old.store
+  pub pending : new.pending ≡ old.pending
+  pub tries : new.tries ≡ old.tries

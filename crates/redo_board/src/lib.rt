@@ -7,8 +7,6 @@ mod laws;
 mod plan;
 mod rule;
 mod seat;
-#[cfg(test)]
-mod tests;
 mod view;
 mod worker;
 

@@ -1,35 +1,42 @@
 ghost use Rattle.std.specs.Prelude.{◌≡◌, ◌+◌, ◌<◌, [], ◌++◌, ◌∷◌, length, IfOk, IfErr, IsOk};
-ghost use Rattle.std.specs.Prelude.{OnErr, MatchBool, None};
+ghost use Rattle.std.specs.Prelude.{OnErr, MatchBool, None, IfSome, vec_len, vec_capacity};
+ghost use Rattle.std.specs.Option.{IfNone};
 ghost use Rattle.redo_model.specs.Journals.{next_of};
+ghost use Rattle.redo_model.specs.Renaming.{IsBelow};
+ghost use Rattle.redo_command.specs.Meaning.{command_of};
 ghost use Rattle.redo_journal.specs.Plans.{PlanOf, script_of};
 ghost use Rattle.redo_board.specs.declared.board.Board.{Board as BoardOf};
 ghost use Rattle.redo_board.specs.Shown.{session_of, journal_of, tries_of, seen_by, first_of};
 ghost use Rattle.redo_board.specs.Shown.{end_of};
 ghost use Rattle.redo_board.specs.Kept.{IsBoardOf, IsSeatOf, SitsAt, IsFresh, WorksAt};
-ghost use Rattle.redo_board.specs.Shown.{entries_of, NeedsNoRow, IsAtEnd, IsLast};
+ghost use Rattle.redo_board.specs.Shown.{entries_of, NeedsNoRow, IsNextBy, IsAtEnd, IsLast};
 ghost use Rattle.redo_board.specs.Outcomes.{Made, Waits, Leaves};
+ghost use Rattle.redo_board.specs.Own.{names_of};
+ghost use Rattle.redo_board.specs.Rows.{command};
+ghost use Rattle.redo_board.specs.Steps.{Enters};
 
 use crate::board::Board;
 use crate::gate::Gate;
 use crate::plan::{command_at, commands, session_number};
 use crate::seat::{Seat, Token};
-use crate::worker::told::Way;
-use redo_command::FileStamp;
+use crate::worker::own::{Own, Way};
+use redo_command::{Command, FileStamp, Reply};
 use redo_journal::{Entry, Journal, Plan};
 use redo_store::Store;
 use std::alloc::{AllocError, Global};
 
 mod claims;
+mod own;
 mod rows;
-mod told;
 
-/// One session at work: its journal, the rows that it saw, and a store of its own that is as far as
-/// these rows, or one row behind.
+/// One session at work: its journal, what it holds and builds by that, the rows that it saw, and a
+/// store of its own that is as far as these rows, or one row behind.
 #[derive(Drop)]
 pub struct Worker {
     pub(crate) seat: Token,
     pub(crate) session: u8,
     pub(crate) entries: Vec<Entry>,
+    pub(crate) own: Own,
     pub(crate) store: Store,
     pub(crate) pending: Option<u64>,
     pub(crate) tries: u32,
@@ -51,6 +58,9 @@ impl Worker {
         let Ok(entries) = Vec::with_capacity(alloc, commands(plan, session).len()) else {
             return Err(seat);
         };
+        let Ok(own) = Own::new(alloc, plan.names().len()) else {
+            return Err(seat);
+        };
         let Ok(store) = Store::new(alloc, plan.names()) else {
             return Err(seat);
         };
@@ -63,6 +73,7 @@ impl Worker {
             seat,
             session,
             entries,
+            own,
             store,
             pending: None,
             tries: 0,
@@ -94,13 +105,38 @@ impl Worker {
         let _none: Option<FileStamp> = None;
         let command = command_at(plan, self.session, number as usize);
         gate.before(self.session, number);
-        match self.way(commands(plan, self.session), command) {
+        match self.own.way(command) {
             Way::Claim(target) => self.lock(board, plan, number, target),
             Way::Free(target) => self.free(board, plan, number, target),
             Way::Row => self.place(alloc, board, plan, gate, number, command)?,
         }
         gate.after(self.session, number);
         Ok(true)
+    }
+
+    /// The number of what the session does next, if there is anything.
+    fn next(&self, plan: &Plan) -> Option<u32>
+        requires { self.now.session < length plan.now.scripts }
+        ensures some { IfSome result (λ number. IsNextBy plan.now self.now number
+            (command plan.now self.now.session number)) }
+        ensures none { IfNone result (IsAtEnd plan.now self.now) }
+    {
+        let number = self.entries.len();
+        if number < commands(plan, self.session).len() {
+            Some(number as u32)
+        } else {
+            None
+        }
+    }
+
+    /// Writes the entry of a command into the journal, in which there is room.
+    fn enter(&mut self, command: &Command, entry: Entry)
+        requires names { IsBelow (names_of self.old.own) (command_of command.now) }
+        requires room { vec_len self.old.entries < vec_capacity self.old.entries }
+        ensures { Enters self.old (command_of command.now) entry self.new }
+    {
+        self.own.note(command, &entry.reply);
+        self.entries.push_reserved(entry);
     }
 
     /// The last entry, if there is one.
@@ -129,6 +165,7 @@ impl Worker {
             seat,
             session,
             entries,
+            own: _,
             store: _,
             pending: _,
             tries,

@@ -50,7 +50,8 @@ impl Store {
     pub fn new(alloc: Global, names: &Names) -> Result<Store, AllocError>
         ensures empty { IfOk result (λ store. records_of store ≡ empty.records) }
         ensures count { IfOk result (λ store. count_of store ≡ length names.now) }
-        ensures order { IfOk result (λ store. OrdersAlike (numbering names.now) texts (order_of store)) }
+        ensures order { IfOk result (λ store. OrdersAlike (numbering names.now) texts
+            (order_of store)) }
         ensures applied { IfOk result (λ store. applied_of store ≡ 0) }
     {
         let sorted = sorted_numbers(alloc, names)?;
@@ -75,7 +76,8 @@ impl Store {
     ) -> Result<Reply, AllocError>
         requires numbers { IsBelow (count_of self.now) (command_of command.now) }
         requires no_lock { asked_lock (command_of command.now) ≡ None }
-        ensures replies { IfOk result (λ reply. Replies (naming_of self.now) (records_of self.now) s holds (command_of command.now) (reply_of reply)) }
+        ensures replies { IfOk result (λ reply. Replies (naming_of self.now) (records_of self.now)
+            s holds (command_of command.now) (reply_of reply)) }
         ensures below { IfOk result (λ reply. IsReplyBelow (count_of self.now) (reply_of reply)) }
         ensures ok { lists_names (command_of command.now) ≡ false → IsOk result }
     {
@@ -91,7 +93,8 @@ impl Store {
         requires numbers { IsBelow (count_of self.old) (command_of command.now) }
         requires no_lock { asked_lock (command_of command.now) ≡ None }
         requires applied { applied_of self.old + 1 < 2 ^ 32 }
-        ensures after { OnOk result (records_of self.new ≡ records_after (naming_of self.old) (records_of self.old) s holds (command_of command.now)) }
+        ensures after { OnOk result (records_of self.new ≡ records_after (naming_of self.old)
+            (records_of self.old) s holds (command_of command.now)) }
         ensures applied { OnOk result (applied_of self.new ≡ applied_of self.old + 1) }
         ensures count { count_of self.new ≡ count_of self.old }
         ensures order { order_of self.new ≡ order_of self.old }
@@ -119,7 +122,8 @@ impl Store {
     /// The first refusal that applies.
     fn verdict(&self, s: u8, command: &Command, holds: bool) -> Option<Refusal>
         requires { IsBelow (count_of self.now) (command_of command.now) }
-        ensures { option_map refusal_of result ≡ verdict_of (naming_of self.now) (records_of self.now) s holds (command_of command.now) }
+        ensures { option_map refusal_of result ≡ verdict_of (naming_of self.now)
+            (records_of self.now) s holds (command_of command.now) }
     {
         let t = command.target()?;
         match self.records.verdict(s, command.kind(), t, holds) {
@@ -132,7 +136,8 @@ impl Store {
     fn answer(&self, alloc: Global, command: &Command) -> Result<Reply, AllocError>
         requires numbers { IsBelow (count_of self.now) (command_of command.now) }
         requires no_lock { asked_lock (command_of command.now) ≡ None }
-        ensures tells { IfOk result (λ reply. Tells (naming_of self.now) (records_of self.now) (command_of command.now) (reply_of reply)) }
+        ensures tells { IfOk result (λ reply. Tells (naming_of self.now) (records_of self.now)
+            (command_of command.now) (reply_of reply)) }
         ensures below { IfOk result (λ reply. IsReplyBelow (count_of self.now) (reply_of reply)) }
         ensures ok { lists_names (command_of command.now) ≡ false → IsOk result }
     {
@@ -150,10 +155,12 @@ impl Store {
     /// Makes the change of an accepted command, after that was counted.
     fn change(&mut self, s: u8, command: &Command)
         requires numbers { IsBelow (count_of self.old) (command_of command.now) }
-        requires accepted { verdict_of (naming_of self.old) (records_of self.old) s true (command_of command.now) ≡ None }
+        requires accepted { verdict_of (naming_of self.old) (records_of self.old) s true
+            (command_of command.now) ≡ None }
         requires builds { HasBuildsLeft self.old }
         requires room { has_room_for self.old (command_of command.now) ≡ true }
-        ensures after { records_of self.new ≡ effect_of (naming_of self.old) (records_of self.old) s (command_of command.now) }
+        ensures after { records_of self.new ≡ effect_of (naming_of self.old) (records_of self.old)
+            s (command_of command.now) }
         ensures kept { KeepsNames self.old self.new }
     {
         cases!(effects self s command)

@@ -1,5 +1,5 @@
 -- Workers of the sessions from some one on, and the sessions that seats have.
-use Rattle.std.proofs.Common.{◌≡◌, ℕ, zero, suc, ◌+◌, ◌<◌, ◌≤◌, List, [], ◌∷◌, ◌++◌, length, get_or, set, refl, sym, ap, ◌∙◌, subst, length-append, ⊎_elim, inl, inr, arith}
+use Rattle.std.proofs.Common.{◌≡◌, ℕ, zero, suc, ◌+◌, ◌<◌, List, [], ◌∷◌, ◌++◌, length, get_or, set, refl, sym, ap, ◌∙◌, subst, length-append, inl, inr, arith}
 use mathlib.Core.Logic.{dite}
 use native.Mathlib.Decide.{dec_lt}
 use Rattle.redo_journal.specs.Plans.{PlanOf}
@@ -10,8 +10,10 @@ use Rattle.redo_board.specs.declared.worker.Worker.{Worker}
 use Rattle.redo_board.specs.Core.{Line}
 use Rattle.redo_board.specs.Views.{Part}
 use Rattle.redo_board.specs.Rule.{HasPart}
-use Rattle.redo_board.specs.Kept.{SitsAt, WorksAt, Leaves, IsForAll, parts_of, session_of, journal_of}
-use Rattle.redo_tests_board.specs.Workers.{Has, HasFrom, AreWorkers}
+use Rattle.redo_board.specs.Shown.{IsForAll, parts_of, session_of, journal_of}
+use Rattle.redo_board.specs.Kept.{SitsAt, WorksAt}
+use Rattle.redo_board.specs.Outcomes.{Leaves}
+use Rattle.redo_tests_board.specs.Workers.{HasFrom, AreWorkers}
 
 pub works_at : (p : PlanOf) (b : Board) (s : ℕ) (ws : List Worker) (k : ℕ) (d : Worker)
     → AreWorkers p b s ws → k < length ws → WorksAt p b (get_or ws k d)
@@ -25,7 +27,8 @@ pub set_worker : (p : PlanOf) (b : Board) (s : ℕ) (ws : List Worker) (k : ℕ)
     → AreWorkers p b s (set ws k w)
 set_worker p b s [] k w d a at is = tt
 set_worker p b s (v ∷ ws) zero w d a at is = (at, is ∙ a.1, a.2)
-set_worker p b s (v ∷ ws) (suc k) w d a at is = (a.0, a.1, set_worker p b (s + 1) ws k w d a.2 at is)
+set_worker p b s (v ∷ ws) (suc k) w d a at is =
+    (a.0, a.1, set_worker p b (s + 1) ws k w d a.2 at is)
 
 -- one more
 pub push_worker : (p : PlanOf) (b : Board) (s : ℕ) (ws : List Worker) (w : Worker)

@@ -4,19 +4,13 @@ use Rattle.redo_journal.specs.Plans.{PlanOf, script_of}
 use Rattle.redo_board.specs.declared.board.Board.{Board}
 use Rattle.redo_board.specs.declared.seat.Seat.{Seat}
 use Rattle.redo_board.specs.declared.worker.Worker.{Worker}
-use Rattle.redo_board.specs.Core.{Line}
-use Rattle.redo_board.specs.Rule.{HasPart}
-use Rattle.redo_board.specs.Shown.{parts_of, session_of, journal_of}
+use Rattle.redo_board.specs.Shown.{HasSession, session_of, journal_of}
 use Rattle.redo_board.specs.Kept.{SitsAt, WorksAt}
-
--- the seat has lines of the session
-abbrev pub Has : Seat → ℕ → Type 0
-Has seat s = (own : List Line) × HasPart (parts_of seat) s own
 
 -- a seat of the board, which has each session from the first on and below the end
 pub record HasFrom (p : PlanOf) (b : Board) (first end : ℕ) (seat : Seat) : Type 0 where
   pub sits : SitsAt p b seat
-  pub each : (s : ℕ) → first ≤ s → s < end → Has seat s
+  pub each : (s : ℕ) → first ≤ s → s < end → HasSession s seat
 
 -- workers of the sessions from this one on, one for each
 abbrev pub AreWorkers : PlanOf → Board → ℕ → List Worker → Type 0

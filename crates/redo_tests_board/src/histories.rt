@@ -70,10 +70,15 @@ pub(crate) fn history_of(
     history_text(alloc, &lines, names)
 }
 
-/// The database answers as the history says that it did.
-pub(crate) fn replays(rt: &impl Abort, alloc: Global, history: &[u8]) -> Result<(), Fail> {
+/// The database answers as the history says that it did, line by line, and it has so many lines.
+pub(crate) fn replays(
+    rt: &impl Abort,
+    alloc: Global,
+    history: &[u8],
+    count: usize,
+) -> Result<(), Fail> {
     let told = read_history(alloc, history)?;
-    let is_same = matches!(replay(alloc, &told)?, Verdict::Same(_));
+    let is_same = matches!(replay(alloc, &told)?, Verdict::Same(lines) if lines == count);
     assert!(rt; is_same, "{history:?}");
     Ok(())
 }

@@ -1,6 +1,7 @@
 //! A worker that leaves before its script's end.
-ghost use Rattle.std.specs.Prelude.{◌+◌, IfOk};
-ghost use Rattle.redo_board.specs.Kept.{session_of, IsBoardOf, WorksAt};
+ghost use Rattle.std.specs.Prelude.{◌≡◌, ◌+◌, length, IfOk};
+ghost use Rattle.redo_board.specs.Shown.{session_of};
+ghost use Rattle.redo_board.specs.Kept.{IsBoardOf, WorksAt};
 ghost use Rattle.redo_tests_board.specs.Workers.{HasFrom};
 
 use crate::histories::{history_of, replays, rows_in};
@@ -32,6 +33,26 @@ fn leave_after(
     Ok(worker.leave())
 }
 
+/// The first session leaves after three commands, and the second one after its four: the number of
+/// filled rows, and the journals.
+fn leave_apart(
+    rt: &impl Abort,
+    alloc: Global,
+    plan: &Plan,
+) -> Result<(usize, Vec<Journal>), AllocError>
+    requires { length plan.now.scripts ≡ 2 }
+{
+    let (board, seat) = Board::open(alloc, plan)?;
+    let (left, right) = split(&board, plan, seat, 1);
+    let first = worker_of(alloc, plan, left)?;
+    let second = worker_of(alloc, plan, right)?;
+    let (left, journal) = leave_after(rt, alloc, &board, plan, first, 3)?;
+    let (right, other) = leave_after(rt, alloc, &board, plan, second, 4)?;
+    let all = meet(&board, plan, left, right);
+    let rows = close(board, plan, all);
+    Ok((rows, vec![in alloc; journal, other]?))
+}
+
 /// The other goes on, and loses the rows of the one that left.
 #[test]
 fn leaves_in_the_middle(rt: HostRuntime) -> Result<(), Fail> {
@@ -45,17 +66,11 @@ fn leaves_in_the_middle(rt: HostRuntime) -> Result<(), Fail> {
         ],
     )?;
     assert_eq!(rt; plan.scripts().len(), 2);
-    let (board, seat) = Board::open(alloc, &plan)?;
-    let (left, right) = split(&board, &plan, seat, 1);
-    let first = worker_of(alloc, &plan, left)?;
-    let second = worker_of(alloc, &plan, right)?;
-    let (left, journal) = leave_after(&rt, alloc, &board, &plan, first, 3)?;
-    let (right, other) = leave_after(&rt, alloc, &board, &plan, second, 4)?;
-    let all = meet(&board, &plan, left, right);
-    let rows = close(board, &plan, all);
-    let journals = vec![in alloc; journal, other]?;
+    let (rows, journals) = leave_apart(&rt, alloc, &plan)?;
     assert_eq!(rt; rows, 5);
     assert_eq!(rt; rows, rows_in(&journals));
+    let tries = journals.iter().map(|journal| journal.tries);
+    assert!(rt; tries.eq([2, 5]));
     let history = history_of(&rt, alloc, &plan, &journals)?;
     let want = "history 7\n\
         1 file a 1 => ok\n\
@@ -66,5 +81,5 @@ fn leaves_in_the_middle(rt: HostRuntime) -> Result<(), Fail> {
         2 ood => ood t\n\
         2 unlock t => refused not-locked\n";
     assert_eq!(rt; str::from_utf8(&history)?, want);
-    replays(&rt, alloc, &history)
+    replays(&rt, alloc, &history, 7)
 }

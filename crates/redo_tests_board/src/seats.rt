@@ -1,6 +1,6 @@
 //! Seats at the board of a plan.
 ghost use Rattle.std.specs.Prelude.{ℕ, ◌<◌, length};
-ghost use Rattle.redo_board.specs.Kept.{first_of, end_of};
+ghost use Rattle.redo_board.specs.Shown.{first_of, end_of};
 ghost use Rattle.redo_board.specs.Kept.{IsBoardOf, SitsAt, IsFresh, IsFreshOf};
 ghost use Rattle.redo_tests_board.specs.Workers.{HasFrom};
 
@@ -23,10 +23,8 @@ pub(crate) fn meet(board: &Board, _plan: &Plan, one: Seat, other: Seat) -> Seat
     requires board { IsBoardOf _plan.now board.now }
     requires one { SitsAt _plan.now board.now one }
     requires other { SitsAt _plan.now board.now other }
-    ensures {
-        (i j n : ℕ) → HasFrom _plan.now board.now i j one
-        → HasFrom _plan.now board.now j n other → HasFrom _plan.now board.now i n result
-    }
+    ensures { (i j n : ℕ) → HasFrom _plan.now board.now i j one
+        → HasFrom _plan.now board.now j n other → HasFrom _plan.now board.now i n result }
 {
     one.meet(other, board)
 }

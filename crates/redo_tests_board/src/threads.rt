@@ -1,7 +1,7 @@
 //! Sessions on threads of their own.
 ghost use Rattle.std.specs.Prelude.{◌≡◌, ◌+◌, ◌<◌, length, IfOk};
 ghost use Rattle.std.specs.Thread.{IsSync};
-ghost use Rattle.redo_board.specs.Kept.{first_of, end_of};
+ghost use Rattle.redo_board.specs.Shown.{first_of, end_of};
 ghost use Rattle.redo_board.specs.Kept.{IsBoardOf, SitsAt, IsFresh, IsFreshOf};
 ghost use Rattle.redo_tests_board.specs.Workers.{HasFrom};
 

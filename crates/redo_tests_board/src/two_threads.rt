@@ -1,5 +1,6 @@
 //! Two sessions of one command each, on two threads.
 use crate::gates::{Hold, Holds, Moment};
+use crate::histories::{history_of, replays, rows_in};
 use crate::plans::plan_of;
 use crate::threads::{have_history, journals_of};
 use redo_board::Open;
@@ -18,7 +19,9 @@ fn two_seats(rt: HostRuntime) -> Result<(), Fail> {
     let journals = journals_of(&rt, alloc, &plan, &Open)?;
     let sessions = journals.iter().map(|journal| journal.session);
     assert!(rt; sessions.eq([0, 1]));
-    Ok(())
+    assert_eq!(rt; rows_in(&journals), 2);
+    let history = history_of(&rt, alloc, &plan, &journals)?;
+    replays(&rt, alloc, &history, 2)
 }
 
 /// A session that is held until the other one's command is done comes second.

@@ -1,7 +1,7 @@
 //! Workers that try a refused step once more.
 ghost use Rattle.std.specs.Prelude.{◌≡◌, ◌+◌, ◌<◌, length, IfOk, IsTrue};
 ghost use Rattle.redo_board.specs.declared.board.Board.{Board as BoardOf};
-ghost use Rattle.redo_board.specs.Kept.{first_of, end_of, session_of};
+ghost use Rattle.redo_board.specs.Shown.{first_of, end_of, session_of};
 ghost use Rattle.redo_board.specs.Kept.{IsBoardOf, IsSeatOf, SitsAt, IsFresh, WorksAt};
 ghost use Rattle.redo_tests_board.specs.Workers.{HasFrom, left_by};
 

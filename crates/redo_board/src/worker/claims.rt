@@ -13,7 +13,7 @@ ghost use Rattle.redo_board.specs.Outcomes.{Made};
 use crate::board::Board;
 use crate::rule::{Claim, Free};
 use crate::worker::Worker;
-use redo_command::Reply;
+use redo_command::{Command, FileStamp, Reply};
 use redo_journal::{Entry, Place, Plan};
 
 impl Worker {
@@ -31,8 +31,7 @@ impl Worker {
             .table
             .shared
             .fetch_or::<Claim>(&mut self.seat, word, 1);
-        self.entries
-            .push_reserved(claim_entry(number, target, found));
+        self.enter(&Command::Lock(target), claim_entry(number, target, found));
     }
 
     /// One `fetch_add` on the claim word of a target that the session holds and doesn't build.
@@ -52,11 +51,12 @@ impl Worker {
             .shared
             .fetch_add::<Free>(&mut self.seat, word, 1);
         let grant = (found / 2 + 1) as u32;
-        self.entries.push_reserved(Entry {
+        let entry = Entry {
             line: number,
             reply: Reply::Okay,
             place: Place::Released(target, grant),
-        });
+        };
+        self.enter(&Command::Unlock(target), entry);
     }
 }
 

@@ -1,15 +1,16 @@
-ghost use Rattle.std.specs.Prelude.{◌≡◌, ◌+◌, ◌<◌, true, None, OnOk, OnErr, MatchBool};
-ghost use Rattle.redo_model.specs.Step.{Replies};
-ghost use Rattle.redo_model.specs.Renaming.{IsReplyBelow};
+ghost use Rattle.std.specs.Prelude.{◌≡◌, ◌+◌, ◌<◌, true, None, IfOk, OnOk, OnErr, MatchBool};
+ghost use Rattle.redo_model.specs.Command.{asked_lock};
+ghost use Rattle.redo_model.specs.Renaming.{IsBelow};
 ghost use Rattle.redo_command.specs.Meaning.{command_of, reply_of};
-ghost use Rattle.redo_store.specs.Stored.{records_of, naming_of, count_of, has_room_for};
+ghost use Rattle.redo_store.specs.Stored.{count_of, has_room_for};
 ghost use Rattle.redo_board.specs.Rows.{rows_of, bit};
 ghost use Rattle.redo_board.specs.Core.{row, holds_of};
-ghost use Rattle.redo_board.specs.Plays.{own, own_way};
+ghost use Rattle.redo_board.specs.Plays.{own_way};
 ghost use Rattle.redo_board.specs.Shown.{session_of, journal_of, tries_of};
-ghost use Rattle.redo_board.specs.Kept.{IsBoardOf, Works};
+ghost use Rattle.redo_board.specs.Kept.{IsBoardOf, Works, WorksAt};
+ghost use Rattle.redo_board.specs.Own.{names_of};
 ghost use Rattle.redo_board.specs.Shown.{IsNextBy};
-ghost use Rattle.redo_board.specs.Kept.{WorksAt};
+ghost use Rattle.redo_board.specs.Steps.{IsSaidBy, IsReadyBy};
 ghost use Rattle.redo_board.specs.Outcomes.{Made, Waits};
 
 use crate::board::Board;
@@ -42,25 +43,57 @@ impl Worker {
         Ok(())
     }
 
+    /// The reply of a command that is answered a list of names, where it isn't refused. Other
+    /// replies take no memory, and are found after the exchange.
+    fn list_first(&self, alloc: Global, command: &Command) -> Result<Option<Reply>, AllocError>
+        requires numbers { IsBelow (count_of self.now.store) (command_of command.now) }
+        requires names { names_of self.now.own ≡ count_of self.now.store }
+        requires no_lock { asked_lock (command_of command.now) ≡ None }
+        ensures { IfOk result (λ list. IsReadyBy self.now (command_of command.now) list) }
+    {
+        match command {
+            Command::IfChange(..) | Command::Ood | Command::Targets | Command::Sources => {
+                let holds = self.own.has(command);
+                Ok(Some(self.store.reply(alloc, self.session, command, holds)?))
+            }
+            _ => Ok(None),
+        }
+    }
+
+    /// The reply that was found first, or else the one that takes no memory.
+    fn reply_to(&self, alloc: Global, command: &Command, list: Option<Reply>) -> Reply
+        requires numbers { IsBelow (count_of self.now.store) (command_of command.now) }
+        requires names { names_of self.now.own ≡ count_of self.now.store }
+        requires no_lock { asked_lock (command_of command.now) ≡ None }
+        requires ready { IsReadyBy self.now (command_of command.now) list }
+        ensures { IsSaidBy self.now (command_of command.now) (reply_of result) }
+    {
+        if let Some(reply) = list {
+            return reply;
+        }
+        let holds = self.own.has(command);
+        let Ok(reply) = self.store.reply(alloc, self.session, command, holds) else {
+            unreachable!()
+        };
+        reply
+    }
+
     /// One exchange, on the first row that was not seen. What follows a win takes no memory.
     fn try_row(
         &mut self,
+        alloc: Global,
         board: &Board,
         plan: &Plan,
         number: u32,
         command: &Command,
-        holds: bool,
-        reply: Reply,
+        list: Option<Reply>,
     ) -> bool
         requires belongs { IsBoardOf plan.now board.now × WorksAt plan.now board.now self.old }
         requires command { IsNextBy plan.now self.old number (command_of command.now) }
         requires way { own_way (journal_of plan.now self.old) (command_of command.now) ≡ row }
-        requires holds { holds ≡ own (journal_of plan.now self.old) (command_of command.now) }
-        requires ready { (self.old.pending ≡ None)
-            × (has_room_for self.old.store (command_of command.now) ≡ true) }
-        requires reply { Replies (naming_of self.old.store) (records_of self.old.store)
-            self.old.session holds (command_of command.now) (reply_of reply)
-            × IsReplyBelow (count_of self.old.store) (reply_of reply) }
+        requires none { self.old.pending ≡ None }
+        requires room { has_room_for self.old.store (command_of command.now) ≡ true }
+        requires ready { IsReadyBy self.old (command_of command.now) list }
         ensures works { WorksAt plan.now board.now self.new }
         ensures session { session_of self.new ≡ session_of self.old }
         ensures result { MatchBool result (Made plan.now self.old self.new)
@@ -68,6 +101,7 @@ impl Worker {
         ensures tries { tries_of self.new ≡ tries_of self.old + 1 }
         ensures row { tries_of self.old < rows_of plan.now }
     {
+        let holds = self.own.has(command);
         let index = 4096 * self.session as u64 + number as u64;
         let word = 1 + 2 * index + flag(holds);
         let row = self.tries;
@@ -80,14 +114,16 @@ impl Worker {
             self.pending = Some(found);
             return false;
         }
+        let reply = self.reply_to(alloc, command, list);
         let Ok(()) = self.store.apply(self.session, command, holds) else {
             unreachable!()
         };
-        self.entries.push_reserved(Entry {
+        let entry = Entry {
             line: number,
             reply,
             place: Place::Row(row),
-        });
+        };
+        self.enter(command, entry);
         true
     }
 
@@ -109,13 +145,12 @@ impl Worker {
         ensures ok { OnOk result (Made plan.now self.old self.new) }
         ensures err { OnErr result (Waits plan.now self.old self.new) }
     {
-        let holds = self.holds_target(command);
         loop {
             self.catch_up(plan)?;
-            let reply = self.store.reply(alloc, self.session, command, holds)?;
+            let list = self.list_first(alloc, command)?;
             self.store.reserve(command)?;
             gate.ready(self.session, number, self.tries);
-            if self.try_row(board, plan, number, command, holds, reply) {
+            if self.try_row(alloc, board, plan, number, command, list) {
                 return Ok(());
             }
         }

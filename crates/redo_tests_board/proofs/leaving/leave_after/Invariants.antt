@@ -1,5 +1,6 @@
 use Rattle.std.proofs.Common.{◌≡◌}
-use Rattle.redo_board.specs.Kept.{WorksAt, session_of}
+use Rattle.redo_board.specs.Shown.{session_of}
+use Rattle.redo_board.specs.Kept.{WorksAt}
 use Rattle.redo_tests_board.proofs.leaving.leave_after.Given as goal
 
 abbrev pub invariant-loop : goal.invariant-loop

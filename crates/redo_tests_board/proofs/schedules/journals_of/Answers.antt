@@ -1,6 +1,6 @@
-use Rattle.std.proofs.Common.{rules, ◌≡◌, ℕ, ◌+◌, ◌<◌, ◌≤◌, List, [], ◌∷◌, ◌++◌, length, get_or, set, refl, sym, ap, ◌∙◌, subst, length-append, arith}
+use Rattle.std.proofs.Common.{rules, ◌≡◌, List, [], ◌∷◌, ◌++◌, length, subst}
 use Rattle.redo_board.specs.declared.worker.Worker.{Worker}
-use Rattle.redo_tests_board.specs.Workers.{HasFrom, AreWorkers}
+use Rattle.redo_tests_board.specs.Workers.{HasFrom}
 use Rattle.redo_tests_board.proofs.SessionWorkers.{last_leaves}
 use Rattle.redo_tests_board.proofs.schedules.journals_of.Goals as goal
 
@@ -11,8 +11,8 @@ loop-worker-init g c =
     let ws : List Worker = c.pop.new.self.items in
     let w : Worker = c.in_ok-ok_or.field-0 in
     let items : c.args.workers.items ≡ ws ++ w ∷ [] = search rules in
-    let last = last_leaves p b c.args.workers.items ws w c.leave-all.result.0 c.leave-all.result.1 items
-    c.requires.workers c.leave-all.ensures.leaves in
+    let last = last_leaves p b c.args.workers.items ws w c.leave-all.result.0
+    c.leave-all.result.1 items c.requires.workers c.leave-all.ensures.leaves in
     record {
       workers = last.1;
       has = subst (λ n. HasFrom p b (length ws) n c.leave-all.result.0) c.requires.count last.0;

@@ -1,4 +1,4 @@
-use Rattle.std.proofs.Common.{◌≡◌, length}
+use Rattle.std.proofs.Common.{length}
 use Rattle.redo_tests_board.specs.Workers.{AreWorkers, HasFrom}
 use Rattle.redo_tests_board.proofs.schedules.journals_of.Given as goal
 

@@ -1,4 +1,3 @@
-use Rattle.std.proofs.Common.{rules, ◌≡◌, ℕ, ◌+◌, ◌<◌, ◌≤◌, List, [], ◌∷◌, ◌++◌, length, get_or, set, refl, sym, ap, ◌∙◌, subst, length-append, arith}
 use Rattle.redo_tests_board.proofs.SessionWorkers.{works_at, set_worker}
 use Rattle.redo_tests_board.proofs.schedules.take_turn.Goals as goal
 

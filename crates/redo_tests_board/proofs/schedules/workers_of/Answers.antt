@@ -1,6 +1,7 @@
-use Rattle.std.proofs.Common.{rules, ◌≡◌, ℕ, ◌+◌, ◌<◌, ◌≤◌, List, [], ◌∷◌, ◌++◌, length, get_or, set, refl, sym, ap, ◌∙◌, subst, length-append, arith}
+use Rattle.std.proofs.Common.{rules, ◌≡◌, ◌+◌, List, [], ◌∷◌, ◌++◌, length, sym, ap, ◌∙◌, subst, length-append, arith}
 use Rattle.redo_board.specs.declared.worker.Worker.{Worker}
-use Rattle.redo_board.specs.Kept.{IsFreshOf, WorksAt, session_of}
+use Rattle.redo_board.specs.Shown.{session_of}
+use Rattle.redo_board.specs.Kept.{IsFreshOf, WorksAt}
 use Rattle.redo_tests_board.specs.Workers.{AreWorkers}
 use Rattle.redo_tests_board.proofs.SessionWorkers.{push_worker}
 use Rattle.redo_tests_board.proofs.schedules.workers_of.Goals as goal
@@ -16,9 +17,11 @@ loop-session-preserved c =
     let works : WorksAt p b w = c.in_ok-worker_of.ensures.works b c.split-one.ensures.left in
     let cut = c.split-one.ensures in
     let named = c.in_ok-worker_of.ensures.session ∙ cut.below.first ∙ i.fresh.first in
-    let session : session_of w ≡ 0 + length ws = (let n = named in let k = i.count in omega arith) in
+    let session : session_of w ≡ 0 + length ws =
+    (let n = named in let k = i.count in omega arith) in
     let count : length c.push.new.self.items ≡ c.loop-session.session + 1 =
-    (let a = ap length items in let l = length-append ws (w ∷ []) in let k = i.count in omega arith) in
+    (let a = ap length items in let l = length-append ws (w ∷ []) in
+    let k = i.count in omega arith) in
     record {
       workers = subst (λ l. AreWorkers p b 0 l) (sym items)
           (push_worker p b 0 ws w i.workers works session);
@@ -38,5 +41,6 @@ returns-clause-workers c =
     let items : c.push-2.new.self.items ≡ ws ++ w ∷ [] = search rules in
     let works : WorksAt p b w = c.in_ok-worker_of-2.ensures.works b i.sits in
     let named = c.in_ok-worker_of-2.ensures.session ∙ i.fresh.first in
-    let session : session_of w ≡ 0 + length ws = (let n = named in let k = i.count in omega arith) in
+    let session : session_of w ≡ 0 + length ws =
+    (let n = named in let k = i.count in omega arith) in
     subst (λ l. AreWorkers p b 0 l) (sym items) (push_worker p b 0 ws w i.workers works session)

@@ -1,5 +1,6 @@
 use Rattle.std.proofs.Common.{◌≡◌}
-use Rattle.redo_board.specs.Kept.{WorksAt, session_of}
+use Rattle.redo_board.specs.Shown.{session_of}
+use Rattle.redo_board.specs.Kept.{WorksAt}
 use Rattle.redo_tests_board.specs.Workers.{left_by}
 use Rattle.redo_tests_board.proofs.workers.work.Given as goal
 

@@ -1,4 +1,4 @@
-use Rattle.std.proofs.Common.{rules, ◌≡◌, ℕ, ◌+◌, ◌<◌, ◌≤◌, List, [], ◌∷◌, ◌++◌, length, get_or, set, refl, sym, ap, ◌∙◌, subst, length-append, arith}
+use Rattle.std.proofs.Common.{◌≡◌, sym, subst}
 use Rattle.redo_board.specs.Kept.{SitsAt}
 use Rattle.redo_tests_board.proofs.workers.worker_of.Goals as goal
 

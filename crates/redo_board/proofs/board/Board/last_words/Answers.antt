@@ -1,6 +1,5 @@
-use Rattle.std.proofs.Common.{◌≡◌, ℕ, ◌+◌, ◌<◌, ◌≤◌, length, get_or, List, sym, ap, ◌∙◌, subst, arith}
+use Rattle.std.proofs.Common.{ℕ, ◌+◌, ◌<◌, get_or, List, sym, ap, ◌∙◌, subst, arith}
 use Rattle.std.proofs.lemmas.List.{get_or_past}
-use Rattle.std.specs.Mem.Slots.{slots_items}
 use Rattle.redo_board.specs.Rows.{rows_of}
 use Rattle.redo_board.specs.Core.{row_words}
 use Rattle.redo_board.proofs.Bridge.{stood_told}

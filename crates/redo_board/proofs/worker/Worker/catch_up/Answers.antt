@@ -67,6 +67,7 @@ returns-clause-works c =
       session = k.session;
       room = k.room;
       tries = k.tries;
+      own = k.own;
       told = k.told;
       spent = k.spent;
       lags =

@@ -1,17 +1,18 @@
-use Rattle.std.proofs.Common.{◌≡◌, ◌≢◌, ℕ, ◌+◌, ◌<◌, ◌∷◌, [], ◌++◌, length, cond, eqb, Bool, true, false, ◌%◌, ◌/◌, arith, refl, sym, ap, ◌∙◌}
+use Rattle.std.proofs.Common.{◌≡◌, ◌≢◌, ℕ, ◌+◌, ◌<◌, length, ◌/◌, arith, refl, sym, ap, ◌∙◌}
 use Rattle.redo_model.specs.Command.{Unlock}
 use Rattle.redo_model.specs.Reply.{Okay}
-use Rattle.redo_model.specs.Placed.{Place, Granted, Busy, Released}
+use Rattle.redo_model.specs.Placed.{Released}
 use Rattle.redo_model.specs.Journals.{Numbered}
 use Rattle.redo_board.specs.Rows.{rows_of}
-use Rattle.redo_board.specs.Core.{Way, row, claim, free}
+use Rattle.redo_board.specs.Core.{Way, row, free}
 use Rattle.redo_board.specs.Views.{ViewOf}
-use Rattle.redo_board.specs.Plays.{next, own_way, lock_line, free_line, lock_said, lock_place, Goes}
-use Rattle.redo_board.specs.Shown.{journal_of, seen_by, past}
-use Rattle.redo_board.specs.Kept.{view_of}
+use Rattle.redo_board.specs.Plays.{next, free_line, Goes}
+use Rattle.redo_board.specs.Shown.{journal_of, seen_by}
+use Rattle.redo_board.specs.Kept.{WorksAt, view_of}
+use Rattle.redo_board.specs.Outcomes.{Made}
 use Rattle.redo_board.specs.declared.worker.Worker.{Worker}
 use Rattle.redo_board.proofs.Steps.{frees_as, lone}
-use Rattle.redo_board.proofs.Works.{few_words, target_low, works_claimed, made_claimed}
+use Rattle.redo_board.proofs.Works.{few_words, target_low, entered, works_claimed, made_claimed}
 use Rattle.redo_board.proofs.worker.Worker.free.Goals as goal
 
 pub overflow_add-word : goal.overflow_add-word
@@ -52,30 +53,27 @@ returns-clause-works c =
     let n : Numbered ℕ = record { number = c.args.number; command = Unlock u } in
     let e = c.fetch_add-found.ensures in
     let found : ℕ = c.fetch_add-found.result in
-    let cap = c.push_reserved.ensures in
+    let cap = c.enter.ensures in
+    let w₁ : Worker = record w { seat = c.fetch_add-found.new.seat } in
     let w' : Worker =
-    record {
-      seat = c.fetch_add-found.new.seat;
-      session = w.session;
-      entries = c.push_reserved.new.self;
-      store = w.store;
-      pending = w.pending;
-      tries = w.tries;
-    } in
+    record w₁ { entries = c.enter.new.self.entries; own = c.enter.new.self.own } in
     let word-at : c.args.board.now.rows + 1 + u ≡ rows_of (view_of w).plan + 1 + u =
     ap (λ x. x + 1 + u)
     (c.requires.belongs.0.rows
     ∙ ap rows_of (sym (ap (λ (v : ViewOf). v.plan) k.works.view))) in
-    let goes : Goes (view_of w) w.session (journal_of p w) (free_line w.session n u found) (seen_by w)
+    let goes : Goes (view_of w) w.session (journal_of p w) (free_line w.session n u found) (seen_by
+    w)
     (view_of w') =
     e.2.0 w.session u (journal_of p w) n
     (lone p w.session (journal_of p w) (view_of w) k.works.view)
     (ap (λ (v : ViewOf). next v.plan w.session (journal_of p w)) k.works.view
     ∙ c.requires.command.next)
     word-at in
-    works_claimed p c.args.board.now w w' n Okay (Released u (found / 2 + 1)) k c.requires.command.next goes
-    _ cap.items refl refl refl refl e.0 e.2.2
-    (let m = cap.capacity in omega arith) refl refl refl (no-row u _ c.requires.way) (λ m. refl)
+    entered w₁ c.enter.new.self (Unlock u) _ cap (λ v. WorksAt p c.args.board.now v)
+    (works_claimed p c.args.board.now w w' n Okay (Released u (found / 2 + 1)) k
+    c.requires.command.next goes
+    _ cap.items refl refl refl cap.notes refl e.0 e.2.2
+    (let m = cap.capacity in omega arith) refl refl refl (no-row u _ c.requires.way) (λ m. refl))
 
 pub returns-clause-made : goal.returns-clause-made
 returns-clause-made c =
@@ -86,27 +84,24 @@ returns-clause-made c =
     let n : Numbered ℕ = record { number = c.args.number; command = Unlock u } in
     let e = c.fetch_add-found.ensures in
     let found : ℕ = c.fetch_add-found.result in
-    let cap = c.push_reserved.ensures in
+    let cap = c.enter.ensures in
+    let w₁ : Worker = record w { seat = c.fetch_add-found.new.seat } in
     let w' : Worker =
-    record {
-      seat = c.fetch_add-found.new.seat;
-      session = w.session;
-      entries = c.push_reserved.new.self;
-      store = w.store;
-      pending = w.pending;
-      tries = w.tries;
-    } in
+    record w₁ { entries = c.enter.new.self.entries; own = c.enter.new.self.own } in
     let word-at : c.args.board.now.rows + 1 + u ≡ rows_of (view_of w).plan + 1 + u =
     ap (λ x. x + 1 + u)
     (c.requires.belongs.0.rows
     ∙ ap rows_of (sym (ap (λ (v : ViewOf). v.plan) k.works.view))) in
-    let goes : Goes (view_of w) w.session (journal_of p w) (free_line w.session n u found) (seen_by w)
+    let goes : Goes (view_of w) w.session (journal_of p w) (free_line w.session n u found) (seen_by
+    w)
     (view_of w') =
     e.2.0 w.session u (journal_of p w) n
     (lone p w.session (journal_of p w) (view_of w) k.works.view)
     (ap (λ (v : ViewOf). next v.plan w.session (journal_of p w)) k.works.view
     ∙ c.requires.command.next)
     word-at in
-    made_claimed p c.args.board.now w w' n Okay (Released u (found / 2 + 1)) k c.requires.command.next goes
-    _ cap.items refl refl refl refl e.0 e.2.2
-    (let m = cap.capacity in omega arith) refl refl refl (no-row u _ c.requires.way) (λ m. refl)
+    entered w₁ c.enter.new.self (Unlock u) _ cap (λ v. Made p w v)
+    (made_claimed p c.args.board.now w w' n Okay (Released u (found / 2 + 1)) k
+    c.requires.command.next goes
+    _ cap.items refl refl refl cap.notes refl e.0 e.2.2
+    (let m = cap.capacity in omega arith) refl refl refl (no-row u _ c.requires.way) (λ m. refl))

@@ -1,10 +1,12 @@
-use Rattle.std.proofs.Common.{◌≡◌, ℕ, ◌-◌, ◌<◌, sym, ap, subst, ◌∙◌, arith, refl, [], ◌∷◌, length}
+use Rattle.std.proofs.Common.{◌≡◌, ℕ, List, ◌-◌, ◌<◌, sym, ap, subst, ◌∙◌, arith, [], ◌∷◌, length}
 use Rattle.std.proofs.lemmas.List.{length-map}
 use Rattle.redo_model.specs.Names.{texts}
 use Rattle.redo_model.specs.Renaming.{OrdersAlike, numbering}
 use Rattle.redo_store.specs.Stored.{order_of}
 use Rattle.redo_command.specs.Meaning.{command_of}
 use Rattle.redo_journal.specs.Plans.{script_of}
+use Rattle.redo_board.specs.Core.{Line}
+use Rattle.redo_board.specs.Own.{Says}
 use Rattle.redo_board.specs.Views.{ViewOf, view}
 use Rattle.redo_board.specs.Rule.{range, Told}
 use Rattle.redo_board.specs.Shown.{told, rows_up_to}
@@ -23,7 +25,7 @@ returns-clause-works c board sits =
     let m = s.seat.me.0 in
     let e = c.in-Ok.ensures in
     let f = c.requires in
-    let d = c.in-Ok-new.ensures in
+    let d = c.in-Ok-new-2.ensures in
     let n : ℕ = c.session_number-session.result in
     let at : n ≡ s.first = c.session_number-session.ensures.number in
     let none-yet : told n (script_of p n) c.in-Ok.entries.items ≡ [] =
@@ -47,6 +49,10 @@ returns-clause-works c board sits =
             let z = length-map c.commands.result.now command_of in
             omega arith;
         tries = ap length seen;
+        own =
+            subst (λ (x : ℕ × List Line). Says x.0 c.in-Ok-new.own x.1)
+            (λ i. ((c.len.ensures.count ∙ ap length c.names.ensures) i, sym none-yet i))
+            c.in-Ok-new.ensures;
         told = subst Told (sym is) (fresh_told p s.first 1 c.session_number-session.ensures.plan);
         lags =
             record {
@@ -54,10 +60,10 @@ returns-clause-works c board sits =
               behind = sym seen;
               records = d.empty;
               applied = d.applied;
-              count = d.count ∙ ap length c.names.ensures;
+              count = d.count ∙ ap length c.names-2.ensures;
               order = subst
-                  (λ names. OrdersAlike (numbering names) texts (order_of c.in-Ok-new.store))
-                  c.names.ensures d.order;
+                  (λ names. OrdersAlike (numbering names) texts (order_of c.in-Ok-new-2.store))
+                  c.names-2.ensures d.order;
             };
         spent = λ _. ap (rows_up_to 0) (sym none-yet);
       };

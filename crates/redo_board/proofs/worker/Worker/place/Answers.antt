@@ -1,4 +1,4 @@
-use Rattle.std.proofs.Common.{rules, ◌≡◌}
+use Rattle.std.proofs.Common.{rules}
 use Rattle.redo_board.specs.declared.worker.Worker.{Worker}
 use Rattle.redo_board.specs.Outcomes.{Waits}
 use Rattle.redo_board.proofs.Works.{waits-same}
@@ -13,6 +13,7 @@ returns-in_err-reserve-clause-err g c =
       seat = c.catch_up.new.self.seat;
       session = c.catch_up.new.self.session;
       entries = c.catch_up.new.self.entries;
+      own = c.catch_up.new.self.own;
       store = c.reserve.new.self;
       pending = c.catch_up.new.self.pending;
       tries = c.catch_up.new.self.tries;

@@ -1,12 +1,10 @@
-use Rattle.std.proofs.Common.{◌≡◌, ℕ, List, map, ◌∙◌, sym, ap}
-use Rattle.redo_command.specs.Meaning.{command_of}
-use Rattle.redo_journal.specs.Plans.{script_of}
-use Rattle.redo_model.specs.Command.{Command}
+use Rattle.std.proofs.Common.{ℕ, ◌∙◌, sym, ap}
+use Rattle.redo_model.specs.Journals.{Numbered}
 use Rattle.redo_board.specs.Rows.{command}
-use Rattle.redo_board.specs.Plays.{own_way}
+use Rattle.redo_board.specs.Own.{way_by}
 use Rattle.redo_board.specs.Steps.{way_of}
-use Rattle.redo_board.specs.Shown.{told, tries_of}
-use Rattle.redo_board.proofs.Works.{needs-row}
+use Rattle.redo_board.specs.Shown.{tries_of}
+use Rattle.redo_board.proofs.Works.{needs-row, own_steps}
 use Rattle.redo_board.proofs.worker.Worker.step.Goals as goal
 use Rattle.redo_board.proofs.worker.Worker.step.Goals.{in-Claim, in-Free, in-Row+in_ok-place-in-Row}
 
@@ -16,12 +14,12 @@ returns-in_err-place-in-Row-clause-no_memory g c no-row =
     let p = c.args.plan.now in
     let w = c.args.self.now in
     let k : ℕ = c.in-Some.number in
-    let script = c.commands.ensures.commands in
+    let n : Numbered ℕ = record { number = k; command = command p w.session k } in
+    let steps = own_steps p w n c.requires.1.works c.in-Some.ensures.some.next in
     let x = c.command_at-command.ensures.command in
     absurd
     (needs-row p w k (command p w.session k) c.in-Some.ensures.some
-    ((λ i. own_way (told w.session (sym script i) w.entries.items) (sym x i))
-    ∙ sym c.way.ensures ∙ ap way_of c.in-Row.is)
+    (sym steps ∙ ap (way_by w.own) (sym x) ∙ sym c.way.ensures ∙ ap way_of c.in-Row.is)
     no-row)
 
 pub returns-clause-no_row : goal.returns-clause-no_row
@@ -29,7 +27,8 @@ returns-clause-no_row g c no-row =
     let p = c.args.plan.now in
     let w = c.args.self.now in
     let k : ℕ = c.in-Some.number in
-    let script = c.commands.ensures.commands in
+    let n : Numbered ℕ = record { number = k; command = command p w.session k } in
+    let steps = own_steps p w n c.requires.1.works c.in-Some.ensures.some.next in
     let x = c.command_at-command.ensures.command in
     elim c.match-way.branch [
       | in-Claim v ↦ ap tries_of v.self-is ∙ v.lock.ensures.tries
@@ -37,7 +36,6 @@ returns-clause-no_row g c no-row =
       | in-Row+in_ok-place-in-Row v ↦
           absurd
           (needs-row p w k (command p w.session k) c.in-Some.ensures.some
-          ((λ i. own_way (told w.session (sym script i) w.entries.items) (sym x i))
-          ∙ sym c.way.ensures ∙ ap way_of v.in-Row.is)
+          (sym steps ∙ ap (way_by w.own) (sym x) ∙ sym c.way.ensures ∙ ap way_of v.in-Row.is)
           no-row)
     ]

@@ -5,7 +5,7 @@ use Rattle.redo_model.specs.Placed.{Row}
 use Rattle.redo_model.specs.Renaming.{IsBelow}
 use Rattle.redo_model.specs.Journals.{Numbered}
 use Rattle.redo_model.specs.Step.{records_after}
-use Rattle.redo_store.specs.Stored.{records_of, naming_of}
+use Rattle.redo_store.specs.Stored.{records_of, naming_of, count_of}
 use Rattle.redo_command.specs.Meaning.{command_of, reply_of}
 use Rattle.redo_journal.specs.Plans.{PlanOf}
 use Rattle.redo_board.specs.Rows.{rows_of}
@@ -13,12 +13,15 @@ use Rattle.redo_board.specs.Core.{word, row}
 use Rattle.redo_board.specs.Views.{view}
 use Rattle.redo_board.specs.Plays.{own, own_build, own_way, SaysRow, Goes, row_line}
 use Rattle.redo_board.specs.Shown.{journal_of, seen_by, next_by}
-use Rattle.redo_board.specs.Kept.{Works, Lags, view_of}
+use Rattle.redo_board.specs.Kept.{Works, WorksAt, Lags, view_of}
+use Rattle.redo_board.specs.Outcomes.{Made}
+use Rattle.redo_board.specs.Own.{has}
 use Rattle.redo_board.specs.declared.worker.Worker.{Worker}
 use Rattle.redo_board.proofs.Steps.{tries_as, won_goes, room}
 use Rattle.redo_board.proofs.Stores.{says, lags_few, lags_won}
 use Rattle.redo_board.proofs.Told.{way-row}
-use Rattle.redo_board.proofs.Works.{few_words, plan_is, named_next, next_below, works_on, made_on, works_lost, waits_lost}
+use Rattle.redo_board.proofs.Briefs.{ready_said}
+use Rattle.redo_board.proofs.Works.{few_words, plan_is, named_next, next_below, own_below, own_has, entered, works_on, made_on, works_lost, waits_lost}
 use Rattle.redo_board.proofs.worker.Worker.try_row.Goals as goal
 
 -- there is a row for the command
@@ -28,7 +31,8 @@ there p w n k is-next in-row =
     let no-lock : asked_lock n.command ≡ None =
     way-row n.command (own (journal_of p w) n.command) (own_build (journal_of p w) n.command)
     in-row in
-    let a = room p w.session (journal_of p w) (view_of w) n k.view k.told k.session is-next no-lock in
+    let a = room p w.session (journal_of p w) (view_of w) n k.view k.told k.session is-next no-lock
+    in
     let b = k.tries in
     omega arith
 
@@ -42,11 +46,17 @@ compare_exchange-found-requires c =
     let w = c.args.self.now in
     let b = c.requires.belongs.0 in
     let k = c.requires.belongs.1 in
-    let r = c.requires.reply in
     let x = command_of c.args.command.now in
     let n : Numbered ℕ = record { number = c.args.number; command = x } in
     let is-next = c.requires.command.next in
-    let near = there p w n k.works is-next c.requires.way in (
+    let near = there p w n k.works is-next c.requires.way in
+    let holds : c.has-holds.result ≡ own (journal_of p w) x =
+    c.has-holds.ensures ∙ own_has p w n k.works is-next in
+    let no-lock : asked_lock x ≡ None =
+    way-row x (own (journal_of p w) x) (own_build (journal_of p w) x) c.requires.way in
+    let below : IsBelow (count_of w.store) x =
+    subst (λ m. IsBelow m x) (sym k.works.lags.count) (next_below p w n k.works is-next) in
+    let some = ready_said w x c.args.list no-lock below c.requires.ready in (
       k.table,
       (let x = b.words in omega arith),
       tries_as p c.args.board.now.table.shared.key c.args.board.now.table.shared.table_id.slots
@@ -54,12 +64,12 @@ compare_exchange-found-requires c =
           k.works.session n is-next w.tries
           (1 + 2 * (4096 * w.session + c.args.number) + c.flag.result)
           (ap (λ z. 1 + 2 * (4096 * w.session + c.args.number) + z) c.flag.ensures
-          ∙ ap (word w.session c.args.number) c.requires.holds)
+          ∙ ap (word w.session c.args.number) holds)
           k.works.tries near c.requires.way
-          (reply_of c.args.reply)
-          (says p w.store (seen_by w) w.session c.args.holds (own (journal_of p w) x) x
-          (reply_of c.args.reply) (lags_now p w k.works c.requires.ready.0) c.requires.holds r.0
-          r.1),
+          some.0
+          (says p w.store (seen_by w) w.session (has w.own x) (own (journal_of p w) x) x some.0
+          (lags_now p w k.works c.requires.none) (own_has p w n k.works is-next) some.1.replies
+          some.1.below),
     )
 
 pub overflow_add-self : goal.overflow_add-self
@@ -117,12 +127,13 @@ returns-then-found-ne0-clause-works c =
       seat = c.compare_exchange-found.new.seat;
       session = w.session;
       entries = w.entries;
+      own = w.own;
       store = w.store;
       pending = Some found;
       tries = w.tries + 1;
     } in
-    works_lost p c.args.board.now w w' found k (e.2.1 c.if-found-ne0.true) refl refl e.2.2 n
-    c.requires.command.next c.requires.way e.0 refl refl refl c.requires.ready.0
+    works_lost p c.args.board.now w w' found k (e.2.1 c.if-found-ne0.true) refl refl refl e.2.2 n
+    c.requires.command.next c.requires.way e.0 refl refl refl c.requires.none
 
 pub returns-then-found-ne0-clause-result : goal.returns-then-found-ne0-clause-result
 returns-then-found-ne0-clause-result c =
@@ -136,40 +147,42 @@ returns-then-found-ne0-clause-result c =
       seat = c.compare_exchange-found.new.seat;
       session = w.session;
       entries = w.entries;
+      own = w.own;
       store = w.store;
       pending = Some found;
       tries = w.tries + 1;
     } in
-    waits_lost p c.args.board.now w w' found k (e.2.1 c.if-found-ne0.true) refl refl e.2.2
+    waits_lost p c.args.board.now w w' found k (e.2.1 c.if-found-ne0.true) refl refl refl e.2.2
 
 pub returns-clause-works : goal.returns-clause-works
 returns-clause-works c =
     let p = c.args.plan.now in
     let w = c.args.self.now in
     let k = c.requires.belongs.1 in
-    let r = c.requires.reply in
     let e = c.compare_exchange-found.ensures in
-    let cap = c.push_reserved.ensures in
+    let cap = c.enter.ensures in
+    let r = c.reply_to-reply.ensures in
     let x = command_of c.args.command.now in
     let n : Numbered ℕ = record { number = c.args.number; command = x } in
     let is-next = c.requires.command.next in
     let named = named_next p w n is-next in
     let h : Bool = own (journal_of p w) x in
-    let lags = lags_now p w k.works c.requires.ready.0 in
-    let reply = reply_of c.args.reply in
+    let lags = lags_now p w k.works c.requires.none in
+    let reply = reply_of c.reply_to-reply.result in
     let seen : List ℕ = seen_by w ++ word w.session c.args.number h ∷ [] in
-    let w' : Worker =
-    record {
+    let w₁ : Worker =
+    record w {
       seat = c.compare_exchange-found.new.seat;
-      session = w.session;
-      entries = c.push_reserved.new.self;
       store = c.apply.new.self;
-      pending = w.pending;
       tries = w.tries + 1;
     } in
+    let w' : Worker =
+    record w₁ { entries = c.enter.new.self.entries; own = c.enter.new.self.own } in
+    let holds : c.has-holds.result ≡ h = c.has-holds.ensures ∙ own_has p w n k.works is-next in
     let said : SaysRow (view p ((w.session, journal_of p w) ∷ []) (seen_by w) (view_of w).also)
     w.session (journal_of p w) x reply =
-    says p w.store (seen_by w) w.session c.args.holds h x reply lags c.requires.holds r.0 r.1 in
+    says p w.store (seen_by w) w.session (has w.own x) h x reply lags
+    (own_has p w n k.works is-next) r.replies r.below in
     let goes : Goes (view_of w) w.session (journal_of p w) (row_line (view_of w) w.session n reply)
     seen (view_of w') =
     won_goes p w.session (journal_of p w) (view_of w) (view_of w') n reply k.works.view
@@ -184,44 +197,46 @@ returns-clause-works c =
     (c.in-Ok.ensures.after
     ∙ ap
     (λ z. records_after (naming_of w.store) (records_of w.store) w.session z x)
-    c.requires.holds) in
+    holds) in
     let tried : w.tries + 1 ≡ length seen =
     let a = k.works.tries in
     let b = length_push (seen_by w) (word w.session c.args.number h) in
     omega arith in
-    works_on p c.args.board.now w w' n reply (Row (length (seen_by w))) seen k is-next goes
-    _ cap.items refl refl (ap Row k.works.tries) refl e.0 e.2.2
+    entered w₁ c.enter.new.self x _ cap (λ v. WorksAt p c.args.board.now v)
+    (works_on p c.args.board.now w w' n reply (Row (length (seen_by w))) seen k is-next goes
+    _ cap.items refl refl (ap Row k.works.tries) cap.notes refl e.0 e.2.2
     (let m = cap.capacity in omega arith) tried (ap (λ m. m + 1) k.works.tries)
-    (subst (λ o. Lags p c.apply.new.self o seen) (sym c.requires.ready.0) won)
+    (subst (λ o. Lags p c.apply.new.self o seen) (sym c.requires.none) won))
 
 pub returns-clause-result : goal.returns-clause-result
 returns-clause-result c =
     let p = c.args.plan.now in
     let w = c.args.self.now in
     let k = c.requires.belongs.1 in
-    let r = c.requires.reply in
     let e = c.compare_exchange-found.ensures in
-    let cap = c.push_reserved.ensures in
+    let cap = c.enter.ensures in
+    let r = c.reply_to-reply.ensures in
     let x = command_of c.args.command.now in
     let n : Numbered ℕ = record { number = c.args.number; command = x } in
     let is-next = c.requires.command.next in
     let named = named_next p w n is-next in
     let h : Bool = own (journal_of p w) x in
-    let lags = lags_now p w k.works c.requires.ready.0 in
-    let reply = reply_of c.args.reply in
+    let lags = lags_now p w k.works c.requires.none in
+    let reply = reply_of c.reply_to-reply.result in
     let seen : List ℕ = seen_by w ++ word w.session c.args.number h ∷ [] in
-    let w' : Worker =
-    record {
+    let w₁ : Worker =
+    record w {
       seat = c.compare_exchange-found.new.seat;
-      session = w.session;
-      entries = c.push_reserved.new.self;
       store = c.apply.new.self;
-      pending = w.pending;
       tries = w.tries + 1;
     } in
+    let w' : Worker =
+    record w₁ { entries = c.enter.new.self.entries; own = c.enter.new.self.own } in
+    let holds : c.has-holds.result ≡ h = c.has-holds.ensures ∙ own_has p w n k.works is-next in
     let said : SaysRow (view p ((w.session, journal_of p w) ∷ []) (seen_by w) (view_of w).also)
     w.session (journal_of p w) x reply =
-    says p w.store (seen_by w) w.session c.args.holds h x reply lags c.requires.holds r.0 r.1 in
+    says p w.store (seen_by w) w.session (has w.own x) h x reply lags
+    (own_has p w n k.works is-next) r.replies r.below in
     let goes : Goes (view_of w) w.session (journal_of p w) (row_line (view_of w) w.session n reply)
     seen (view_of w') =
     won_goes p w.session (journal_of p w) (view_of w) (view_of w') n reply k.works.view
@@ -236,13 +251,36 @@ returns-clause-result c =
     (c.in-Ok.ensures.after
     ∙ ap
     (λ z. records_after (naming_of w.store) (records_of w.store) w.session z x)
-    c.requires.holds) in
+    holds) in
     let tried : w.tries + 1 ≡ length seen =
     let a = k.works.tries in
     let b = length_push (seen_by w) (word w.session c.args.number h) in
     omega arith in
-    made_on p c.args.board.now w w' n reply (Row (length (seen_by w))) seen k is-next goes
-    _ cap.items refl refl (ap Row k.works.tries) refl e.0 e.2.2
+    entered w₁ c.enter.new.self x _ cap (λ v. Made p w v)
+    (made_on p c.args.board.now w w' n reply (Row (length (seen_by w))) seen k is-next goes
+    _ cap.items refl refl (ap Row k.works.tries) cap.notes refl e.0 e.2.2
     (let m = cap.capacity in omega arith) tried (ap (λ m. m + 1) k.works.tries)
-    (subst (λ o. Lags p c.apply.new.self o seen) (sym c.requires.ready.0) won)
-    (word w.session c.args.number h ∷ [], refl)
+    (subst (λ o. Lags p c.apply.new.self o seen) (sym c.requires.none) won)
+    (word w.session c.args.number h ∷ [], refl))
+
+pub has-holds-requires : goal.has-holds-requires
+has-holds-requires c =
+    let n : Numbered ℕ =
+    record { number = c.args.number; command = command_of c.args.command.now } in
+    own_below c.args.plan.now c.args.self.now n c.requires.belongs.1.works c.requires.command.next
+
+pub reply_to-reply-requires-clause-numbers : goal.reply_to-reply-requires-clause-numbers
+reply_to-reply-requires-clause-numbers c =
+    let p = c.args.plan.now in
+    let w = c.args.self.now in
+    let k = c.requires.belongs.1.works in
+    let n : Numbered ℕ =
+    record { number = c.args.number; command = command_of c.args.command.now } in
+    subst (λ m. IsBelow m n.command) (sym k.lags.count)
+    (next_below p w n k c.requires.command.next)
+
+pub enter-requires-clause-names : goal.enter-requires-clause-names
+enter-requires-clause-names c =
+    let n : Numbered ℕ =
+    record { number = c.args.number; command = command_of c.args.command.now } in
+    own_below c.args.plan.now c.args.self.now n c.requires.belongs.1.works c.requires.command.next

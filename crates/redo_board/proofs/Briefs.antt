@@ -1,0 +1,72 @@
+-- A command that is answered no list has a reply, whatever the records are.
+use Rattle.std.proofs.Common.{◌≡◌, ℕ, Bool, false, Option, Some, None, refl, sym, subst}
+use Rattle.std.specs.Prelude.{MatchOption}
+use Rattle.std.specs.declared.cmp.Ordering.{Ordering}
+use Rattle.redo_model.specs.Names.{numbers}
+use Rattle.redo_model.specs.State.{Records}
+use Rattle.redo_model.specs.Command.{Command, File, Gone, Lock, Unlock, Start, IfChange, IfCreate, Always, Stamp, Done, Failed, Ood, Targets, Sources, asked_lock}
+use Rattle.redo_model.specs.Reply.{Reply, Refusal, Okay, Refused}
+use Rattle.redo_model.specs.Step.{Replies, Tells, verdict_of}
+use Rattle.redo_model.specs.Renaming.{IsBelow, IsReplyBelow}
+use Rattle.redo_model.proofs.VerdictsByName.{RefusesBelow, verdict_below}
+use Rattle.redo_command.specs.Meaning.{reply_of}
+use Rattle.redo_command.specs.declared.reply.Reply as coded
+use Rattle.redo_store.specs.Stored.{count_of, order_of, records_of, lists_names}
+use Rattle.redo_board.specs.Own.{has}
+use Rattle.redo_board.specs.Steps.{IsSaidBy, IsReadyBy}
+use Rattle.redo_board.specs.declared.worker.Worker.{Worker}
+
+module _ (count : ℕ) (order : ℕ → ℕ → Ordering) (r : Records ℕ) (s : ℕ) (h : Bool) where
+  accepted : (x : Command ℕ) → asked_lock x ≡ None → lists_names x ≡ false
+      → (reply : Reply ℕ) × Tells (numbers order) r x reply × IsReplyBelow count reply
+  accepted (File n stamp) a b = (Okay, refl, tt)
+  accepted (Gone n) a b = (Okay, refl, tt)
+  accepted (Lock t) a b = absurd cc
+  accepted (Unlock t) a b = (Okay, refl, tt)
+  accepted (Start t) a b = (Okay, refl, tt)
+  accepted (IfChange t ns) a b = absurd cc
+  accepted (IfCreate t ns) a b = (Okay, refl, tt)
+  accepted (Always t) a b = (Okay, refl, tt)
+  accepted (Stamp t content) a b = (_, refl, tt)
+  accepted (Done t stamp) a b = (Okay, refl, tt)
+  accepted (Failed t) a b = (Okay, refl, tt)
+  accepted Ood a b = absurd cc
+  accepted Targets a b = absurd cc
+  accepted Sources a b = absurd cc
+
+  abbrev Answer : Command ℕ → Type 0
+  Answer x =
+      (reply : Reply ℕ) × Replies (numbers order) r s h x reply × IsReplyBelow count reply
+
+  briefly : (x : Command ℕ) → asked_lock x ≡ None → lists_names x ≡ false → IsBelow count x
+      → Answer x
+  briefly x a b below =
+      by (verdict_of (numbers order) r s h x) refl (verdict_below count order r s h x below)
+    where
+      by : (v : Option (Refusal ℕ)) → verdict_of (numbers order) r s h x ≡ v
+          → RefusesBelow count v → Answer x
+      by None e under = let y = accepted x a b in (
+        y.0,
+        subst
+            (λ v. MatchOption v (Tells (numbers order) r x y.0) (λ f. y.0 ≡ Refused f))
+            (sym e) y.1,
+        y.2,
+      )
+      by (Some f) e under = (
+        Refused f,
+        subst
+            (λ v. MatchOption v (Tells (numbers order) r x (Refused f))
+            (λ g. Refused f ≡ Refused g))
+            (sym e) refl,
+        under,
+      )
+
+-- what is ready has a reply
+pub ready_said : (w : Worker) (x : Command ℕ) (list : Option coded.Reply) → asked_lock x ≡ None
+    → IsBelow (count_of w.store) x → IsReadyBy w x list → (reply : Reply ℕ) × IsSaidBy w x reply
+ready_said w x (Some reply) a below ready = (reply_of reply, ready)
+ready_said w x None a below ready =
+    let y =
+    briefly (count_of w.store) (order_of w.store) (records_of w.store) w.session (has w.own x) x a
+    ready below in
+    (y.0, record { replies = y.1; below = y.2 })
