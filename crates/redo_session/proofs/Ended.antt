@@ -45,35 +45,3 @@ left_done p b s w seat journal here leaves session tries none rows =
       );
       count = refl;
     })
-
-told-append : (p : PlanOf) (s t : ℕ) (xs ys : List Journal) → s + length xs ≡ t
-    → parts_told p s (xs ++ ys) ≡ parts_told p s xs ++ parts_told p t ys
-told-append p s t [] ys e = ap (λ n. parts_told p n ys) (let f : s ≡ t = omega arith in f)
-told-append p s t (x ∷ xs) ys e =
-    ap (λ (parts : List Part). (s, told_by (script_of p s) x) ∷ parts)
-    (told-append p (s + 1) t xs ys (omega arith))
-
-ended-append : (p : PlanOf) (s t : ℕ) (xs ys : List Journal) → s + length xs ≡ t
-    → AllEnded p s xs → AllEnded p t ys → AllEnded p s (xs ++ ys)
-ended-append p s t [] ys e a b =
-    subst (λ n. AllEnded p n ys) (let f : t ≡ s = omega arith in f) b
-ended-append p s t (x ∷ xs) ys e a b =
-    (a.0, ended-append p (s + 1) t xs ys (omega arith) a.1 b)
-
--- two ranges that meet
-pub done_both : (p : PlanOf) (b : Board) (s m e : ℕ) (one two both : Seat)
-    (xs ys all : List Journal) → AreDone p b s m one xs → AreDone p b m e two ys
-    → all ≡ xs ++ ys → SitsAt p b both → parts_of both ≡ parts_of one ++ parts_of two
-    → AreDone p b s e both all
-done_both p b s m e one two both xs ys all h k is sits parts = record {
-  sits = sits;
-  parts =
-      parts ∙ (λ i. h.parts i ++ k.parts i) ∙ sym (told-append p s m xs ys h.count)
-      ∙ ap (parts_told p s) (sym is);
-  ended = subst (AllEnded p s) (sym is) (ended-append p s m xs ys h.count h.ended k.ended);
-  count =
-      let long = ap length is ∙ length-append xs ys in
-      let first = h.count in
-      let second = k.count in
-      omega arith;
-}

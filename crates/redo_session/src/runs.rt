@@ -11,6 +11,7 @@ use redo_board::{Board, Gate, Journal, Plan};
 use redo_command::Line;
 use redo_replay::merge;
 use std::alloc::{AllocError, AllocFailed, Global};
+use std::sync::Wait;
 use std::thread::Threads;
 use thiserror::Error;
 
@@ -42,7 +43,7 @@ impl From<AllocError> for RunFault {
 
 /// Runs the plan, each session on a thread of its own, the caller's among them. All threads are
 /// joined before it answers.
-pub fn run<G: Gate + Sync, R: Threads + Sync>(
+pub fn run<G: Gate + Sync, R: Threads + Wait + Sync>(
     rt: &R,
     alloc: Global,
     plan: &Plan,

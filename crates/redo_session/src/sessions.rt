@@ -1,4 +1,4 @@
-// Any number of sessions, each on a thread of its own, by halves.
+// Any number of sessions, each on a thread of its own.
 ghost use Rattle.std.specs.Prelude.{◌≡◌, ◌+◌, ◌<◌, ◌∷◌, [], IfOk};
 ghost use Rattle.std.specs.Thread.{IsSync};
 ghost use Rattle.redo_board.specs.Kept.{IsBoardOf};
@@ -6,7 +6,9 @@ ghost use Rattle.redo_session.specs.Sessions.{AreReady, AreDone};
 
 use redo_board::{Board, Gate, Journal, Plan, Seat, Worker};
 use std::alloc::{AllocError, Global};
-use std::thread::{Threads, join};
+use std::sync::Wait;
+use std::thread;
+use std::thread::{Promise, Scope, Threads};
 
 /// The sessions from `first` on and below `end`, which none has begun, and their seat.
 #[derive(Drop)]
@@ -16,31 +18,28 @@ pub(crate) struct Sessions {
     pub(crate) end: usize,
 }
 
-/// The seat that the sessions leave, and their journals, in order.
-type Done = (Seat, Vec<Journal>);
-
-/// The first half of the sessions, and the others.
-fn halves(board: &Board, plan: &Plan, sessions: Sessions) -> (Sessions, Sessions)
+/// The first of the sessions, and the others.
+fn parted(board: &Board, plan: &Plan, sessions: Sessions) -> (Sessions, Sessions)
     requires board { IsBoardOf plan.now board.now }
     requires ready { AreReady plan.now board.now sessions }
     requires several { sessions.first + 1 < sessions.end }
     ensures left { AreReady plan.now board.now result.0 }
     ensures right { AreReady plan.now board.now result.1 }
-    ensures ends { (result.0.first ≡ sessions.first) × (result.1.end ≡ sessions.end) }
-    ensures middle { result.0.end ≡ result.1.first }
+    ensures one { (result.0.first ≡ sessions.first) × (result.0.end ≡ sessions.first + 1) }
+    ensures others { (result.1.first ≡ sessions.first + 1) × (result.1.end ≡ sessions.end) }
 {
     let Sessions { seat, first, end } = sessions;
-    let middle = first + (end - first) / 2;
-    let (left, right) = seat.split(board, middle);
+    let next = first + 1;
+    let (left, right) = seat.split(board, next);
     (
         Sessions {
             seat: left,
             first,
-            end: middle,
+            end: next,
         },
         Sessions {
             seat: right,
-            first: middle,
+            first: next,
             end,
         },
     )
@@ -67,9 +66,72 @@ fn work<G: Gate>(
     Ok(worker.leave())
 }
 
+/// What the thread of one session answers.
+#[derive(Clone, Copy)]
+struct Answer<'a> {
+    board: &'a Board,
+    plan: &'a Plan,
+    session: usize,
+}
+
+impl<'a> Promise<Result<(Seat, Journal), AllocError>> for Answer<'a> {
+    ghost use Rattle.std.specs.Prelude.{◌+◌, ◌∷◌, [], IfOk};
+    ghost use Rattle.redo_session.specs.Sessions.{AreDone};
+
+    ghost kept_by = { λ a result. IfOk result (λ done. AreDone a.plan.now a.board.now
+        a.session (a.session + 1) done.0 (done.1 ∷ [])) };
+}
+
+/// The seat that the sessions leave, and their journals, in order.
+type Done = (Seat, Vec<Journal>);
+
+/// Does all that the sessions do, each on a thread of the scope but the last, which the caller's
+/// does. All threads that it starts are joined before it answers.
+fn run_in<'s, E, G: Gate + Sync, R: Threads + Sync>(
+    rt: &'s R,
+    scope: &'s Scope<'s, E>,
+    alloc: Global,
+    board: &'s Board,
+    plan: &'s Plan,
+    gate: &'s G,
+    sessions: Sessions,
+) -> Result<Done, AllocError>
+    requires board { IsBoardOf plan.now board.now }
+    requires ready { AreReady plan.now board.now sessions }
+    ensures { IfOk result (λ done. AreDone plan.now board.now
+        sessions.first sessions.end done.0 done.1.items) }
+{
+    if sessions.end - sessions.first == 1 {
+        let (seat, journal) = work(alloc, board, plan, gate, sessions)?;
+        return Ok((seat, vec![in alloc; journal]?));
+    }
+    let (one, others) = parted(board, plan, sessions);
+    let answer = Answer {
+        board,
+        plan,
+        session: one.first,
+    };
+    let thread = scope.spawn_with(
+        answer,
+        move || -> Result<(Seat, Journal), AllocError>
+            requires { IsBoardOf plan.now board.now × AreReady plan.now board.now one
+                × (one.end ≡ one.first + 1) }
+            ensures { IfOk result (λ done. AreDone plan.entry.now board.entry.now
+                one.first (one.first + 1) done.0 (done.1 ∷ [])) }
+        { work(alloc, board, plan, gate, one) },
+    )?;
+    let rest = run_in(rt, scope, alloc, board, plan, gate, others);
+    let (Ok((seat, journal)), Ok((other, mut later))) = (thread.join(rt), rest) else {
+        return Err(AllocError);
+    };
+    let mut journals = vec![in alloc; journal]?;
+    journals.append(&mut later)?;
+    Ok((seat.meet(other, board), journals))
+}
+
 /// Does all that the sessions do, each on a thread of its own, the caller's among them. All threads
 /// are joined before it answers.
-pub(crate) fn run_all<G: Gate + Sync, R: Threads + Sync>(
+pub(crate) fn run_all<G: Gate + Sync, R: Threads + Wait + Sync>(
     rt: &R,
     alloc: Global,
     board: &Board,
@@ -82,29 +144,14 @@ pub(crate) fn run_all<G: Gate + Sync, R: Threads + Sync>(
     ensures { IfOk result (λ done. AreDone plan.now board.now
         sessions.first sessions.end done.0 done.1.items) }
 {
-    if sessions.end - sessions.first == 1 {
-        let (seat, journal) = work(alloc, board, plan, gate, sessions)?;
-        return Ok((seat, vec![in alloc; journal]?));
-    }
-    let (left, right) = halves(board, plan, sessions);
-    let (front, back) = join(
+    thread::scope(
+        thread::scope_env(),
         rt,
-        || -> Result<Done, AllocError>
+        |scope| -> Result<Done, AllocError>
             requires { IsSync R.row × IsSync G.row × IsBoardOf plan.now board.now
-                × AreReady plan.now board.now left }
+                × AreReady plan.now board.now sessions }
             ensures { IfOk result (λ done. AreDone plan.entry.now board.entry.now
-                left.first left.end done.0 done.1.items) }
-        { run_all(rt, alloc, board, plan, gate, left) },
-        || -> Result<Done, AllocError>
-            requires { IsSync R.row × IsSync G.row × IsBoardOf plan.now board.now
-                × AreReady plan.now board.now right }
-            ensures { IfOk result (λ done. AreDone plan.entry.now board.entry.now
-                right.first right.end done.0 done.1.items) }
-        { run_all(rt, alloc, board, plan, gate, right) },
-    );
-    let (Ok((seat, mut journals)), Ok((other, mut others))) = (front, back) else {
-        return Err(AllocError);
-    };
-    journals.append(&mut others)?;
-    Ok((seat.meet(other, board), journals))
+                sessions.first sessions.end done.0 done.1.items) }
+        { run_in(rt, scope, alloc, board, plan, gate, sessions) },
+    )
 }

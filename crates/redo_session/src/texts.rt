@@ -14,10 +14,11 @@ use redo_command::{Script, Watched, WriteFault, write_whole};
 use redo_names::Names;
 use std::alloc::Global;
 use std::io::{Read, Write};
+use std::sync::Wait;
 use std::thread::Threads;
 
 /// The run text of the scripts' sessions, each run on a thread of its own.
-fn text_of_scripts<T: Threads + Sync>(
+fn text_of_scripts<T: Threads + Wait + Sync>(
     rt: &T,
     alloc: Global,
     scripts: Vec<Script>,
@@ -37,7 +38,7 @@ fn text_of_scripts<T: Threads + Sync>(
 }
 
 /// The run text of the files' sessions.
-fn text_of_files<R: Read, T: Threads + Sync>(
+fn text_of_files<R: Read, T: Threads + Wait + Sync>(
     rt: &T,
     alloc: Global,
     files: &mut [Watched<R>],
@@ -57,7 +58,7 @@ fn text_of_files<R: Read, T: Threads + Sync>(
 
 /// Reads each file in order, runs their sessions side by side, and writes the run text. Nothing is
 /// written before the run has returned.
-pub fn run_texts<R: Read, W: Write, T: Threads + Sync>(
+pub fn run_texts<R: Read, W: Write, T: Threads + Wait + Sync>(
     rt: &T,
     alloc: Global,
     files: &mut [Watched<R>],
