@@ -16,6 +16,8 @@ use redo_session::{TextFault, run_texts};
 use std::io::Read;
 use std::process::ExitCode;
 use std::rt::{Env, Files};
+use std::sync::Wait;
+use std::thread::Threads;
 use std::{env, fs, io};
 use task::Job;
 
@@ -58,10 +60,13 @@ fn open_all<R: Files + AllocGlobal>(
     Ok(opened)
 }
 
-/// Runs the files' sessions, and flushes standard output.
-fn run<I: Read, R: Print + AllocGlobal>(rt: &R, files: &mut [Watched<I>]) -> Result<(), Fault> {
+/// Runs the files' sessions side by side, and flushes standard output.
+fn run<I: Read, R: Threads + Wait + Sync + Print + AllocGlobal>(
+    rt: &R,
+    files: &mut [Watched<I>],
+) -> Result<(), Fault> {
     let mut out = Watched::new(io::writer(rt));
-    run_texts(rt.alloc(), files, &mut out)?;
+    run_texts(rt, rt.alloc(), files, &mut out)?;
     match out.flush() {
         Ok(()) => Ok(()),
         Err(_) => Err(Fault::Text(TextFault::Write)),
@@ -82,7 +87,7 @@ fn replay<I: Read, R: Print + AllocGlobal>(
 }
 
 /// Does the job. Only a replay has a verdict.
-fn done<R: Files + Input + Print + AllocGlobal>(
+fn done<R: Threads + Wait + Sync + Files + Input + Print + AllocGlobal>(
     rt: &R,
     job: &Job,
 ) -> Result<Option<Verdict>, Fault> {

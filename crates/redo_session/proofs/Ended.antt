@@ -1,18 +1,15 @@
 -- Sessions at work: how far one is, and what two ranges that meet have done.
-use Rattle.std.proofs.Common.{◌≡◌, ℕ, ◌+◌, ◌-◌, ◌<◌, List, [], ◌∷◌, ◌++◌, length, refl, sym, ap, ◌∙◌, subst, arith}
-use Rattle.std.proofs.lemmas.List.{length_push, length-append}
+use Rattle.std.proofs.Common.{◌≡◌, ℕ, ◌+◌, ◌-◌, ◌<◌, [], ◌∷◌, length, refl, sym, ap, ◌∙◌, subst, arith}
+use Rattle.std.proofs.lemmas.List.{length_push}
 use Rattle.redo_model.specs.Journals.{next_of, numbered}
 use Rattle.redo_journal.specs.Plans.{PlanOf, script_of}
-use Rattle.redo_journal.specs.Journals.{told_by}
 use Rattle.redo_journal.specs.declared.entry.Journal.{Journal}
 use Rattle.redo_board.specs.declared.board.Board.{Board}
 use Rattle.redo_board.specs.declared.seat.Seat.{Seat}
 use Rattle.redo_board.specs.declared.worker.Worker.{Worker}
-use Rattle.redo_board.specs.Views.{Part}
-use Rattle.redo_board.specs.Shown.{parts_of, session_of, journal_of, tries_of, rows_up_to, IsAtEnd}
-use Rattle.redo_board.specs.Kept.{SitsAt}
+use Rattle.redo_board.specs.Shown.{session_of, journal_of, tries_of, rows_up_to, IsAtEnd}
 use Rattle.redo_board.specs.Outcomes.{Made, Leaves}
-use Rattle.redo_session.specs.Sessions.{parts_told, AllEnded, AreDone}
+use Rattle.redo_session.specs.Sessions.{AreDone}
 use Rattle.redo_session.proofs.Wholes.{next_within}
 
 -- each step that does something leaves less to do

@@ -5,7 +5,9 @@ use redo_names::Names;
 use redo_session::{TextFault, run_texts};
 use std::alloc::{AllocError, Global};
 use std::process::Abort;
+use std::sync::Wait;
 use std::test::Fail;
+use std::thread::Threads;
 
 /// The words, and after them a word of as many letters `a`.
 fn line_of(alloc: Global, words: &str, letters: usize) -> Result<Vec<u8>, AllocError> {
@@ -101,36 +103,53 @@ fn commands<R: Abort + AllocGlobal>(rt: &R) -> Result<(), Fail> {
     Ok(())
 }
 
-/// A run has one session, and a second one is refused after all files were read.
-fn sessions<R: Abort + AllocGlobal>(rt: &R) -> Result<(), Fail> {
+/// Readers of as many session files, each of one command.
+fn readers(alloc: Global, count: usize) -> Result<Vec<Watched<&'static [u8]>>, AllocError> {
+    let mut files = Vec::new(alloc);
+    for _ in 0..count {
+        files.push(Watched::new(b"ood\n".as_slice()))?;
+    }
+    Ok(files)
+}
+
+/// A run has 1 to 64 sessions.
+fn sessions<R: Threads + Wait + Sync + Abort + AllocGlobal>(rt: &R) -> Result<(), Fail> {
     let alloc = rt.alloc();
     let mut out = Vec::new(alloc);
-    let (mut first, mut second) = (b"targets\n".as_slice(), b"targets\n".as_slice());
-    let mut files = [Watched::new(&mut first), Watched::new(&mut second)];
-    let run = run_texts(alloc, &mut files, &mut Watched::new(&mut out));
-    assert!(rt; matches!(run, Err(TextFault::TooManySessions)), "{run:?}");
-    assert!(rt; first.is_empty() && second.is_empty());
+    let mut files = readers(alloc, 64)?;
+    run_texts(rt, alloc, &mut files, &mut Watched::new(&mut out))?;
+    assert!(rt; out.starts_with(b"history 64\n".as_slice()));
+    assert!(rt; out.ends_with(b"session 64 1\nood => ood\n".as_slice()));
 
-    let mut files = [
-        Watched::new(b"targets\n".as_slice()),
-        Watched::new(b"targets\nbuild T\n".as_slice()),
-    ];
-    let run = run_texts(alloc, &mut files, &mut Watched::new(&mut out));
+    let mut out = Vec::new(alloc);
+    let mut files = readers(alloc, 65)?;
+    let run = run_texts(rt, alloc, &mut files, &mut Watched::new(&mut out));
+    assert!(rt; matches!(run, Err(TextFault::TooManySessions)), "{run:?}");
+    let mut files: [Watched<&[u8]>; 0] = [];
+    let run = run_texts(rt, alloc, &mut files, &mut Watched::new(&mut out));
+    assert!(rt; matches!(run, Err(TextFault::NoSession)), "{run:?}");
+    assert!(rt; out.is_empty());
+    Ok(())
+}
+
+/// More than 64 sessions are refused after all files were read, so a later file's fault comes first.
+fn fault_before_count<R: Threads + Wait + Sync + Abort + AllocGlobal>(rt: &R) -> Result<(), Fail> {
+    let alloc = rt.alloc();
+    let mut out = Vec::new(alloc);
+    let mut files = readers(alloc, 65)?;
+    files.push(Watched::new(b"ood\nbuild T\n".as_slice()))?;
+    let run = run_texts(rt, alloc, &mut files, &mut Watched::new(&mut out));
     assert!(rt;
         matches!(
             run,
             Err(TextFault::Read {
-                file: 1,
+                file: 65,
                 line: 2,
                 fault: LineFault::UnknownCommand
             })
         ),
         "{run:?}"
     );
-
-    let mut files: [Watched<&[u8]>; 0] = [];
-    let run = run_texts(alloc, &mut files, &mut Watched::new(&mut out));
-    assert!(rt; matches!(run, Err(TextFault::NoSession)), "{run:?}");
     assert!(rt; out.is_empty());
     Ok(())
 }
@@ -157,5 +176,6 @@ fn limits(rt: HostRuntime) -> Result<(), Fail> {
     words(&rt)?;
     listed_names(&rt)?;
     commands(&rt)?;
-    sessions(&rt)
+    sessions(&rt)?;
+    fault_before_count(&rt)
 }

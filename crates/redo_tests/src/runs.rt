@@ -4,7 +4,7 @@ use std::test::Fail;
 
 #[test]
 fn empty_input(rt: HostRuntime) -> Result<(), Fail> {
-    let text = run_of(rt.alloc(), b"")?;
+    let text = run_of(&rt, b"")?;
     assert_eq!(rt; text.as_slice(), b"history 0\nsession 1 0\n".as_slice());
     Ok(())
 }
@@ -24,7 +24,7 @@ fn content_in_upper_case(rt: HostRuntime) -> Result<(), Fail> {
         start T => ok\n\
         stamp T 6162636462636465636465666465666765666768666768696768696a68696a6b696a6b6c6a6b6c6d6b6c6d6e6c6d6e6f6d6e6f706e6f7071 \
         => stamped 84983e441c3bd26ebaae4aa1f95129e5e54670f1\n";
-    let text = run_of(rt.alloc(), file)?;
+    let text = run_of(&rt, file)?;
     assert_eq!(rt; text.as_slice(), want.as_slice());
     Ok(())
 }

@@ -68,7 +68,7 @@ fn failing_writer(rt: HostRuntime) -> Result<(), Fail> {
         };
         let mut out = Watched::new(&mut writer);
         let mut files = [Watched::new(b"".as_slice())];
-        let run = run_texts(alloc, &mut files, &mut out);
+        let run = run_texts(&rt, alloc, &mut files, &mut out);
         assert!(rt;
             matches!(run, Err(TextFault::Write)),
             "{room} {fails} {run:?}"
@@ -88,7 +88,7 @@ fn failing_reader(rt: HostRuntime) -> Result<(), Fail> {
         reads: 0,
         fails_at: 1,
     })];
-    let run = run_texts(alloc, &mut files, &mut Watched::new(&mut bytes));
+    let run = run_texts(&rt, alloc, &mut files, &mut Watched::new(&mut bytes));
     assert!(rt;
         matches!(run, Err(TextFault::Device { file: 0 })),
         "{run:?}"
@@ -107,7 +107,7 @@ fn failing_reader(rt: HostRuntime) -> Result<(), Fail> {
             fails_at: 0,
         }),
     ];
-    let run = run_texts(alloc, &mut files, &mut Watched::new(&mut bytes));
+    let run = run_texts(&rt, alloc, &mut files, &mut Watched::new(&mut bytes));
     assert!(rt;
         matches!(run, Err(TextFault::Device { file: 1 })),
         "{run:?}"

@@ -66,6 +66,7 @@ fn runs_replay(rt: HostRuntime) -> Result<(), Fail> {
         ifcreate a.o a.c x\nifchange a.o x a.c\n";
     let mut out = Vec::new(alloc);
     run_texts(
+        &rt,
         alloc,
         &mut [Watched::new(file.as_slice())],
         &mut Watched::new(&mut out),

@@ -4,9 +4,11 @@ use crate::replayed::{fails, says};
 use redo_command::{LineFault, Watched};
 use redo_replay::HistoryFault;
 use redo_session::{TextFault, run_texts};
-use std::alloc::{AllocError, Global};
+use std::alloc::AllocError;
 use std::process::Abort;
+use std::sync::Wait;
 use std::test::Fail;
+use std::thread::Threads;
 
 /// The session file of the common path.
 const FILE: &[u8] = b"file a.c 10\nlock a.o\nstart a.o\nifchange a.o a.c\ndone a.o 20\nunlock a.o\n\
@@ -28,13 +30,14 @@ fn fronts_of_output<R: Abort + AllocGlobal>(rt: &R) -> Result<(), Fail> {
 }
 
 /// The run text of a session file, or the line and the fault of its reading.
-fn run_of(
-    alloc: Global,
+fn run_of<R: Threads + Wait + Sync + AllocGlobal>(
+    rt: &R,
     file: &[u8],
 ) -> Result<Result<Vec<u8>, Option<(usize, LineFault)>>, AllocError> {
+    let alloc = rt.alloc();
     let mut out = Vec::new(alloc);
     let mut files = [Watched::new(file)];
-    match run_texts(alloc, &mut files, &mut Watched::new(&mut out)) {
+    match run_texts(rt, alloc, &mut files, &mut Watched::new(&mut out)) {
         Ok(()) => Ok(Ok(out)),
         Err(TextFault::Memory) => Err(AllocError),
         Err(
@@ -49,11 +52,14 @@ fn run_of(
 }
 
 /// A front of the file runs, and its output replays; or its last line, which has no LF, is faulty.
-fn check_front<R: Abort + AllocGlobal>(rt: &R, front: &[u8]) -> Result<(), Fail> {
+fn check_front<R: Threads + Wait + Sync + Abort + AllocGlobal>(
+    rt: &R,
+    front: &[u8],
+) -> Result<(), Fail> {
     let alloc = rt.alloc();
     let ended = front.iter().filter(|byte| **byte == b'\n').count();
     let is_ended = front.is_empty() || front.ends_with(b"\n".as_slice());
-    match run_of(alloc, front)? {
+    match run_of(rt, front)? {
         Ok(text) => {
             let lines = if is_ended { ended } else { ended + 1 };
             let mut want = String::new(alloc);
@@ -69,7 +75,7 @@ fn check_front<R: Abort + AllocGlobal>(rt: &R, front: &[u8]) -> Result<(), Fail>
 }
 
 /// Each front of the common path's file.
-fn fronts_of_file<R: Abort + AllocGlobal>(rt: &R) -> Result<(), Fail> {
+fn fronts_of_file<R: Threads + Wait + Sync + Abort + AllocGlobal>(rt: &R) -> Result<(), Fail> {
     for length in 0..=FILE.len() {
         check_front(rt, &FILE[..length])?;
     }
@@ -80,10 +86,10 @@ fn fronts_of_file<R: Abort + AllocGlobal>(rt: &R) -> Result<(), Fail> {
         (8, LineFault::WrongWords),
         (9, LineFault::BadStamp),
     ] {
-        let run = run_of(rt.alloc(), &FILE[..length])?;
+        let run = run_of(rt, &FILE[..length])?;
         assert_eq!(rt; run.err(), Some(Some((1, want))), "{length}");
     }
-    let run = run_of(rt.alloc(), &FILE[..10])?;
+    let run = run_of(rt, &FILE[..10])?;
     let want = b"history 1\n1 file a.c 1 => ok\nsession 1 1\nfile a.c 1 => ok\n";
     assert_eq!(rt; run.ok().as_deref(), Some(want.as_slice()));
     Ok(())
