@@ -22,18 +22,11 @@ pub(crate) fn ran<G: Gate + Sync, R: Threads + Wait + Sync>(
 }
 
 /// The lines of the session, counted from 1, without its number.
-fn part_of(
-    rt: &impl Abort,
-    alloc: Global,
-    history: &str,
-    session: usize,
-) -> Result<String, AllocError> {
-    let mut own = String::new(alloc);
-    write!(own, "{session}")?;
+fn part_of(alloc: Global, history: &str, session: usize) -> Result<String, AllocError> {
+    let own = format!(in alloc; "{session} ")?;
     let mut part = String::new(alloc);
-    for line in history.lines().skip(1) {
-        let (number, told) = line.split_once(' ').expect(rt, "a session");
-        if number == own.as_str() {
+    for line in history.lines() {
+        if let Some(told) = line.strip_prefix(own.as_str()) {
             writeln!(part, "{told}")?;
         }
     }
@@ -56,9 +49,9 @@ fn is_whole(journal: &Journal, session: usize, count: usize) -> bool {
     journal.session as usize == session && lines.eq(0..count)
 }
 
-/// What a run of these files left is right. It has a journal of each session, with all its commands.
-/// Its history has each file's commands once, in the file's order; it is the same when it is
-/// replayed, and it is the one that the journals are merged to.
+/// What a run of these files left is right. It has a journal of each session, with all its
+/// commands. Its history has each file's commands once, in the file's order; it is the same when it
+/// is replayed, and it is the one that the journals are merged to.
 pub(crate) fn is_right(
     rt: &impl Abort,
     alloc: Global,
@@ -73,7 +66,7 @@ pub(crate) fn is_right(
     for (session, (file, journal)) in files.iter().zip(&outcome.journals).enumerate() {
         let count = file.lines().count();
         assert!(rt; is_whole(journal, session, count), "{journal:?}");
-        let part = part_of(rt, alloc, text, session.saturating_add(1))?;
+        let part = part_of(alloc, text, session.saturating_add(1))?;
         let commands = commands_of(rt, alloc, part.as_str())?;
         assert_eq!(rt; commands.as_str(), *file);
         all = all.saturating_add(count);

@@ -12,7 +12,8 @@ use std::sync::Wait;
 use std::test::Fail;
 use std::thread::Threads;
 
-/// Under the gate a run of these files has this history, each hold is met, and the outcome is right.
+/// Under the gate a run of these files has this history, each hold is met, and what it left is
+/// right.
 fn has_history<R: Threads + Wait + Abort + AllocGlobal + Sync>(
     rt: &R,
     files: &[&str],
