@@ -1,5 +1,5 @@
 //! Run texts of several session files.
-use redo_command::Watched;
+use redo_command::{Watched, read_whole};
 use redo_replay::replay_text;
 use redo_session::{TextFault, run_texts};
 use std::alloc::{AllocError, Global};
@@ -121,15 +121,16 @@ fn most_files(rt: HostRuntime) -> Result<(), Fail> {
 fn too_many_files(rt: HostRuntime) -> Result<(), Fail> {
     let alloc = rt.alloc();
     let mut out = Vec::new(alloc);
-    let mut texts = [b"lock t\n".as_slice(); 65];
     let mut files = Vec::new(alloc);
-    for text in &mut texts {
-        files.push(Watched::new(text))?;
+    for _ in 0..65 {
+        files.push(Watched::new(b"lock t\n".as_slice()))?;
     }
     let run = run_texts(&rt, alloc, &mut files, &mut Watched::new(&mut out));
     assert!(rt; matches!(run, Err(TextFault::TooManySessions)), "{run:?}");
-    drop(files);
-    assert!(rt; texts.iter().all(|text| text.is_empty()));
     assert!(rt; out.is_empty());
+    for file in &mut files {
+        let rest = read_whole(alloc, file, 7)?;
+        assert!(rt; rest.is_empty(), "{rest:?}");
+    }
     Ok(())
 }
