@@ -14,8 +14,6 @@ mod replays;
 #[cfg(test)]
 mod runs;
 #[cfg(test)]
-mod several;
-#[cfg(test)]
 mod texts;
 #[cfg(test)]
 mod told;

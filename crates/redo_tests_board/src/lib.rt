@@ -10,8 +10,6 @@ mod leaving;
 #[cfg(test)]
 mod order;
 #[cfg(test)]
-mod outcomes;
-#[cfg(test)]
 mod plans;
 #[cfg(test)]
 mod refusals;
@@ -25,8 +23,6 @@ mod seats;
 mod threads;
 #[cfg(test)]
 mod two_threads;
-#[cfg(test)]
-mod whole_runs;
 #[cfg(test)]
 mod worked;
 #[cfg(test)]

@@ -145,8 +145,7 @@ fn check_schedule(
     take_turns(rt, alloc, &board, plan, &mut workers, turns)?;
     let journals = journals_of(rt, alloc, board, plan, workers)?;
     let history = history_of(rt, alloc, plan, &journals)?;
-    replays(rt, alloc, &history, turns.len())?;
-    Ok(())
+    replays(rt, alloc, &history, turns.len())
 }
 
 /// How many schedules the plan has; the history of each is legal.
