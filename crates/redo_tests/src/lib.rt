@@ -14,6 +14,8 @@ mod replays;
 #[cfg(test)]
 mod runs;
 #[cfg(test)]
+mod several;
+#[cfg(test)]
 mod texts;
 #[cfg(test)]
 mod told;

@@ -79,6 +79,31 @@ fn failing_writer(rt: HostRuntime) -> Result<(), Fail> {
     Ok(())
 }
 
+/// The front of two files' run text that there is room for is written.
+#[test]
+fn failing_writer_of_two(rt: HostRuntime) -> Result<(), Fail> {
+    let alloc = rt.alloc();
+    let text = b"history 1\n2 file a 1 => ok\nsession 1 0\nsession 2 1\nfile a 1 => ok\n";
+    for (room, fails) in [(0, true), (10, false), (40, true), (65, false), (66, true)] {
+        let mut writer = FullWriter {
+            taken: Vec::new(alloc),
+            room,
+            fails,
+        };
+        let mut out = Watched::new(&mut writer);
+        let mut files = [
+            Watched::new(b"".as_slice()),
+            Watched::new(b"file a 1\n".as_slice()),
+        ];
+        let run = run_texts(&rt, alloc, &mut files, &mut out);
+        let is_full = matches!(run, Err(TextFault::Write));
+        assert_eq!(rt; is_full, room < text.len(), "{room} {run:?}");
+        assert_eq!(rt; out.faulted(), is_full, "{room}");
+        assert_eq!(rt; writer.taken.as_slice(), &text[..room], "{room}");
+    }
+    Ok(())
+}
+
 #[test]
 fn failing_reader(rt: HostRuntime) -> Result<(), Fail> {
     let alloc = rt.alloc();
@@ -112,6 +137,7 @@ fn failing_reader(rt: HostRuntime) -> Result<(), Fail> {
         matches!(run, Err(TextFault::Device { file: 1 })),
         "{run:?}"
     );
+    assert!(rt; !files[0].faulted() && files[1].faulted());
     assert!(rt; bytes.is_empty());
     Ok(())
 }

@@ -20,6 +20,7 @@ pub(crate) struct Hold {
     at: Moment,
     until: Moment,
     has_come: AtomicU64,
+    is_met: AtomicU64,
 }
 
 impl Hold {
@@ -28,6 +29,7 @@ impl Hold {
             at,
             until,
             has_come: AtomicU64::new(0),
+            is_met: AtomicU64::new(0),
         }
     }
 
@@ -43,12 +45,10 @@ impl Hold {
     }
 }
 
-/// A gate with some holds. It knows whether one took too long, and how often the first session was
-/// ready.
+/// A gate with some holds. It knows how often the first session was ready.
 #[derive(Drop)]
 pub(crate) struct Holds {
     holds: Vec<Hold>,
-    is_late: AtomicU64,
     ready: AtomicU64,
 }
 
@@ -56,13 +56,15 @@ impl Holds {
     pub(crate) fn new(holds: Vec<Hold>) -> Holds {
         Holds {
             holds,
-            is_late: AtomicU64::new(0),
             ready: AtomicU64::new(0),
         }
     }
 
-    pub(crate) fn is_late(&self) -> bool {
-        self.is_late.load(Ordering::SeqCst) != 0
+    /// Whether each hold has held a session until its second moment had come.
+    pub(crate) fn are_met(&self) -> bool {
+        self.holds
+            .iter()
+            .all(|hold| hold.is_met.load(Ordering::SeqCst) != 0)
     }
 
     pub(crate) fn ready_calls(&self) -> u64 {
@@ -77,8 +79,8 @@ impl Holds {
             }
         }
         for hold in &self.holds {
-            if hold.at == moment && !hold.comes() {
-                self.is_late.store(1, Ordering::SeqCst);
+            if hold.at == moment && hold.comes() {
+                hold.is_met.store(1, Ordering::SeqCst);
             }
         }
     }

@@ -6,10 +6,9 @@ ghost use Rattle.redo_command.specs.Meaning.{command_of, reply_of, line_of};
 
 use redo_command::{Command, Line, Refusal, Reply};
 use redo_journal::{Entry, Journal, Place, Plan, are_journals};
-use redo_replay::{Verdict, history_text, merge, read_history, replay};
+use redo_replay::{HistoryFault, Verdict, history_text, merge, read_history, replay};
 use std::alloc::{AllocError, Global};
 use std::process::Abort;
-use std::test::Fail;
 
 fn all_below(count: u32, numbers: &[u32]) -> bool
     ensures { IsTrue result → AllBelow count numbers.now }
@@ -76,8 +75,12 @@ pub(crate) fn replays(
     alloc: Global,
     history: &[u8],
     count: usize,
-) -> Result<(), Fail> {
-    let told = read_history(alloc, history)?;
+) -> Result<(), AllocError> {
+    let told = match read_history(alloc, history) {
+        Ok(told) => told,
+        Err(HistoryFault::Memory) => return Err(AllocError),
+        Err(fault) => panic!(rt; "{fault}"),
+    };
     let is_same = matches!(replay(alloc, &told)?, Verdict::Same(lines) if lines == count);
     assert!(rt; is_same, "{history:?}");
     Ok(())

@@ -81,5 +81,6 @@ fn leaves_in_the_middle(rt: HostRuntime) -> Result<(), Fail> {
         2 ood => ood t\n\
         2 unlock t => refused not-locked\n";
     assert_eq!(rt; str::from_utf8(&history)?, want);
-    replays(&rt, alloc, &history, 7)
+    replays(&rt, alloc, &history, 7)?;
+    Ok(())
 }

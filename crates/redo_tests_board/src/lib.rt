@@ -10,6 +10,8 @@ mod leaving;
 #[cfg(test)]
 mod order;
 #[cfg(test)]
+mod outcomes;
+#[cfg(test)]
 mod plans;
 #[cfg(test)]
 mod refusals;
@@ -23,6 +25,8 @@ mod seats;
 mod threads;
 #[cfg(test)]
 mod two_threads;
+#[cfg(test)]
+mod whole_runs;
 #[cfg(test)]
 mod worked;
 #[cfg(test)]

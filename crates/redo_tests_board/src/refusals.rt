@@ -4,31 +4,19 @@ ghost use Rattle.redo_board.specs.Kept.{IsBoardOf, SitsAt, IsFreshOf};
 
 use crate::gates::Holds;
 use crate::histories::history_of;
+use crate::outcomes::{is_right, ran};
 use crate::plans::plan_of;
 use crate::seats::close;
 use crate::threads::journals_of;
-use crate::worked::{LOST_TRY, LOST_TRY_HISTORY, lost_try};
+use crate::worked::{COMMON_PATH, COMMON_PATH_HISTORY, LOST_TRY, LOST_TRY_HISTORY, lost_try};
 use crate::workers::work;
 use redo_board::{Board, Open, Seat};
 use redo_journal::{Journal, Plan};
+use redo_session::RunFault;
 use std::alloc::{AllocError, Global};
 use std::process::Abort;
 use std::test::Fail;
 use std::thread::Threads;
-
-const COMMON_PATH: &str = "file a.c 10\nlock a.o\nstart a.o\nifchange a.o a.c\ndone a.o 20\n\
-    unlock a.o\nood\ntargets\nsources\n";
-
-const COMMON_PATH_HISTORY: &str = "history 9\n\
-    1 file a.c 10 => ok\n\
-    1 lock a.o => granted 1\n\
-    1 start a.o => ok\n\
-    1 ifchange a.o a.c => ok\n\
-    1 done a.o 20 => ok\n\
-    1 unlock a.o => ok\n\
-    1 ood => ood\n\
-    1 targets => targets a.o\n\
-    1 sources => sources a.c\n";
 
 /// The plan of these files. Where a request is refused, the next try succeeds.
 fn planned(rt: &impl Abort, alloc: Global, files: &[&str]) -> Result<Plan, AllocError> {
@@ -95,7 +83,7 @@ fn lost_journals<R: Threads + Abort + Sync>(
 ) -> Result<Option<Vec<Journal>>, AllocError> {
     let gate = gated(alloc)?;
     let journals = journals_of(rt, alloc, plan, &gate)?;
-    if gate.is_late() {
+    if !gate.are_met() {
         return Ok(None);
     }
     assert_eq!(rt; gate.ready_calls(), 6);
@@ -113,4 +101,26 @@ fn refused_after_the_lost_row(rt: HostRuntime) -> Result<(), Fail> {
     let tries = journals.iter().map(|journal| journal.tries);
     assert!(rt; tries.eq([6, 5]));
     check_history(&rt, alloc, &plan, &journals, LOST_TRY_HISTORY)
+}
+
+/// Two sessions that want one target.
+const TWO_SESSIONS: [&str; 2] = [
+    "file a 1\nlock t\nstart t\nifchange t a\ndone t 1\nunlock t\nood\n",
+    "lock t\nstart t\nfile a 2\nood\nlock t\ntargets\n",
+];
+
+/// Where a request or the start of a thread is refused, a run answers that, and the next one
+/// succeeds.
+#[test]
+fn run_with_each_request_refused(rt: HostRuntime) -> Result<(), Fail> {
+    let alloc = rt.alloc();
+    let plan = planned(&rt, alloc, &TWO_SESSIONS)?;
+    let (outcome, history) = match ran(&rt, alloc, &plan, &Open) {
+        Ok(left) => left,
+        Err(RunFault::Memory) => ran(&rt, alloc, &plan, &Open)?,
+    };
+    match is_right(&rt, alloc, &plan, &TWO_SESSIONS, &outcome, &history) {
+        Ok(()) => Ok(()),
+        Err(AllocError) => Ok(is_right(&rt, alloc, &plan, &TWO_SESSIONS, &outcome, &history)?),
+    }
 }

@@ -145,7 +145,8 @@ fn check_schedule(
     take_turns(rt, alloc, &board, plan, &mut workers, turns)?;
     let journals = journals_of(rt, alloc, board, plan, workers)?;
     let history = history_of(rt, alloc, plan, &journals)?;
-    replays(rt, alloc, &history, turns.len())
+    replays(rt, alloc, &history, turns.len())?;
+    Ok(())
 }
 
 /// How many schedules the plan has; the history of each is legal.

@@ -81,7 +81,7 @@ pub(crate) fn journals_of<G: Gate + Sync, R: Threads + Abort + Sync>(
     Ok(journals)
 }
 
-/// Under the gate the sessions have this history, and nobody waits too long.
+/// Under the gate the sessions have this history, and each hold is met.
 pub(crate) fn have_history<R: Threads + Abort + Sync>(
     rt: &R,
     alloc: Global,
@@ -90,7 +90,7 @@ pub(crate) fn have_history<R: Threads + Abort + Sync>(
     want: &str,
 ) -> Result<Vec<Journal>, Fail> {
     let journals = journals_of(rt, alloc, plan, gate)?;
-    assert!(rt; !gate.is_late());
+    assert!(rt; gate.are_met());
     let history = history_of(rt, alloc, plan, &journals)?;
     assert_eq!(rt; str::from_utf8(&history)?, want);
     Ok(journals)

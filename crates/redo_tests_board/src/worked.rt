@@ -5,6 +5,23 @@ use crate::threads::have_history;
 use std::alloc::{AllocError, Global};
 use std::test::Fail;
 
+/// One session, which builds a target and asks for the lists.
+pub(crate) const COMMON_PATH: &str =
+    "file a.c 10\nlock a.o\nstart a.o\nifchange a.o a.c\ndone a.o 20\n\
+    unlock a.o\nood\ntargets\nsources\n";
+
+/// What comes of it.
+pub(crate) const COMMON_PATH_HISTORY: &str = "history 9\n\
+    1 file a.c 10 => ok\n\
+    1 lock a.o => granted 1\n\
+    1 start a.o => ok\n\
+    1 ifchange a.o a.c => ok\n\
+    1 done a.o 20 => ok\n\
+    1 unlock a.o => ok\n\
+    1 ood => ood\n\
+    1 targets => targets a.o\n\
+    1 sources => sources a.c\n";
+
 /// The first session's commands for a target, and its question; the second session's file.
 pub(crate) const LOST_TRY: [&str; 2] = [
     "file a.c 10\nlock a.o\nstart a.o\nifchange a.o a.c\ndone a.o 20\nunlock a.o\nood\n",
@@ -44,32 +61,37 @@ fn lost_try_changes_the_reply(rt: HostRuntime) -> Result<(), Fail> {
     Ok(())
 }
 
-#[test]
-fn busy_across_a_release(rt: HostRuntime) -> Result<(), Fail> {
-    let alloc = rt.alloc();
-    let plan = plan_of(
-        &rt,
-        alloc,
-        &[
-            "lock t\nunlock t\n",
-            "lock t\nlock t\n",
-            "lock t\ntargets\n",
-        ],
-    )?;
-    let gate = Holds::new(vec![in alloc;
+/// Three sessions that want one lock.
+pub(crate) const BUSY: [&str; 3] = [
+    "lock t\nunlock t\n",
+    "lock t\nlock t\n",
+    "lock t\ntargets\n",
+];
+
+/// What comes of them where the second is told busy by the first one's grant, and by the third's.
+pub(crate) const BUSY_HISTORY: &str = "history 6\n\
+    1 lock t => granted 1\n\
+    2 lock t => busy 1\n\
+    1 unlock t => ok\n\
+    3 lock t => granted 2\n\
+    2 lock t => busy 2\n\
+    3 targets => targets\n";
+
+/// Each command is held until the one before it in that history is done.
+pub(crate) fn busy(alloc: Global) -> Result<Holds, AllocError> {
+    Ok(Holds::new(vec![in alloc;
         Hold::new(Moment::Before(1, 0), Moment::After(0, 0)),
         Hold::new(Moment::Before(0, 1), Moment::After(1, 0)),
         Hold::new(Moment::Before(2, 0), Moment::After(0, 1)),
         Hold::new(Moment::Before(1, 1), Moment::After(2, 0)),
         Hold::new(Moment::Before(2, 1), Moment::After(1, 1)),
-    ]?);
-    let want = "history 6\n\
-        1 lock t => granted 1\n\
-        2 lock t => busy 1\n\
-        1 unlock t => ok\n\
-        3 lock t => granted 2\n\
-        2 lock t => busy 2\n\
-        3 targets => targets\n";
-    have_history(&rt, alloc, &plan, &gate, want)?;
+    ]?))
+}
+
+#[test]
+fn busy_across_a_release(rt: HostRuntime) -> Result<(), Fail> {
+    let alloc = rt.alloc();
+    let plan = plan_of(&rt, alloc, &BUSY)?;
+    have_history(&rt, alloc, &plan, &busy(alloc)?, BUSY_HISTORY)?;
     Ok(())
 }
