@@ -14,6 +14,7 @@ use Rattle.redo_rows.specs.Rows as rows
 use Rattle.redo_rows.specs.Rows.{TargetRows}
 use Rattle.redo_store.specs.Stored.{Stored, IsStored}
 use Rattle.redo_store.specs.Stored as stored
+use Rattle.redo_ood.proofs.Marking.{same_everywhere}
 use Rattle.redo_store.specs.Tables.{Tables, records_of, locks_of, state_of, naming_of}
 use Rattle.redo_store.proofs.Places.{listed_by_place}
 
@@ -37,12 +38,6 @@ IsStored-set_cell t n c h few = record {
 -- the rows of as many targets may be written
 pub IsStored-set_rows : (t : Stored) (to : List TargetRows) → IsStored t → rows.count_of to ≡ rows.count_of t.rows → IsStored (record t { rows = to })
 IsStored-set_rows t to h same = record { rows_for_each = same ∙ h.rows_for_each; all_in_order = h.all_in_order; few_builds = h.few_builds; few_names = h.few_names }
-
-same_everywhere : {X : Type 0} (n k : ℕ) (x : X) → get_or (replicate n x) k x ≡ x
-same_everywhere n k x = elim (cases_lt k n) [
-  | inl h ↦ get_or-replicate n k x x h
-  | inr h ↦ get_or_past (replicate n x) k x (omega (arith, length-replicate n x))
-]
 
 -- a store that knows nothing
 pub IsStored-new : (names : List (List ℕ)) (t : Stored) → AreSorted names t.sorted → t.cells ≡ replicate (length names) idle → rows.count_of t.rows ≡ length names → length names < 2 ^ 32 → IsStored t
