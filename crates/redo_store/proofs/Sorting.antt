@@ -132,5 +132,5 @@ AreSorted-from_pairs names from to are h moved sorted =
 pub sorted_below : {names : List (List ℕ)} {sorted : List ℕ} → AreSorted names sorted → AllBelow (length sorted) sorted
 sorted_below {names = names} {sorted = sorted} are =
     let below : (n : ℕ) → Contains sorted n → n < length sorted =
-        λ n c. subst (λ (m : ℕ). n < m) (sym are.whole) ((are.listed.1 n).0 c) in
-    all_from sorted below
+    λ n c. subst (λ (m : ℕ). n < m) (sym are.whole) ((are.listed.1 n).0 c) in
+    all_from (length sorted) sorted below

@@ -176,7 +176,7 @@ impl Store {
     }
 
     /// The numbers of all names, in order.
-    fn sorted(&self) -> &[u32]
+    pub(super) fn sorted(&self) -> &[u32]
         ensures sorted { result.now ≡ self.now.sorted }
         ensures stored { IsStored self.now }
     {

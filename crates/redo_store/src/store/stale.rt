@@ -1,7 +1,7 @@
 ghost use Rattle.std.specs.Prelude.{◌≡◌, ◌<◌, ◌↔◌, ℕ, IsTrue, IfOk, All, AllPairs, Contains, length, map, slice_index};
 ghost use Rattle.redo_model.specs.OutOfDate.{IsStale};
 ghost use Rattle.redo_model.specs.Renaming.{AllBelow};
-ghost use Rattle.redo_store.specs.Stored.{AreInOrder, ArePlaces, IsStored, count_of, records_of};
+ghost use Rattle.redo_store.specs.Stored.{AreInOrder, ArePlaces, count_of, records_of};
 
 use crate::store::Store;
 use crate::store::lists::push_if;
@@ -17,6 +17,19 @@ fn in_order(mut ranks: Vec<u32>) -> Vec<u32>
     ranks
 }
 
+/// The names that stand at these places of the order.
+fn names_at(alloc: Global, sorted: &[u32], places: &[u32]) -> Result<Vec<u32>, AllocError>
+    requires { All (λ k. k < length sorted.now) places.now }
+    ensures { IfOk result (λ names.
+        names.items ≡ map (λ k. slice_index sorted.now k) places.now) }
+{
+    let mut names = Vec::new(alloc);
+    for &k in places {
+        names.push(sorted[k as usize])?;
+    }
+    Ok(names)
+}
+
 impl Store {
     /// The stale ones of the names, each once, in order.
     pub(super) fn stale(&self, alloc: Global, names: &[u32]) -> Result<Vec<u32>, AllocError>
@@ -25,8 +38,9 @@ impl Store {
             (λ n. Contains names.now n × IsStale (records_of self.now) n) stale.items) }
     {
         let ranks = self.stale_ranks(alloc, names)?;
-        let rising = in_order(ranks);
-        self.names_at(alloc, &rising)
+        let places = in_order(ranks);
+        let all = self.sorted();
+        names_at(alloc, all, &places)
     }
 
     /// The ranks of the stale ones of the names.
@@ -42,27 +56,6 @@ impl Store {
             push_if(&mut ranks, rank, is_due)?;
         }
         Ok(ranks)
-    }
-
-    /// The names with these ranks.
-    fn names_at(&self, alloc: Global, ranks: &[u32]) -> Result<Vec<u32>, AllocError>
-        requires { All (λ k. k < length self.now.sorted) ranks.now }
-        ensures names { IfOk result (λ names.
-            names.items ≡ map (λ k. slice_index self.now.sorted k) ranks.now) }
-        ensures stored { IsStored self.now }
-    {
-        let mut names = Vec::new(alloc);
-        for &k in ranks {
-            names.push(self.name_at(k))?;
-        }
-        Ok(names)
-    }
-
-    fn name_at(&self, k: u32) -> u32
-        requires { k < length self.now.sorted }
-        ensures { result ≡ slice_index self.now.sorted k }
-    {
-        self.sorted[k as usize]
     }
 
     /// The place of the name in the order.

@@ -8,7 +8,7 @@ pub refresh-requires-clause-right : goal.refresh-requires-clause-right
 refresh-requires-clause-right c =
     let inside = c.self.inside in
     was_right_by_always inside.memo inside.records inside.rows c.args.t c.self.invariant.memo_right
-        c.put_always.new.self c.put_always.ensures.rows
+    c.put_always.new.self c.put_always.ensures.rows
 
 pub invariant_of-self : goal.invariant_of-self
 invariant_of-self c =
@@ -24,4 +24,4 @@ invariant_of-self c =
 pub returns-clause-after : goal.returns-clause-after
 returns-clause-after c =
     rw (← c.self.view_is)
-        (put_for_always (stored_of c.self.inside) c.args.t c.put_always.new.self c.put_always.ensures.rows)
+    (put_for_always (stored_of c.self.inside) c.args.t c.put_always.new.self c.put_always.ensures.rows)

@@ -8,7 +8,7 @@ pub refresh-requires-clause-right : goal.refresh-requires-clause-right
 refresh-requires-clause-right c =
     let inside = c.self.inside in
     was_right_by_changes inside.memo inside.records inside.rows c.args.t c.self.invariant.memo_right
-        c.args.names.now (with_rows inside.records c.change_each.new.rows) c.change_each.ensures.after
+    c.args.names.now (with_rows inside.records c.change_each.new.rows) c.change_each.ensures.after
 
 pub invariant_of-self : goal.invariant_of-self
 invariant_of-self c =

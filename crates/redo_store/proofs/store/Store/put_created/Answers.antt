@@ -8,8 +8,8 @@ pub refresh-requires-clause-right : goal.refresh-requires-clause-right
 refresh-requires-clause-right c =
     let inside = c.self.inside in
     was_right_by_created inside.memo inside.records inside.rows c.args.t c.self.invariant.memo_right
-        c.args.names.now (with_rows inside.records c.create_each.new.rows)
-        (c.create_each.ensures.after inside.records)
+    c.args.names.now (with_rows inside.records c.create_each.new.rows)
+    (c.create_each.ensures.after inside.records)
 
 pub invariant_of-self : goal.invariant_of-self
 invariant_of-self c =

@@ -25,4 +25,4 @@ invariant_of-self c =
 pub returns-clause-made : goal.returns-clause-made
 returns-clause-made c =
     on_ok_weaker c.reserve.result (all_of_them (room_of c.reserve.new.self c.args.t) c.args.names.now)
-        c.reserve.ensures.made
+    c.reserve.ensures.made

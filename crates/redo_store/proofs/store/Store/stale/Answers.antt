@@ -1,5 +1,5 @@
-use Rattle.std.proofs.Common.{◌<◌, ◌∙◌, length, map, get_or, sym, ap, subst}
-use Rattle.std.specs.List.{All, Contains}
+use Rattle.std.proofs.Common.{◌<◌, ◌∙◌, ℕ, List, length, map, get_or, sym, ap, subst}
+use Rattle.std.specs.List.{All}
 use Rattle.std.proofs.lemmas.Result.{IfOk-weaker}
 use Rattle.redo_store.proofs.Listed.{named_below}
 use Rattle.redo_store.proofs.Ranked.{all_kept, in_order_by_places}
@@ -7,18 +7,22 @@ use Rattle.redo_store.proofs.store.Store.stale.Goals as goal
 
 pub names_at-requires : goal.names_at-requires
 names_at-requires c =
-    let rising = c.in_order-rising in
-    subst (All (λ k. k < length c.args.self.now.sorted)) (sym c.deref.ensures.value)
-        (all_kept c.in_ok-ranks.ranks.items rising.result.items rising.ensures.same
-            c.in_ok-ranks.ensures.below)
+    let places = c.in_order-places in
+    let sorted = c.args.self.now.sorted in
+    let below = all_kept (λ k. k < length sorted) c.in_ok-ranks.ranks.items places.result.items
+    places.ensures.same c.in_ok-ranks.ensures.below in
+    subst (λ (ns : List ℕ). All (λ k. k < length ns) c.deref.result.now)
+    (sym c.sorted-all.ensures.sorted)
+    (subst (All (λ k. k < length sorted)) (sym c.deref.ensures.value) below)
 
 pub returns : goal.returns
 returns c =
-    let rising = c.in_order-rising in
-    let sorted = c.args.self.now.sorted in
+    let places = c.in_order-places in
     IfOk-weaker c.names_at.result _ _ (λ v named.
-        in_order_by_places rising.result.items v.items c.names_at.ensures.stored
-            (λ n p. named_below c.args.names.now n c.requires p.0)
-            c.in_ok-ranks.ensures rising.ensures.rising rising.ensures.same
-            (named ∙ ap (map (λ k. get_or sorted k 0)) c.deref.ensures.value))
-        c.names_at.ensures.names
+    in_order_by_places places.result.items v.items c.sorted-all.ensures.stored
+    (λ n p. named_below c.args.names.now n c.requires p.0)
+    c.in_ok-ranks.ensures places.ensures.rising places.ensures.same
+    (named
+    ∙ ap (λ (ns : List ℕ). map (λ k. get_or ns k 0) c.deref.result.now) c.sorted-all.ensures.sorted
+    ∙ ap (map (λ k. get_or c.args.self.now.sorted k 0)) c.deref.ensures.value))
+    c.names_at.ensures

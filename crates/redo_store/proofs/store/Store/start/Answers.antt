@@ -10,8 +10,8 @@ pub refresh-requires-clause-right : goal.refresh-requires-clause-right
 refresh-requires-clause-right c =
     let inside = c.self.inside in
     rw c.start.ensures
-        (was_right_by_start inside.memo inside.records inside.rows c.args.t
-            c.self.invariant.memo_right _ c.clear.new.self c.clear.ensures.rows)
+    (was_right_by_start inside.memo inside.records inside.rows c.args.t
+    c.self.invariant.memo_right _ c.clear.new.self c.clear.ensures.rows)
 
 pub invariant_of-self : goal.invariant_of-self
 invariant_of-self c =
@@ -20,8 +20,8 @@ invariant_of-self c =
     record {
       stored = rw c.start.ensures
           (IsStored-set_rows _ c.clear.new.self
-              (IsStored-set_cell stored c.args.t _ kept (kept.few_builds c.args.t))
-              c.clear.ensures.count);
+          (IsStored-set_cell stored c.args.t _ kept (kept.few_builds c.args.t))
+          c.clear.ensures.count);
       ranked = c.self.invariant.ranked;
       memo_for_each = c.refresh.ensures.count;
       memo_right = c.refresh.ensures.right;
@@ -31,6 +31,6 @@ pub returns-clause-after : goal.returns-clause-after
 returns-clause-after c =
     let t = c.args.t in
     let below : t < length c.self.inside.records =
-        subst (λ (u : Stored). t < length u.cells) (sym c.self.view_is) c.requires.number in
+    subst (λ (u : Stored). t < length u.cells) (sym c.self.view_is) c.requires.number in
     rw (c.start.ensures, ← c.self.view_is)
-        (started (stored_of c.self.inside) t c.clear.new.self c.args.s below c.clear.ensures.rows)
+    (started (stored_of c.self.inside) t c.clear.new.self c.args.s below c.clear.ensures.rows)
