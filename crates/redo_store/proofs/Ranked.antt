@@ -91,7 +91,8 @@ module _ (t : Stored) (Q : ℕ → Type 0) (names : List ℕ) (i : ℕ) (in' : i
   }
 
   -- the next name doesn't have Q
-  places_without : (ranks : List ℕ) → (Q (get_or names i 0) → ⊥) → PlacesOf t Q (take i names) ranks → PlacesOf t Q (take (i + 1) names) ranks
+  places_without : (ranks : List ℕ) → (Q (get_or names i 0) → ⊥)
+      → PlacesOf t Q (take i names) ranks → PlacesOf t Q (take (i + 1) names) ranks
   places_without ranks hasnt h = record {
     below = h.below;
     from = λ j c.
@@ -105,7 +106,8 @@ module _ (t : Stored) (Q : ℕ → Type 0) (names : List ℕ) (i : ℕ) (in' : i
 
   pub places_more : (k : ℕ) (ranks : List ℕ) (due : Bool) → k < length t.sorted
       → get_or t.sorted k 0 ≡ get_or names i 0 → (IsTrue due ↔ Q (get_or names i 0))
-      → PlacesOf t Q (take i names) ranks → PlacesOf t Q (take (i + 1) names) (ranks ++ cond due (k ∷ []) [])
+      → PlacesOf t Q (take i names) ranks
+      → PlacesOf t Q (take (i + 1) names) (ranks ++ cond due (k ∷ []) [])
   places_more k ranks true below at is h = places_with k ranks below at (is.0 refl) h
   places_more k ranks false below at is h =
       subst (PlacesOf t Q (take (i + 1) names)) (sym (append-nil ranks))
@@ -126,7 +128,8 @@ module _ (from sorted to : List ℕ) (moved : IsPermutation from sorted)
     pub same_once : (k : ℕ) → Contains to k ↔ Contains from k
     same_once k = (
       λ c.
-          let there = Contains-from_dedup ◌==◌ sorted k (subst (λ (ks : List ℕ). Contains ks k) kept c) in
+          let left = subst (λ (ks : List ℕ). Contains ks k) kept c in
+          let there = Contains-from_dedup ◌==◌ sorted k left in
           Contains-permutation sorted from k (IsPermutation-sym from sorted moved) there,
       λ c.
           let there = Contains-permutation from sorted k moved c in
@@ -142,7 +145,8 @@ all_kept P from to same all i d in' =
 -- the name at one more place
 pub named_more : (sorted places names : List ℕ) (i : ℕ) → i < length places
     → names ≡ map (λ k. get_or sorted k 0) (take i places)
-    → names ++ get_or sorted (get_or places i 0) 0 ∷ [] ≡ map (λ k. get_or sorted k 0) (take (i + 1) places)
+    → names ++ get_or sorted (get_or places i 0) 0 ∷ []
+        ≡ map (λ k. get_or sorted k 0) (take (i + 1) places)
 named_more sorted places names i in' named =
     let n = get_or sorted (get_or places i 0) 0 in
     ap (λ (ns : List ℕ). ns ++ n ∷ []) named

@@ -7,7 +7,8 @@ pub refresh-requires-clause-right : goal.refresh-requires-clause-right
 refresh-requires-clause-right c =
     let inside = c.self.inside in
     rw c.failed.ensures
-    (was_right_by_cell inside.memo inside.records inside.rows c.args.t c.self.invariant.memo_right _)
+    (was_right_by_cell inside.memo inside.records inside.rows c.args.t
+        c.self.invariant.memo_right _)
 
 pub invariant_of-self : goal.invariant_of-self
 invariant_of-self c =

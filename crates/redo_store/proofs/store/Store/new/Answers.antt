@@ -18,7 +18,8 @@ ranks_of-requires-clause-below c =
 
 pub ranks_of-requires-clause-few : goal.ranks_of-requires-clause-few
 ranks_of-requires-clause-few c =
-    omega (arith, c.in_ok-sorted.ensures.whole, ap length c.deref.ensures.value, c.len.ensures.count)
+    let same = ap length c.deref.ensures.value in
+    omega (arith, c.in_ok-sorted.ensures.whole, same, c.len.ensures.count)
 
 pub invariant_of-result : goal.invariant_of-result
 invariant_of-result c =
@@ -32,7 +33,8 @@ invariant_of-result c =
     c.in_ok-records.ensures ∙ ap (λ n. replicate n idle) c.len.ensures.count in
     let count : length cells ≡ length names =
     ap length all_idle ∙ length-replicate (length names) idle in
-    let first = empty_records c.len.result cells rows c.in_ok-records.ensures c.in_ok-rows.ensures.rows in
+    let first = empty_records c.len.result cells rows c.in_ok-records.ensures
+        c.in_ok-rows.ensures.rows in
     record {
       stored = IsStored-new names stored c.in_ok-sorted.ensures all_idle
           (c.in_ok-rows.ensures.count ∙ c.len-2.ensures.count) few;

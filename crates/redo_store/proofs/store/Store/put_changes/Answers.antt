@@ -14,7 +14,8 @@ pub invariant_of-self : goal.invariant_of-self
 invariant_of-self c =
     let stored = stored_of c.self.inside in
     record {
-      stored = IsStored-set_rows stored c.change_each.new.rows c.self.invariant.stored c.change_each.ensures.count;
+      stored = IsStored-set_rows stored c.change_each.new.rows c.self.invariant.stored
+          c.change_each.ensures.count;
       ranked = c.self.invariant.ranked;
       memo_for_each = c.refresh.ensures.count;
       memo_right = c.refresh.ensures.right;

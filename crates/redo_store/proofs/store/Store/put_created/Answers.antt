@@ -15,7 +15,8 @@ pub invariant_of-self : goal.invariant_of-self
 invariant_of-self c =
     let stored = stored_of c.self.inside in
     record {
-      stored = IsStored-set_rows stored c.create_each.new.rows c.self.invariant.stored c.create_each.ensures.count;
+      stored = IsStored-set_rows stored c.create_each.new.rows c.self.invariant.stored
+          c.create_each.ensures.count;
       ranked = c.self.invariant.ranked;
       memo_for_each = c.refresh.ensures.count;
       memo_right = c.refresh.ensures.right;

@@ -13,16 +13,18 @@ pub invariant_of-self : goal.invariant_of-self
 invariant_of-self c =
     let inside = c.self.inside in
     let made = c.reserve in
+    let IsRightAt : Rows ℕ → Type 0 =
+        λ rows. IsRight inside.memo (record { cell = cell_at inside.records; rows = rows }) in
     record {
-      stored = IsStored-set_rows (stored_of inside) made.new.self c.self.invariant.stored made.ensures.count;
+      stored = IsStored-set_rows (stored_of inside) made.new.self c.self.invariant.stored
+          made.ensures.count;
       ranked = c.self.invariant.ranked;
       memo_for_each = c.self.invariant.memo_for_each;
-      memo_right = subst
-          (λ (rows : Rows ℕ). IsRight inside.memo (record { cell = cell_at inside.records; rows = rows }))
-          (sym made.ensures.rows) c.self.invariant.memo_right;
+      memo_right = subst IsRightAt (sym made.ensures.rows) c.self.invariant.memo_right;
     }
 
 pub returns-clause-made : goal.returns-clause-made
 returns-clause-made c =
-    on_ok_weaker c.reserve.result (all_of_them (room_of c.reserve.new.self c.args.t) c.args.names.now)
+    on_ok_weaker c.reserve.result
+        (all_of_them (room_of c.reserve.new.self c.args.t) c.args.names.now)
     c.reserve.ensures.made

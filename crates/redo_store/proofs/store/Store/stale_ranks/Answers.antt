@@ -7,7 +7,8 @@ use Rattle.redo_store.proofs.store.Store.stale_ranks.Goals as goal
 
 pub loop-n-init : goal.loop-n-init
 loop-n-init c =
-    rw c.new-ranks.ensures.items (places_none c.args.self.now (IsStale (records_of c.args.self.now)))
+    let t = c.args.self.now in
+    rw c.new-ranks.ensures.items (places_none t (IsStale (records_of t)))
 
 pub loop-n-preserved : goal.loop-n-preserved
 loop-n-preserved c =
