@@ -2,8 +2,8 @@
 ghost use Rattle.std.specs.Prelude.{◌≡◌, ◌<◌, ◌≤◌, length, IfOk};
 ghost use Rattle.redo_rows.specs.Rows.{count_of};
 
+use crate::search;
 use redo_command::FileStamp;
-use redo_ood::Ood;
 use redo_records::{Mark, Records, State};
 use redo_rows::DepRows;
 use std::alloc::Global;
@@ -65,8 +65,8 @@ fn out_of_date(alloc: Global, count: u32, records: &Records, rows: &DepRows) -> 
     requires records { length records.now ≡ count }
     requires rows { count_of rows.now ≡ count }
 {
-    let ood = Ood::search(alloc, count, records, rows)?;
-    Ok(ood.list(alloc)?.len())
+    let marks = search::out_of_date(alloc, count, records, rows)?;
+    Ok(marks.iter().filter(|is_out| **is_out).count())
 }
 
 #[test]

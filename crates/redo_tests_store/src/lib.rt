@@ -22,4 +22,6 @@ mod refusals;
 #[cfg(test)]
 mod rows;
 #[cfg(test)]
+mod search;
+#[cfg(test)]
 mod stores;
