@@ -1,6 +1,7 @@
 //! What is known of each name.
 use redo_command::{FileStamp, Kind, Refusal};
 use redo_records::{Mark, Records, State, digest_of};
+use std::mem::size_of;
 use std::process::Abort;
 use std::test::Fail;
 
@@ -28,6 +29,14 @@ fn marks(rt: HostRuntime) -> Result<(), Fail> {
     records.set_file(0, FileStamp::new(b"6"));
     assert!(rt; records.changed(0));
     assert_eq!(rt; records.mark(0), Mark::Builds(2));
+    Ok(())
+}
+
+/// A stamp is 64 bytes and their number, and an optional one has no padding.
+#[test]
+fn size_of_a_stamp(rt: HostRuntime) -> Result<(), Fail> {
+    assert_eq!(rt; size_of::<FileStamp>(), 65);
+    assert_eq!(rt; size_of::<Option<FileStamp>>(), 66);
     Ok(())
 }
 
