@@ -1,0 +1,94 @@
+// Which targets are out of date, kept up to date. Where a name has changed, its region is searched:
+// the name, the targets with a change or created row on it, and each target from which change rows
+// lead to one of these.
+use crate::graph::Graph;
+
+// the flags of a name: it is out of date; it was before it was met; it was met
+const OUT: u8 = 1;
+const WAS: u8 = 2;
+const MET: u8 = 4;
+
+pub struct Memo {
+    flags: Vec<u8>,
+    region: Vec<u32>,
+    found: Vec<u32>,
+}
+
+impl Memo {
+    pub fn new(names: usize) -> Memo {
+        Memo { flags: vec![0; names], region: Vec::new(), found: Vec::new() }
+    }
+
+    pub fn is_out(&self, n: u32) -> bool {
+        self.flags[n as usize] & OUT != 0
+    }
+
+    fn meet(&mut self, n: u32) {
+        let flags = &mut self.flags[n as usize];
+        if *flags & MET == 0 {
+            *flags = MET | if *flags & OUT != 0 { WAS } else { 0 };
+            self.region.push(n);
+        }
+    }
+
+    fn find(&mut self, t: u32) {
+        let flags = &mut self.flags[t as usize];
+        if *flags & OUT == 0 {
+            *flags |= OUT;
+            self.found.push(t);
+        }
+    }
+
+    fn meet_region(&mut self, graph: &Graph, seed: u32) {
+        self.region.clear();
+        self.meet(seed);
+        for row in graph.created.on(seed) {
+            self.meet(row.target);
+        }
+        let mut next = 0;
+        while let Some(n) = self.region.get(next).copied() {
+            for row in graph.changes.on(n) {
+                self.meet(row.target);
+            }
+            next += 1;
+        }
+    }
+
+    // what has a reason, or a row on what is known to be out of date: outside of the region, or
+    // found before
+    fn find_reasons(&mut self, graph: &Graph) {
+        self.found.clear();
+        for at in 0..self.region.len() {
+            let t = self.region[at];
+            if graph.has_reason(t, |n| self.is_out(n)) {
+                self.find(t);
+            }
+        }
+    }
+
+    fn spread(&mut self, graph: &Graph) {
+        let mut next = 0;
+        while let Some(n) = self.found.get(next).copied() {
+            for row in graph.changes.on(n) {
+                self.find(row.target);
+            }
+            next += 1;
+        }
+    }
+
+    // Searches the region of a name that has changed, and tells each target that came to be out of
+    // date, or that no longer is.
+    pub fn refresh(&mut self, graph: &Graph, seed: u32, mut tell: impl FnMut(u32, bool)) {
+        self.meet_region(graph, seed);
+        self.find_reasons(graph);
+        self.spread(graph);
+        for n in &self.region {
+            let flags = &mut self.flags[*n as usize];
+            let (is_out, was_out) = (*flags & OUT != 0, *flags & WAS != 0);
+            *flags &= OUT;
+            if is_out != was_out {
+                tell(*n, is_out);
+            }
+        }
+    }
+}

@@ -1,0 +1,82 @@
+// Names as numbers: the places of distinct texts in the order in which they came.
+use std::collections::HashMap;
+use std::hash::{BuildHasherDefault, Hasher};
+
+// multiplies and folds eight bytes at a time
+#[derive(Default)]
+pub struct Folded(u64);
+
+impl Folded {
+    fn fold(&mut self, word: u64) {
+        let product = u128::from(self.0 ^ word) * 0x9e37_79b9_7f4a_7c15;
+        self.0 = product as u64 ^ (product >> 64) as u64;
+    }
+}
+
+fn four(bytes: &[u8]) -> u64 {
+    u64::from(u32::from_le_bytes([bytes[0], bytes[1], bytes[2], bytes[3]]))
+}
+
+// up to eight bytes as a number
+fn few(bytes: &[u8]) -> u64 {
+    match bytes {
+        [] => 0,
+        [a] => u64::from(*a),
+        [a, .., z] if bytes.len() < 4 => {
+            u64::from(*a) << 16 | u64::from(bytes[bytes.len() / 2]) << 8 | u64::from(*z)
+        }
+        _ => four(bytes) << 32 | four(&bytes[bytes.len() - 4..]),
+    }
+}
+
+impl Hasher for Folded {
+    fn write(&mut self, bytes: &[u8]) {
+        let (eights, rest) = bytes.as_chunks::<8>();
+        for eight in eights {
+            self.fold(u64::from_le_bytes(*eight));
+        }
+        match bytes.last_chunk::<8>() {
+            Some(last) if !rest.is_empty() => self.fold(u64::from_le_bytes(*last)),
+            Some(_) => {}
+            None => self.fold(few(bytes)),
+        }
+    }
+
+    fn write_usize(&mut self, number: usize) {
+        self.0 ^= number as u64;
+    }
+
+    fn finish(&self) -> u64 {
+        self.0
+    }
+}
+
+#[derive(Default)]
+pub struct Names<'a> {
+    pub texts: Vec<&'a [u8]>,
+    numbers: HashMap<&'a [u8], u32, BuildHasherDefault<Folded>>,
+}
+
+impl<'a> Names<'a> {
+    // the number of a text of visible bytes, where it is a name and there aren't too many
+    pub fn add(&mut self, text: &'a [u8]) -> Option<u32> {
+        if let Some(number) = self.numbers.get(text) {
+            return Some(*number);
+        }
+        let is_name = (1..=255).contains(&text.len()) && text[0] != b'#';
+        if !is_name || text == b"-" || text == b"=>" || self.texts.len() == 65536 {
+            return None;
+        }
+        let number = self.texts.len() as u32;
+        self.texts.push(text);
+        self.numbers.insert(text, number);
+        Some(number)
+    }
+
+    // the numbers, sorted by the bytes of their names
+    pub fn sorted(&self) -> Vec<u32> {
+        let mut order: Vec<u32> = (0..self.texts.len() as u32).collect();
+        order.sort_unstable_by_key(|n| self.texts[*n as usize]);
+        order
+    }
+}
