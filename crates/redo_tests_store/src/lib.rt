@@ -4,7 +4,13 @@
 #[cfg(test)]
 mod answers;
 #[cfg(test)]
+mod builds;
+#[cfg(test)]
 mod chains;
+#[cfg(test)]
+mod compared;
+#[cfg(test)]
+mod dense;
 #[cfg(test)]
 mod digests;
 #[cfg(test)]
@@ -22,4 +28,10 @@ mod refusals;
 #[cfg(test)]
 mod rows;
 #[cfg(test)]
+mod search;
+#[cfg(test)]
+mod shapes;
+#[cfg(test)]
 mod stores;
+#[cfg(test)]
+mod told;
