@@ -13,6 +13,7 @@ pub mod Naming
 pub mod OneMore
 pub mod RecordsByName
 pub mod Refused
+pub mod Region
 pub mod RepliesByName
 pub mod StepsByName
 pub mod Texts

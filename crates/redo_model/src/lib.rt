@@ -2,6 +2,7 @@
 #![tactic(auto)]
 
 pub mod histories;
+pub mod regions;
 pub mod renaming;
 pub mod replies;
 pub mod rows;

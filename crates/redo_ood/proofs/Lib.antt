@@ -1,3 +1,4 @@
-pub mod Entering
+pub mod Deriving
 pub mod Listing
+pub mod Marking
 pub mod Spreading

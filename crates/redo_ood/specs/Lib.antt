@@ -1,3 +1,6 @@
-pub mod Found
 pub mod Marks
+pub mod KeptMarks
+pub mod Memo
+pub mod KeptMemo
 pub mod Reasons
+pub mod Regions

@@ -1,19 +1,42 @@
--- Marks on names, and the queue of those that are marked.
-use Rattle.std.specs.Prelude.{◌≡◌, ◌⊎◌, ◌↔◌, ◌<◌, ◌≤◌, ◌+◌, ℕ, Bool, not, List, Contains, IsTrue, length, slice_index_or, count_by}
-use Rattle.redo_ood.specs.Found.{is_out}
+-- Marks on names, and a queue of names that were marked.
+use Rattle.std.specs.Prelude.{◌≡◌, ◌≢◌, ◌⊎◌, ◌↔◌, ◌<◌, ◌≤◌, ◌+◌, ◌^◌, ℕ, Bool, false, not, List, Contains, IsTrue, AllPairs, ◌++◌, length, slice_index_or, count_by}
 
-abbrev pub IsMarked : List Bool → ℕ → Type 0
-IsMarked marks t = IsTrue (is_out marks t)
+-- whether each name is marked, and the names that were marked since the queue was emptied
+pub record Marked : Type 0 where
+  pub marks : List Bool
+  pub queue : List ℕ
 
--- the queue lists the marked names, each once
-pub record IsQueue (marks : List Bool) (queue : List ℕ) : Type 0 where
-  pub listed : (t : ℕ) → IsMarked marks t ↔ Contains queue t
-  pub counted : length queue + count_by not marks ≡ length marks
+-- how many names there are
+abbrev pub size_of : Marked → ℕ
+size_of m = length m.marks
 
--- the names with P that weren't marked are marked, and stand at the queue's end
-pub record Enters (P : ℕ → Type 0) (marks : List Bool) (queue : List ℕ) (new_marks : List Bool) (new_queue : List ℕ) : Type 0 where
-  pub sized : length new_marks ≡ length marks
-  pub each : (t : ℕ) → IsMarked new_marks t ↔ (IsMarked marks t ⊎ P t)
-  pub queue_of : IsQueue new_marks new_queue
-  pub longer : length queue ≤ length new_queue
-  pub same_below : (k d : ℕ) → k < length queue → slice_index_or new_queue k d ≡ slice_index_or queue k d
+abbrev pub IsMarked : Marked → ℕ → Type 0
+IsMarked m t = IsTrue (slice_index_or m.marks t false)
+
+abbrev pub IsQueued : Marked → ℕ → Type 0
+IsQueued m t = Contains m.queue t
+
+-- the queue holds marked names, each once
+pub record IsQueue (m : Marked) : Type 0 where
+  pub marked : (t : ℕ) → IsQueued m t → IsMarked m t
+  pub once : AllPairs (λ s t. s ≢ t) m.queue
+  pub counted : length m.queue + count_by not m.marks ≤ size_of m
+  pub few : size_of m < 2 ^ 32
+
+-- more names may be marked, and those that are stand at the queue's end
+pub record Grows (old new : Marked) : Type 0 where
+  pub sized : size_of new ≡ size_of old
+  pub keeps : (t : ℕ) → IsMarked old t → IsMarked new t
+  pub behind : (ns : List ℕ) × (new.queue ≡ old.queue ++ ns)
+  pub queued : (t : ℕ) → IsQueued new t ↔ (IsQueued old t ⊎ (IsMarked new t × (IsMarked old t → ⊥)))
+
+-- the names with P are marked too
+pub record Enters (P : ℕ → Type 0) (old new : Marked) : Type 0 where
+  pub grown : Grows old new
+  pub each : (t : ℕ) → IsMarked new t ↔ (IsMarked old t ⊎ P t)
+
+-- the queue is empty, and the marks are taken from the names with P
+pub record Unmarks (P : ℕ → Type 0) (old new : Marked) : Type 0 where
+  pub sized : size_of new ≡ size_of old
+  pub none : (t : ℕ) → IsQueued new t → ⊥
+  pub each : (t : ℕ) → IsMarked new t ↔ (IsMarked old t × (P t → ⊥))

@@ -1,8 +1,11 @@
-//! Which targets are out of date.
+//! Which targets are out of date: a memo that is made right again after each change, by the region of the names that
+//! were changed.
 #![tactic(auto)]
 
+mod derive;
 mod marks;
+mod ood;
 mod reason;
-mod search;
+mod region;
 
-pub use search::Ood;
+pub use ood::Ood;

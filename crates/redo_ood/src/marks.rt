@@ -1,31 +1,130 @@
-//! Marks on names, and a queue of the marked names. A name enters the queue once, so a queue with room for all names
-//! takes no memory.
+//! Marks on names, and a queue of the names that were marked. A name enters the queue once, so a queue with room for
+//! all names takes no memory.
 
-ghost use Rattle.std.specs.Prelude.{◌≡◌, ◌<◌, ◌≤◌, IsTrue, length, vec_capacity};
-ghost use Rattle.redo_ood.specs.Marks.{IsQueue, Enters};
+ghost use Rattle.std.specs.Prelude.{◌≡◌, ◌↔◌, ◌<◌, ◌≤◌, ℕ, IsTrue, [], IfOk, length, false, replicate, slice_index, slice_index_or, Contains};
+ghost use Rattle.redo_model.specs.Renaming.{AllBelow};
+ghost use Rattle.redo_ood.specs.Marks.{Marked, IsMarked, IsQueued, IsQueue, Enters, Unmarks, size_of};
 
-// Marks a name that isn't marked, and puts it into the queue.
-fn enter(marks: &mut Vec<bool>, queue: &mut Vec<u32>, t: u32)
-    requires name { t < length marks.old.items }
-    requires queue { IsQueue marks.old.items queue.old.items }
-    requires room { length marks.old.items ≤ vec_capacity queue.old }
-    ensures entered { Enters (λ u. u ≡ t) marks.old.items queue.old.items marks.new.items queue.new.items }
-    ensures room { vec_capacity queue.new ≡ vec_capacity queue.old }
+use std::alloc::{AllocError, Global};
+use std::marker::Model;
+
+/// Which names are marked, and a queue of those that were marked since it was emptied. Names are numbers below the
+/// number of names it was made for.
+#[derive(Drop)]
+pub struct Marks {
+    marks: Vec<bool>,
+    queue: Vec<u32>,
+}
+
+impl Model for Marks {
+    ghost use Rattle.redo_ood.specs.Marks.{Marked};
+
+    ghost Value = { Marked };
+
+    ghost use Rattle.redo_ood.specs.KeptMarks.{marked_of, KeepsMarked};
+
+    ghost view = { marked_of };
+
+    ghost invariant = { KeepsMarked };
+}
+
+/// Takes the marks from these names.
+fn unmark_each(marks: &mut Vec<bool>, names: &[u32])
+    requires { AllBelow (length marks.old.items) names.now }
+    ensures sized { length marks.new.items ≡ length marks.old.items }
+    ensures each { (t : ℕ) → IsTrue (slice_index_or marks.new.items t false)
+        ↔ (IsTrue (slice_index_or marks.old.items t false) × (Contains names.now t → ⊥)) }
 {
-    if !marks[t as usize] {
-        marks[t as usize] = true;
-        queue.push_reserved(t);
+    for &t in names {
+        marks[t as usize] = false;
     }
 }
 
-pub(crate) fn enter_if(marks: &mut Vec<bool>, queue: &mut Vec<u32>, t: u32, is_due: bool)
-    requires name { t < length marks.old.items }
-    requires queue { IsQueue marks.old.items queue.old.items }
-    requires room { length marks.old.items ≤ vec_capacity queue.old }
-    ensures entered { Enters (λ u. IsTrue is_due × (u ≡ t)) marks.old.items queue.old.items marks.new.items queue.new.items }
-    ensures room { vec_capacity queue.new ≡ vec_capacity queue.old }
-{
-    if is_due {
-        enter(marks, queue, t);
+impl Marks {
+    /// No name is marked. No other call takes memory.
+    pub fn new(alloc: Global, names: u32) -> Result<Marks, AllocError>
+        ensures { IfOk result (λ marks. marks ≡ record { marks = replicate names false; queue = [] }) }
+    {
+        let marks = vec![in alloc; false; names as usize]?;
+        let queue = Vec::with_capacity(alloc, names as usize)?;
+        Ok(Marks { marks, queue })
+    }
+
+    /// How many names there are.
+    pub fn count(&self) -> u32
+        ensures { result ≡ size_of self.now }
+    {
+        self.marks.len() as u32
+    }
+
+    /// Whether the name is marked.
+    pub fn has(&self, t: u32) -> bool
+        requires { t < size_of self.now }
+        ensures { result ≡ slice_index_or self.now.marks t false }
+    {
+        self.marks[t as usize]
+    }
+
+    /// The names that were marked since the queue was emptied.
+    pub fn queue(&self) -> &[u32]
+        ensures queue { result.now ≡ self.now.queue }
+        ensures kept { IsQueue self.now }
+        ensures below { AllBelow (size_of self.now) result.now }
+    {
+        &self.queue
+    }
+
+    /// How many names were marked since.
+    pub fn queue_len(&self) -> usize
+        ensures len { result ≡ length self.now.queue }
+        ensures few { result ≤ size_of self.now }
+    {
+        self.queue.len()
+    }
+
+    /// The name at this place of the queue.
+    pub fn queued(&self, k: usize) -> u32
+        requires { k < length self.now.queue }
+        ensures name { result ≡ slice_index self.now.queue k }
+        ensures below { result < size_of self.now }
+    {
+        self.queue[k]
+    }
+
+    /// Marks the name, and puts it into the queue where it wasn't marked.
+    pub fn enter(&mut self, t: u32)
+        requires { t < size_of self.old }
+        ensures { Enters (λ u. u ≡ t) self.old self.new }
+    {
+        if !self.marks[t as usize] {
+            self.marks[t as usize] = true;
+            self.queue.push_reserved(t);
+        }
+    }
+
+    pub fn enter_if(&mut self, t: u32, is_due: bool)
+        requires { t < size_of self.old }
+        ensures { Enters (λ u. IsTrue is_due × (u ≡ t)) self.old self.new }
+    {
+        if is_due {
+            self.enter(t);
+        }
+    }
+
+    /// Empties the queue, and takes the marks from these names.
+    pub fn unmark(&mut self, names: &[u32])
+        requires { AllBelow (size_of self.old) names.now }
+        ensures { Unmarks (Contains names.now) self.old self.new }
+    {
+        self.queue.clear();
+        unmark_each(&mut self.marks, names);
+    }
+
+    /// Empties the queue, and takes the marks from its names.
+    pub fn unmark_queue(&mut self)
+        ensures { Unmarks (IsQueued self.old) self.old self.new }
+    {
+        unmark_each(&mut self.marks, &self.queue);
+        self.queue.clear();
     }
 }

@@ -1,0 +1,39 @@
+//! What a change of some names does to what is out of date: outside of the region of these names nothing, and inside
+//! of it all is told by what is out of date outside.
+
+ghost use Rattle.redo_model.specs.Names.{Text};
+ghost use Rattle.redo_model.specs.OutOfDate.{Depends, DifferAt, HasReason, InRegion, OutOfDate};
+ghost use Rattle.redo_model.specs.State.{Records};
+ghost use Rattle.std.specs.Prelude.{◌↔◌, Bool, IsTrue, List};
+
+/// The out-of-date targets are the least set that has each target with a reason of its own and each
+/// target that depends on one of the set.
+pub fn out_of_date_is_least()
+    ensures reasons { (records : Records Text) (t : Text) →
+        HasReason records t → OutOfDate records t }
+    ensures dependents { (records : Records Text) (t n : Text) →
+        Depends records t n → OutOfDate records n → OutOfDate records t }
+    ensures least { (records : Records Text) (has : Text → Bool) →
+        ((t : Text) → HasReason records t → IsTrue (has t)) →
+        ((t n : Text) → Depends records t n → IsTrue (has n) → IsTrue (has t)) →
+        (t : Text) → OutOfDate records t → IsTrue (has t) }
+{}
+
+/// What differs at the seeds alone leaves all outside of their region as it was.
+pub fn outside_region_as_before()
+    ensures { (seeds : List Text) (old new : Records Text) (t : Text) →
+        DifferAt seeds old new → (InRegion new seeds t → ⊥) →
+        OutOfDate old t ↔ OutOfDate new t }
+{}
+
+/// A set that outside of the region has what was out of date, and inside of it each target with a
+/// reason of its own and each target that depends on one of the set, has all that is out of date.
+pub fn region_derived_again()
+    ensures { (seeds : List Text) (old new : Records Text) (has : Text → Bool) →
+        DifferAt seeds old new →
+        ((t : Text) → (InRegion new seeds t → ⊥) → OutOfDate old t → IsTrue (has t)) →
+        ((t : Text) → InRegion new seeds t → HasReason new t → IsTrue (has t)) →
+        ((t n : Text) → InRegion new seeds t → Depends new t n → IsTrue (has n) →
+        IsTrue (has t)) →
+        (t : Text) → OutOfDate new t → IsTrue (has t) }
+{}

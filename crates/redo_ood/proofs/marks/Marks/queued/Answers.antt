@@ -1,0 +1,13 @@
+use Rattle.std.proofs.Common.{◌<◌, length, sym, subst}
+use Rattle.redo_ood.specs.Marks.{Marked, IsQueued, size_of}
+use Rattle.redo_ood.specs.KeptMarks.{marked_of}
+use Rattle.redo_ood.proofs.Marking.{marked_below}
+use Rattle.redo_ood.proofs.marks.Marks.queued.Goals as goal
+
+pub returns-clause-below : goal.returns-clause-below
+returns-clause-below c =
+    let m : Marked = marked_of c.self.inside in
+    let n = c.index.result.now in
+    let in' : c.args.k < length m.queue = subst (λ (q : Marked). c.args.k < length q.queue) (sym c.self.view_is) c.requires in
+    let here : IsQueued m n = (c.args.k, in', sym c.index.ensures) in
+    subst (λ (q : Marked). n < size_of q) c.self.view_is (marked_below m.marks n (c.self.invariant.queue.marked n here))

@@ -1,0 +1,27 @@
+-- What a memo tells of the names.
+use Rattle.std.specs.Prelude.{◌≡◌, ◌≢◌, ◌↔◌, ℕ, Bool, false, List, IsTrue, AllPairs, Contains, slice_index_or, length}
+use Rattle.redo_model.specs.State.{Records}
+use Rattle.redo_model.specs.OutOfDate.{OutOfDate, DifferAt}
+
+-- how many names there are
+abbrev pub count_of : List Bool → ℕ
+count_of memo = length memo
+
+-- whether the memo has the name as out of date
+abbrev pub is_out : List Bool → ℕ → Bool
+is_out memo t = slice_index_or memo t false
+
+-- the memo has exactly the targets that are out of date
+abbrev pub IsRight : List Bool → Records ℕ → Type 0
+IsRight memo records = (t : ℕ) → IsTrue (is_out memo t) ↔ OutOfDate records t
+
+-- it was so in some state that differs from this one in the cells and the rows of the seeds alone
+abbrev pub WasRight : List ℕ → List Bool → Records ℕ → Type 0
+WasRight seeds memo records =
+    (old : Records ℕ) × DifferAt seeds old records × IsRight memo old
+
+-- that many names have P
+abbrev pub HasCount : (ℕ → Type 0) → ℕ → Type 0
+HasCount P count =
+    (names : List ℕ) × AllPairs (λ s t. s ≢ t) names × ((t : ℕ) → Contains names t ↔ P t)
+    × (length names ≡ count)

@@ -1,0 +1,99 @@
+ghost use Rattle.std.specs.Prelude.{◌≡◌, ◌<◌, ℕ, IsTrue, length, IfOk, OnOk, OnErr, ◌++◌, ◌∷◌, [], if◌then◌else◌};
+ghost use Rattle.redo_model.specs.Names.{IsListed};
+ghost use Rattle.redo_model.specs.OutOfDate.{InRegion};
+ghost use Rattle.redo_model.specs.Renaming.{AllBelow};
+ghost use Rattle.redo_model.specs.State.{empty};
+ghost use Rattle.redo_rows.specs.Rows.{records_of, by_number, count_of as rows_count};
+ghost use Rattle.redo_ood.specs.Memo.{count_of, is_out, IsRight, WasRight, HasCount};
+
+use crate::derive::derive;
+use crate::marks::Marks;
+use crate::region::find_region;
+use redo_records::Records;
+use redo_rows::DepRows;
+use std::alloc::{AllocError, Global};
+use std::marker::Model;
+
+fn push_if(targets: &mut Vec<u32>, t: u32, is_due: bool) -> Result<(), AllocError>
+    ensures ok { OnOk result (targets.new.items ≡ targets.old.items ++ (if is_due then t ∷ [] else [])) }
+    ensures err { OnErr result (targets.new.items ≡ targets.old.items) }
+{
+    if is_due {
+        targets.push(t)?;
+    }
+    Ok(())
+}
+
+/// Which targets are out of date: those from which a chain of change rows leads to a target with a reason of its own.
+/// Names are numbers below the number of names it was made for.
+#[derive(Drop)]
+pub struct Ood {
+    out: Marks,
+    // where no refresh is under way, nothing is marked in it
+    region: Marks,
+}
+
+impl Model for Ood {
+    ghost use Rattle.std.specs.Prelude.{List, Bool};
+
+    ghost Value = { List Bool };
+
+    ghost use Rattle.redo_ood.specs.KeptMemo.{memo_of, KeepsMemo};
+
+    ghost view = { memo_of };
+
+    ghost invariant = { KeepsMemo };
+}
+
+impl Ood {
+    /// Nothing is out of date. All room that a refresh takes is made here.
+    pub fn new(alloc: Global, names: u32) -> Result<Ood, AllocError>
+        ensures count { IfOk result (λ ood. count_of ood ≡ names) }
+        ensures right { IfOk result (λ ood. IsRight ood empty.records) }
+    {
+        let out = Marks::new(alloc, names)?;
+        let region = Marks::new(alloc, names)?;
+        Ok(Ood { out, region })
+    }
+
+    /// Makes it right for the records and rows, where it was right before they were changed at the seeds. Answers how
+    /// many names the region of the seeds has. Takes no memory, and looks at the region and its rows alone.
+    pub fn refresh(&mut self, records: &Records, rows: &DepRows, seeds: &[u32]) -> u32
+        requires records { length records.now ≡ count_of self.old }
+        requires rows { rows_count rows.now ≡ count_of self.old }
+        requires seeds { AllBelow (count_of self.old) seeds.now }
+        requires right { WasRight seeds.now self.old (records_of records.now rows.now) }
+        ensures right { IsRight self.new (records_of records.now rows.now) }
+        ensures count { count_of self.new ≡ count_of self.old }
+        ensures region { HasCount (InRegion (records_of records.now rows.now) seeds.now) result }
+    {
+        find_region(records, rows, seeds, &mut self.region);
+        let region = self.region.queue();
+        self.out.unmark(region);
+        derive(records, rows, region, &mut self.out);
+        let size = region.len() as u32;
+        self.region.unmark_queue();
+        size
+    }
+
+    /// Whether it is an out-of-date target.
+    pub fn is(&self, t: u32) -> bool
+        requires { t < count_of self.now }
+        ensures { result ≡ is_out self.now t }
+    {
+        self.out.has(t)
+    }
+
+    /// The out-of-date targets, by ascending number.
+    pub fn list(&self, alloc: Global) -> Result<Vec<u32>, AllocError>
+        ensures listed { IfOk result (λ targets. IsListed by_number (λ t. IsTrue (is_out self.now t)) targets.items) }
+        ensures below { IfOk result (λ targets. AllBelow (count_of self.now) targets.items) }
+    {
+        let mut targets = Vec::new(alloc);
+        for t in 0..self.out.count() {
+            let is_out = self.is(t);
+            push_if(&mut targets, t, is_out)?;
+        }
+        Ok(targets)
+    }
+}

@@ -1,0 +1,107 @@
+//! The region of some names: these, the targets with a row on one of them, and all targets from which a chain of
+//! change rows leads there.
+
+ghost use Rattle.std.specs.Prelude.{◌≡◌, ◌≢◌, ◌<◌, ◌↔◌, ℕ, IsTrue, length, Contains};
+ghost use Rattle.redo_model.specs.OutOfDate.{IsTarget, Depends, HasRow, TouchesSeed};
+ghost use Rattle.redo_model.specs.Renaming.{AllBelow};
+ghost use Rattle.redo_model.specs.State.{Idle};
+ghost use Rattle.redo_records.specs.Cells.{cell_at};
+ghost use Rattle.redo_rows.specs.Rows.{records_of, count_of};
+ghost use Rattle.redo_ood.specs.Marks.{IsMarked, IsQueued, Enters, size_of};
+ghost use Rattle.redo_ood.specs.Regions.{Spreads, IsRegion};
+
+use crate::marks::Marks;
+use redo_records::{Records, State};
+use redo_rows::DepRows;
+
+pub(crate) fn is_target(records: &Records, t: u32) -> bool
+    requires { t < length records.now }
+    ensures { IsTrue result ↔ ((cell_at records.now t).state ≢ Idle) }
+{
+    !matches!(records.state(t), State::Idle)
+}
+
+// Marks the names.
+fn enter_each(names: &[u32], marks: &mut Marks)
+    requires { AllBelow (size_of marks.old) names.now }
+    ensures { Enters (Contains names.now) marks.old marks.new }
+{
+    for &n in names {
+        marks.enter(n);
+    }
+}
+
+// Marks those of the names that are targets.
+fn enter_targets(records: &Records, names: &[u32], marks: &mut Marks)
+    requires below { AllBelow (size_of marks.old) names.now }
+    requires sized { size_of marks.old ≡ length records.now }
+    ensures { Enters (λ t. ((cell_at records.now t).state ≢ Idle) × Contains names.now t) marks.old marks.new }
+{
+    for &t in names {
+        let is_due = is_target(records, t);
+        marks.enter_if(t, is_due);
+    }
+}
+
+// Marks the targets that depend on the name.
+fn enter_dependents(records: &Records, rows: &DepRows, n: u32, marks: &mut Marks)
+    requires name { n < count_of rows.now }
+    requires records { length records.now ≡ count_of rows.now }
+    requires sized { size_of marks.old ≡ count_of rows.now }
+    ensures { Enters (λ t. Depends (records_of records.now rows.now) t n) marks.old marks.new }
+{
+    enter_targets(records, rows.needed_by(n), marks);
+}
+
+// Marks the targets with a row on the name.
+fn enter_holders(records: &Records, rows: &DepRows, n: u32, marks: &mut Marks)
+    requires name { n < count_of rows.now }
+    requires records { length records.now ≡ count_of rows.now }
+    requires sized { size_of marks.old ≡ count_of rows.now }
+    ensures { Enters (λ t. IsTarget (records_of records.now rows.now) t
+        × HasRow (records_of records.now rows.now) t n) marks.old marks.new }
+{
+    enter_dependents(records, rows, n, marks);
+    enter_targets(records, rows.awaited_by(n), marks);
+}
+
+// Marks the seeds and the targets with a row on one of them.
+fn enter_touched(records: &Records, rows: &DepRows, seeds: &[u32], marks: &mut Marks)
+    requires seeds { AllBelow (size_of marks.old) seeds.now }
+    requires records { length records.now ≡ count_of rows.now }
+    requires sized { size_of marks.old ≡ count_of rows.now }
+    ensures { Enters (TouchesSeed (records_of records.now rows.now) seeds.now) marks.old marks.new }
+{
+    enter_each(seeds, marks);
+    for &n in seeds {
+        enter_holders(records, rows, n, marks);
+    }
+}
+
+/// Marks the targets from which a chain of change rows leads to a queued name.
+pub(crate) fn spread(records: &Records, rows: &DepRows, marks: &mut Marks)
+    requires records { length records.now ≡ count_of rows.now }
+    requires sized { size_of marks.old ≡ count_of rows.now }
+    ensures { Spreads (records_of records.now rows.now) marks.new.queue marks.old marks.new }
+{
+    let mut next = 0;
+    'names: while next < marks.queue_len() {
+        let n = marks.queued(next);
+        enter_dependents(records, rows, n, marks);
+        next += 1;
+    }
+}
+
+/// Marks the region of the seeds, where nothing is marked.
+pub(crate) fn find_region(records: &Records, rows: &DepRows, seeds: &[u32], marks: &mut Marks)
+    requires seeds { AllBelow (size_of marks.old) seeds.now }
+    requires records { length records.now ≡ count_of rows.now }
+    requires sized { size_of marks.old ≡ count_of rows.now }
+    requires unmarked { (t : ℕ) → IsMarked marks.old t → ⊥ }
+    requires empty { (t : ℕ) → IsQueued marks.old t → ⊥ }
+    ensures region { IsRegion (records_of records.now rows.now) seeds.now marks.new }
+    ensures sized { size_of marks.new ≡ size_of marks.old }
+{
+    enter_touched(records, rows, seeds, marks);
+    spread(records, rows, marks);
+}
