@@ -11,6 +11,9 @@ use std::alloc::{AllocError, Global};
 /// How many of the names are built as targets; the others are sources.
 pub(crate) const TARGETS: u32 = 9;
 
+/// The source that for the most part has no file.
+const MISSING: u32 = NAMES - 1;
+
 /// How many commands a build has.
 pub(crate) const STEPS: u32 = 8;
 
@@ -20,7 +23,7 @@ fn source(random: &mut Random) -> u32
     TARGETS + random.below(NAMES - TARGETS)
 }
 
-/// A source has another file, or none: for the most part the usual one.
+/// A source has a file, or none: for the most part, what it had before.
 fn source_file(random: &mut Random) -> Command
     ensures { IsBelow NAMES (command_of result) }
 {
@@ -28,6 +31,7 @@ fn source_file(random: &mut Random) -> Command
     let stamp = match random.below(16) {
         0 => None,
         1 | 2 => FileStamp::new(b"2"),
+        _ if n == MISSING => None,
         _ => FileStamp::new(b"1"),
     };
     match stamp {
@@ -76,7 +80,7 @@ fn last_words(random: &mut Random, alloc: Global, t: u32) -> Result<Command, All
     Ok(match random.below(32) {
         0 => Command::Always(t),
         1 => Command::Failed(t),
-        2..=8 => Command::IfCreate(t, vec![in alloc; source(random)]?),
+        2..=8 => Command::IfCreate(t, vec![in alloc; MISSING]?),
         _ => source_file(random),
     })
 }

@@ -17,7 +17,7 @@ use std::test::Fail;
 
 /// Names whose order by bytes is another than that of their numbers.
 pub(crate) const TEXTS: [&str; 12] = [
-    "lib.o", "b", "lib", "a.o", "B", "a", "a.c", "lib.c", "z", "all", "Z.h", "main",
+    "lib.o", "b", "lib", "a.o", "B", "a", "a.c", "lib.c", "y", "all", "T", "top",
 ];
 
 /// The names, numbered in that order.
@@ -73,6 +73,8 @@ impl Compared {
             self.told.hear(rt, session, command)?;
         }
         self.check_out_of_date(rt, alloc)?;
+        self.told
+            .check_memo(rt, alloc, &self.told.memo(rt, alloc)?)?;
         Ok(reply)
     }
 

@@ -18,6 +18,8 @@ mod graphs;
 #[cfg(test)]
 mod histories;
 #[cfg(test)]
+mod memos;
+#[cfg(test)]
 mod oracle;
 #[cfg(test)]
 mod random;
@@ -25,6 +27,8 @@ mod random;
 mod records;
 #[cfg(test)]
 mod refusals;
+#[cfg(test)]
+mod regions;
 #[cfg(test)]
 mod rows;
 #[cfg(test)]

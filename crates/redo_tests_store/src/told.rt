@@ -3,12 +3,15 @@
 ghost use Rattle.std.specs.Prelude.{◌≡◌, ◌<◌, length, IfOk};
 ghost use Rattle.redo_model.specs.Renaming.{AllBelow, IsBelow};
 ghost use Rattle.redo_command.specs.Meaning.{command_of};
-ghost use Rattle.redo_rows.specs.Rows.{count_of};
+ghost use Rattle.redo_rows.specs.Rows.{count_of, records_of};
+ghost use Rattle.redo_ood.specs.Memo.{count_of as memo_count, IsRight};
 
+use crate::memos::memo_of;
 use crate::random::NAMES;
 use crate::search::{has_reason, search};
 use crate::shapes::{Shape, shapes_in};
 use redo_command::{Command, FileStamp, Reply};
+use redo_ood::Ood;
 use redo_records::{Records, State, digest_of};
 use redo_rows::DepRows;
 use std::alloc::{AllocError, Global};
@@ -17,8 +20,8 @@ use std::test::Fail;
 
 #[derive(Drop)]
 pub(crate) struct Told {
-    records: Records,
-    rows: DepRows,
+    pub(crate) records: Records,
+    pub(crate) rows: DepRows,
     // the numbers of the names, in the order of the bytes of the names
     sorted: Vec<u32>,
     ghost records_count: { length records ≡ NAMES },
@@ -62,6 +65,25 @@ impl Told {
     /// The shapes that there are in the graph of the change rows.
     pub(crate) fn shapes(&self, alloc: Global) -> Result<Vec<Shape>, AllocError> {
         shapes_in(alloc, &self.rows)
+    }
+
+    /// The memo has exactly the targets that the search finds.
+    pub(crate) fn check_memo(&self, rt: &impl Abort, alloc: Global, ood: &Ood) -> Result<(), Fail>
+        requires { memo_count ood.now ≡ NAMES }
+    {
+        let found = self.out_of_date(alloc)?;
+        for t in 0..NAMES {
+            assert_eq!(rt; ood.is(t), found[t as usize], "{t}");
+        }
+        Ok(())
+    }
+
+    /// The memo for what was told, from that of nothing.
+    pub(crate) fn memo(&self, rt: &impl Abort, alloc: Global) -> Result<Ood, Fail>
+        ensures count { IfOk result (λ ood. memo_count ood ≡ NAMES) }
+        ensures right { IfOk result (λ ood. IsRight ood (records_of self.now.records self.now.rows)) }
+    {
+        memo_of(rt, alloc, NAMES, &self.records, &self.rows)
     }
 
     fn is_building(&self, t: u32) -> bool
