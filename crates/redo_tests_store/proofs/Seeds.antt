@@ -79,10 +79,12 @@ module _ (cells : List Cell) (rows : List TargetRows) (memo : List Bool)
         created = λ t k far. refl;
         always = λ t far. refl;
       }
-      in
-      (records_of cells rows,
-      subst (λ (now : List Cell). DifferAt (n ∷ []) (records_of cells rows) (records_of now rows))
-      (sym is) differ, right)
+      in (
+        records_of cells rows,
+        subst (λ (now : List Cell). DifferAt (n ∷ []) (records_of cells rows) (records_of now rows))
+            (sym is) differ,
+        right,
+      )
 
   -- and its rows are taken away too
   pub was_right_before_clear : (t : ℕ) (c : Cell) (written : List Cell) (cleared : List TargetRows)
@@ -97,12 +99,14 @@ module _ (cells : List Cell) (rows : List TargetRows) (memo : List Bool)
         created = λ u n far. ap (λ f. f n) (put_elsewhere old.created _ t u far);
         always = λ u far. put_elsewhere old.always _ t u far;
       }
-      in
-      (records_of cells rows,
-      subst (λ (now : List Cell). DifferAt (t ∷ []) (records_of cells rows)
-      (record { cell = cell_at now; rows = rows_of cleared })) (sym is)
-      (subst (λ (now : Rows ℕ). DifferAt (t ∷ []) (records_of cells rows)
-      (record { cell = cell_at (set cells t c); rows = now })) (sym none) differ), right)
+      in (
+        records_of cells rows,
+        subst (λ (now : List Cell). DifferAt (t ∷ []) (records_of cells rows)
+            (record { cell = cell_at now; rows = rows_of cleared })) (sym is)
+            (subst (λ (now : Rows ℕ). DifferAt (t ∷ []) (records_of cells rows)
+            (record { cell = cell_at (set cells t c); rows = now })) (sym none) differ),
+        right,
+      )
 
   -- an always row is put
   pub was_right_before_always : (t : ℕ) (more : List TargetRows)
@@ -117,7 +121,9 @@ module _ (cells : List Cell) (rows : List TargetRows) (memo : List Bool)
         created = λ u n far. refl;
         always = λ u far. put_elsewhere old.always _ t u far;
       }
-      in
-      (records_of cells rows,
-      subst (λ (now : Rows ℕ). DifferAt (t ∷ []) (records_of cells rows)
-      (record { cell = cell_at cells; rows = now })) (sym is) differ, right)
+      in (
+        records_of cells rows,
+        subst (λ (now : Rows ℕ). DifferAt (t ∷ []) (records_of cells rows)
+            (record { cell = cell_at cells; rows = now })) (sym is) differ,
+        right,
+      )

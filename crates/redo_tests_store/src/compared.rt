@@ -3,6 +3,7 @@ ghost use Rattle.std.specs.Prelude.{◌≡◌, length, IfOk};
 ghost use Rattle.redo_store.specs.Tables.{count_of};
 ghost use Rattle.redo_model.specs.Renaming.{IsBelow, IsReplyBelow};
 ghost use Rattle.redo_command.specs.Meaning.{command_of, reply_of};
+ghost use Rattle.redo_tests_store.specs.declared.random.TheConstants.{NAMES};
 
 use crate::answers::names_of;
 use crate::random::NAMES;
@@ -70,7 +71,7 @@ impl Compared {
         );
         if !matches!(reply, Reply::Refused(_)) {
             self.check_found(rt, alloc, command, &reply)?;
-            self.told.hear(rt, session, command)?;
+            self.told.hear(rt, alloc, session, command)?;
         }
         self.check_out_of_date(rt, alloc)?;
         self.told

@@ -47,14 +47,9 @@ fn count_lost(first: &[bool], second: &[bool]) -> usize {
     pairs.filter(|(one, other)| **one && !**other).count()
 }
 
-/// Adds what is met where these were out of date before a command, and those are after it.
-fn note(
-    alloc: Global,
-    told: &Told,
-    before: &[bool],
-    after: &[bool],
-    met: &mut Vec<Met>,
-) -> Result<(), AllocError> {
+/// Adds what is met after a command, where these were out of date before it.
+fn note(alloc: Global, told: &Told, before: &[bool], met: &mut Vec<Met>) -> Result<(), AllocError> {
+    let after = told.found();
     let shapes = told.shapes(alloc)?;
     if count_lost(after, before) >= 3 {
         met.push(Met::Spread)?;
@@ -84,10 +79,9 @@ fn build(
 {
     'steps: for step in 0..STEPS {
         let command = step_command(random, alloc, t, step)?;
-        let before = compared.told.out_of_date(alloc)?;
+        let before = Vec::from_slice(alloc, compared.told.found())?;
         compared.call(rt, alloc, owner(t), &command)?;
-        let after = compared.told.out_of_date(alloc)?;
-        note(alloc, &compared.told, &before, &after, met)?;
+        note(alloc, &compared.told, &before, met)?;
     }
     Ok(())
 }

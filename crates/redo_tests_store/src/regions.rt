@@ -57,7 +57,7 @@ fn told_by(
     for line in lines {
         let command = read_command(alloc, line.as_bytes(), names)?;
         assert_eq!(rt; names.len(), NAMES);
-        told.hear(rt, 0, &command)?;
+        told.hear(rt, alloc, 0, &command)?;
     }
     Ok(told)
 }
@@ -74,14 +74,18 @@ fn number_of(rt: &impl Abort, names: &Names, text: &str) -> Result<u32, Fail>
 fn check_memo(
     rt: &impl Abort,
     alloc: Global,
-    told: &Told,
+    told: &mut Told,
     ood: &Ood,
     want: usize,
 ) -> Result<(), Fail>
     requires { memo_count ood.now ≡ NAMES }
+    ensures records { told.new.records ≡ told.old.records }
+    ensures rows { told.new.rows ≡ told.old.rows }
 {
     assert_eq!(rt; ood.list(alloc)?.len(), want);
-    told.check_memo(rt, alloc, ood)
+    told.search(alloc)?;
+    told.check_memo(rt, ood);
+    Ok(())
 }
 
 /// The file of a name changes after these lines, which leaves as many targets out of date. How many names the region
@@ -97,11 +101,11 @@ fn region_of_file(
     let mut names = all_names(rt, alloc)?;
     let mut told = told_by(rt, alloc, &mut names, lines)?;
     let mut ood = told.memo(rt, alloc)?;
-    check_memo(rt, alloc, &told, &ood, 0)?;
+    check_memo(rt, alloc, &mut told, &ood, 0)?;
     let n = number_of(rt, &names, name)?;
     let stamp = FileStamp::new(stamp);
     let region = change_file(&mut ood, &mut told.records, &told.rows, n, stamp);
-    check_memo(rt, alloc, &told, &ood, out_of_date)?;
+    check_memo(rt, alloc, &mut told, &ood, out_of_date)?;
     Ok(region)
 }
 
@@ -117,11 +121,11 @@ fn region_of_start(
     let mut names = all_names(rt, alloc)?;
     let mut told = told_by(rt, alloc, &mut names, lines)?;
     let mut ood = told.memo(rt, alloc)?;
-    check_memo(rt, alloc, &told, &ood, 0)?;
+    check_memo(rt, alloc, &mut told, &ood, 0)?;
     let t = number_of(rt, &names, name)?;
     assert!(rt; told.records.state(t) == State::Built);
     let region = start(&mut ood, &mut told.records, &mut told.rows, t);
-    check_memo(rt, alloc, &told, &ood, out_of_date)?;
+    check_memo(rt, alloc, &mut told, &ood, out_of_date)?;
     Ok(region)
 }
 

@@ -2,9 +2,12 @@
 //! out of date in them.
 ghost use Rattle.std.specs.Prelude.{◌≡◌, ◌<◌, length, IfOk};
 ghost use Rattle.redo_model.specs.Renaming.{AllBelow, IsBelow};
+ghost use Rattle.redo_model.specs.State.{is_building};
 ghost use Rattle.redo_command.specs.Meaning.{command_of};
+ghost use Rattle.redo_records.specs.Cells.{cell_at};
 ghost use Rattle.redo_rows.specs.Rows.{count_of, records_of};
 ghost use Rattle.redo_ood.specs.Memo.{count_of as memo_count, IsRight};
+ghost use Rattle.redo_tests_store.specs.declared.random.TheConstants.{NAMES};
 
 use crate::memos::memo_of;
 use crate::random::NAMES;
@@ -22,10 +25,13 @@ use std::test::Fail;
 pub(crate) struct Told {
     pub(crate) records: Records,
     pub(crate) rows: DepRows,
+    // for each name, whether it is a target that is out of date
+    found: Vec<bool>,
     // the numbers of the names, in the order of the bytes of the names
     sorted: Vec<u32>,
     ghost records_count: { length records ≡ NAMES },
     ghost rows_count: { count_of rows ≡ NAMES },
+    ghost found_count: { length found.items ≡ NAMES },
 }
 
 /// The numbers of the texts, in the order of their bytes.
@@ -44,15 +50,14 @@ impl Told {
         Ok(Told {
             records: Records::new(alloc, NAMES)?,
             rows: DepRows::new(alloc, NAMES)?,
+            found: vec![in alloc; false; NAMES as usize]?,
             sorted: sorted_numbers(alloc, texts)?,
         })
     }
 
     /// For each name, whether it is a target that is out of date.
-    pub(crate) fn out_of_date(&self, alloc: Global) -> Result<Vec<bool>, AllocError>
-        ensures { IfOk result (λ found. length found.items ≡ NAMES) }
-    {
-        search(alloc, &self.records, &self.rows)
+    pub(crate) fn found(&self) -> &[bool] {
+        &self.found
     }
 
     /// Whether the name was never built, or is a target with a reason of its own to be built again.
@@ -68,14 +73,12 @@ impl Told {
     }
 
     /// The memo has exactly the targets that the search finds.
-    pub(crate) fn check_memo(&self, rt: &impl Abort, alloc: Global, ood: &Ood) -> Result<(), Fail>
+    pub(crate) fn check_memo(&self, rt: &impl Abort, ood: &Ood)
         requires { memo_count ood.now ≡ NAMES }
     {
-        let found = self.out_of_date(alloc)?;
         for t in 0..NAMES {
-            assert_eq!(rt; ood.is(t), found[t as usize], "{t}");
+            assert_eq!(rt; ood.is(t), self.found[t as usize], "{t}");
         }
-        Ok(())
     }
 
     /// The memo for what was told, from that of nothing.
@@ -88,6 +91,7 @@ impl Told {
 
     fn is_building(&self, t: u32) -> bool
         requires { t < NAMES }
+        ensures { result ≡ is_building (cell_at self.now.records t).state }
     {
         matches!(self.records.state(t), State::Building(_))
     }
@@ -115,11 +119,10 @@ impl Told {
 
     /// The targets with a file that are out of date, by their bytes.
     fn old_targets(&self, rt: &impl Abort, alloc: Global) -> Result<Vec<u32>, Fail> {
-        let found = self.out_of_date(alloc)?;
         let mut old = Vec::new(alloc);
         for &n in &self.sorted {
             assert!(rt; n < NAMES);
-            if found[n as usize] && self.records.file(n).is_some() {
+            if self.found[n as usize] && self.records.file(n).is_some() {
                 old.push(n)?;
             }
         }
@@ -128,11 +131,10 @@ impl Told {
 
     /// Those of the names that are out of date, or idle without a file, by their bytes.
     fn stale(&self, rt: &impl Abort, alloc: Global, names: &[u32]) -> Result<Vec<u32>, Fail> {
-        let found = self.out_of_date(alloc)?;
         let mut stale = Vec::new(alloc);
         for &n in &self.sorted {
             assert!(rt; n < NAMES);
-            if names.contains(&n) && (found[n as usize] || self.is_missing(n)) {
+            if names.contains(&n) && (self.found[n as usize] || self.is_missing(n)) {
                 stale.push(n)?;
             }
         }
@@ -146,13 +148,30 @@ impl Told {
         self.records.state(n) == State::Idle && self.records.file(n).is_none()
     }
 
-    /// Makes the change of a command that wasn't refused.
+    /// Makes the change of a command that wasn't refused, and searches again.
     pub(crate) fn hear(
         &mut self,
         rt: &impl Abort,
+        alloc: Global,
         session: u8,
         command: &Command,
     ) -> Result<(), AllocError>
+        requires { IsBelow NAMES (command_of command.now) }
+    {
+        self.change(rt, session, command)?;
+        self.search(alloc)
+    }
+
+    /// Searches for what is out of date, after a change.
+    pub(crate) fn search(&mut self, alloc: Global) -> Result<(), AllocError>
+        ensures records { self.new.records ≡ self.old.records }
+        ensures rows { self.new.rows ≡ self.old.rows }
+    {
+        self.found = search(alloc, &self.records, &self.rows)?;
+        Ok(())
+    }
+
+    fn change(&mut self, rt: &impl Abort, session: u8, command: &Command) -> Result<(), AllocError>
         requires { IsBelow NAMES (command_of command.now) }
     {
         match command {

@@ -12,6 +12,9 @@ refresh-requires-clause-seeds g c = rw (c.in_ok-names.ensures, c.in_ok-ood.ensur
 
 pub refresh-requires-clause-right : goal.refresh-requires-clause-right
 refresh-requires-clause-right g c =
-    rw c.in_ok-names.ensures
-    (empty.records, differ_everywhere c.args.count c.args.records.now c.args.rows.now
-    c.requires.records c.requires.rows, c.in_ok-ood.ensures.right)
+    rw c.in_ok-names.ensures (
+      empty.records,
+      differ_everywhere c.args.count c.args.records.now c.args.rows.now
+          c.requires.records c.requires.rows,
+      c.in_ok-ood.ensures.right,
+    )
