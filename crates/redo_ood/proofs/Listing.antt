@@ -12,6 +12,8 @@ use Rattle.redo_model.specs.Names.{IsListed}
 use Rattle.redo_model.specs.Renaming.{AllBelow}
 use Rattle.redo_model.proofs.Members.{contains_first, contains_later}
 use Rattle.redo_rows.specs.Rows.{by_number}
+use Rattle.redo_ood.specs.Marks.{Marked, IsQueue, size_of}
+use Rattle.redo_ood.proofs.Marking.{marked_below}
 
 -- the next number has P
 listed_with : (P : ℕ → Type 0) (k : ℕ) (ts : List ℕ) → P k → IsListed by_number (λ t. (t < k) × P t) ts → IsListed by_number (λ t. (t < k + 1) × P t) (ts ++ k ∷ [])
@@ -55,3 +57,8 @@ listed_all P k ts below h = (h.0, λ t. (λ c. ((h.1 t).0 c).1, λ p. (h.1 t).1 
 pub each_below : (n : ℕ) (ts : List ℕ) → ((t : ℕ) → Contains ts t → t < n) → AllBelow n ts
 each_below n [] h = tt
 each_below n (t ∷ ts) h = (h t (contains_first t ts), each_below n ts (λ u c. h u (contains_later t ts u c)))
+
+-- what is queued is marked, so it is below the end of the marks
+pub queue_below : (m : Marked) → IsQueue m → AllBelow (size_of m) m.queue
+queue_below m kept =
+    each_below (size_of m) m.queue (λ t q. marked_below m.marks t (kept.marked t q))

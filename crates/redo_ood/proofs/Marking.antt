@@ -1,41 +1,49 @@
 -- Marks that are set and taken away, and what stays true of the queue.
 use Rattle.std.proofs.Common.{◌≡◌, ◌⊎◌, ◌↔◌, ◌∙◌, ℕ, ◌<◌, ◌≤◌, ◌+◌, ◌^◌, Bool, true, false, cond, not, IsTrue, List, [], ◌∷◌, ◌++◌, length, get_or, set, take, refl, sym, ap, subst, inl, inr, arith, length-append, append_assoc}
-use Rattle.std.proofs.lemmas.Bool.{cases_Bool, cases_eq, cases_lt, false≢true}
-use Rattle.std.proofs.lemmas.List.{append-nil, length-set, get_or-set_same, get_or-set_other, get_or_past, get_or-replicate, take_more}
 use Rattle.std.proofs.Math.ListN.{replicate, length-replicate}
+use Rattle.std.proofs.lemmas.Bool.{cases_Bool, cases_eq, cases_lt, false≢true}
+use Rattle.std.proofs.lemmas.List.{append-nil, length-set, get_or-set_same, get_or-set_other, get_or_past, get_or-replicate, take_all, take_more}
 use Rattle.std.proofs.lemmas.List.Sums.{sum_by-set, count_by-le-length}
 use Rattle.std.proofs.lemmas.List.Quantifiers.{all_pairs_push}
 use Rattle.std.proofs.lemmas.List.Elements.{Contains-get_or, Contains-push, Contains-push_cases, Contains-append_left, All-from_recursion}
 use Rattle.std.specs.List.{count_by, Contains}
 use Rattle.redo_model.specs.Renaming.{AllBelow}
-use Rattle.redo_ood.specs.Marks.{Marked, IsMarked, IsQueued, IsQueue, Grows, Enters, Unmarks, size_of}
+use Rattle.redo_ood.specs.Marks.{Marked, IsMarked, IsQueued, IsQueue, Grows, Enters, Unmarks, IsSet, size_of}
 
-fewer_by_one : (xs : List Bool) (i : ℕ) → i < length xs → get_or xs i false ≡ false → count_by not (set xs i true) + 1 ≡ count_by not xs
-fewer_by_one xs i below e =
-    let s = sum_by-set (λ x. cond (not x) 1 0) xs i true false below in
+-- a flag that was read
+pub read_off : (marks : List Bool) (t : ℕ) (b : Bool) → b ≡ false → b ≡ get_or marks t b
+    → get_or marks t false ≡ false
+read_off marks t b off read = sym (subst (λ (c : Bool). c ≡ get_or marks t c) off read)
+
+fewer_by_one : (marks : List Bool) (t : ℕ) → t < length marks → get_or marks t false ≡ false
+    → count_by not (set marks t true) + 1 ≡ count_by not marks
+fewer_by_one marks t below off =
+    let s = sum_by-set (λ x. cond (not x) 1 0) marks t true false below in
     let one : ℕ = 1 in
-    let f : cond (not (get_or xs i false)) 1 0 ≡ one = ap (λ b. cond (not b) 1 0) e in
+    let f : cond (not (get_or marks t false)) 1 0 ≡ one = ap (λ b. cond (not b) 1 0) off in
     omega (arith, s, f)
 
-set_stays : (xs : List Bool) (i t : ℕ) → i < length xs → IsTrue (get_or xs t false)
-    → IsTrue (get_or (set xs i true) t false)
-set_stays xs i t below h = elim (cases_eq t i) [
-  | inl e ↦ subst (λ u. IsTrue (get_or (set xs i true) u false)) (sym e) (get_or-set_same xs i true false below)
-  | inr d ↦ get_or-set_other xs i t true false d ∙ h
+set_here : (marks : List Bool) (t : ℕ) → t < length marks → IsSet (set marks t true) t
+set_here marks t below = get_or-set_same marks t true false below
+
+set_stays : (marks : List Bool) (t u : ℕ) → t < length marks → IsSet marks u
+    → IsSet (set marks t true) u
+set_stays marks t u below on = elim (cases_eq u t) [
+  | inl e ↦ subst (IsSet (set marks t true)) (sym e) (set_here marks t below)
+  | inr other ↦ get_or-set_other marks t u true false other ∙ on
 ]
 
-set_cases : (xs : List Bool) (i t : ℕ) → IsTrue (get_or (set xs i true) t false)
-    → IsTrue (get_or xs t false) ⊎ (t ≡ i)
-set_cases xs i t h = elim (cases_eq t i) [
+set_cases : (marks : List Bool) (t u : ℕ) → IsSet (set marks t true) u → IsSet marks u ⊎ (u ≡ t)
+set_cases marks t u on = elim (cases_eq u t) [
   | inl e ↦ inr e
-  | inr d ↦ inl (sym (get_or-set_other xs i t true false d) ∙ h)
+  | inr other ↦ inl (sym (get_or-set_other marks t u true false other) ∙ on)
 ]
 
 -- what is marked stands below the end of the marks
-pub marked_below : (marks : List Bool) (t : ℕ) → IsTrue (get_or marks t false) → t < length marks
-marked_below marks t h = elim (cases_lt t (length marks)) [
+pub marked_below : (marks : List Bool) (t : ℕ) → IsSet marks t → t < length marks
+marked_below marks t on = elim (cases_lt t (length marks)) [
   | inl below ↦ below
-  | inr past ↦ absurd (let e : get_or marks t false ≡ false = get_or_past marks t false past in cc)
+  | inr past ↦ absurd (false≢true (sym (get_or_past marks t false past) ∙ on))
 ]
 
 -- a name is marked or isn't
@@ -59,94 +67,105 @@ grows_then {a = a} {b = b} {c = c} f g = record {
   keeps = λ t on. g.keeps t (f.keeps t on);
   behind = (
     f.behind.0 ++ g.behind.0,
-    g.behind.1 ∙ ap (λ q. q ++ g.behind.0) f.behind.1 ∙ append_assoc a.queue f.behind.0 g.behind.0,
+    g.behind.1 ∙ ap (λ q. q ++ g.behind.0) f.behind.1
+        ∙ append_assoc a.queue f.behind.0 g.behind.0,
   );
   queued = λ t. (
     λ q. elim ((g.queued t).0 q) [
-      | inl q1 ↦ elim ((f.queued t).0 q1) [ inl q0 ↦ inl q0 | inr w ↦ inr (g.keeps t w.0, w.1) ]
+      | inl q1 ↦ elim ((f.queued t).0 q1) [
+        | inl q0 ↦ inl q0
+        | inr w ↦ inr (g.keeps t w.0, w.1)
+      ]
       | inr w ↦ inr (w.0, λ on. w.1 (f.keeps t on))
     ],
     λ s. (g.queued t).1 (elim s [
       | inl q0 ↦ inl ((f.queued t).1 (inl q0))
       | inr w ↦ elim (marked_or_not b t) [
-          | inl on ↦ inl ((f.queued t).1 (inr (on, w.1)))
-          | inr off ↦ inr (w.0, off)
-        ]
+        | inl on ↦ inl ((f.queued t).1 (inr (on, w.1)))
+        | inr off ↦ inr (w.0, off)
+      ]
     ]),
   );
-}
-
-grows_by_name : (m : Marked) (t : ℕ) → t < size_of m → get_or m.marks t false ≡ false
-    → Grows m (record { marks = set m.marks t true; queue = m.queue ++ t ∷ [] })
-grows_by_name m t below off = record {
-  sized = length-set m.marks t true;
-  keeps = λ u. set_stays m.marks t u below;
-  behind = (t ∷ [], refl);
-  queued = λ u. (
-    λ q. elim (Contains-push_cases m.queue t u q) [
-      | inl old ↦ inl old
-      | inr e ↦ inr (
-          subst (λ v. IsTrue (get_or (set m.marks t true) v false)) e (get_or-set_same m.marks t true false below),
-          λ on. false≢true (sym off ∙ subst (IsMarked m) (sym e) on))
-    ],
-    λ s. elim s [
-      | inl old ↦ Contains-append_left m.queue (t ∷ []) u old
-      | inr w ↦ elim (set_cases m.marks t u w.0) [
-          | inl on ↦ absurd (w.1 on)
-          | inr e ↦ subst (Contains (m.queue ++ t ∷ [])) (sym e) (Contains-push m.queue t)
-        ]
-    ],
-  );
-}
-
--- a name that wasn't marked enters
-pub enters_name : (m : Marked) (t : ℕ) → t < size_of m → get_or m.marks t false ≡ false
-    → Enters (λ u. u ≡ t) m (record { marks = set m.marks t true; queue = m.queue ++ t ∷ [] })
-enters_name m t below off = record {
-  grown = grows_by_name m t below off;
-  each = λ u. (
-    set_cases m.marks t u,
-    λ s. elim s [
-      | inl on ↦ set_stays m.marks t u below on
-      | inr e ↦ subst (λ v. IsTrue (get_or (set m.marks t true) v false)) (sym e) (get_or-set_same m.marks t true false below)
-    ],
-  );
-}
-
-pub queue_with_name : (m : Marked) (t : ℕ) → t < size_of m → get_or m.marks t false ≡ false → IsQueue m
-    → IsQueue (record { marks = set m.marks t true; queue = m.queue ++ t ∷ [] })
-queue_with_name m t below off h =
-    let new = enters_name m t below off in
-    record {
-      marked = λ u q. elim ((new.grown.queued u).0 q) [
-        | inl old ↦ new.grown.keeps u (h.marked u old)
-        | inr w ↦ w.0
-      ];
-      once = all_pairs_push (λ x y. x ≡ y → ⊥) m.queue t h.once
-          (λ k d in' e. false≢true (sym off ∙ h.marked t (subst (Contains m.queue) e (Contains-get_or m.queue k d in'))));
-      counted = omega (arith, fewer_by_one m.marks t below off, h.counted, length-append m.queue (t ∷ []), length-set m.marks t true);
-      few = subst (λ n. n < 2 ^ 32) (sym (length-set m.marks t true)) h.few;
-    }
-
--- names that are marked already
-pub enters_marked : (P : ℕ → Type 0) (m : Marked) → ((t : ℕ) → P t → IsMarked m t) → Enters P m m
-enters_marked P m on = record {
-  grown = grows_same m;
-  each = λ t. (λ h. inl h, λ s. elim s [ inl h ↦ h | inr p ↦ on t p ]);
 }
 
 pub grows_longer : {a b : Marked} → Grows a b → length a.queue ≤ length b.queue
 grows_longer {a = a} {b = b} f =
     omega (arith, ap length f.behind.1, length-append a.queue f.behind.0)
 
+-- a name that wasn't marked enters
+module _ (m : Marked) (t : ℕ) (below : t < size_of m) (off : get_or m.marks t false ≡ false) where
+  grows_by_name : Grows m (record { marks = set m.marks t true; queue = m.queue ++ t ∷ [] })
+  grows_by_name = record {
+    sized = length-set m.marks t true;
+    keeps = λ u. set_stays m.marks t u below;
+    behind = (t ∷ [], refl);
+    queued = λ u. (
+      λ q. elim (Contains-push_cases m.queue t u q) [
+        | inl old ↦ inl old
+        | inr e ↦ inr (
+          subst (IsSet (set m.marks t true)) e (set_here m.marks t below),
+          λ on. false≢true (sym off ∙ subst (IsMarked m) (sym e) on),
+        )
+      ],
+      λ s. elim s [
+        | inl old ↦ Contains-append_left m.queue (t ∷ []) u old
+        | inr w ↦ elim (set_cases m.marks t u w.0) [
+          | inl on ↦ absurd (w.1 on)
+          | inr e ↦ subst (Contains (m.queue ++ t ∷ [])) (sym e) (Contains-push m.queue t)
+        ]
+      ],
+    );
+  }
+
+  pub enters_name : Enters (λ u. u ≡ t) m
+      (record { marks = set m.marks t true; queue = m.queue ++ t ∷ [] })
+  enters_name = record {
+    grown = grows_by_name;
+    each = λ u. (
+      set_cases m.marks t u,
+      λ s. elim s [
+        | inl on ↦ set_stays m.marks t u below on
+        | inr e ↦ subst (IsSet (set m.marks t true)) (sym e) (set_here m.marks t below)
+      ],
+    );
+  }
+
+  pub queue_with_name : IsQueue m
+      → IsQueue (record { marks = set m.marks t true; queue = m.queue ++ t ∷ [] })
+  queue_with_name h =
+      let sized = length-set m.marks t true in
+      let longer = length-append m.queue (t ∷ []) in
+      record {
+        marked = λ u q. elim ((grows_by_name.queued u).0 q) [
+          | inl old ↦ grows_by_name.keeps u (h.marked u old)
+          | inr w ↦ w.0
+        ];
+        once = all_pairs_push (λ x y. x ≡ y → ⊥) m.queue t h.once (λ k d in' e.
+            let here : IsQueued m t = subst (IsQueued m) e (Contains-get_or m.queue k d in') in
+            false≢true (sym off ∙ h.marked t here));
+        counted = omega (arith, fewer_by_one m.marks t below off, h.counted, longer, sized);
+        few = subst (λ n. n < 2 ^ 32) (sym sized) h.few;
+      }
+
+-- names that are marked already
+pub enters_marked : (P : ℕ → Type 0) (m : Marked) → ((t : ℕ) → P t → IsMarked m t)
+    → Enters P m m
+enters_marked P m on = record {
+  grown = grows_same m;
+  each = λ t. (λ h. inl h, λ s. elim s [ inl h ↦ h | inr p ↦ on t p ]);
+}
+
 -- what enters first and what enters then
-pub enters_then : {P Q : ℕ → Type 0} {a b c : Marked} (R : ℕ → Type 0) → ((t : ℕ) → R t ↔ (P t ⊎ Q t))
-    → Enters P a b → Enters Q b c → Enters R a c
+pub enters_then : {P Q : ℕ → Type 0} {a b c : Marked} (R : ℕ → Type 0)
+    → ((t : ℕ) → R t ↔ (P t ⊎ Q t)) → Enters P a b → Enters Q b c → Enters R a c
 enters_then R both f g = record {
   grown = grows_then f.grown g.grown;
   each = λ t. (
     λ on. elim ((g.each t).0 on) [
-      | inl on1 ↦ elim ((f.each t).0 on1) [ inl old ↦ inl old | inr p ↦ inr ((both t).1 (inl p)) ]
+      | inl on1 ↦ elim ((f.each t).0 on1) [
+        | inl old ↦ inl old
+        | inr p ↦ inr ((both t).1 (inl p))
+      ]
       | inr x ↦ inr ((both t).1 (inr x))
     ],
     λ s. (g.each t).1 (elim s [
@@ -156,7 +175,8 @@ enters_then R both f g = record {
   );
 }
 
-pub enters_same : {P : ℕ → Type 0} {a b : Marked} (R : ℕ → Type 0) → ((t : ℕ) → R t ↔ P t) → Enters P a b → Enters R a b
+pub enters_same : {P : ℕ → Type 0} {a b : Marked} (R : ℕ → Type 0)
+    → ((t : ℕ) → R t ↔ P t) → Enters P a b → Enters R a b
 enters_same R same f = record {
   grown = f.grown;
   each = λ t. (
@@ -169,51 +189,70 @@ enters_same R same f = record {
 pub one_more : (ts : List ℕ) (k d u : ℕ) → k < length ts
     → Contains (take (k + 1) ts) u ↔ (Contains (take k ts) u ⊎ (u ≡ get_or ts k d))
 one_more ts k d u in' =
-    let e : take (k + 1) ts ≡ take k ts ++ get_or ts k d ∷ [] = take_more ts k d in' in (
-      λ h. elim (Contains-push_cases (take k ts) (get_or ts k d) u (subst (λ (xs : List ℕ). Contains xs u) e h)) [
+    let front = take k ts in
+    let t = get_or ts k d in
+    let e : take (k + 1) ts ≡ front ++ t ∷ [] = take_more ts k d in' in (
+      λ h. elim (Contains-push_cases front t u (subst (λ (xs : List ℕ). Contains xs u) e h)) [
         | inl old ↦ inl old
         | inr here ↦ inr (sym here)
       ],
       λ s. subst (λ (xs : List ℕ). Contains xs u) (sym e) (elim s [
-        | inl old ↦ Contains-append_left (take k ts) (get_or ts k d ∷ []) u old
-        | inr here ↦ subst (Contains (take k ts ++ get_or ts k d ∷ [])) (sym here) (Contains-push (take k ts) (get_or ts k d))
+        | inl old ↦ Contains-append_left front (t ∷ []) u old
+        | inr here ↦ subst (Contains (front ++ t ∷ [])) (sym here) (Contains-push front t)
       ]),
     )
 
+-- what holds of as many names of a list as it has holds of the list
+pub at_take_all : (P : List ℕ → Type 0) (ts : List ℕ) (k : ℕ) → length ts ≤ k → P (take k ts) → P ts
+at_take_all P ts k end = subst P (take_all k ts end)
+
 -- the names of a list enter, one after the other
-pub enters_one_more : {a b c : Marked} (P : ℕ → Type 0) (ts : List ℕ) (k d : ℕ) (due : Bool) → k < length ts
-    → (IsTrue due ↔ P (get_or ts k d)) → Enters (λ u. P u × Contains (take k ts) u) a b
-    → Enters (λ u. IsTrue due × (u ≡ get_or ts k d)) b c → Enters (λ u. P u × Contains (take (k + 1) ts) u) a c
-enters_one_more P ts k d due in' is f g = enters_then (λ u. P u × Contains (take (k + 1) ts) u) (λ u. (
-    λ h. elim ((one_more ts k d u in').0 h.1) [
-      | inl old ↦ inl (h.0, old)
-      | inr here ↦ inr (is.1 (subst P here h.0), here)
-    ],
-    λ s. elim s [
-      | inl old ↦ (old.0, (one_more ts k d u in').1 (inl old.1))
-      | inr new ↦ (subst P (sym new.1) (is.0 new.0), (one_more ts k d u in').1 (inr new.1))
-    ],
-  )) f g
+pub enters_one_more : {a b c : Marked} (P : ℕ → Type 0) (ts : List ℕ) (k d : ℕ) (due : Bool)
+    → k < length ts → (IsTrue due ↔ P (get_or ts k d))
+    → Enters (λ u. P u × Contains (take k ts) u) a b
+    → Enters (λ u. IsTrue due × (u ≡ get_or ts k d)) b c
+    → Enters (λ u. P u × Contains (take (k + 1) ts) u) a c
+enters_one_more P ts k d due in' is f g =
+    enters_then (λ u. P u × Contains (take (k + 1) ts) u) (λ u. (
+      λ h. elim ((one_more ts k d u in').0 h.1) [
+        | inl old ↦ inl (h.0, old)
+        | inr here ↦ inr (is.1 (subst P here h.0), here)
+      ],
+      λ s. elim s [
+        | inl old ↦ (old.0, (one_more ts k d u in').1 (inl old.1))
+        | inr new ↦ (subst P (sym new.1) (is.0 new.0), (one_more ts k d u in').1 (inr new.1))
+      ],
+    )) f g
 
 -- the mark of one more name of a list is taken away
-pub unmarked_one_more : (old marks : List Bool) (ts : List ℕ) (k d : ℕ) → k < length ts → get_or ts k d < length marks
-    → ((t : ℕ) → IsTrue (get_or marks t false) ↔ (IsTrue (get_or old t false) × (Contains (take k ts) t → ⊥)))
-    → (t : ℕ) → IsTrue (get_or (set marks (get_or ts k d) false) t false) ↔ (IsTrue (get_or old t false) × (Contains (take (k + 1) ts) t → ⊥))
-unmarked_one_more old marks ts k d in' below before t = (
-  λ on. elim (cases_eq t (get_or ts k d)) [
-    | inl e ↦ absurd (false≢true (sym (get_or-set_same marks (get_or ts k d) false false below) ∙ subst (λ u. IsTrue (get_or (set marks (get_or ts k d) false) u false)) e on))
-    | inr other ↦
-        let was = (before t).0 (sym (get_or-set_other marks (get_or ts k d) t false false other) ∙ on) in
-        (was.0, λ c. elim ((one_more ts k d t in').0 c) [ inl earlier ↦ was.1 earlier | inr here ↦ other here ])
-  ],
-  λ h.
-    let other : t ≡ get_or ts k d → ⊥ = λ e. h.1 ((one_more ts k d t in').1 (inr e)) in
-    get_or-set_other marks (get_or ts k d) t false false other ∙ (before t).1 (h.0, λ c. h.1 ((one_more ts k d t in').1 (inl c))),
-)
+pub unmarked_one_more : (old marks : List Bool) (ts : List ℕ) (k d : ℕ) → k < length ts
+    → get_or ts k d < length marks
+    → ((t : ℕ) → IsSet marks t ↔ (IsSet old t × (Contains (take k ts) t → ⊥)))
+    → (t : ℕ) → IsSet (set marks (get_or ts k d) false) t
+    ↔ (IsSet old t × (Contains (take (k + 1) ts) t → ⊥))
+unmarked_one_more old marks ts k d in' below before t =
+    let n = get_or ts k d in
+    let off : get_or (set marks n false) n false ≡ false = get_or-set_same marks n false false below in (
+      λ on. elim (cases_eq t n) [
+        | inl e ↦ absurd (false≢true (sym off ∙ subst (IsSet (set marks n false)) e on))
+        | inr other ↦
+            let was = (before t).0 (sym (get_or-set_other marks n t false false other) ∙ on) in (
+              was.0,
+              λ c. elim ((one_more ts k d t in').0 c) [
+                | inl earlier ↦ was.1 earlier
+                | inr here ↦ other here
+              ],
+            )
+      ],
+      λ h.
+          let other : t ≡ n → ⊥ = λ e. h.1 ((one_more ts k d t in').1 (inr e)) in
+          get_or-set_other marks n t false false other
+          ∙ (before t).1 (h.0, λ c. h.1 ((one_more ts k d t in').1 (inl c))),
+    )
 
 -- the marks of the names with P are taken away, and the queue is empty
 pub unmarks_from : (P : ℕ → Type 0) (m : Marked) (marks : List Bool) → length marks ≡ size_of m
-    → ((t : ℕ) → IsTrue (get_or marks t false) ↔ (IsMarked m t × (P t → ⊥)))
+    → ((t : ℕ) → IsSet marks t ↔ (IsMarked m t × (P t → ⊥)))
     → Unmarks P m (record { marks = marks; queue = [] })
 unmarks_from P m marks sized each = record {
   sized = sized;
@@ -221,7 +260,8 @@ unmarks_from P m marks sized each = record {
   each = each;
 }
 
-pub queue_emptied : (marks : List Bool) → length marks < 2 ^ 32 → IsQueue (record { marks = marks; queue = [] })
+pub queue_emptied : (marks : List Bool) → length marks < 2 ^ 32
+    → IsQueue (record { marks = marks; queue = [] })
 queue_emptied marks few = record {
   marked = λ t q. absurd (omega (arith, q.1));
   once = λ i j d before in'. absurd (omega (arith, in'));
@@ -230,7 +270,8 @@ queue_emptied marks few = record {
 }
 
 -- each name of a list of numbers below n is below m, which is n
-pub below_at : (n m : ℕ) (ts : List ℕ) (k d : ℕ) → AllBelow n ts → k < length ts → m ≡ n → get_or ts k d < m
+pub below_at : (n m : ℕ) (ts : List ℕ) (k d : ℕ) → AllBelow n ts → k < length ts → m ≡ n
+    → get_or ts k d < m
 below_at n m ts k d all in' same =
     let below : get_or ts k d < n = All-from_recursion (λ t. t < n) ts all k d in' in
     omega arith

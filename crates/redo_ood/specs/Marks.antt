@@ -1,5 +1,5 @@
 -- Marks on names, and a queue of names that were marked.
-use Rattle.std.specs.Prelude.{◌≡◌, ◌≢◌, ◌⊎◌, ◌↔◌, ◌<◌, ◌≤◌, ◌+◌, ◌^◌, ℕ, Bool, false, not, List, Contains, IsTrue, AllPairs, ◌++◌, length, slice_index_or, count_by}
+use Rattle.std.specs.Prelude.{◌≡◌, ◌≢◌, ◌⊎◌, ◌↔◌, ◌<◌, ◌≤◌, ◌+◌, ◌^◌, ◌++◌, ℕ, Bool, false, not, List, Contains, IsTrue, AllPairs, length, slice_index_or, count_by}
 
 -- whether each name is marked, and the names that were marked since the queue was emptied
 pub record Marked : Type 0 where
@@ -10,8 +10,11 @@ pub record Marked : Type 0 where
 abbrev pub size_of : Marked → ℕ
 size_of m = length m.marks
 
+abbrev pub IsSet : List Bool → ℕ → Type 0
+IsSet flags t = IsTrue (slice_index_or flags t false)
+
 abbrev pub IsMarked : Marked → ℕ → Type 0
-IsMarked m t = IsTrue (slice_index_or m.marks t false)
+IsMarked m t = IsSet m.marks t
 
 abbrev pub IsQueued : Marked → ℕ → Type 0
 IsQueued m t = Contains m.queue t
@@ -28,7 +31,8 @@ pub record Grows (old new : Marked) : Type 0 where
   pub sized : size_of new ≡ size_of old
   pub keeps : (t : ℕ) → IsMarked old t → IsMarked new t
   pub behind : (ns : List ℕ) × (new.queue ≡ old.queue ++ ns)
-  pub queued : (t : ℕ) → IsQueued new t ↔ (IsQueued old t ⊎ (IsMarked new t × (IsMarked old t → ⊥)))
+  pub queued : (t : ℕ) → IsQueued new t
+      ↔ (IsQueued old t ⊎ (IsMarked new t × (IsMarked old t → ⊥)))
 
 -- the names with P are marked too
 pub record Enters (P : ℕ → Type 0) (old new : Marked) : Type 0 where

@@ -26,7 +26,8 @@ fn needs_marked(rows: &DepRows, marks: &Marks, t: u32, n: u32) -> bool
 fn needs_any_marked(rows: &DepRows, marks: &Marks, t: u32) -> bool
     requires target { t < count_of rows.now }
     requires sized { size_of marks.now ≡ count_of rows.now }
-    ensures { IsTrue result ↔ ((n : ℕ) × IsSome ((rows_of rows.now).change t n) × IsMarked marks.now n) }
+    ensures { IsTrue result
+        ↔ ((n : ℕ) × IsSome ((rows_of rows.now).change t n) × IsMarked marks.now n) }
 {
     for &n in rows.of(t) {
         if needs_marked(rows, marks, t, n) {
@@ -76,7 +77,8 @@ pub(crate) fn derive(records: &Records, rows: &DepRows, region: &[u32], marks: &
     requires records { length records.now ≡ count_of rows.now }
     requires sized { size_of marks.old ≡ count_of rows.now }
     requires empty { (t : ℕ) → IsQueued marks.old t → ⊥ }
-    requires sound { (t : ℕ) → IsMarked marks.old t → OutOfDate (records_of records.now rows.now) t }
+    requires sound { (t : ℕ) → IsMarked marks.old t →
+        OutOfDate (records_of records.now rows.now) t }
     ensures { IsDerived (records_of records.now rows.now) region.now marks.old marks.new }
 {
     enter_due(records, rows, region, marks);

@@ -3,7 +3,7 @@
 
 ghost use Rattle.std.specs.Prelude.{◌≡◌, ◌↔◌, ◌<◌, ◌≤◌, ℕ, IsTrue, [], IfOk, length, false, replicate, slice_index, slice_index_or, Contains};
 ghost use Rattle.redo_model.specs.Renaming.{AllBelow};
-ghost use Rattle.redo_ood.specs.Marks.{Marked, IsMarked, IsQueued, IsQueue, Enters, Unmarks, size_of};
+ghost use Rattle.redo_ood.specs.Marks.{Marked, IsSet, IsQueued, IsQueue, Enters, Unmarks, size_of};
 
 use std::alloc::{AllocError, Global};
 use std::marker::Model;
@@ -32,8 +32,8 @@ impl Model for Marks {
 fn unmark_each(marks: &mut Vec<bool>, names: &[u32])
     requires { AllBelow (length marks.old.items) names.now }
     ensures sized { length marks.new.items ≡ length marks.old.items }
-    ensures each { (t : ℕ) → IsTrue (slice_index_or marks.new.items t false)
-        ↔ (IsTrue (slice_index_or marks.old.items t false) × (Contains names.now t → ⊥)) }
+    ensures each { (t : ℕ) → IsSet marks.new.items t
+        ↔ (IsSet marks.old.items t × (Contains names.now t → ⊥)) }
 {
     for &t in names {
         marks[t as usize] = false;
@@ -43,7 +43,8 @@ fn unmark_each(marks: &mut Vec<bool>, names: &[u32])
 impl Marks {
     /// No name is marked. No other call takes memory.
     pub fn new(alloc: Global, names: u32) -> Result<Marks, AllocError>
-        ensures { IfOk result (λ marks. marks ≡ record { marks = replicate names false; queue = [] }) }
+        ensures { IfOk result (λ marks.
+            marks ≡ record { marks = replicate names false; queue = [] }) }
     {
         let marks = vec![in alloc; false; names as usize]?;
         let queue = Vec::with_capacity(alloc, names as usize)?;

@@ -15,7 +15,8 @@ use std::alloc::{AllocError, Global};
 use std::marker::Model;
 
 fn push_if(targets: &mut Vec<u32>, t: u32, is_due: bool) -> Result<(), AllocError>
-    ensures ok { OnOk result (targets.new.items ≡ targets.old.items ++ (if is_due then t ∷ [] else [])) }
+    ensures ok { OnOk result
+        (targets.new.items ≡ targets.old.items ++ (if is_due then t ∷ [] else [])) }
     ensures err { OnErr result (targets.new.items ≡ targets.old.items) }
 {
     if is_due {
@@ -86,7 +87,8 @@ impl Ood {
 
     /// The out-of-date targets, by ascending number.
     pub fn list(&self, alloc: Global) -> Result<Vec<u32>, AllocError>
-        ensures listed { IfOk result (λ targets. IsListed by_number (λ t. IsTrue (is_out self.now t)) targets.items) }
+        ensures listed { IfOk result (λ targets.
+            IsListed by_number (λ t. IsTrue (is_out self.now t)) targets.items) }
         ensures below { IfOk result (λ targets. AllBelow (count_of self.now) targets.items) }
     {
         let mut targets = Vec::new(alloc);

@@ -33,7 +33,8 @@ fn has_changed(records: &Records, rows: &DepRows, t: u32, n: u32) -> bool
 fn is_any_news(records: &Records, rows: &DepRows, t: u32) -> bool
     requires target { t < count_of rows.now }
     requires names { length records.now ≡ count_of rows.now }
-    ensures { IsTrue result ↔ (SomeAppeared (records_of records.now rows.now) t ⊎ SomeChanged (records_of records.now rows.now) t) }
+    ensures { IsTrue result ↔ (SomeAppeared (records_of records.now rows.now) t
+        ⊎ SomeChanged (records_of records.now rows.now) t) }
 {
     for &n in rows.of(t) {
         if has_appeared(records, rows, t, n) || has_changed(records, rows, t, n) {

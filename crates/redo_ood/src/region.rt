@@ -35,7 +35,8 @@ fn enter_each(names: &[u32], marks: &mut Marks)
 fn enter_targets(records: &Records, names: &[u32], marks: &mut Marks)
     requires below { AllBelow (size_of marks.old) names.now }
     requires sized { size_of marks.old ≡ length records.now }
-    ensures { Enters (λ t. ((cell_at records.now t).state ≢ Idle) × Contains names.now t) marks.old marks.new }
+    ensures { Enters (λ t. ((cell_at records.now t).state ≢ Idle) × Contains names.now t)
+        marks.old marks.new }
 {
     for &t in names {
         let is_due = is_target(records, t);

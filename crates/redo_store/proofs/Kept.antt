@@ -2,9 +2,9 @@
 use Rattle.std.proofs.Common.{◌≡◌, ℕ, zero, suc, ◌<◌, ◌≤◌, ◌+◌, ◌^◌, ◌==◌, Bool, cond, List, [], ◌∷◌, Option, Some, None, length, get_or, sym, ap, ◌∙◌, subst, arith, inl, inr}
 use Rattle.std.proofs.Math.ListN.{set, length-set, replicate, length-replicate}
 use Rattle.std.proofs.Math.Path.{fun_ext}
-use Rattle.std.proofs.lemmas.Bool.{cases_eq, cases_lt, eq-eqb, ne_eqb}
+use Rattle.std.proofs.lemmas.Bool.{cases_eq, eq-eqb, ne_eqb}
 use Rattle.std.proofs.lemmas.Grind.{get_or-set_at}
-use Rattle.std.proofs.lemmas.List.{get_or_default, get_or_past, get_or-replicate, get_or-set_other}
+use Rattle.std.proofs.lemmas.List.{get_or_default, get_or-set_other}
 use Rattle.redo_model.specs.Names.{put, IsListed}
 use Rattle.redo_model.specs.State.{Cell, idle}
 use Rattle.redo_model.specs.Step.{after, locks_granted}
@@ -14,6 +14,7 @@ use Rattle.redo_rows.specs.Rows as rows
 use Rattle.redo_rows.specs.Rows.{TargetRows}
 use Rattle.redo_store.specs.Stored.{Stored, IsStored}
 use Rattle.redo_store.specs.Stored as stored
+use Rattle.redo_ood.proofs.Marking.{same_everywhere}
 use Rattle.redo_store.specs.Tables.{Tables, records_of, locks_of, state_of, naming_of}
 use Rattle.redo_store.proofs.Places.{listed_by_place}
 
@@ -37,12 +38,6 @@ IsStored-set_cell t n c h few = record {
 -- the rows of as many targets may be written
 pub IsStored-set_rows : (t : Stored) (to : List TargetRows) → IsStored t → rows.count_of to ≡ rows.count_of t.rows → IsStored (record t { rows = to })
 IsStored-set_rows t to h same = record { rows_for_each = same ∙ h.rows_for_each; all_in_order = h.all_in_order; few_builds = h.few_builds; few_names = h.few_names }
-
-same_everywhere : {X : Type 0} (n k : ℕ) (x : X) → get_or (replicate n x) k x ≡ x
-same_everywhere n k x = elim (cases_lt k n) [
-  | inl h ↦ get_or-replicate n k x x h
-  | inr h ↦ get_or_past (replicate n x) k x (omega (arith, length-replicate n x))
-]
 
 -- a store that knows nothing
 pub IsStored-new : (names : List (List ℕ)) (t : Stored) → AreSorted names t.sorted → t.cells ≡ replicate (length names) idle → rows.count_of t.rows ≡ length names → length names < 2 ^ 32 → IsStored t

@@ -1,9 +1,10 @@
 pub mod Listed
-pub mod Flags
 pub mod Sorting
 pub mod Places
+pub mod Ranked
 pub mod Kept
 pub mod Effects
+pub mod Refreshing
 pub mod Rooms
 pub mod Verdicts
 pub mod Obeyed

@@ -1,8 +1,8 @@
 -- The names of a kind, taken from the list of all names in order.
-use Rattle.std.proofs.Common.{◌≡◌, ◌↔◌, ℕ, ◌<◌, ◌≤◌, ◌+◌, Bool, true, false, cond, IsTrue, List, [], ◌∷◌, ◌++◌, length, get_or, take, is_some, refl, sym, ap, ◌∙◌, subst, inl, inr, arith}
+use Rattle.std.proofs.Common.{◌≡◌, ◌==◌, ◌↔◌, ℕ, ◌<◌, ◌≤◌, ◌+◌, Bool, true, false, cond, not, IsTrue, List, [], ◌∷◌, ◌++◌, length, get_or, take, is_some, refl, sym, ap, ◌∙◌, subst, inl, inr, arith}
 use Rattle.std.specs.List.{Contains}
 use Rattle.std.specs.declared.cmp.Ordering.TheVariants.{Less}
-use Rattle.std.proofs.lemmas.Bool.{cases_lt, false≢true}
+use Rattle.std.proofs.lemmas.Bool.{cases_lt, ne_eqb, false≢true}
 use Rattle.std.proofs.lemmas.List.{append-nil, take_more, take_all, get_or_past, get_or_default, get_or-take, length-take-le}
 use Rattle.std.proofs.lemmas.List.Elements.{All-contains, All-from_recursion, Contains-get_or, Contains-push, Contains-push_cases, Contains-append_left, All-contains_itself, All-weaker, recursion_from_All}
 use Rattle.std.proofs.lemmas.List.Quantifiers.{all_pairs_push}
@@ -10,6 +10,7 @@ use Rattle.redo_model.specs.Names.{Naming, IsListed, Ascending}
 use Rattle.redo_model.specs.State.{idle}
 use Rattle.redo_model.specs.OutOfDate.{HasFile}
 use Rattle.redo_model.specs.Renaming.{AllBelow}
+use Rattle.redo_model.proofs.Members.{contains_first, contains_none}
 use Rattle.redo_store.specs.Stored.{Stored, IsStored, AreInOrder, records_of, naming_of, count_of}
 
 -- a number of the list is below the count
@@ -95,3 +96,11 @@ file_below t n h = elim (cases_lt n (count_of t)) [
 -- a number among those that are below the count
 pub named_below : {count : ℕ} (names : List ℕ) (n : ℕ) → AllBelow count names → Contains names n → n < count
 named_below {count} names n below h = All-contains (λ m. m < count) names n (All-from_recursion (λ m. m < count) names below) h
+
+-- there is a name with P just where their list isn't empty
+some_in : {P : ℕ → Type 0} (naming : Naming ℕ) (names : List ℕ) → IsListed naming P names → IsTrue (not (length names == 0)) ↔ ((n : ℕ) × P n)
+some_in naming [] h = (λ t. absurd (false≢true t), λ p. absurd (contains_none p.0 ((h.1 p.0).1 p.1)))
+some_in naming (x ∷ xs) h = (λ _. (x, (h.1 x).0 (contains_first x xs)), λ _. ap not (ne_eqb (length (x ∷ xs)) 0 (λ e. omega (arith, e))))
+
+pub some_listed : {P : ℕ → Type 0} {empty : Bool} (naming : Naming ℕ) (names : List ℕ) → IsListed naming P names → empty ≡ (length names == 0) → IsTrue (not empty) ↔ ((n : ℕ) × P n)
+some_listed {P} naming names h is = subst (λ b. IsTrue (not b) ↔ ((n : ℕ) × P n)) (sym is) (some_in naming names h)

@@ -13,9 +13,11 @@ use Rattle.std.proofs.lemmas.Cmp.{nat_cmp_total, nat_list_cmp_total, nat_list_eq
 use Rattle.std.proofs.lemmas.List.{length-map, get_or-map, get_or_append_left}
 use Rattle.std.proofs.Math.Seq.{get_or-append_seam}
 use Rattle.std.proofs.lemmas.List.Elements.{All-contains, All-map}
-use Rattle.std.proofs.lemmas.List.Sorted.{sorted_far, ranks_by, All-permutation, IsPermutation-map, IsPermutation-sym, Contains-permutation}
+use Rattle.std.proofs.lemmas.List.Sorted.{sorted_far, ranks_by, All-permutation, IsPermutation-map, IsPermutation-sym, Contains-permutation, length_permutation}
 use Rattle.std.proofs.lemmas.Map.Keys.{IsDistinct-from_apart, apart_from_distinct, IsDistinct-IsPermutation}
 use Rattle.std.proofs.lemmas.Map.Text.{is_eq-slice_cmp}
+use Rattle.redo_model.specs.Renaming.{AllBelow}
+use Rattle.redo_ood.proofs.Listing.{each_below as all_from}
 use Rattle.redo_names.specs.Names.{AreNames, text_at}
 use Rattle.redo_store.specs.Numbered.{AreNumbered}
 use Rattle.redo_store.specs.Orders.{AreSorted}
@@ -89,7 +91,7 @@ number_there : (from : List Pair) (n : ℕ) → n < length from → ((d : Pair) 
 number_there [] n below is = absurd (omega arith)
 number_there (p ∷ ps) n below is = (n, omega (arith, length-map (p ∷ ps) (λ (q : Pair). q.1)), get_or-map (λ (q : Pair). q.1) (p ∷ ps) n p n below ∙ is p)
 
-AllPairs-map : {X Y : Type 0} (f : X → Y) (R : Y → Y → Type 0) (xs : List X) → AllPairs (λ x y. R (f x) (f y)) xs → AllPairs R (map f xs)
+pub AllPairs-map : {X Y : Type 0} (f : X → Y) (R : Y → Y → Type 0) (xs : List X) → AllPairs (λ x y. R (f x) (f y)) xs → AllPairs R (map f xs)
 AllPairs-map f R [] all i j d before below = absurd (omega arith)
 AllPairs-map f R (x ∷ xs) all i j d before below =
     let later : j < length (x ∷ xs) = omega (arith, length-map (x ∷ xs) f) in
@@ -124,4 +126,11 @@ AreSorted-from_pairs names from to are h moved sorted =
     in
     record {
       listed = (AllPairs-map (λ (p : Pair). p.1) (λ m n. slice_cmp nat_cmp (text_at names m) (text_at names n) ≡ Less) to ascending, λ n. (all_below n, all_there n));
+      whole = length-map to (λ (p : Pair). p.1) ∙ length_permutation from to moved ∙ h.whole;
     }
+
+pub sorted_below : {names : List (List ℕ)} {sorted : List ℕ} → AreSorted names sorted → AllBelow (length sorted) sorted
+sorted_below {names = names} {sorted = sorted} are =
+    let below : (n : ℕ) → Contains sorted n → n < length sorted =
+    λ n c. subst (λ (m : ℕ). n < m) (sym are.whole) ((are.listed.1 n).0 c) in
+    all_from (length sorted) sorted below

@@ -1,5 +1,8 @@
 -- What the fields of the store show, and what they keep.
-use Rattle.redo_store.specs.Stored.{Stored, IsStored}
+use Rattle.std.specs.Prelude.{◌≡◌}
+use Rattle.redo_ood.specs.Memo as memo
+use Rattle.redo_store.specs.Orders.{AreRanks}
+use Rattle.redo_store.specs.Stored.{Stored, IsStored, records_of, count_of}
 use Rattle.redo_store.specs.declared.store.Store.TheInside.{Inside}
 
 abbrev pub stored_of : Inside → Stored
@@ -10,5 +13,9 @@ stored_of inside = record {
   applied = inside.applied;
 }
 
-abbrev pub KeepsStored : Inside → Type 0
-KeepsStored inside = IsStored (stored_of inside)
+-- the fields are a store's, each name has its rank, and the memo has what is out of date
+pub record KeepsStored (inside : Inside) : Type 0 where
+  pub stored : IsStored (stored_of inside)
+  pub ranked : AreRanks inside.sorted.items inside.ranks.items
+  pub memo_for_each : memo.count_of inside.memo ≡ count_of (stored_of inside)
+  pub memo_right : memo.IsRight inside.memo (records_of (stored_of inside))

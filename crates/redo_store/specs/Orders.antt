@@ -1,5 +1,5 @@
 -- The order of numbers by the texts that they stand for.
-use Rattle.std.specs.Prelude.{ℕ, ◌<◌, ◌==◌, List, length}
+use Rattle.std.specs.Prelude.{◌≡◌, ℕ, ◌<◌, ◌==◌, List, Contains, length, slice_index}
 use Rattle.std.specs.List.{position_or_len}
 use Rattle.std.specs.Ordering.{nat_cmp}
 use Rattle.std.specs.declared.cmp.Ordering.{Ordering}
@@ -21,3 +21,10 @@ by_text names = numbers (λ m n. texts.order (text_at names m) (text_at names n)
 -- the numbers of all names, each once, in the order of their texts
 pub record AreSorted (names : List (List ℕ)) (sorted : List ℕ) : Type 0 where
   pub listed : IsListed (by_text names) (λ n. n < length names) sorted
+  pub whole : length sorted ≡ length names
+
+-- each number of the list has a rank, at which it stands there
+pub record AreRanks (sorted ranks : List ℕ) : Type 0 where
+  pub has : (n : ℕ) → Contains sorted n → n < length ranks
+  pub below : (n : ℕ) → Contains sorted n → slice_index ranks n < length sorted
+  pub at : (n : ℕ) → Contains sorted n → slice_index sorted (slice_index ranks n) ≡ n

@@ -1,5 +1,5 @@
 -- What the store holds.
-use Rattle.std.specs.Prelude.{◌≡◌, ◌↔◌, ℕ, ◌<◌, ◌≤◌, ◌^◌, Bool, true, false, IsTrue, List, length, slice_index_or}
+use Rattle.std.specs.Prelude.{◌≡◌, ℕ, ◌<◌, ◌≤◌, ◌^◌, Bool, true, false, IsTrue, List, All, Contains, length, slice_index}
 use Rattle.std.specs.List.{list_all}
 use Rattle.redo_model.specs.Command.{Command, IfChange, IfCreate, Ood, Targets, Sources}
 use Rattle.std.specs.declared.cmp.Ordering.{Ordering}
@@ -82,7 +82,8 @@ pub record AreInOrder (stored : Stored) (P : ℕ → Type 0) (names : List ℕ) 
   pub listed : IsListed (naming_of stored) P names
   pub below : AllBelow (count_of stored) names
 
--- a flag for each name, which is true for the names with P
-pub record AreFlags (count : ℕ) (P : ℕ → Type 0) (flags : List Bool) : Type 0 where
-  pub sized : length flags ≡ count
-  pub right : (n : ℕ) → IsTrue (slice_index_or flags n false) ↔ P n
+-- the places of the names with P in the order
+pub record ArePlaces (stored : Stored) (P : ℕ → Type 0) (ranks : List ℕ) : Type 0 where
+  pub below : All (λ k. k < length stored.sorted) ranks
+  pub from : (k : ℕ) → Contains ranks k → P (slice_index stored.sorted k)
+  pub all : (n : ℕ) → P n → (k : ℕ) × Contains ranks k × (slice_index stored.sorted k ≡ n)

@@ -1,5 +1,6 @@
-ghost use Rattle.std.specs.Prelude.{◌≡◌, length, map, IfOk};
-ghost use Rattle.redo_store.specs.Orders.{AreSorted};
+ghost use Rattle.std.specs.Prelude.{◌≡◌, ◌<◌, ◌^◌, length, map, IfOk};
+ghost use Rattle.redo_model.specs.Renaming.{AllBelow};
+ghost use Rattle.redo_store.specs.Orders.{AreSorted, AreRanks};
 ghost use Rattle.redo_names.specs.Names.{AreNames};
 ghost use Rattle.redo_store.specs.Numbered.{AreNumbered};
 
@@ -31,4 +32,17 @@ pub fn sorted_numbers(alloc: Global, names: &Names) -> Result<Vec<u32>, AllocErr
     let mut pairs = numbered(alloc, names)?;
     pairs.sort()?;
     numbers_of(alloc, &pairs)
+}
+
+/// The place of each number in the list.
+pub fn ranks_of(alloc: Global, sorted: &[u32]) -> Result<Vec<u32>, AllocError>
+    requires below { AllBelow (length sorted.now) sorted.now }
+    requires few { length sorted.now < 2 ^ 32 }
+    ensures { IfOk result (λ ranks. AreRanks sorted.now ranks.items) }
+{
+    let mut ranks = vec![in alloc; 0; sorted.len()]?;
+    for k in 0..sorted.len() {
+        ranks[sorted[k] as usize] = k as u32;
+    }
+    Ok(ranks)
 }

@@ -8,9 +8,10 @@ ghost use Rattle.redo_model.specs.Renaming.{OrdersAlike, numbering, IsBelow, IsR
 ghost use Rattle.redo_command.specs.Meaning.{command_of, reply_of, refusal_of};
 
 use crate::rows::{answer, answers, effect, effects};
-use crate::sorted::sorted_numbers;
+use crate::sorted::{ranks_of, sorted_numbers};
 use redo_command::{Command, FileStamp, Refusal, Reply, cases};
 use redo_names::Names;
+use redo_ood::Ood;
 use redo_records::{Records, digest_of};
 use redo_rows::DepRows;
 use std::alloc::{AllocError, Global};
@@ -20,6 +21,7 @@ mod changes;
 mod lists;
 mod refusals;
 mod room;
+mod stale;
 
 /// The database without its locks, for one thread. Names are numbers below the number of names it was made for.
 /// Whether a session holds the target of its command is said with the command.
@@ -27,7 +29,11 @@ mod room;
 pub struct Store {
     records: Records,
     rows: DepRows,
+    // what is out of date by the records and the rows
+    memo: Ood,
+    // the names in order, and the place of each among them
     sorted: Vec<u32>,
+    ranks: Vec<u32>,
     applied: u32,
 }
 
@@ -57,10 +63,14 @@ impl Store {
         let sorted = sorted_numbers(alloc, names)?;
         let records = Records::new(alloc, names.len())?;
         let rows = DepRows::new(alloc, names.len())?;
+        let memo = Ood::new(alloc, names.len())?;
+        let ranks = ranks_of(alloc, &sorted)?;
         Ok(Store {
             records,
             rows,
+            memo,
             sorted,
+            ranks,
             applied: 0,
         })
     }

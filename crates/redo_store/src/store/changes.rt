@@ -1,14 +1,16 @@
-ghost use Rattle.std.specs.Prelude.{◌≡◌, ◌<◌, List, IsTrue, IsFalse, true, length};
+ghost use Rattle.std.specs.Prelude.{◌≡◌, ◌<◌, List, [], ◌∷◌, IsTrue, IsFalse, true, length};
 ghost use Rattle.std.specs.List.{list_all};
 ghost use Rattle.redo_model.specs.State.{Cell, is_building, target_state};
 ghost use Rattle.redo_model.specs.Command as commands;
 ghost use Rattle.redo_model.specs.Step.{effect_of, with_cell};
 ghost use Rattle.redo_model.specs.Renaming.{AllBelow};
+ghost use Rattle.redo_ood.specs.Memo.{IsRight, WasRight, count_of as memo_count};
 ghost use Rattle.redo_rows.specs.Rows.{by_number, room_of, count_of as rows_count, records_of as with_rows};
 ghost use Rattle.redo_store.specs.Stored.{records_of, naming_of, count_of, HasBuildsLeft, KeepsNames, has_room_for};
 
 use crate::store::Store;
 use redo_command::FileStamp;
+use redo_ood::Ood;
 use redo_records::{Records, digest_of};
 use redo_rows::DepRows;
 
@@ -39,6 +41,18 @@ fn create_each(rows: &mut DepRows, t: u32, names: &[u32])
     }
 }
 
+/// Makes the memo right after a change of the name's record or rows.
+fn refresh(memo: &mut Ood, records: &Records, rows: &DepRows, n: u32)
+    requires name { n < length records.now }
+    requires rows { rows_count rows.now ≡ length records.now }
+    requires memo { memo_count memo.old ≡ length records.now }
+    requires right { WasRight (n ∷ []) memo.old (with_rows records.now rows.now) }
+    ensures right { IsRight memo.new (with_rows records.now rows.now) }
+    ensures count { memo_count memo.new ≡ length records.now }
+{
+    memo.refresh(records, rows, &[n]);
+}
+
 impl Store {
     pub(crate) fn set_file(&mut self, n: u32, file: Option<FileStamp>)
         requires { n < count_of self.old }
@@ -46,6 +60,7 @@ impl Store {
         ensures kept { KeepsNames self.old self.new }
     {
         self.records.set_file(n, file);
+        refresh(&mut self.memo, &self.records, &self.rows, n);
     }
 
     pub(crate) fn start(&mut self, s: u8, t: u32)
@@ -56,6 +71,7 @@ impl Store {
     {
         self.records.start(s, t);
         self.rows.clear(t);
+        refresh(&mut self.memo, &self.records, &self.rows, t);
     }
 
     pub(crate) fn stamp(&mut self, t: u32, content: &[u8])
@@ -65,6 +81,7 @@ impl Store {
         ensures kept { KeepsNames self.old self.new }
     {
         self.records.stamp(t, digest_of(content));
+        refresh(&mut self.memo, &self.records, &self.rows, t);
     }
 
     pub(crate) fn finish(&mut self, t: u32, stamp: Option<FileStamp>)
@@ -75,6 +92,7 @@ impl Store {
         ensures kept { KeepsNames self.old self.new }
     {
         self.records.done(t, stamp);
+        refresh(&mut self.memo, &self.records, &self.rows, t);
     }
 
     pub(crate) fn fail(&mut self, t: u32)
@@ -84,6 +102,7 @@ impl Store {
         ensures kept { KeepsNames self.old self.new }
     {
         self.records.failed(t);
+        refresh(&mut self.memo, &self.records, &self.rows, t);
     }
 
     /// A change row of the target on each of the names, with the mark that it has now.
@@ -95,6 +114,7 @@ impl Store {
         ensures kept { KeepsNames self.old self.new }
     {
         change_each(&mut self.rows, &self.records, t, names);
+        refresh(&mut self.memo, &self.records, &self.rows, t);
     }
 
     /// A created row of the target on each of the names.
@@ -106,6 +126,7 @@ impl Store {
         ensures kept { KeepsNames self.old self.new }
     {
         create_each(&mut self.rows, t, names);
+        refresh(&mut self.memo, &self.records, &self.rows, t);
     }
 
     /// An always row of the target.
@@ -115,5 +136,6 @@ impl Store {
         ensures kept { KeepsNames self.old self.new }
     {
         self.rows.put_always(t);
+        refresh(&mut self.memo, &self.records, &self.rows, t);
     }
 }

@@ -1,31 +1,18 @@
-ghost use Rattle.std.specs.Prelude.{◌≡◌, ◌<◌, ◌↔◌, ◌++◌, ◌∷◌, [], ℕ, IsTrue, IsNone, IfOk, OnOk, Contains, false, length, slice_index_or, if◌then◌else◌};
+ghost use Rattle.std.specs.Prelude.{◌≡◌, ◌<◌, ◌↔◌, ◌++◌, ◌∷◌, [], ℕ, IsTrue, IsNone, IfOk, OnOk, if◌then◌else◌};
 ghost use Rattle.redo_model.specs.Command as commands;
 ghost use Rattle.redo_model.specs.State.{Idle, has_file, target_state};
-ghost use Rattle.redo_model.specs.OutOfDate.{HasFile, IsTarget, OutOfDate, IsStale, IsSource, HasChangeRow, HasCreatedRow, HasRow};
+ghost use Rattle.redo_model.specs.OutOfDate.{HasFile, IsTarget, OutOfDate, IsSource, HasChangeRow, HasCreatedRow, HasRow};
 ghost use Rattle.redo_model.specs.Step.{Tells, stale_reply};
 ghost use Rattle.redo_model.specs.Renaming.{AllBelow, IsReplyBelow};
 ghost use Rattle.redo_command.specs.Meaning.{reply_of};
-ghost use Rattle.redo_store.specs.Stored.{IsStored, records_of, naming_of, count_of, AreInOrder, AreFlags};
+ghost use Rattle.redo_store.specs.Stored.{IsStored, records_of, naming_of, count_of, AreInOrder};
 
 use crate::store::Store;
 use redo_command::Reply;
-use redo_ood::Ood;
 use redo_records::State;
 use std::alloc::{AllocError, Global};
 
-// A flag for each name, true for those that are asked for.
-fn flags(alloc: Global, count: u32, names: &[u32]) -> Result<Vec<bool>, AllocError>
-    requires { AllBelow count names.now }
-    ensures { IfOk result (λ flags. AreFlags count (Contains names.now) flags.items) }
-{
-    let mut flags = vec![in alloc; false; count as usize]?;
-    for &n in names {
-        flags[n as usize] = true;
-    }
-    Ok(flags)
-}
-
-fn push_if(names: &mut Vec<u32>, n: u32, is_due: bool) -> Result<(), AllocError>
+pub(super) fn push_if(names: &mut Vec<u32>, n: u32, is_due: bool) -> Result<(), AllocError>
     ensures { OnOk result (names.new.items ≡ names.old.items ++ (if is_due then n ∷ [] else [])) }
 {
     if is_due {
@@ -78,27 +65,12 @@ impl Store {
         Ok(Reply::Targets(self.targets(alloc)?))
     }
 
-    fn stale(&self, alloc: Global, names: &[u32]) -> Result<Vec<u32>, AllocError>
-        requires { AllBelow (count_of self.now) names.now }
-        ensures { IfOk result (λ stale. AreInOrder self.now (λ n. Contains names.now n × IsStale (records_of self.now) n) stale.items) }
-    {
-        let asked = flags(alloc, self.count(), names)?;
-        let ood = self.search(alloc)?;
-        let mut stale = Vec::new(alloc);
-        for &n in self.sorted() {
-            let is_due = self.is_stale(&asked, &ood, n);
-            push_if(&mut stale, n, is_due)?;
-        }
-        Ok(stale)
-    }
-
     fn ood(&self, alloc: Global) -> Result<Vec<u32>, AllocError>
         ensures { IfOk result (λ names. AreInOrder self.now (λ t. HasFile (records_of self.now) t × OutOfDate (records_of self.now) t) names.items) }
     {
-        let ood = self.search(alloc)?;
         let mut names = Vec::new(alloc);
         for &n in self.sorted() {
-            let is_due = self.is_out_with_file(&ood, n);
+            let is_due = self.is_out_with_file(n);
             push_if(&mut names, n, is_due)?;
         }
         Ok(names)
@@ -126,23 +98,12 @@ impl Store {
         Ok(names)
     }
 
-    /// Whether the name is asked for, and is stale.
-    fn is_stale(&self, asked: &[bool], ood: &Ood, n: u32) -> bool
-        requires number { n < count_of self.now }
-        requires asked { length asked.now ≡ count_of self.now }
-        requires searched { AreFlags (count_of self.now) (OutOfDate (records_of self.now)) ood.now }
-        ensures { IsTrue result ↔ (IsTrue (slice_index_or asked.now n false) × IsStale (records_of self.now) n) }
-    {
-        asked[n as usize] && (ood.is(n) || self.is_missing(n))
-    }
-
     /// Whether it is an out-of-date target with a file.
-    fn is_out_with_file(&self, ood: &Ood, n: u32) -> bool
-        requires number { n < count_of self.now }
-        requires searched { AreFlags (count_of self.now) (OutOfDate (records_of self.now)) ood.now }
+    fn is_out_with_file(&self, n: u32) -> bool
+        requires { n < count_of self.now }
         ensures { IsTrue result ↔ (HasFile (records_of self.now) n × OutOfDate (records_of self.now) n) }
     {
-        self.has_file(n) && ood.is(n)
+        self.has_file(n) && self.is_out(n)
     }
 
     fn is_source(&self, n: u32) -> bool
@@ -161,7 +122,7 @@ impl Store {
     }
 
     /// Whether it is an idle name without a file.
-    fn is_missing(&self, n: u32) -> bool
+    pub(super) fn is_missing(&self, n: u32) -> bool
         requires { n < count_of self.now }
         ensures { IsTrue result ↔ ((target_state (records_of self.now) n ≡ Idle) × IsNone ((records_of self.now).cell n).file) }
     {
@@ -206,21 +167,16 @@ impl Store {
         self.records.file(n).is_some()
     }
 
-    /// Finds the targets that are out of date.
-    fn search(&self, alloc: Global) -> Result<Ood, AllocError>
-        ensures { IfOk result (λ ood. AreFlags (count_of self.now) (OutOfDate (records_of self.now)) ood) }
+    /// Whether it is an out-of-date target.
+    pub(super) fn is_out(&self, n: u32) -> bool
+        requires { n < count_of self.now }
+        ensures { IsTrue result ↔ OutOfDate (records_of self.now) n }
     {
-        Ood::search(alloc, self.count(), &self.records, &self.rows)
-    }
-
-    fn count(&self) -> u32
-        ensures { result ≡ count_of self.now }
-    {
-        self.records.count() as u32
+        self.memo.is(n)
     }
 
     /// The numbers of all names, in order.
-    fn sorted(&self) -> &[u32]
+    pub(super) fn sorted(&self) -> &[u32]
         ensures sorted { result.now ≡ self.now.sorted }
         ensures stored { IsStored self.now }
     {

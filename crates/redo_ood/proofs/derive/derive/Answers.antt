@@ -1,11 +1,8 @@
-use Rattle.std.proofs.Common.{◌∙◌}
 use Rattle.redo_rows.specs.Rows.{records_of}
 use Rattle.redo_ood.proofs.Deriving.{derived_from}
 use Rattle.redo_ood.proofs.derive.derive.Goals as goal
 
-pub spread-requires-clause-sized : goal.spread-requires-clause-sized
-spread-requires-clause-sized c = c.enter_due.ensures.grown.sized ∙ c.requires.sized
-
 pub returns : goal.returns
 returns c =
-    derived_from (records_of c.args.records.now c.args.rows.now) c.args.region.now c.requires.empty c.requires.sound c.enter_due.ensures c.spread.ensures
+    derived_from (records_of c.args.records.now c.args.rows.now) c.args.region.now
+    c.requires.empty c.requires.sound c.enter_due.ensures c.spread.ensures

@@ -4,4 +4,5 @@ use Rattle.redo_ood.specs.Regions.{EntersDue}
 use Rattle.redo_ood.proofs.derive.enter_due.Given as goal
 
 abbrev pub invariant-loop-t : goal.invariant-loop-t
-invariant-loop-t l = EntersDue (records_of l.records l.rows) (take l.t-index l.region) l.fn.marks l.marks
+invariant-loop-t l =
+    EntersDue (records_of l.records l.rows) (take l.t-index l.region) l.fn.marks l.marks

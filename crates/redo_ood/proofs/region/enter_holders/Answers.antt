@@ -1,28 +1,19 @@
-use Rattle.std.proofs.Common.{◌∙◌, ℕ, sym, subst, inl, inr}
+use Rattle.std.proofs.Common.{inl, inr}
 use Rattle.redo_model.specs.OutOfDate.{IsTarget, HasRow}
-use Rattle.redo_model.specs.Renaming.{AllBelow}
 use Rattle.redo_rows.specs.Rows.{records_of}
 use Rattle.redo_ood.proofs.Marking.{enters_then}
 use Rattle.redo_ood.proofs.region.enter_holders.Goals as goal
-
-pub enter_targets-requires-clause-below : goal.enter_targets-requires-clause-below
-enter_targets-requires-clause-below c =
-    subst (λ (n : ℕ). AllBelow n c.awaited_by.result.now) (sym (c.enter_dependents.ensures.grown.sized ∙ c.requires.sized)) c.awaited_by.ensures.below
-
-pub enter_targets-requires-clause-sized : goal.enter_targets-requires-clause-sized
-enter_targets-requires-clause-sized c =
-    c.enter_dependents.ensures.grown.sized ∙ c.requires.sized ∙ sym c.requires.records
 
 pub returns : goal.returns
 returns c =
     let r = records_of c.args.records.now c.args.rows.now in
     enters_then (λ t. IsTarget r t × HasRow r t c.args.n) (λ t. (
-        λ h. elim h.1 [
-          | inl change ↦ inl (h.0, change)
-          | inr created ↦ inr (h.0, (c.awaited_by.ensures.listed.1 t).1 created)
-        ],
-        λ s. elim s [
-          | inl d ↦ (d.0, inl d.1)
-          | inr w ↦ (w.0, inr ((c.awaited_by.ensures.listed.1 t).0 w.1))
-        ],
-      )) c.enter_dependents.ensures c.enter_targets.ensures
+      λ h. elim h.1 [
+        | inl change ↦ inl (h.0, change)
+        | inr created ↦ inr (h.0, (c.awaited_by.ensures.listed.1 t).1 created)
+      ],
+      λ s. elim s [
+        | inl d ↦ (d.0, inl d.1)
+        | inr w ↦ (w.0, inr ((c.awaited_by.ensures.listed.1 t).0 w.1))
+      ],
+    )) c.enter_dependents.ensures c.enter_targets.ensures

@@ -6,4 +6,6 @@ use Rattle.redo_ood.specs.Marks.{Enters}
 use Rattle.redo_ood.proofs.region.enter_targets.Given as goal
 
 abbrev pub invariant-loop-t : goal.invariant-loop-t
-invariant-loop-t l = Enters (λ u. ((cell_at l.records u).state ≢ Idle) × Contains (take l.t-index l.names) u) l.fn.marks l.marks
+invariant-loop-t l =
+    Enters (λ u. ((cell_at l.records u).state ≢ Idle) × Contains (take l.t-index l.names) u)
+    l.fn.marks l.marks

@@ -5,4 +5,6 @@ use Rattle.redo_ood.proofs.Spreading.{Touches}
 use Rattle.redo_ood.proofs.region.enter_touched.Given as goal
 
 abbrev pub invariant-loop-n : goal.invariant-loop-n
-invariant-loop-n l = Enters (Touches (records_of l.records l.rows) l.seeds (take l.n-index l.seeds)) l.fn.marks l.marks
+invariant-loop-n l =
+    Enters (Touches (records_of l.records l.rows) l.seeds (take l.n-index l.seeds))
+    l.fn.marks l.marks

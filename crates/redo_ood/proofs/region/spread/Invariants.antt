@@ -5,7 +5,10 @@ use Rattle.redo_ood.specs.Regions.{Spreads}
 use Rattle.redo_ood.proofs.region.spread.Given as goal
 
 abbrev pub invariant-names : goal.invariant-names
-invariant-names l = Spreads (records_of l.records l.rows) (take l.next l.marks.queue) l.fn.marks l.marks × (l.next ≤ length l.marks.queue)
+invariant-names l = record {
+  spreads : Spreads (records_of l.records l.rows) (take l.next l.marks.queue) l.fn.marks l.marks;
+  done : l.next ≤ length l.marks.queue;
+}
 
 abbrev pub decreases-names : goal.decreases-names
 decreases-names l = size_of l.marks - l.next

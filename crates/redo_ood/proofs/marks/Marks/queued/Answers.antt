@@ -8,6 +8,8 @@ pub returns-clause-below : goal.returns-clause-below
 returns-clause-below c =
     let m : Marked = marked_of c.self.inside in
     let n = c.index.result.now in
-    let in' : c.args.k < length m.queue = subst (λ (q : Marked). c.args.k < length q.queue) (sym c.self.view_is) c.requires in
-    let here : IsQueued m n = (c.args.k, in', sym c.index.ensures) in
-    subst (λ (q : Marked). n < size_of q) c.self.view_is (marked_below m.marks n (c.self.invariant.queue.marked n here))
+    let k = c.args.k in
+    let in' = subst (λ (q : Marked). k < length q.queue) (sym c.self.view_is) c.requires in
+    let here : IsQueued m n = (k, in', sym c.index.ensures) in
+    let below = marked_below m.marks n (c.self.invariant.queue.marked n here) in
+    subst (λ (q : Marked). n < size_of q) c.self.view_is below

@@ -1,24 +1,24 @@
-use Rattle.std.proofs.Common.{ℕ, sym, subst, ap, arith, ◌<◌, ◌^◌, length}
+use Rattle.std.proofs.Common.{◌<◌, ◌^◌, length, arith}
 use Rattle.std.specs.List.{Contains}
-use Rattle.redo_model.specs.Renaming.{AllBelow}
-use Rattle.redo_ood.specs.Marks.{Marked, size_of}
+use Rattle.redo_ood.specs.Marks.{Marked}
 use Rattle.redo_ood.specs.KeptMarks.{marked_of}
 use Rattle.redo_ood.proofs.Marking.{unmarks_from, queue_emptied}
 use Rattle.redo_ood.proofs.marks.Marks.unmark.Goals as goal
 
-pub unmark_each-requires : goal.unmark_each-requires
-unmark_each-requires c = subst (λ (k : Marked). AllBelow (size_of k) c.args.names.now) (sym c.self.view_is) c.requires
-
 pub invariant_of-self : goal.invariant_of-self
 invariant_of-self c =
     let marks = c.unmark_each.new.marks.items in
-    let few : length marks < 2 ^ 32 = omega (arith, c.unmark_each.ensures.sized, c.self.invariant.queue.few) in
+    let sized = c.unmark_each.ensures.sized in
+    let few : length marks < 2 ^ 32 = omega (arith, sized, c.self.invariant.queue.few) in
     record {
       queue = rw c.clear.ensures.items (queue_emptied marks few);
-      room = omega (arith, c.unmark_each.ensures.sized, c.self.invariant.room, c.clear.ensures.capacity);
+      room = omega (arith, sized, c.self.invariant.room, c.clear.ensures.capacity);
     }
 
 pub returns : goal.returns
 returns c =
     let m : Marked = marked_of c.self.inside in
-    rw (c.clear.ensures.items, ← c.self.view_is) (unmarks_from (Contains c.args.names.now) m c.unmark_each.new.marks.items c.unmark_each.ensures.sized c.unmark_each.ensures.each)
+    let unmarked = c.unmark_each.ensures in
+    rw (c.clear.ensures.items, ← c.self.view_is)
+    (unmarks_from (Contains c.args.names.now) m c.unmark_each.new.marks.items
+    unmarked.sized unmarked.each)

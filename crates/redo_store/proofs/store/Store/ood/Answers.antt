@@ -2,8 +2,8 @@ use Rattle.std.proofs.Common.{arith}
 use Rattle.redo_store.proofs.Listed.{number_below, first_more, first_all, file_below}
 use Rattle.redo_store.proofs.store.Store.ood.Goals as goal
 
-pub is_out_with_file-is_due-requires-clause-number : goal.is_out_with_file-is_due-requires-clause-number
-is_out_with_file-is_due-requires-clause-number c = number_below c.loop-n.n-index 0 c.sorted-n-items.ensures.stored c.sorted-n-items.ensures.sorted (omega arith)
+pub is_out_with_file-is_due-requires : goal.is_out_with_file-is_due-requires
+is_out_with_file-is_due-requires c = number_below c.loop-n.n-index 0 c.sorted-n-items.ensures.stored c.sorted-n-items.ensures.sorted (omega arith)
 
 pub loop-n-preserved : goal.loop-n-preserved
 loop-n-preserved c = first_more c.loop-n.n-index 0 c.sorted-n-items.ensures.stored c.sorted-n-items.ensures.sorted (omega arith) c.loop-n.invariant c.is_out_with_file-is_due.ensures c.in_ok-push_if.ensures

@@ -1,17 +1,28 @@
-use Rattle.std.proofs.Common.{arith, sym, subst}
-use Rattle.std.specs.List.{Contains}
-use Rattle.redo_store.specs.Stored.{AreFlags}
-use Rattle.redo_store.proofs.Listed.{number_below, first_more, first_all, named_below}
-use Rattle.redo_store.proofs.Flags.{flagged}
+use Rattle.std.proofs.Common.{◌<◌, ◌∙◌, ℕ, List, length, map, get_or, sym, ap, subst}
+use Rattle.std.specs.List.{All}
+use Rattle.std.proofs.lemmas.Result.{IfOk-weaker}
+use Rattle.redo_store.proofs.Listed.{named_below}
+use Rattle.redo_store.proofs.Ranked.{all_kept, in_order_by_places}
 use Rattle.redo_store.proofs.store.Store.stale.Goals as goal
 
-pub is_stale-is_due-requires-clause-number : goal.is_stale-is_due-requires-clause-number
-is_stale-is_due-requires-clause-number c = number_below c.loop-n.n-index 0 c.sorted-n-items.ensures.stored c.sorted-n-items.ensures.sorted (omega arith)
-
-pub loop-n-preserved : goal.loop-n-preserved
-loop-n-preserved c =
-    let asked : AreFlags c.count.result (Contains c.args.names.now) c.deref.result.now = subst (AreFlags c.count.result (Contains c.args.names.now)) (sym c.deref.ensures.value) c.in_ok-asked.ensures in
-    first_more c.loop-n.n-index 0 c.sorted-n-items.ensures.stored c.sorted-n-items.ensures.sorted (omega arith) c.loop-n.invariant (flagged c.args.names.now asked c.is_stale-is_due.ensures) c.in_ok-push_if.ensures
+pub names_at-requires : goal.names_at-requires
+names_at-requires c =
+    let places = c.in_order-places in
+    let sorted = c.args.self.now.sorted in
+    let below = all_kept (λ k. k < length sorted) c.in_ok-ranks.ranks.items places.result.items
+    places.ensures.same c.in_ok-ranks.ensures.below in
+    subst (λ (ns : List ℕ). All (λ k. k < length ns) c.deref.result.now)
+    (sym c.sorted-all.ensures.sorted)
+    (subst (All (λ k. k < length sorted)) (sym c.deref.ensures.value) below)
 
 pub returns : goal.returns
-returns c = first_all c.sorted-n-items.ensures.stored c.sorted-n-items.ensures.sorted (omega arith) (λ n p. named_below c.args.names.now n c.requires p.0) c.loop-n.invariant
+returns c =
+    let places = c.in_order-places in
+    IfOk-weaker c.names_at.result _ _ (λ v named.
+    in_order_by_places places.result.items v.items c.sorted-all.ensures.stored
+    (λ n p. named_below c.args.names.now n c.requires p.0)
+    c.in_ok-ranks.ensures places.ensures.rising places.ensures.same
+    (named
+    ∙ ap (λ (ns : List ℕ). map (λ k. get_or ns k 0) c.deref.result.now) c.sorted-all.ensures.sorted
+    ∙ ap (map (λ k. get_or c.args.self.now.sorted k 0)) c.deref.ensures.value))
+    c.names_at.ensures

@@ -3,12 +3,34 @@ use Rattle.redo_store.specs.Stored.{Stored}
 use Rattle.redo_store.specs.KeptStore.{stored_of}
 use Rattle.redo_store.proofs.Effects.{started}
 use Rattle.redo_store.proofs.Kept.{IsStored-set_cell, IsStored-set_rows}
+use Rattle.redo_store.proofs.Refreshing.{was_right_by_start}
 use Rattle.redo_store.proofs.store.Store.start.Goals as goal
 
+pub refresh-requires-clause-right : goal.refresh-requires-clause-right
+refresh-requires-clause-right c =
+    let inside = c.self.inside in
+    rw c.start.ensures
+    (was_right_by_start inside.memo inside.records inside.rows c.args.t
+    c.self.invariant.memo_right _ c.clear.new.self c.clear.ensures.rows)
+
 pub invariant_of-self : goal.invariant_of-self
-invariant_of-self c = rw c.start.ensures (IsStored-set_rows _ c.clear.new.self (IsStored-set_cell (stored_of c.self.inside) c.args.t _ c.self.invariant (c.self.invariant.few_builds c.args.t)) c.clear.ensures.count)
+invariant_of-self c =
+    let kept = c.self.invariant.stored in
+    let stored = stored_of c.self.inside in
+    record {
+      stored = rw c.start.ensures
+          (IsStored-set_rows _ c.clear.new.self
+          (IsStored-set_cell stored c.args.t _ kept (kept.few_builds c.args.t))
+          c.clear.ensures.count);
+      ranked = c.self.invariant.ranked;
+      memo_for_each = c.refresh.ensures.count;
+      memo_right = c.refresh.ensures.right;
+    }
 
 pub returns-clause-after : goal.returns-clause-after
 returns-clause-after c =
-    let below : c.args.t < length c.self.inside.records = subst (λ (u : Stored). c.args.t < length u.cells) (sym c.self.view_is) c.requires.number in
-    rw (c.start.ensures, ← c.self.view_is) (started (stored_of c.self.inside) c.args.t c.clear.new.self c.args.s below c.clear.ensures.rows)
+    let t = c.args.t in
+    let below : t < length c.self.inside.records =
+    subst (λ (u : Stored). t < length u.cells) (sym c.self.view_is) c.requires.number in
+    rw (c.start.ensures, ← c.self.view_is)
+    (started (stored_of c.self.inside) t c.clear.new.self c.args.s below c.clear.ensures.rows)

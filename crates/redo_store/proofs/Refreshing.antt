@@ -1,0 +1,121 @@
+-- What a command changes of the records and rows is at one name, so the memo was right but for that.
+use Rattle.std.proofs.Common.{◌≡◌, ◌∙◌, ℕ, Bool, true, false, cond, List, [], ◌∷◌, Option, None, refl, sym, ap, subst}
+use Rattle.std.specs.List.{Contains}
+use Rattle.std.proofs.Math.ListN.{replicate}
+use Rattle.std.proofs.Math.Path.{fun_ext}
+use Rattle.std.proofs.lemmas.Bool.{ne_eqb}
+use Rattle.std.proofs.lemmas.List.{get_or-set_other}
+use Rattle.redo_model.specs.Command as commands
+use Rattle.redo_model.specs.Names.{put}
+use Rattle.redo_model.specs.OutOfDate.{DifferAt}
+use Rattle.redo_model.specs.State.{Cell, Mark, Records, empty, idle, no_rows}
+use Rattle.redo_model.specs.Step.{effect_of}
+use Rattle.redo_model.proofs.Members.{contains_first}
+use Rattle.redo_ood.proofs.Marking.{same_everywhere}
+use Rattle.redo_ood.specs.Memo.{IsRight, WasRight}
+use Rattle.redo_records.specs.Cells.{cell_at, with_cell_at}
+use Rattle.redo_rows.specs.Rows.{TargetRows, by_number, rows_of, with_always, without_rows, records_of as with_rows}
+
+other_name : (n m : ℕ) → (Contains (n ∷ []) m → ⊥) → m ≡ n → ⊥
+other_name n m far e = far (subst (Contains (n ∷ [])) (sym e) (contains_first n []))
+
+-- what is put at a name leaves the others
+put_far : {X : Type 0} (n m : ℕ) (x : X) (f : ℕ → X) → (Contains (n ∷ []) m → ⊥)
+    → f m ≡ put by_number n x f m
+put_far n m x f far =
+    ap (λ b. cond b x (f m)) (sym (ne_eqb n m (λ e. other_name n m far (sym e))))
+
+cell_far : (cells : List Cell) (n m : ℕ) (c : Cell) → (Contains (n ∷ []) m → ⊥)
+    → cell_at cells m ≡ cell_at (with_cell_at cells n c) m
+cell_far cells n m c far = sym (get_or-set_other cells n m c idle (other_name n m far))
+
+module _ (memo : List Bool) (cells : List Cell) (targets : List TargetRows) (n : ℕ)
+    (right : IsRight memo (with_rows cells targets))
+  where
+    pub was_right_by_cell : (c : Cell)
+        → WasRight (n ∷ []) memo (with_rows (with_cell_at cells n c) targets)
+    was_right_by_cell c = (
+      with_rows cells targets,
+      record {
+        cell = λ m far. cell_far cells n m c far;
+        change = λ t m far. refl;
+        created = λ t m far. refl;
+        always = λ t far. refl;
+      },
+      right,
+    )
+
+    pub was_right_by_start : (c : Cell) (to : List TargetRows)
+        → rows_of to ≡ without_rows (rows_of targets) n
+        → WasRight (n ∷ []) memo (with_rows (with_cell_at cells n c) to)
+    was_right_by_start c to cleared =
+        let old = rows_of targets in (
+          with_rows cells targets,
+          record {
+            cell = λ m far. cell_far cells n m c far;
+            change = λ t m far.
+                ap (λ (f : ℕ → Option Mark). f m) (put_far n t (λ k. None) old.change far)
+                ∙ sym (ap (λ rows. rows.change t m) cleared);
+            created = λ t m far.
+                ap (λ (f : ℕ → Bool). f m) (put_far n t (λ k. false) old.created far)
+                ∙ sym (ap (λ rows. rows.created t m) cleared);
+            always = λ t far.
+                put_far n t false old.always far ∙ sym (ap (λ rows. rows.always t) cleared);
+          },
+          right,
+        )
+
+    pub was_right_by_always : (to : List TargetRows) → rows_of to ≡ with_always (rows_of targets) n
+        → WasRight (n ∷ []) memo (with_rows cells to)
+    was_right_by_always to written =
+        let old = rows_of targets in (
+          with_rows cells targets,
+          record {
+            cell = λ m far. refl;
+            change = λ t m far. sym (ap (λ rows. rows.change t m) written);
+            created = λ t m far. sym (ap (λ rows. rows.created t m) written);
+            always = λ t far.
+                put_far n t true old.always far ∙ sym (ap (λ rows. rows.always t) written);
+          },
+          right,
+        )
+
+    pub was_right_by_changes : (names : List ℕ) (new : Records ℕ)
+        → new ≡ effect_of by_number (with_rows cells targets) 0 (commands.IfChange n names)
+        → WasRight (n ∷ []) memo new
+    was_right_by_changes names new changed = (
+      with_rows cells targets,
+      subst (DifferAt (n ∷ []) (with_rows cells targets)) (sym changed) (record {
+        cell = λ m far. refl;
+        change = λ t m far.
+            ap (λ (f : ℕ → Option Mark). f m) (put_far n t _ (rows_of targets).change far);
+        created = λ t m far. refl;
+        always = λ t far. refl;
+      }),
+      right,
+    )
+
+    pub was_right_by_created : (names : List ℕ) (new : Records ℕ)
+        → new ≡ effect_of by_number (with_rows cells targets) 0 (commands.IfCreate n names)
+        → WasRight (n ∷ []) memo new
+    was_right_by_created names new changed = (
+      with_rows cells targets,
+      subst (DifferAt (n ∷ []) (with_rows cells targets)) (sym changed) (record {
+        cell = λ m far. refl;
+        change = λ t m far. refl;
+        created = λ t m far.
+            ap (λ (f : ℕ → Bool). f m) (put_far n t _ (rows_of targets).created far);
+        always = λ t far. refl;
+      }),
+      right,
+    )
+
+-- what stands in the records in the empty state
+pub empty_records : (count : ℕ) (cells : List Cell) (targets : List TargetRows)
+    → cells ≡ replicate count idle → rows_of targets ≡ no_rows
+    → with_rows cells targets ≡ empty.records
+empty_records count cells targets all_idle none =
+    let each : (λ (n : ℕ). cell_at cells n) ≡ (λ n. idle) =
+    ap (λ (cs : List Cell). λ (n : ℕ). cell_at cs n) all_idle
+    ∙ fun_ext (λ n. same_everywhere count n idle) in
+    λ i. record { cell = each i; rows = none i }

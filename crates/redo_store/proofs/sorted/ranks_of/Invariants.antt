@@ -1,0 +1,9 @@
+use Rattle.std.proofs.Common.{◌≡◌, length, take}
+use Rattle.redo_store.proofs.Ranked.{HaveRanks}
+use Rattle.redo_store.proofs.sorted.ranks_of.Given as goal
+
+abbrev pub invariant-loop-k : goal.invariant-loop-k
+invariant-loop-k l = record {
+  sized : length l.ranks.items ≡ length l.sorted;
+  each : HaveRanks (take l.k l.sorted) l.sorted l.ranks.items l.k;
+}
