@@ -1,9 +1,10 @@
-//! The search over long chains and rings of targets.
+//! The memo of what is out of date over long chains and rings of targets.
 ghost use Rattle.std.specs.Prelude.{◌≡◌, ◌<◌, ◌≤◌, length, IfOk};
 ghost use Rattle.redo_rows.specs.Rows.{count_of};
 
-use crate::search;
+use crate::memos::{change_file, memo_of, put_always};
 use redo_command::FileStamp;
+use redo_ood::Ood;
 use redo_records::{Mark, Records, State};
 use redo_rows::DepRows;
 use std::alloc::Global;
@@ -60,13 +61,9 @@ fn chain(rt: &impl Abort, alloc: Global, count: u32) -> Result<DepRows, Fail>
     Ok(rows)
 }
 
-/// How many targets are out of date.
-fn out_of_date(alloc: Global, count: u32, records: &Records, rows: &DepRows) -> Result<usize, Fail>
-    requires records { length records.now ≡ count }
-    requires rows { count_of rows.now ≡ count }
-{
-    let marks = search::out_of_date(alloc, count, records, rows)?;
-    Ok(marks.iter().filter(|is_out| **is_out).count())
+/// How many targets are out of date by the memo.
+fn out_of_date(alloc: Global, ood: &Ood) -> Result<u32, Fail> {
+    Ok(ood.list(alloc)?.len() as u32)
 }
 
 #[test]
@@ -74,9 +71,12 @@ fn long_chain(rt: HostRuntime) -> Result<(), Fail> {
     let alloc = rt.alloc();
     let records = all_built(&rt, alloc, CHAIN)?;
     let mut rows = chain(&rt, alloc, CHAIN)?;
-    assert_eq!(rt; out_of_date(alloc, CHAIN, &records, &rows)?, 0);
-    rows.put_always(CHAIN - 1);
-    assert_eq!(rt; out_of_date(alloc, CHAIN, &records, &rows)?, CHAIN as usize);
+    let mut ood = memo_of(&rt, alloc, CHAIN, &records, &rows)?;
+    assert_eq!(rt; out_of_date(alloc, &ood)?, 0);
+    assert_eq!(rt; put_always(&mut ood, &records, &mut rows, 0), 1);
+    assert_eq!(rt; out_of_date(alloc, &ood)?, 1);
+    assert_eq!(rt; put_always(&mut ood, &records, &mut rows, CHAIN - 1), CHAIN);
+    assert_eq!(rt; out_of_date(alloc, &ood)?, CHAIN);
     Ok(())
 }
 
@@ -86,8 +86,9 @@ fn long_ring(rt: HostRuntime) -> Result<(), Fail> {
     let mut records = all_built(&rt, alloc, RING)?;
     let mut rows = chain(&rt, alloc, RING)?;
     link(&rt, &mut rows, RING - 1, 0)?;
-    assert_eq!(rt; out_of_date(alloc, RING, &records, &rows)?, 0);
-    records.set_file(7, None);
-    assert_eq!(rt; out_of_date(alloc, RING, &records, &rows)?, RING as usize);
+    let mut ood = memo_of(&rt, alloc, RING, &records, &rows)?;
+    assert_eq!(rt; out_of_date(alloc, &ood)?, 0);
+    assert_eq!(rt; change_file(&mut ood, &mut records, &rows, 7, None), RING);
+    assert_eq!(rt; out_of_date(alloc, &ood)?, RING);
     Ok(())
 }

@@ -1,14 +1,8 @@
-//! The database against its plain form, over a ring and a diamond of targets.
-ghost use Rattle.std.specs.Prelude.{◌≡◌};
-ghost use Rattle.redo_store.specs.Tables.{count_of};
-
-use crate::answers::names_of;
-use crate::oracle::{TEXTS, same_reply};
+//! The database against its slower forms, over a ring and a diamond of targets.
+use crate::compared::{Compared, all_names};
 use crate::random::NAMES;
 use redo_command::{Command, Reply, read_command};
 use redo_names::Names;
-use redo_plain::Plain;
-use redo_store::Redo;
 use std::alloc::Global;
 use std::process::Abort;
 use std::test::Fail;
@@ -59,49 +53,39 @@ const DIAMOND: [(&str, usize); 18] = [
     ("gone a.o", 0),
 ];
 
-/// How many targets with a file are out of date, by both databases.
+/// How many targets with a file are out of date.
 fn out_of_date(
     rt: &impl Abort,
     alloc: Global,
-    redo: &mut Redo,
-    plain: &mut Plain,
-) -> Result<Option<usize>, Fail>
-    requires { count_of redo.old ≡ NAMES }
-    ensures { count_of redo.new ≡ NAMES }
-{
-    match same_reply(rt, alloc, redo, plain, 0, &Command::Ood)? {
+    compared: &mut Compared,
+) -> Result<Option<usize>, Fail> {
+    match compared.call(rt, alloc, 0, &Command::Ood)? {
         Reply::Ood(targets) => Ok(Some(targets.len())),
         _ => Ok(None),
     }
 }
 
-/// Demands the same reply of both databases.
+/// Demands the same reply of all databases.
 fn obeyed(
     rt: &impl Abort,
     alloc: Global,
-    redo: &mut Redo,
-    plain: &mut Plain,
+    compared: &mut Compared,
     names: &mut Names,
     line: &str,
-) -> Result<(), Fail>
-    requires { count_of redo.old ≡ NAMES }
-    ensures { count_of redo.new ≡ NAMES }
-{
+) -> Result<(), Fail> {
     let command = read_command(alloc, line.as_bytes(), names)?;
     assert_eq!(rt; names.len(), NAMES);
-    same_reply(rt, alloc, redo, plain, 0, &command)?;
+    compared.call(rt, alloc, 0, &command)?;
     Ok(())
 }
 
-/// Each command has the same reply by both databases, and leaves as many targets out of date.
+/// Each command has the same reply by all databases, and leaves as many targets out of date.
 fn compare(rt: &impl Abort, alloc: Global, lines: &[(&str, usize)]) -> Result<(), Fail> {
-    let mut names = names_of(rt, alloc, &TEXTS)?;
-    assert_eq!(rt; names.len(), NAMES);
-    let mut redo = Redo::new(alloc, &names)?;
-    let mut plain = Plain::new(alloc, &names)?;
+    let mut names = all_names(rt, alloc)?;
+    let mut compared = Compared::new(alloc, &names)?;
     for (line, want) in lines {
-        obeyed(rt, alloc, &mut redo, &mut plain, &mut names, line)?;
-        let count = out_of_date(rt, alloc, &mut redo, &mut plain)?;
+        obeyed(rt, alloc, &mut compared, &mut names, line)?;
+        let count = out_of_date(rt, alloc, &mut compared)?;
         assert_eq!(rt; count, Some(*want), "{line:?}");
     }
     Ok(())

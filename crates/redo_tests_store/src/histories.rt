@@ -3,14 +3,11 @@ ghost use Rattle.std.specs.Prelude.{◌≡◌, length};
 ghost use Rattle.redo_model.specs.Renaming.{IsBelow, IsReplyBelow};
 ghost use Rattle.redo_command.specs.Meaning.{command_of, reply_of};
 
-use crate::answers::names_of;
-use crate::oracle::{TEXTS, same_reply};
+use crate::compared::{Compared, all_names};
 use crate::random::{NAMES, Random};
 use redo_command::{Command, Line, Reply, Watched};
 use redo_names::Names;
-use redo_plain::Plain;
 use redo_replay::{put_answer, put_number, replay_text};
-use redo_store::Redo;
 use std::alloc::{AllocError, Global};
 use std::process::Abort;
 use std::test::Fail;
@@ -39,19 +36,18 @@ fn put_line(
     put_answer(alloc, text, &line, names)
 }
 
-/// The lines of a legal history: each reply is that of the plain form too.
+/// The lines of a legal history: each reply is that of the slower forms too.
 fn legal_lines(rt: &impl Abort, alloc: Global, names: &Names, seed: u64) -> Result<Vec<u8>, Fail>
     requires { length names.now ≡ NAMES }
 {
-    let mut redo = Redo::new(alloc, names)?;
-    let mut plain = Plain::new(alloc, names)?;
+    let mut compared = Compared::new(alloc, names)?;
     let mut random = Random::new(seed);
     let mut text = Vec::new(alloc);
     'draws: for _ in 0..LINES {
         let t = random.target(NAMES);
         let session = random.session(t);
         let command = random.command(alloc, t)?;
-        let reply = same_reply(rt, alloc, &mut redo, &mut plain, session, &command)?;
+        let reply = compared.call(rt, alloc, session, &command)?;
         put_line(alloc, &mut text, names, session, command, reply)?;
     }
     Ok(text)
@@ -107,8 +103,7 @@ fn check_line<R: Abort + AllocGlobal>(rt: &R, texts: &[&str], wrong: usize) -> R
 #[test]
 fn wrong_reply_in_each_line(rt: HostRuntime) -> Result<(), Fail> {
     let alloc = rt.alloc();
-    let names = names_of(&rt, alloc, &TEXTS)?;
-    assert_eq!(rt; names.len(), NAMES);
+    let names = all_names(&rt, alloc)?;
     let lines = legal_lines(&rt, alloc, &names, 2026)?;
     let texts: Vec<&str> = str::from_utf8(lines.as_slice())?.lines().collect(alloc)?;
     assert_eq!(rt; texts.len(), LINES as usize);

@@ -1,21 +1,13 @@
-//! The database against its plain form, over commands drawn at random.
-ghost use Rattle.std.specs.Prelude.{◌≡◌, length, IfOk};
-ghost use Rattle.redo_store.specs.Tables.{count_of};
-ghost use Rattle.redo_model.specs.Renaming.{IsBelow, IsReplyBelow};
-ghost use Rattle.redo_command.specs.Meaning.{command_of, reply_of};
+//! The database against its slower forms, over commands drawn at random.
+ghost use Rattle.std.specs.Prelude.{◌≡◌, length};
 
-use crate::answers::names_of;
+use crate::compared::{Compared, all_names};
 use crate::random::{NAMES, Random};
 use redo_command::{Command, Kind, Refusal, Reply};
 use redo_names::Names;
-use redo_plain::Plain;
-use redo_store::Redo;
 use std::alloc::Global;
 use std::process::Abort;
 use std::test::Fail;
-
-/// Names whose order by bytes is another than that of their numbers.
-pub(crate) const TEXTS: [&str; 8] = ["lib.o", "b", "lib", "a.o", "B", "a", "a.c", "lib.c"];
 
 /// How many lists of commands there are, and how many commands each has.
 const LISTS: u32 = 100;
@@ -62,46 +54,18 @@ fn sort_of(reply: &Reply) -> Sort {
     }
 }
 
-/// The reply of both databases, which is the same.
-pub(crate) fn same_reply(
-    rt: &impl Abort,
-    alloc: Global,
-    redo: &mut Redo,
-    plain: &mut Plain,
-    session: u8,
-    command: &Command,
-) -> Result<Reply, Fail>
-    requires count { count_of redo.old ≡ NAMES }
-    requires numbers { IsBelow NAMES (command_of command.now) }
-    ensures count { count_of redo.new ≡ NAMES }
-    ensures below { IfOk result (λ reply. IsReplyBelow NAMES (reply_of reply)) }
-{
-    assert!(rt; redo.calls() < 2 * COMMANDS);
-    let reply = redo.call(alloc, session, command)?;
-    let want = plain.call(alloc, session, command)?;
-    assert!(rt;
-        reply.is_same(&want),
-        "{session} {command:?} gives {reply:?}, not {want:?}"
-    );
-    Ok(reply)
-}
-
 /// The sort of a reply to a command; that to `ood` goes by the targets.
 fn sort_seen(
     rt: &impl Abort,
     alloc: Global,
-    redo: &mut Redo,
-    plain: &mut Plain,
+    compared: &mut Compared,
     reply: &Reply,
-) -> Result<Sort, Fail>
-    requires { count_of redo.old ≡ NAMES }
-    ensures { count_of redo.new ≡ NAMES }
-{
+) -> Result<Sort, Fail> {
     let sort = sort_of(reply);
     if sort != Sort::NoName || !matches!(reply, Reply::Ood(_)) {
         return Ok(sort);
     }
-    let targets = same_reply(rt, alloc, redo, plain, 0, &Command::Targets)?;
+    let targets = compared.call(rt, alloc, 0, &Command::Targets)?;
     Ok(if sort_of(&targets) == Sort::NoName {
         Sort::NoName
     } else {
@@ -109,7 +73,7 @@ fn sort_seen(
     })
 }
 
-/// Draws commands, and demands the same replies of both databases. Adds each command's kind with its reply's sort.
+/// Draws commands, and demands the same replies of all databases. Adds each command's kind with its reply's sort.
 fn compare(
     rt: &impl Abort,
     alloc: Global,
@@ -119,16 +83,15 @@ fn compare(
 ) -> Result<(), Fail>
     requires { length names.now ≡ NAMES }
 {
-    let mut redo = Redo::new(alloc, names)?;
-    let mut plain = Plain::new(alloc, names)?;
+    let mut compared = Compared::new(alloc, names)?;
     let mut random = Random::new(u64::from(seed));
     let targets = 1 + seed % NAMES;
     'draws: for _ in 0..COMMANDS {
         let t = random.target(targets);
         let session = random.session(t);
         let command = random.command(alloc, t)?;
-        let reply = same_reply(rt, alloc, &mut redo, &mut plain, session, &command)?;
-        let sort = sort_seen(rt, alloc, &mut redo, &mut plain, &reply)?;
+        let reply = compared.call(rt, alloc, session, &command)?;
+        let sort = sort_seen(rt, alloc, &mut compared, &reply)?;
         seen.push((command.kind(), sort))?;
     }
     Ok(())
@@ -175,8 +138,7 @@ fn check_all_seen(rt: &impl Abort, seen: &[(Kind, Sort)]) {
 #[test]
 fn same_as_the_plain_form(rt: HostRuntime) -> Result<(), Fail> {
     let alloc = rt.alloc();
-    let names = names_of(&rt, alloc, &TEXTS)?;
-    assert_eq!(rt; names.len(), NAMES);
+    let names = all_names(&rt, alloc)?;
     let mut seen = Vec::new(alloc);
     for seed in 0..LISTS {
         compare(&rt, alloc, &names, seed, &mut seen)?;

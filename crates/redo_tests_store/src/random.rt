@@ -7,9 +7,14 @@ use redo_command::{Command, FileStamp};
 use std::alloc::{AllocError, Global};
 
 /// How many names the commands speak of, and how many sessions ask them.
-pub(crate) const NAMES: u32 = 8;
+pub(crate) const NAMES: u32 = 12;
 
 const SESSIONS: u32 = 4;
+
+/// The session that works on this target.
+pub(crate) fn owner(t: u32) -> u8 {
+    (t % SESSIONS) as u8
+}
 
 /// A generator of numbers: the state moves on by a fixed step, and each number is the state, mixed.
 #[derive(Drop)]
@@ -31,14 +36,14 @@ impl Random {
     }
 
     /// A number below the count.
-    fn below(&mut self, count: u32) -> u32
+    pub(crate) fn below(&mut self, count: u32) -> u32
         requires { 0 < count }
         ensures { result < count }
     {
         (self.number() % u64::from(count)) as u32
     }
 
-    fn name(&mut self) -> u32
+    pub(crate) fn name(&mut self) -> u32
         ensures { result < NAMES }
     {
         self.below(NAMES)
@@ -66,12 +71,11 @@ impl Random {
 
     /// A session: for the most part the one that works on this target.
     pub(crate) fn session(&mut self, t: u32) -> u8 {
-        let session = if self.below(12) == 0 {
-            self.below(SESSIONS)
+        if self.below(12) == 0 {
+            self.below(SESSIONS) as u8
         } else {
-            t % SESSIONS
-        };
-        session as u8
+            owner(t)
+        }
     }
 
     /// One of a few file stamps, or none.

@@ -1,0 +1,110 @@
+//! Builds of targets on one another, drawn at random so that rings, diamonds and chains of them come about. For the
+//! most part a build leaves its target as it was, so that targets become up to date again.
+ghost use Rattle.std.specs.Prelude.{◌<◌, IfOk};
+ghost use Rattle.redo_model.specs.Renaming.{AllBelow, IsBelow};
+ghost use Rattle.redo_command.specs.Meaning.{command_of};
+
+use crate::random::{NAMES, Random};
+use redo_command::{Command, FileStamp};
+use std::alloc::{AllocError, Global};
+
+/// How many of the names are built as targets; the others are sources.
+pub(crate) const TARGETS: u32 = 9;
+
+/// The source that for the most part has no file.
+const MISSING: u32 = NAMES - 1;
+
+/// How many commands a build has.
+pub(crate) const STEPS: u32 = 8;
+
+fn source(random: &mut Random) -> u32
+    ensures { result < NAMES }
+{
+    TARGETS + random.below(NAMES - TARGETS)
+}
+
+/// A source has a file, or none: for the most part, what it had before.
+fn source_file(random: &mut Random) -> Command
+    ensures { IsBelow NAMES (command_of result) }
+{
+    let n = source(random);
+    let stamp = match random.below(16) {
+        0 => None,
+        1 | 2 => FileStamp::new(b"2"),
+        _ if n == MISSING => None,
+        _ => FileStamp::new(b"1"),
+    };
+    match stamp {
+        Some(stamp) => Command::File(n, stamp),
+        None => Command::Gone(n),
+    }
+}
+
+/// A name that the target is to need: the next target, so that there are chains and a ring; one of two popular
+/// targets; a source; or any name.
+fn needed_name(random: &mut Random, t: u32) -> u32
+    requires { t < NAMES }
+    ensures { result < NAMES }
+{
+    match random.below(16) {
+        0..=7 => (t + 1) % TARGETS,
+        8..=11 => random.below(2),
+        12 | 13 => source(random),
+        _ => random.name(),
+    }
+}
+
+fn needed_names(random: &mut Random, alloc: Global, t: u32) -> Result<Vec<u32>, AllocError>
+    requires { t < NAMES }
+    ensures { IfOk result (λ names. AllBelow NAMES names.items) }
+{
+    Ok(match random.below(2) {
+        0 => vec![in alloc; needed_name(random, t)]?,
+        _ => vec![in alloc; needed_name(random, t), needed_name(random, t)]?,
+    })
+}
+
+/// The same content, for the most part.
+fn content(random: &mut Random, alloc: Global) -> Result<Vec<u8>, AllocError> {
+    match random.below(32) {
+        0 => Vec::from_slice(alloc, b"abd"),
+        _ => Vec::from_slice(alloc, b"abc"),
+    }
+}
+
+/// What comes just before the end of a build.
+fn last_words(random: &mut Random, alloc: Global, t: u32) -> Result<Command, AllocError>
+    requires { t < NAMES }
+    ensures { IfOk result (λ command. IsBelow NAMES (command_of command)) }
+{
+    Ok(match random.below(32) {
+        0 => Command::Always(t),
+        1 => Command::Failed(t),
+        2..=8 => Command::IfCreate(t, vec![in alloc; MISSING]?),
+        _ => source_file(random),
+    })
+}
+
+/// The command of this step of a build of the target; once in a while, any command on it.
+pub(crate) fn step_command(
+    random: &mut Random,
+    alloc: Global,
+    t: u32,
+    step: u32,
+) -> Result<Command, AllocError>
+    requires { t < NAMES }
+    ensures { IfOk result (λ command. IsBelow NAMES (command_of command)) }
+{
+    if random.below(64) == 0 {
+        return random.command(alloc, t);
+    }
+    Ok(match step {
+        0 => Command::Lock(t),
+        1 => Command::Start(t),
+        2 | 3 => Command::IfChange(t, needed_names(random, alloc, t)?),
+        4 => Command::Stamp(t, content(random, alloc)?),
+        5 => last_words(random, alloc, t)?,
+        6 => Command::Done(t, FileStamp::new(b"1")),
+        _ => source_file(random),
+    })
+}

@@ -1,0 +1,92 @@
+//! The memo of what is out of date, made anew, and kept right through one change.
+ghost use Rattle.std.specs.Prelude.{◌≡◌, ◌<◌, IsFalse, length, IfOk};
+ghost use Rattle.std.specs.List.{range_with_len};
+ghost use Rattle.redo_model.specs.State.{is_building};
+ghost use Rattle.redo_records.specs.Cells.{cell_at};
+ghost use Rattle.redo_rows.specs.Rows.{count_of, records_of};
+ghost use Rattle.redo_ood.specs.Memo.{count_of as memo_count, IsRight};
+
+use redo_command::FileStamp;
+use redo_ood::Ood;
+use redo_records::Records;
+use redo_rows::DepRows;
+use std::alloc::{AllocError, Global};
+use std::process::Abort;
+use std::test::Fail;
+
+fn all_numbers(alloc: Global, count: u32) -> Result<Vec<u32>, AllocError>
+    ensures { IfOk result (λ numbers. numbers.items ≡ range_with_len 0 count) }
+{
+    (0..count).collect(alloc)
+}
+
+/// The memo for these records and rows, from that of nothing: all names are seeds.
+pub(crate) fn memo_of(
+    rt: &impl Abort,
+    alloc: Global,
+    count: u32,
+    records: &Records,
+    rows: &DepRows,
+) -> Result<Ood, Fail>
+    requires records { length records.now ≡ count }
+    requires rows { count_of rows.now ≡ count }
+    ensures count { IfOk result (λ ood. memo_count ood ≡ count) }
+    ensures right { IfOk result (λ ood. IsRight ood (records_of records.now rows.now)) }
+{
+    let names = all_numbers(alloc, count)?;
+    let mut ood = Ood::new(alloc, count)?;
+    let region = ood.refresh(records, rows, &names);
+    assert_eq!(rt; region, count);
+    Ok(ood)
+}
+
+/// The name has another file, or none. Answers how many names the region of the change has.
+pub(crate) fn change_file(
+    ood: &mut Ood,
+    records: &mut Records,
+    rows: &DepRows,
+    n: u32,
+    file: Option<FileStamp>,
+) -> u32
+    requires name { n < length records.old }
+    requires rows { count_of rows.now ≡ length records.old }
+    requires count { memo_count ood.old ≡ length records.old }
+    requires right { IsRight ood.old (records_of records.old rows.now) }
+    ensures right { IsRight ood.new (records_of records.new rows.now) }
+    ensures count { memo_count ood.new ≡ memo_count ood.old }
+    ensures records { length records.new ≡ length records.old }
+{
+    records.set_file(n, file);
+    ood.refresh(records, rows, &[n])
+}
+
+/// The target is built from now on. Answers how many names the region of the change has.
+pub(crate) fn start(ood: &mut Ood, records: &mut Records, rows: &mut DepRows, t: u32) -> u32
+    requires target { t < length records.old }
+    requires free { IsFalse (is_building (cell_at records.old t).state) }
+    requires rows { count_of rows.old ≡ length records.old }
+    requires count { memo_count ood.old ≡ length records.old }
+    requires right { IsRight ood.old (records_of records.old rows.old) }
+    ensures right { IsRight ood.new (records_of records.new rows.new) }
+    ensures count { memo_count ood.new ≡ memo_count ood.old }
+    ensures records { length records.new ≡ length records.old }
+    ensures rows { count_of rows.new ≡ count_of rows.old }
+{
+    records.start(0, t);
+    rows.clear(t);
+    ood.refresh(records, rows, &[t])
+}
+
+/// The target has an always row. Answers how many names the region of the change has.
+pub(crate) fn put_always(ood: &mut Ood, records: &Records, rows: &mut DepRows, t: u32) -> u32
+    requires target { t < count_of rows.old }
+    requires records { length records.now ≡ count_of rows.old }
+    requires count { memo_count ood.old ≡ count_of rows.old }
+    requires right { IsRight ood.old (records_of records.now rows.old) }
+    ensures right { IsRight ood.new (records_of records.now rows.new) }
+    ensures count { memo_count ood.new ≡ memo_count ood.old }
+    ensures rows { count_of rows.new ≡ count_of rows.old }
+{
+    rows.put_always(t);
+    ood.refresh(records, rows, &[t])
+}
