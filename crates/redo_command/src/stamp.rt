@@ -12,7 +12,7 @@ pub const LONGEST_STAMP: usize = 64;
 #[derive(Clone, Copy, Debug, PartialEq, Eq)]
 pub struct FileStamp {
     bytes: [u8; LONGEST_STAMP],
-    len: usize,
+    len: u8,
 }
 
 impl Model for FileStamp {
@@ -68,7 +68,7 @@ impl FileStamp {
         }
         Some(FileStamp {
             bytes: padded(text),
-            len: text.len(),
+            len: text.len() as u8,
         })
     }
 
@@ -77,6 +77,6 @@ impl FileStamp {
         ensures bytes { result.now ≡ self.now }
         ensures stamp { stamp_test self.now ≡ true }
     {
-        &self.bytes[..self.len]
+        &self.bytes[..self.len as usize]
     }
 }

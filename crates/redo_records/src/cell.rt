@@ -11,6 +11,7 @@ use crate::mark::Mark;
 use crate::state::State;
 use redo_command::{FileStamp, Kind, Refusal, cases};
 use std::marker::Model;
+use std::mem::size_of;
 
 /// What is known of one name.
 #[derive(Clone, Copy, Debug)]
@@ -21,6 +22,9 @@ pub struct Cell {
     done: Option<FileStamp>,
     digest: Option<[u8; 20]>,
 }
+
+// Each store has a cell for each name.
+const _: () = prove!(size_of::<Cell>() <= 160);
 
 impl Model for Cell {
     ghost use Rattle.redo_model.specs.State as states;

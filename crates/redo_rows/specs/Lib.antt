@@ -1,4 +1,5 @@
 pub mod Kept
+pub mod KeptMark
 pub mod Numbers
 pub mod Rows
 pub mod Seat

@@ -2,6 +2,7 @@
 #![tactic(auto)]
 
 mod inverse;
+mod kept_mark;
 mod made;
 mod numbers;
 mod rows;

@@ -4,18 +4,23 @@ ghost use Rattle.redo_records.specs.Meaning.{mark_meaning};
 ghost use Rattle.redo_rows.specs.Rows.{bare, seat_at, has_seat, by_number};
 ghost use Rattle.redo_rows.specs.Target.{blank, has_row, HasRowIn, Ascending, IsSeatOf, IsGapFor};
 
+use crate::kept_mark::KeptMark;
 use crate::numbers::Numbers;
 use redo_records::Mark;
 use std::alloc::{AllocError, Global};
 use std::marker::Model;
+use std::mem::size_of;
 
 /// Room for a target's rows on one name, and those of them that there are.
 #[derive(Clone, Copy, Debug)]
 pub struct Seat {
     name: u32,
-    change: Option<Mark>,
+    change: Option<KeptMark>,
     created: bool,
 }
+
+// A large store has many seats.
+const _: () = prove!(size_of::<Seat>() <= 72);
 
 impl Model for Seat {
     ghost use Rattle.redo_rows.specs.Rows as rows;
@@ -51,7 +56,7 @@ impl Seat {
     pub fn change(&self) -> Option<Mark>
         ensures { option_map mark_meaning result ≡ self.now.change }
     {
-        self.change
+        self.change.map(|kept| kept.mark())
     }
 
     pub fn has_change(&self) -> bool
@@ -75,7 +80,7 @@ impl Seat {
     fn put_change(&mut self, mark: Mark)
         ensures { self.new ≡ record self.old { change = Some (mark_meaning mark) } }
     {
-        self.change = Some(mark);
+        self.change = Some(KeptMark::new(mark));
     }
 
     fn put_created(&mut self)

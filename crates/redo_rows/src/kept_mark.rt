@@ -1,0 +1,80 @@
+ghost use Rattle.std.specs.Prelude.{◌≡◌};
+ghost use Rattle.redo_records.specs.Meaning.{mark_meaning};
+ghost use Rattle.redo_rows.specs.KeptMark.{kept_meaning};
+
+use redo_command::FileStamp;
+use redo_records::Mark;
+use std::marker::Model;
+
+/// How often a name was built, in four bytes that may stand at any address.
+#[derive(Clone, Copy, Debug)]
+pub struct BuildCount {
+    bytes: [u8; 4],
+}
+
+impl Model for BuildCount {
+    ghost use Rattle.std.specs.Prelude.{◌≡◌, ℕ};
+    ghost use Rattle.std.specs.Int.{w32, from_le_bytes, to_le_bytes};
+
+    ghost Value = { ℕ };
+
+    ghost view = { λ count. from_le_bytes w32 count.bytes };
+
+    ghost invariant = { λ count. to_le_bytes w32 (from_le_bytes w32 count.bytes) ≡ count.bytes };
+
+    ghost inverse = { λ builds. record { bytes = to_le_bytes w32 builds } };
+
+    ghost inverse_ok = { λ count is i. record { bytes = is i } };
+}
+
+impl BuildCount {
+    fn new(builds: u32) -> BuildCount
+        ensures { result ≡ builds }
+    {
+        BuildCount {
+            bytes: builds.to_le_bytes(),
+        }
+    }
+
+    fn builds(self) -> u32
+        ensures { result ≡ self }
+    {
+        u32::from_le_bytes(self.bytes)
+    }
+}
+
+/// A mark as a seat keeps it, without the padding that a `Mark` has.
+#[derive(Clone, Copy, Debug)]
+pub enum KeptMark {
+    Digest([u8; 20]),
+    Builds(BuildCount),
+    Pending,
+    File(FileStamp),
+    Absent,
+}
+
+impl KeptMark {
+    pub fn new(mark: Mark) -> KeptMark
+        ensures { kept_meaning result ≡ mark_meaning mark }
+    {
+        match mark {
+            Mark::Digest(digest) => KeptMark::Digest(digest),
+            Mark::Builds(builds) => KeptMark::Builds(BuildCount::new(builds)),
+            Mark::Pending => KeptMark::Pending,
+            Mark::File(stamp) => KeptMark::File(stamp),
+            Mark::Absent => KeptMark::Absent,
+        }
+    }
+
+    pub fn mark(self) -> Mark
+        ensures { mark_meaning result ≡ kept_meaning self }
+    {
+        match self {
+            KeptMark::Digest(digest) => Mark::Digest(digest),
+            KeptMark::Builds(count) => Mark::Builds(count.builds()),
+            KeptMark::Pending => Mark::Pending,
+            KeptMark::File(stamp) => Mark::File(stamp),
+            KeptMark::Absent => Mark::Absent,
+        }
+    }
+}
