@@ -8,8 +8,8 @@ ghost use Rattle.redo_command.specs.Meaning.{command_of, command_at};
 ghost use Rattle.redo_command.specs.Reading.{Reads, one_name_in, names_form_in, file_in, stamp_in, done_in, no_words_in, form_in, words_in, words_of, words_after};
 ghost use Rattle.redo_command.specs.ReplyReading.{okay_in};
 
-use crate::command::Command;
 use crate::args::{one, two};
+use crate::command::Command;
 use crate::fault::{LineFault, Unread};
 use crate::keywords::cut_kind;
 use crate::kind::Kind;

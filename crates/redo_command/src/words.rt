@@ -91,11 +91,7 @@ pub(crate) fn known_name(names: &Names, word: &[u8]) -> Result<Option<u32>, Unre
 
 /// The number of a name, which is added if it is new. It may be known.
 #[inline]
-pub(crate) fn number_of(
-    names: &mut Names,
-    known: Option<u32>,
-    name: &[u8],
-) -> Result<u32, Unread>
+pub(crate) fn number_of(names: &mut Names, known: Option<u32>, name: &[u8]) -> Result<u32, Unread>
     requires name { name_test name.now ≡ true }
     requires known { IfSome known (IsNumbered names.old name.now) }
     ensures reads { Reads (λ _. names.new) result (added names.old name.now) }
