@@ -74,8 +74,7 @@ impl Compared {
             self.told.hear(rt, alloc, session, command)?;
         }
         self.check_out_of_date(rt, alloc)?;
-        self.told
-            .check_memo(rt, alloc, &self.told.memo(rt, alloc)?)?;
+        self.told.check_memo(rt, &self.told.memo(rt, alloc)?);
         Ok(reply)
     }
 
