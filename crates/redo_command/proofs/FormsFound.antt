@@ -13,8 +13,9 @@ use Rattle.redo_command.specs.declared.kind.Kind.TheVariants as kinds
 use Rattle.redo_command.specs.Stamp.{is_stamp}
 use Rattle.redo_command.specs.Texts.{spaced, stamp_word, word_of}
 use Rattle.redo_command.specs.Grammar.{HasForm, IsNameList, IsSpelled, with_names, AddsNames}
-use Rattle.redo_command.specs.Reading.{◌>>=◌, name_in, file_stamp_in, file_stamp_or_none_in, content_in, added, one_name_in, target_and_names_in, all_added, names_form_in, file_in, stamp_in, done_in, no_words_in, all_kinds, kind_named, form_in, words_in}
-use Rattle.redo_command.proofs.Steps.{bind_ok, guard_ok, found_passes, read, same_read}
+use Rattle.redo_command.specs.Reading.{◌>>=◌, name_in, file_stamp_in, file_stamp_or_none_in, content_in, added, one_name_in, target_and_names_in, all_added, names_form_in, file_in, stamp_in, done_in, no_words_in, kind_named, form_in, words_in}
+use Rattle.redo_command.proofs.Fronts.{word_is}
+use Rattle.redo_command.proofs.Steps.{bind_ok, guard_ok, read, same_read}
 use Rattle.redo_command.proofs.Added.{one_added}
 use Rattle.redo_command.proofs.Contents.{content_says}
 use Rattle.redo_command.proofs.NameLists.{target_and_names_found, all_adds}
@@ -161,10 +162,6 @@ form_says kinds.Failed = one_name_says Failed (codes "failed") (λ n good. good)
 form_says kinds.Ood = no_words_says Ood (codes "ood") tt refl refl
 form_says kinds.Targets = no_words_says Targets (codes "targets") tt refl refl
 form_says kinds.Sources = no_words_says Sources (codes "sources") tt refl refl
-
--- the word is that of the kind that it names
-word_is : (word : Text) (kind : Kind) → kind_named word ≡ Some kind → word ≡ word_of kind
-word_is word kind named = (bytes_eq-Decides word (word_of kind)).0 (found_passes (λ k. bytes_eq word (word_of k)) all_kinds kind named)
 
 -- what is read by the first word is what the words say
 pub words_say : (names : List Text) (word : Text) (args : List Text) (command : Command Text) (after : List Text) → length names ≤ MOST_NAMES → words_in names (word ∷ args) ≡ Ok (command, after) → SaysCommand names word args command after

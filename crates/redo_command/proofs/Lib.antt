@@ -2,9 +2,13 @@ pub mod Added
 pub mod Contents
 pub mod FormsFound
 pub mod FormsRead
+pub mod Fronts
 pub mod LineLaws
 pub mod Lines
 pub mod NameLists
+pub mod Numbered
+pub mod Numerals
+pub mod Places
 pub mod RepliesFound
 pub mod RepliesRead
 pub mod ReplyNames

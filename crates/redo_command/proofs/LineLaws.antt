@@ -16,6 +16,7 @@ use Rattle.redo_command.proofs.Steps.{unless_ok, same_read}
 use Rattle.redo_command.proofs.Spaced.{line_is_spaced, words_of-spaced, spaced_is_text}
 use Rattle.redo_command.proofs.Contents.{content_word_says}
 use Rattle.redo_command.proofs.FormsFound.{words_say}
+use Rattle.redo_command.proofs.Fronts.{some_word}
 use Rattle.redo_command.proofs.FormsRead.{read_from_words, few_names}
 
 abbrev is_bad : ℕ → Bool
@@ -36,6 +37,22 @@ line_found names line command after few e =
         let says = words_say names word args command after few h in
         let spelled = subst (λ (l : Text). IsSpelled l command) (sym (line_is_spaced line word args split)) says.spelled in
         ((says.form, short, spelled), says.adds)
+
+-- what the words of a line are read as has no bad byte
+good_line : (names : List Text) (line : Text) (command : Command Text) (after : List Text) → length names ≤ MOST_NAMES → words_in names (words_of line) ≡ Ok (command, after) → list_any is_bad line ≡ false
+good_line names line command after few e =
+    let first = some_word line in
+    let says = words_say names first.0 first.1 command after few (ap (words_in names) (sym first.2) ∙ e) in
+    let spelled = subst (λ (l : Text). IsSpelled l command) (sym (line_is_spaced line first.0 first.1 first.2)) says.spelled in
+    let from = read_from_words names line command after says.form spelled says.adds in
+    ap (list_any is_bad) from.text ∙ spaced_is_text from.word from.args from.visible.0 from.visible.1
+
+pub line_read : (names : List Text) (line : Text) (command : Command Text) (after : List Text) → length names ≤ MOST_NAMES → length line ≤ LONGEST_LINE → words_in names (words_of line) ≡ Ok (command, after) → line_in names line ≡ Ok (command, after)
+unfolding line_in
+line_read names line command after few le e =
+    let short : ltb LONGEST_LINE (length line) ≡ false = le-ltb _ _ le in
+    let good : list_any is_bad line ≡ false = good_line names line command after few e in
+    rw (short, good) e
 
 -- a command line whose names fit is read
 pub line_only : (names : List Text) (line : Text) (command : Command Text) (after : List Text) → length names ≤ MOST_NAMES → IsCommandLine line command → AddsNames names (command ∷ []) after → line_in names line ≡ Ok (command, after)

@@ -14,8 +14,9 @@ use Rattle.redo_command.specs.declared.reply_kind.ReplyKind.TheVariants as kinds
 use Rattle.redo_command.specs.Texts.{spaced, refusal_words, reply_text_of}
 use Rattle.redo_command.specs.Reading.{◌>>=◌, name_in, all_added, words_of}
 use Rattle.redo_command.specs.Replies.{IsGrant, IsDigest, AreAllNames, HasRefusalForm, HasReplyForm, IsReplyText, AddsReplyNames, names_in_reply}
-use Rattle.redo_command.specs.ReplyReading.{one_word_in, grant_in, digest_in, names_in_words, some_names_in_words, plain_refusal_in, refusal_in_words, okay_in, reply_word, all_reply_kinds, reply_kind_named, reply_args_in, reply_words_in, reply_in}
-use Rattle.redo_command.proofs.Steps.{bind_ok, guard_ok, unless_ok, found_passes}
+use Rattle.redo_command.specs.ReplyReading.{one_word_in, grant_in, digest_in, names_in_words, some_names_in_words, plain_refusal_in, refusal_in_words, okay_in, reply_word, reply_kind_named, reply_args_in, reply_words_in, reply_in}
+use Rattle.redo_command.proofs.Steps.{bind_ok, guard_ok, unless_ok}
+use Rattle.redo_command.proofs.Fronts.{reply_word_is}
 use Rattle.redo_command.proofs.NameLists.{not_false, each_name, all_added-is}
 use Rattle.redo_command.proofs.ReplyWords.{grant_says, digest_says}
 use Rattle.redo_command.proofs.Spaced.{line_is_spaced}
@@ -158,7 +159,7 @@ words_say text reply e = by (words_of text) refl e
         found None named k = absurd cc
         found (Some kind) named k =
             let says = args_say kind args reply k in
-            let is : word ≡ reply_word kind = (bytes_eq-Decides word (reply_word kind)).0 (found_passes (λ x. bytes_eq word (reply_word x)) all_reply_kinds kind named) in
+            let is : word ≡ reply_word kind = reply_word_is word kind named in
             (says.form, line_is_spaced text word args split ∙ ap (λ (w : Text). spaced w args) is ∙ says.text)
 
 -- what is read is a reply's text, and its names are added

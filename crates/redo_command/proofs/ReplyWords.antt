@@ -1,16 +1,13 @@
 -- Words of replies: the numbers of grants, and digests.
-use Rattle.std.proofs.Common.{◌≡◌, ℕ, zero, suc, ◌*◌, ◌<◌, ◌≤◌, ◌^◌, Bool, true, false, cond, ◌&&◌, [], ◌∷◌, length, get_or, Result, Ok, Err, refl, sym, ap, subst, ◌∙◌, arith, ltb, leb}
+use Rattle.std.proofs.Common.{◌≡◌, ◌≢◌, ℕ, zero, suc, ◌*◌, ◌<◌, ◌≤◌, inl, inr, ◌⊎◌, Bool, true, false, cond, ◌&&◌, List, [], ◌∷◌, length, get_or, Result, Ok, Err, refl, sym, ap, subst, ◌∙◌, arith, ltb, leb, append-nil}
 use Rattle.std.specs.Prelude.{bytes_eq, decimal}
-use Rattle.std.specs.Str.{IsUtf8, all_ascii_digits}
+use Rattle.std.specs.Str.{all_ascii_digits}
 use Rattle.std.specs.Char.{is_ascii_digit}
-use Rattle.std.specs.Result.{OkIff}
-use Rattle.std.specs.Str.Parse.{digits_value, ParsesUnsigned}
+use Rattle.std.specs.Str.Parse.{digits_value}
 use Rattle.std.proofs.lemmas.List.Elements.{recursion_from_All}
 use Rattle.std.proofs.lemmas.Bool.Decides.{nat_tests}
 use Rattle.std.proofs.lemmas.Slice.Eq.{bytes_eq-Decides}
-use Rattle.std.proofs.lemmas.Fmt.{decimal_digit, first_decimal, digits_decimal, digits_value-decimal, decimal-digits_value, IsAscii-from_digits}
-use Rattle.std.proofs.lemmas.Str.{IsUtf8-from_ascii}
-use Rattle.std.proofs.lemmas.Str.Parse.{IsNumeralModel, numerals_by_value, tells_all_ascii_digits, parse_plain}
+use Rattle.std.proofs.lemmas.Fmt.{decimal_digit}
 use Rattle.hex.specs.Hex.{encode_lower, decode_sized, is_hex_digit}
 use Rattle.hex.specs.declared.error.FromHexError.{FromHexError}
 use Rattle.hex.proofs.HexLemmas.{decode_of-ok, decode_of-encode_lower, decode_sized-ok, decode_sized-twice, decode_sized-encode_lower}
@@ -19,24 +16,13 @@ use Rattle.redo_model.specs.Names.{Text}
 use Rattle.redo_command.specs.declared.fault.LineFault.{LineFault}
 use Rattle.redo_command.specs.declared.fault.LineFault.TheVariants.{WrongWords, BadHex}
 use Rattle.redo_command.specs.Replies.{IsGrant, IsDigest}
-use Rattle.redo_command.specs.ReplyReading.{grant_in, digest_in, printed_digest}
+use Rattle.redo_command.specs.Reading.{words_of}
+use Rattle.redo_command.specs.ReplyReading.{one_word_in, grant_in, digest_in, printed_digest}
 use Rattle.redo_command.proofs.Contents.{bytes_by_place, bytes_one_by_one, digits_are_visible}
-use Rattle.redo_command.proofs.Spaced.{IsVisible}
+use Rattle.redo_command.proofs.Fronts.{not_none}
+use Rattle.redo_command.proofs.Numerals.{printed_digits, printed_value, printed_first, printed_back}
+use Rattle.redo_command.proofs.Spaced.{IsVisible, line_is_spaced, words_of-spaced}
 use Rattle.redo_command.proofs.Steps.{both, guard_ok}
-
-abbrev AreDigits : Text → Type 0
-AreDigits word = all_ascii_digits word ≡ true
-
-own : IsNumeralModel AreDigits (digits_value 10)
-own = numerals_by_value AreDigits tells_all_ascii_digits
-
-not_empty : (word : Text) → 48 < get_or word 0 0 → 0 < length word
-not_empty [] h = absurd (omega (arith, h))
-not_empty (b ∷ bs) h = omega arith
-
--- digits without a zero in front are printed as their number is
-printed : (word : Text) → 48 < get_or word 0 0 → AreDigits word → digits_value 10 word ≤ 4294967295 → decimal (digits_value 10 word) ≡ word
-printed word first digits le = decimal-digits_value own word digits (not_empty word first) (λ e. absurd (omega (arith, e, first))) (omega (arith, le))
 
 not_zero : (word : Text) (n : ℕ) → 48 < get_or word 0 0 → decimal n ≡ word → 1 ≤ n
 not_zero word zero first e =
@@ -55,27 +41,24 @@ grant_says word g e =
     let l = both (ltb 48 (get_or word 0 0)) (all_ascii_digits word) k.0 in
     let first : 48 < get_or word 0 0 = grind (arith, nat_tests, l.0) in
     let le : v ≤ 4294967295 = grind (arith, nat_tests, k.1) in
-    let is : decimal v ≡ word = printed word first l.1 le in
-    subst (λ (n : ℕ). IsGrant n × (word ≡ decimal n)) passed.1 ((not_zero word v first is, le), sym is)
-
-small : (g : ℕ) → IsGrant g → g < 2 ^ 64
-small g is = omega (arith, is.1)
+    let is : word ≡ decimal v = printed_back word first l.1 le in
+    subst (λ (n : ℕ). IsGrant n × (word ≡ decimal n)) passed.1 ((not_zero word v first (sym is), le), is)
 
 -- and a printed number is read
 pub grant_read : (g : ℕ) → IsGrant g → grant_in (decimal g) ≡ Ok g
 unfolding grant_in
 grant_read g is =
-    let first : 48 < get_or (decimal g) 0 0 = first_decimal g (omega (arith, is.0)) (small g is) in
+    let first : 48 < get_or (decimal g) 0 0 = printed_first g is.1 (omega (arith, is.0)) in
     let nonzero : ltb 48 (get_or (decimal g) 0 0) ≡ true = grind (arith, nat_tests, first) in
-    let digits : all_ascii_digits (decimal g) ≡ true = digits_decimal own g (small g is) in
-    let value : digits_value 10 (decimal g) ≡ g = digits_value-decimal own g (small g is) in
+    let digits : all_ascii_digits (decimal g) ≡ true = printed_digits g is.1 in
+    let value : digits_value 10 (decimal g) ≡ g = printed_value g is.1 in
     let le : leb g 4294967295 ≡ true = grind (arith, nat_tests, is.1) in
     rw (nonzero, digits, value, le) refl
 
 digit_is_visible : (c : ℕ) → is_ascii_digit c ≡ true → is_visible c ≡ true
 digit_is_visible c h = grind (arith, nat_tests)
 
-decimals_are_visible : (word : Text) → AreDigits word → IsVisible word
+decimals_are_visible : (word : Text) → all_ascii_digits word ≡ true → IsVisible word
 decimals_are_visible [] all = refl
 decimals_are_visible (c ∷ cs) all =
     let k = both (is_ascii_digit c) (all_ascii_digits cs) all in
@@ -84,51 +67,38 @@ decimals_are_visible (c ∷ cs) all =
     λ i. first i && others i
 
 pub grant_is_visible : (g : ℕ) → IsGrant g → IsVisible (decimal g)
-grant_is_visible g is = decimals_are_visible (decimal g) (digits_decimal own g (small g is))
+grant_is_visible g is = decimals_are_visible (decimal g) (printed_digits g is.1)
 
--- what is no UTF-8 is no number
-pub grant_is_utf8 : (word : Text) → ¬ (IsUtf8 word) → grant_in word ≡ Err WrongWords
+-- a word is read as a grant, or its fault is this
+grant_or_fault : (word : Text) → ((g : ℕ) × (grant_in word ≡ Ok g)) ⊎ (grant_in word ≡ Err WrongWords)
 unfolding grant_in
-grant_is_utf8 word not_text = by (ltb 48 (get_or word 0 0)) (all_ascii_digits word) refl
+grant_or_fault word = by (ltb 48 (get_or word 0 0) && all_ascii_digits word && leb (digits_value 10 word) 4294967295) (digits_value 10 word)
   where
-    v : ℕ
-    v = digits_value 10 word
+    by : (b : Bool) (v : ℕ) → ((g : ℕ) × (cond b (Ok v) (Err WrongWords) ≡ Ok g)) ⊎ (cond b (Ok v) (Err WrongWords) ≡ Err WrongWords)
+    by true v = inl (v, refl)
+    by false v = inr refl
 
-    by : (a b : Bool) → all_ascii_digits word ≡ b → cond (a && b && leb v 4294967295) (Ok v) (Err WrongWords) ≡ Err WrongWords
-    by a true digits = absurd (not_text (IsUtf8-from_ascii word (IsAscii-from_digits word (own.to word digits))))
-    by true false digits = refl
-    by false false digits = refl
+-- a word that is no grant as it is printed
+pub grant_refused : (word : Text) → ((g : ℕ) → IsGrant g → word ≢ decimal g) → grant_in word ≡ Err WrongWords
+grant_refused word other = elim (grant_or_fault word) [
+  | inl read ↦ let says = grant_says word read.0 read.1 in absurd (other read.0 says.0 says.1)
+  | inr fault ↦ fault
+]
 
--- what parsing gives, with the fault of reading
-abbrev pub parsed : {E : Type 0} → Result ℕ E → Result ℕ LineFault
-parsed (Ok g) = Ok g
-parsed (Err e) = Err WrongWords
-
-pub grant_parsed : {E : Type 0} (word : Text) (r : Result ℕ E) → 48 < get_or word 0 0 → ParsesUnsigned 32 10 word r → grant_in word ≡ parsed r
-unfolding grant_in
-grant_parsed {E} word r low h = by r (parse_plain own 32 word r h (λ e. omega (arith, e, low)))
+-- a text of more than one word is no grant
+pub one_grant : (text : Text) → one_word_in grant_in (words_of text) ≡ grant_in text
+one_grant text = by (words_of text) refl
   where
-    v : ℕ
-    v = digits_value 10 word
-
-    first : ltb 48 (get_or word 0 0) ≡ true
-    first = grind (arith, nat_tests, low)
-
-    long : 0 < length word
-    long = not_empty word low
-
-    by : (s : Result ℕ E) → OkIff s (AreDigits word × (0 < length word) × (v < 2 ^ 32)) v → cond (ltb 48 (get_or word 0 0) && all_ascii_digits word && leb v 4294967295) (Ok v) (Err WrongWords) ≡ parsed s
-    by (Ok g) is =
-        let digits = is.0.0 in
-        let lt : v < 2 ^ 32 = is.0.2 in
-        let le : leb v 4294967295 ≡ true = grind (arith, nat_tests, lt) in
-        rw (first, digits, le, is.1) refl
-    by (Err e) fails = rw first (none (all_ascii_digits word) (leb v 4294967295) refl refl)
+    by : (words : List Text) → words_of text ≡ words → one_word_in grant_in (words_of text) ≡ grant_in text
+    by [] e = absurd (not_none text e)
+    by (w ∷ []) e = ap (one_word_in grant_in) e ∙ ap grant_in (sym (append-nil w) ∙ sym (line_is_spaced text w [] e))
+    by (w ∷ v ∷ vs) e = ap (one_word_in grant_in) e ∙ sym (grant_refused text (λ g is same. more_words g is same))
       where
-        none : (a b : Bool) → all_ascii_digits word ≡ a → leb v 4294967295 ≡ b → cond (a && b) (Ok v) (Err WrongWords) ≡ Err WrongWords
-        none true true digits le = absurd (fails (digits, long, grind (arith, nat_tests, le)))
-        none true false digits le = refl
-        none false b digits le = refl
+        more_words : (g : ℕ) → IsGrant g → text ≢ decimal g
+        more_words g is same =
+            let one : words_of text ≡ decimal g ∷ [] = ap words_of (same ∙ sym (append-nil (decimal g))) ∙ words_of-spaced (decimal g) [] (grant_is_visible g is) tt in
+            let both : w ∷ v ∷ vs ≡ decimal g ∷ [] = sym e ∙ one in
+            absurd cc
 
 abbrev digest_read_as : Text → Result Text LineFault
 digest_read_as digest = Ok digest

@@ -1,5 +1,6 @@
 -- Reading a line by steps: the first step that it fails is its fault.
-use Rattle.std.specs.Prelude.{◌≡◌, ℕ, ◌+◌, List, [], ◌∷◌, ◌++◌, length, Option, Some, None, Result, Ok, Err, Bool, not, ◌&&◌, nat_lt, nat_le, ◌==◌, if◌then◌else◌, codes, bytes_eq, find}
+use Rattle.std.specs.Prelude.{◌≡◌, ℕ, ◌+◌, List, [], ◌∷◌, ◌++◌, length, Option, Some, None, Result, Ok, Err, Bool, not, ◌&&◌, nat_lt, nat_le, ◌==◌, if◌then◌else◌, codes, bytes_eq, find, slice_get, true}
+use Rattle.std.specs.Borrow.{Bor}
 use Rattle.std.specs.List.{slice_split, list_any, list_all}
 use Rattle.hex.specs.Hex.{decode_of}
 use Rattle.hex.specs.declared.error.FromHexError.{FromHexError}
@@ -49,6 +50,11 @@ content_in word = if bytes_eq word (codes "-") then Ok [] else some_content (dec
 -- the names with this one, where it is there or there is room
 abbrev pub added : List Text → Text → Result (List Text) LineFault
 added names text = if has names text then Ok names else (if length names == MOST_NAMES then Err TooManyNames else Ok (names ++ text ∷ []))
+
+-- the text is a name, and this is its number
+pub record IsNumbered (names : List Text) (text : Text) (number : ℕ) : Type 0 where
+  pub at : slice_get names number ≡ Some text
+  pub name : is_name text ≡ true
 
 -- a command, and the names after it
 abbrev pub Reading : Type 0
@@ -152,6 +158,11 @@ words_in names (word ∷ args) = form_in (kind_named word) names args
 -- the pieces between single spaces
 abbrev pub words_of : Text → List Text
 words_of line = slice_split (λ b. b == 32) line
+
+-- the words after a space, where there is one
+abbrev pub words_after : Option (Bor Text) → List Text
+words_after None = []
+words_after (Some text) = words_of text.now
 
 abbrev pub is_text_byte : ℕ → Bool
 is_text_byte b = nat_le 32 b && nat_le b 126

@@ -1,15 +1,18 @@
-ghost use Rattle.std.specs.Prelude.{◌≡◌};
+ghost use Rattle.std.specs.Prelude.{◌≡◌, List, Some, Err, MatchOption};
+ghost use Rattle.redo_model.specs.Names.{Text};
 ghost use Rattle.redo_command.specs.Texts.{word_of};
-ghost use Rattle.redo_command.specs.Reading.{kind_named as kind_of_word};
+ghost use Rattle.redo_command.specs.Reading.{words_in, words_of, words_after, form_in};
+ghost use Rattle.redo_command.specs.declared.fault.LineFault.TheVariants.{UnknownCommand};
 
+use crate::args::args_after;
 use crate::cases;
 use crate::kind::Kind;
 
-/// Leads from a word to the kind in whose row it stands.
-macro_rules! kind_by_word {
+/// Leads from a text to the kind in whose row its first word stands, and to what stands after that.
+macro_rules! kind_by_front {
     ([$given:ident] $(($case:ident $(($($field:ident),*))?, $word:literal, $($rest:tt)*))*) => {{
-        $(if $given == $word.as_slice() {
-            return Some(Kind::$case);
+        $(if let Some(args) = args_after($given, $word) {
+            return Some((Kind::$case, args));
         })*
         None
     }};
@@ -24,11 +27,12 @@ macro_rules! word_by_kind {
     };
 }
 
-/// The kind of command that a word says.
-pub(crate) fn kind_named(word: &[u8]) -> Option<Kind>
-    ensures { result ≡ kind_of_word word.now }
+/// The kind of command that the first word of a text says, and what stands after its space, where it has one.
+#[tactic(auto, using(crate::proofs::Fronts::said))]
+pub(crate) fn cut_kind(text: &[u8]) -> Option<(Kind, Option<&[u8]>)>
+    ensures { (names : List Text) → MatchOption result (words_in names (words_of text.now) ≡ Err UnknownCommand) (λ k. words_in names (words_of text.now) ≡ form_in (Some k.0) names (words_after k.1)) }
 {
-    cases!(kind_by_word word)
+    cases!(kind_by_front text)
 }
 
 /// The word that says which command it is.

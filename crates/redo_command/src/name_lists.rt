@@ -4,9 +4,11 @@ ghost use Rattle.redo_names.specs.Names.{is_name as name_test, text_at, Extends}
 ghost use Rattle.redo_model.specs.Names.{Text};
 ghost use Rattle.redo_model.specs.Command as commands;
 ghost use Rattle.redo_model.specs.Renaming.{AllBelow};
-ghost use Rattle.redo_command.specs.Reading.{Reads, target_and_names_in, all_added, names_form_in};
+ghost use Rattle.redo_command.specs.Reading.{Reads, target_and_names_in, all_added, names_form_in, words_after};
 
+use crate::args::words;
 use crate::fault::{LineFault, Unread};
+use crate::known::known_target_and_numbers;
 use crate::words::number_of;
 use redo_names::{MOST_NAMES, Names, is_name};
 use std::alloc::Global;
@@ -63,26 +65,46 @@ pub(crate) fn numbers_of(
 {
     let mut numbers = Vec::new(alloc);
     for word in words {
-        let number = number_of(names, *word)?;
+        let number = number_of(names, None, *word)?;
         numbers.push(number)?;
     }
     Ok(numbers)
 }
 
-/// The numbers of the target and of the names that a form has.
+/// The numbers of the target and of the names that words are.
 #[tactic(auto, using(crate::proofs::Added::extends_same), unfolding(crate::specs::Reading::names_form_in))]
-pub(crate) fn target_and_numbers_of(
+fn target_and_numbers_in(
     alloc: Global,
     names: &mut Names,
-    args: &[&[u8]],
+    words: &[&[u8]],
 ) -> Result<(u32, Vec<u32>), Unread>
-    ensures reads { (form : Text → List Text → commands.Command Text) → Reads (λ p. (form (text_at names.new p.0) (map (text_at names.new) p.1.items), names.new)) result (names_form_in form names.old (map (λ w. w.now) args.now)) }
+    ensures reads { (form : Text → List Text → commands.Command Text) → Reads (λ p. (form (text_at names.new p.0) (map (text_at names.new) p.1.items), names.new)) result (names_form_in form names.old (map (λ w. w.now) words.now)) }
     ensures within { IfOk result (λ p. AllBelow (length names.new) (p.0 ∷ p.1.items)) }
     ensures kept { Extends names.old names.new }
 {
     prove!(names.len() as usize <= MOST_NAMES);
-    let (target, others) = target_and_names(args)?;
-    let number = number_of(names, target)?;
+    let (target, others) = target_and_names(words)?;
+    let number = number_of(names, None, target)?;
     let numbers = numbers_of(alloc, names, others)?;
     Ok((number, numbers))
+}
+
+/// The numbers of the target and of the names that a form has.
+#[tactic(auto, using(crate::proofs::Added::extends_same))]
+pub(crate) fn target_and_numbers_of(
+    alloc: Global,
+    names: &mut Names,
+    args: Option<&[u8]>,
+) -> Result<(u32, Vec<u32>), Unread>
+    ensures reads { (form : Text → List Text → commands.Command Text) → Reads (λ p. (form (text_at names.new p.0) (map (text_at names.new) p.1.items), names.new)) result (names_form_in form names.old (words_after args.entry)) }
+    ensures within { IfOk result (λ p. AllBelow (length names.new) (p.0 ∷ p.1.items)) }
+    ensures kept { Extends names.old names.new }
+{
+    // This call says that each is a name.
+    let _ = names.len();
+    if let Some(known) = known_target_and_numbers(alloc, names, args)? {
+        return Ok(known);
+    }
+    let words = words(alloc, args)?;
+    target_and_numbers_in(alloc, names, &words)
 }

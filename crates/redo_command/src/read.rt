@@ -11,7 +11,7 @@ ghost use Rattle.redo_command.specs.Reading.{Gives, Reads, line_in, script_line_
 use crate::command::Command;
 use crate::fault::{LineFault, ReadFault, Unread};
 use crate::forms::form_of;
-use crate::words::{has_bad_byte, words};
+use crate::words::has_bad_byte;
 use redo_names::{MOST_NAMES, Names};
 use std::alloc::Global;
 
@@ -31,11 +31,14 @@ fn line_of(alloc: Global, line: &[u8], names: &mut Names) -> Result<Command, Unr
     if line.len() > LONGEST_LINE {
         return Err(Unread::Fault(LineFault::LineTooLong));
     }
-    if has_bad_byte(line) {
-        return Err(Unread::Fault(LineFault::BadByte));
+    // This call says that the names are not too many.
+    let _ = names.len();
+    match form_of(alloc, names, line) {
+        Ok(command) => Ok(command),
+        Err(Unread::Memory) => Err(Unread::Memory),
+        Err(Unread::Fault(_)) if has_bad_byte(line) => Err(Unread::Fault(LineFault::BadByte)),
+        Err(Unread::Fault(fault)) => Err(Unread::Fault(fault)),
     }
-    let words = words(alloc, line)?;
-    form_of(alloc, names, &words)
 }
 
 /// Reads the command that a line is, without its LF. Faults have line 1. After a fault the old names are a front of the names.

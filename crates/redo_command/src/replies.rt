@@ -11,50 +11,36 @@ ghost use Rattle.redo_command.specs.ReplyReading.{reply_words_in, with_its_names
 use crate::fault::{LineFault, ReplyFault, Unread};
 use crate::forms::check_no_words;
 use crate::reply::Reply;
-use crate::reply_kind::{ReplyKind, reply_kind_named};
+use crate::reply_kind::{ReplyKind, cut_reply_kind};
 use crate::reply_words::{digest_of, grant_of, listed_of, refusal_of_words, some_listed_of};
-use crate::words::words;
 use redo_names::{MOST_NAMES, Names};
 use std::alloc::Global;
 
-/// The reply that words are, by the first.
-#[tactic(auto, using(crate::proofs::Added::extends_same, crate::proofs::ReplyNames::none_added), unfolding(crate::specs::ReplyReading::reply_words_in, crate::specs::ReplyReading::reply_args_in))]
-fn reply_of_words(alloc: Global, names: &mut Names, words: &[&[u8]]) -> Result<Reply, Unread>
-    requires { length names.old ≤ MOST_NAMES }
-    ensures reads { Reads (λ reply. (reply_at names.new reply, names.new)) result (with_its_names names_in_reply names.old (reply_words_in (map (λ w. w.now) words.now))) }
-    ensures within { IfOk result (λ reply. IsReplyBelow (length names.new) (reply_of reply)) }
-    ensures kept { Extends names.old names.new }
-{
-    let Some((word, args)) = words.split_first() else {
-        return Err(Unread::Fault(LineFault::WrongWords));
-    };
-    match reply_kind_named(word) {
-        Some(ReplyKind::Okay) => {
-            check_no_words(args)?;
-            Ok(Reply::Okay)
-        }
-        Some(ReplyKind::Granted) => Ok(Reply::Granted(grant_of(args)?)),
-        Some(ReplyKind::Busy) => Ok(Reply::Busy(grant_of(args)?)),
-        Some(ReplyKind::Stale) => Ok(Reply::Stale(some_listed_of(alloc, names, args)?)),
-        Some(ReplyKind::Stamped) => Ok(Reply::Stamped(digest_of(args)?)),
-        Some(ReplyKind::Ood) => Ok(Reply::Ood(listed_of(alloc, names, args)?)),
-        Some(ReplyKind::Targets) => Ok(Reply::Targets(listed_of(alloc, names, args)?)),
-        Some(ReplyKind::Sources) => Ok(Reply::Sources(listed_of(alloc, names, args)?)),
-        Some(ReplyKind::Refused) => Ok(Reply::Refused(refusal_of_words(names, args)?)),
-        None => Err(Unread::Fault(LineFault::WrongWords)),
-    }
-}
-
 /// The reply that a text is, without LF.
-#[tactic(auto, using(crate::proofs::Added::extends_same), unfolding(crate::specs::ReplyReading::reply_in))]
+#[tactic(auto, using(crate::proofs::Added::extends_same, crate::proofs::ReplyNames::none_added), unfolding(crate::specs::ReplyReading::reply_in, crate::specs::ReplyReading::reply_args_in))]
 fn text_read(alloc: Global, text: &[u8], names: &mut Names) -> Result<Reply, Unread>
     requires { length names.old ≤ MOST_NAMES }
     ensures reads { Reads (λ reply. (reply_at names.new reply, names.new)) result (reply_in names.old text.now) }
     ensures within { IfOk result (λ reply. IsReplyBelow (length names.new) (reply_of reply)) }
     ensures kept { Extends names.old names.new }
 {
-    let words = words(alloc, text)?;
-    reply_of_words(alloc, names, &words)
+    let Some((kind, args)) = cut_reply_kind(text) else {
+        return Err(Unread::Fault(LineFault::WrongWords));
+    };
+    match kind {
+        ReplyKind::Okay => {
+            check_no_words(args)?;
+            Ok(Reply::Okay)
+        }
+        ReplyKind::Granted => Ok(Reply::Granted(grant_of(args)?)),
+        ReplyKind::Busy => Ok(Reply::Busy(grant_of(args)?)),
+        ReplyKind::Stale => Ok(Reply::Stale(some_listed_of(alloc, names, args)?)),
+        ReplyKind::Stamped => Ok(Reply::Stamped(digest_of(args)?)),
+        ReplyKind::Ood => Ok(Reply::Ood(listed_of(alloc, names, args)?)),
+        ReplyKind::Targets => Ok(Reply::Targets(listed_of(alloc, names, args)?)),
+        ReplyKind::Sources => Ok(Reply::Sources(listed_of(alloc, names, args)?)),
+        ReplyKind::Refused => Ok(Reply::Refused(refusal_of_words(names, args)?)),
+    }
 }
 
 /// Reads the reply that a text is, without LF. After a fault the old names are a front of the names.

@@ -1,6 +1,9 @@
-ghost use Rattle.std.specs.Prelude.{◌≡◌};
-ghost use Rattle.redo_command.specs.ReplyReading.{reply_kind_named as kind_of_word};
+ghost use Rattle.std.specs.Prelude.{◌≡◌, Some, Err, MatchOption};
+ghost use Rattle.redo_command.specs.Reading.{words_of, words_after};
+ghost use Rattle.redo_command.specs.ReplyReading.{reply_words_in, reply_args_in};
+ghost use Rattle.redo_command.specs.declared.fault.LineFault.TheVariants.{WrongWords};
 
+use crate::args::args_after;
 use crate::keywords::keyword;
 use crate::kind::Kind;
 
@@ -18,36 +21,37 @@ pub(crate) enum ReplyKind {
     Refused,
 }
 
-/// The kind of reply that begins with a word.
-pub(crate) fn reply_kind_named(word: &[u8]) -> Option<ReplyKind>
-    ensures { result ≡ kind_of_word word.now }
+/// The kind of reply that the first word of a text says, and what stands after its space, where it has one.
+#[tactic(auto, using(crate::proofs::Fronts::answered))]
+pub(crate) fn cut_reply_kind(text: &[u8]) -> Option<(ReplyKind, Option<&[u8]>)>
+    ensures { MatchOption result (reply_words_in (words_of text.now) ≡ Err WrongWords) (λ k. reply_words_in (words_of text.now) ≡ reply_args_in (Some k.0) (words_after k.1)) }
 {
-    if word == b"ok".as_slice() {
-        return Some(ReplyKind::Okay);
+    if let Some(args) = args_after(text, b"ok") {
+        return Some((ReplyKind::Okay, args));
     }
-    if word == b"granted".as_slice() {
-        return Some(ReplyKind::Granted);
+    if let Some(args) = args_after(text, b"granted") {
+        return Some((ReplyKind::Granted, args));
     }
-    if word == b"busy".as_slice() {
-        return Some(ReplyKind::Busy);
+    if let Some(args) = args_after(text, b"busy") {
+        return Some((ReplyKind::Busy, args));
     }
-    if word == b"stale".as_slice() {
-        return Some(ReplyKind::Stale);
+    if let Some(args) = args_after(text, b"stale") {
+        return Some((ReplyKind::Stale, args));
     }
-    if word == b"stamped".as_slice() {
-        return Some(ReplyKind::Stamped);
+    if let Some(args) = args_after(text, b"stamped") {
+        return Some((ReplyKind::Stamped, args));
     }
-    if word == keyword(Kind::Ood) {
-        return Some(ReplyKind::Ood);
+    if let Some(args) = args_after(text, keyword(Kind::Ood)) {
+        return Some((ReplyKind::Ood, args));
     }
-    if word == keyword(Kind::Targets) {
-        return Some(ReplyKind::Targets);
+    if let Some(args) = args_after(text, keyword(Kind::Targets)) {
+        return Some((ReplyKind::Targets, args));
     }
-    if word == keyword(Kind::Sources) {
-        return Some(ReplyKind::Sources);
+    if let Some(args) = args_after(text, keyword(Kind::Sources)) {
+        return Some((ReplyKind::Sources, args));
     }
-    if word == b"refused".as_slice() {
-        return Some(ReplyKind::Refused);
+    if let Some(args) = args_after(text, b"refused") {
+        return Some((ReplyKind::Refused, args));
     }
     None
 }

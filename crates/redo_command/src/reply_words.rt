@@ -4,40 +4,40 @@ ghost use Rattle.redo_model.specs.Names.{Text};
 ghost use Rattle.redo_model.specs.Reply.{Refused};
 ghost use Rattle.redo_model.specs.Renaming.{AllBelow, IsReplyBelow, named_refusal};
 ghost use Rattle.redo_command.specs.Meaning.{refusal_of};
-ghost use Rattle.redo_command.specs.Reading.{Reads};
+ghost use Rattle.redo_command.specs.Reading.{Reads, words_after};
 ghost use Rattle.redo_command.specs.Replies.{names_in_refusal};
 ghost use Rattle.redo_command.specs.ReplyReading.{one_word_in, grant_in, digest_in, names_in_words, some_names_in_words, plain_refusal_in, refusal_in_words, with_its_names};
 
+use crate::args::{one, two, words};
 use crate::fault::{LineFault, Unread};
+use crate::known::known_numbers;
 use crate::name_lists::{are_names, numbers_of};
+use crate::numbers::read_number;
 use crate::reply::Refusal;
-use crate::words::{name_of, number_of, one, two};
+use crate::words::{known_name, number_of};
 use hex::FromHex;
 use redo_names::{MOST_NAMES, Names};
 use std::alloc::Global;
 
 /// The number that a word is, from 1, without a sign or a zero in front.
-#[tactic(auto, unfolding(crate::specs::ReplyReading::grant_in))]
 fn grant_in_word(word: &[u8]) -> Result<u32, Unread>
     ensures { Reads (λ g. g) result (grant_in word.now) }
 {
-    let [b'1'..=b'9', ..] = word else {
+    let Some(grant) = read_number(word) else {
         return Err(Unread::Fault(LineFault::WrongWords));
     };
-    let Ok(digits) = str::from_utf8(word) else {
+    if grant == 0 {
         return Err(Unread::Fault(LineFault::WrongWords));
-    };
-    match digits.parse::<u32>() {
-        Ok(grant) => Ok(grant),
-        Err(_) => Err(Unread::Fault(LineFault::WrongWords)),
     }
+    Ok(grant)
 }
 
 /// The number of a grant that is the one word.
-pub(crate) fn grant_of(args: &[&[u8]]) -> Result<u32, Unread>
-    ensures { Reads (λ g. g) result (one_word_in grant_in (map (λ w. w.now) args.now)) }
+pub(crate) fn grant_of(args: Option<&[u8]>) -> Result<u32, Unread>
+    ensures { Reads (λ g. g) result (one_word_in grant_in (words_after args.entry)) }
 {
-    match one(args) {
+    // More than one word is no number either.
+    match args {
         Some(word) => grant_in_word(word),
         None => Err(Unread::Fault(LineFault::WrongWords)),
     }
@@ -61,8 +61,8 @@ fn digest_in_word(word: &[u8]) -> Result<[u8; 20], Unread>
 }
 
 /// The digest that is the one word.
-pub(crate) fn digest_of(args: &[&[u8]]) -> Result<[u8; 20], Unread>
-    ensures { Reads (λ digest. digest) result (one_word_in digest_in (map (λ w. w.now) args.now)) }
+pub(crate) fn digest_of(args: Option<&[u8]>) -> Result<[u8; 20], Unread>
+    ensures { Reads (λ digest. digest) result (one_word_in digest_in (words_after args.entry)) }
 {
     match one(args) {
         Some(word) => digest_in_word(word),
@@ -74,34 +74,40 @@ pub(crate) fn digest_of(args: &[&[u8]]) -> Result<[u8; 20], Unread>
 pub(crate) fn listed_of(
     alloc: Global,
     names: &mut Names,
-    args: &[&[u8]],
+    args: Option<&[u8]>,
 ) -> Result<Vec<u32>, Unread>
     requires { length names.old ≤ MOST_NAMES }
-    ensures reads { Reads (λ numbers. (map (text_at names.new) numbers.items, names.new)) result (with_its_names (λ ns. ns) names.old (names_in_words (map (λ w. w.now) args.now))) }
+    ensures reads { Reads (λ numbers. (map (text_at names.new) numbers.items, names.new)) result (with_its_names (λ ns. ns) names.old (names_in_words (words_after args.entry))) }
     ensures within { IfOk result (λ numbers. AllBelow (length names.new) numbers.items) }
     ensures kept { Extends names.old names.new }
 {
-    if !are_names(args) {
+    // This call says that each is a name.
+    let _ = names.len();
+    if let Some(known) = known_numbers(alloc, names, args)? {
+        return Ok(known);
+    }
+    let words = words(alloc, args)?;
+    if !are_names(&words) {
         return Err(Unread::Fault(LineFault::BadName));
     }
-    numbers_of(alloc, names, args)
+    numbers_of(alloc, names, &words)
 }
 
 /// The same of one name at least.
 pub(crate) fn some_listed_of(
     alloc: Global,
     names: &mut Names,
-    args: &[&[u8]],
+    args: Option<&[u8]>,
 ) -> Result<Vec<u32>, Unread>
     requires { length names.old ≤ MOST_NAMES }
-    ensures reads { Reads (λ numbers. (map (text_at names.new) numbers.items, names.new)) result (with_its_names (λ ns. ns) names.old (some_names_in_words (map (λ w. w.now) args.now))) }
+    ensures reads { Reads (λ numbers. (map (text_at names.new) numbers.items, names.new)) result (with_its_names (λ ns. ns) names.old (some_names_in_words (words_after args.entry))) }
     ensures within { IfOk result (λ numbers. AllBelow (length names.new) numbers.items) }
     ensures kept { Extends names.old names.new }
 {
-    if args.is_empty() {
-        return Err(Unread::Fault(LineFault::WrongWords));
+    match args {
+        Some(_) => listed_of(alloc, names, args),
+        None => Err(Unread::Fault(LineFault::WrongWords)),
     }
-    listed_of(alloc, names, args)
 }
 
 /// The refusal that a word says alone.
@@ -125,9 +131,9 @@ fn plain_refusal_of(word: &[u8]) -> Result<Refusal, Unread>
 
 /// The refusal that words are.
 #[tactic(auto, using(crate::proofs::Added::extends_same, crate::proofs::ReplyNames::none_added, crate::proofs::ReplyNames::one_all_added))]
-pub(crate) fn refusal_of_words(names: &mut Names, args: &[&[u8]]) -> Result<Refusal, Unread>
+pub(crate) fn refusal_of_words(names: &mut Names, args: Option<&[u8]>) -> Result<Refusal, Unread>
     requires { length names.old ≤ MOST_NAMES }
-    ensures reads { Reads (λ refusal. (named_refusal (text_at names.new) (refusal_of refusal), names.new)) result (with_its_names names_in_refusal names.old (refusal_in_words (map (λ w. w.now) args.now))) }
+    ensures reads { Reads (λ refusal. (named_refusal (text_at names.new) (refusal_of refusal), names.new)) result (with_its_names names_in_refusal names.old (refusal_in_words (words_after args.entry))) }
     ensures within { IfOk result (λ refusal. IsReplyBelow (length names.new) (Refused (refusal_of refusal))) }
     ensures kept { Extends names.old names.new }
 {
@@ -140,6 +146,6 @@ pub(crate) fn refusal_of_words(names: &mut Names, args: &[&[u8]]) -> Result<Refu
     if word != b"exists".as_slice() {
         return Err(Unread::Fault(LineFault::WrongWords));
     }
-    let name = name_of(name)?;
-    Ok(Refusal::Exists(number_of(names, name)?))
+    let known = known_name(names, name)?;
+    Ok(Refusal::Exists(number_of(names, known, name)?))
 }

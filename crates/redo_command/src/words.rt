@@ -1,13 +1,14 @@
-ghost use Rattle.std.specs.Prelude.{◌≡◌, ◌≢◌, ◌∷◌, [], MatchOption, not, ◌<◌, map, length, IfOk, Ok, true, ◌==◌};
-ghost use Rattle.std.specs.List.{slice_split, list_any};
+ghost use Rattle.std.specs.Prelude.{◌≡◌, ◌∷◌, [], not, ◌<◌, length, IfOk, IfSome, true};
+ghost use Rattle.std.specs.List.{list_any};
 ghost use Rattle.redo_names.specs.Names.{is_name as name_test, text_at, Extends};
-ghost use Rattle.redo_command.specs.Reading.{Reads, name_in, file_stamp_in, file_stamp_or_none_in, content_in, added, words_of, is_text_byte};
+ghost use Rattle.redo_model.specs.Names.{Text};
+ghost use Rattle.redo_command.specs.Reading.{Reads, name_in, file_stamp_in, file_stamp_or_none_in, content_in, added, words_after, IsNumbered, is_text_byte};
 
 use crate::fault::{LineFault, Unread};
 use crate::stamp::FileStamp;
 use hex::FromHexError;
 use redo_names::{Names, NamesFault, is_name};
-use std::alloc::{AllocError, Global};
+use std::alloc::Global;
 
 /// The name that a word is.
 pub(crate) fn name_of(word: &[u8]) -> Result<&[u8], Unread>
@@ -60,46 +61,52 @@ pub(crate) fn content_of(alloc: Global, word: &[u8]) -> Result<Vec<u8>, Unread>
     Ok(content)
 }
 
-/// The number of a name, which is added if it is new.
-pub(crate) fn number_of(names: &mut Names, name: &[u8]) -> Result<u32, Unread>
-    requires { name_test name.now ≡ true }
+/// The number of a name that is all the words, where it is among the names.
+#[inline]
+pub(crate) fn known_alone(names: &Names, args: Option<&[u8]>) -> Option<u32>
+    ensures { IfSome result (λ number. (text : Text) × (words_after args.entry ≡ text ∷ []) × IsNumbered names.now text number) }
+{
+    // This call says that each is a name.
+    let _ = names.len();
+    let text = args?;
+    let number = names.number_of(text)?;
+    Some(number)
+}
+
+/// The number of the name that a word is, where it is among the names.
+#[inline]
+pub(crate) fn known_name(names: &Names, word: &[u8]) -> Result<Option<u32>, Unread>
+    ensures reads { Reads (λ _. word.now) result (name_in word.now) }
+    ensures name { IfOk result (λ _. name_test word.now ≡ true) }
+    ensures known { IfOk result (λ known. IfSome known (IsNumbered names.now word.now)) }
+{
+    // This call says that each is a name.
+    let _ = names.len();
+    match names.number_of(word) {
+        Some(number) => Ok(Some(number)),
+        None if is_name(word) => Ok(None),
+        None => Err(Unread::Fault(LineFault::BadName)),
+    }
+}
+
+/// The number of a name, which is added if it is new. It may be known.
+#[inline]
+pub(crate) fn number_of(names: &mut Names, known: Option<u32>, name: &[u8]) -> Result<u32, Unread>
+    requires name { name_test name.now ≡ true }
+    requires known { IfSome known (IsNumbered names.old name.now) }
     ensures reads { Reads (λ _. names.new) result (added names.old name.now) }
     ensures number { IfOk result (λ n. text_at names.new n ≡ name.now) }
     ensures within { IfOk result (λ n. n < length names.new) }
     ensures kept { Extends names.old names.new }
 {
+    if let Some(number) = known {
+        return Ok(number);
+    }
     match names.add(name) {
         Ok(number) => Ok(number),
         Err(NamesFault::Full) => Err(Unread::Fault(LineFault::TooManyNames)),
         Err(NamesFault::Memory) => Err(Unread::Memory),
     }
-}
-
-/// The word, where there is one.
-pub(crate) fn one<'a>(words: &[&'a [u8]]) -> Option<&'a [u8]>
-    ensures { MatchOption result (length words.now ≢ 1) (λ a. map (λ w. w.now) words.now ≡ a.now ∷ []) }
-{
-    match words {
-        [a] => Some(*a),
-        _ => None,
-    }
-}
-
-/// The words, where there are two.
-pub(crate) fn two<'a>(words: &[&'a [u8]]) -> Option<(&'a [u8], &'a [u8])>
-    ensures { MatchOption result (length words.now ≢ 2) (λ p. map (λ w. w.now) words.now ≡ p.0.now ∷ p.1.now ∷ []) }
-{
-    match words {
-        [a, b] => Some((*a, *b)),
-        _ => None,
-    }
-}
-
-/// The pieces of a line between single spaces.
-pub(crate) fn words(alloc: Global, line: &[u8]) -> Result<Vec<&[u8]>, AllocError>
-    ensures { IfOk result (λ words. map (λ w. w.now) words.items ≡ words_of line.now) }
-{
-    line.split(|b| *b == b' ').collect(alloc)
 }
 
 /// Whether a byte of a line is neither visible nor a space.

@@ -1,16 +1,20 @@
 -- Texts that are cut at a byte and at an arrow, and the header of a history.
-use Rattle.std.proofs.Common.{◌≡◌, ◌≢◌, ℕ, ◌+◌, ◌<◌, ◌≤◌, ◌^◌, ◌%◌, inl, inr, Bool, true, false, ◌||◌, ◌==◌, List, [], ◌∷◌, ◌++◌, length, take, drop, refl, sym, ap, subst, ◌∙◌, arith, codes, decimal, length-append, append_assoc}
+use Rattle.std.proofs.Common.{◌≡◌, ◌≢◌, ℕ, suc, ◌+◌, ◌-◌, ◌<◌, ◌≤◌, ◌^◌, ◌%◌, inl, inr, Bool, true, false, ◌||◌, ◌==◌, List, [], ◌∷◌, ◌++◌, length, get_or, take, drop, drop-cons, add-one, position, Some, None, refl, sym, ap, subst, ◌∙◌, arith, codes, decimal, length-append, append_assoc}
 use Rattle.std.specs.Prelude.{Contains}
 use Rattle.std.specs.List.{list_any}
 use Rattle.std.proofs.Math.Seq.{drop-append_seam}
 use Rattle.std.proofs.lemmas.Bool.{cases_lt}
 use Rattle.std.proofs.lemmas.Bool.Decides.{Decides-eqb}
 use Rattle.std.proofs.lemmas.Fmt.{decimal_by_steps}
-use Rattle.std.proofs.lemmas.List.{take-append-drop, length-take-le}
+use Rattle.std.proofs.lemmas.Grind.{get_or_default_zero}
+use Rattle.std.proofs.lemmas.List.{take-append-drop, length-take-le, get_or-take}
 use Rattle.std.proofs.lemmas.List.Elements.{Contains-append_right, Contains-append_cases}
+use Rattle.std.proofs.lemmas.List.Prefix.{at_reads}
+use Rattle.std.proofs.lemmas.List.Quantifiers.{position-Some}
 use Rattle.std.proofs.lemmas.Map.Made.{Contains-tail}
 use Rattle.redo_model.specs.Names.{Text}
 use Rattle.redo_command.specs.Histories.{header_of}
+use Rattle.redo_command.proofs.Places.{none_passes}
 use Rattle.redo_replay.specs.HistoryFaults.{arrow, IsCutAtArrow, HasNoArrow}
 use Rattle.redo_replay.proofs.CutOnce.{first_cut, without_from}
 
@@ -60,6 +64,37 @@ header_parts count rest = append_assoc (header_words count) (10 ∷ []) rest
 pub has_lf : (text rest : Text) (x : ℕ) → Contains (text ++ x ∷ rest) x
 has_lf text rest x = Contains-append_right text (x ∷ rest) x (Contains-first x x rest refl)
 
+-- a byte that has no place is not there
+pub not_placed : (text : Text) (x : ℕ) → position (λ b. b == x) text ≡ None → ¬ (Contains text x)
+not_placed text x none c =
+    let other : (get_or text c.0 0 == x) ≡ false = none_passes (λ b. b == x) text none c.0 c.1 in
+    let here : get_or text c.0 0 ≡ x = sym (get_or_default_zero text c.0 x c.1) ∙ c.2 in
+    let same : (get_or text c.0 0 == x) ≡ true = (Decides-eqb (get_or text c.0 0) x).1 here in
+    absurd cc
+
+-- a text is cut at the first place of a byte
+pub cut_at_place : (text : Text) (x at : ℕ) → position (λ b. b == x) text ≡ Some at → (text ≡ take at text ++ x ∷ drop (at + 1) text) × ¬ (Contains (take at text) x)
+cut_at_place text x at e = (
+  sym (take-append-drop at text) ∙ ap (λ (l : Text). take at text ++ l) (drop-cons text at 0 place.0 ∙ (λ i. here i ∷ drop (sym (add-one at) i) text)),
+  λ c. free c,
+)
+  where
+    place : (at < length text) × ((get_or text at 0 == x) ≡ true) × ((k : ℕ) → k < at → (get_or text k 0 == x) ≡ false)
+    place = position-Some (λ b. b == x) text at 0 e
+
+    here : get_or text at 0 ≡ x
+    here = (Decides-eqb (get_or text at 0) x).0 place.1
+
+    free : ¬ (Contains (take at text) x)
+    free c =
+        let long : length (take at text) ≡ at = length-take-le at text (omega (arith, place.0)) in
+        let lt : c.0 < at = omega (arith, long, c.1) in
+        let other : (get_or text c.0 0 == x) ≡ false = place.2 c.0 lt in
+        let read : get_or (take at text) c.0 0 ≡ get_or text c.0 0 = get_or-take at text c.0 0 lt in
+        let same : get_or text c.0 0 ≡ x = sym read ∙ sym (get_or_default_zero (take at text) c.0 x c.1) ∙ c.2 in
+        let yes : (get_or text c.0 0 == x) ≡ true = (Decides-eqb (get_or text c.0 0) x).1 same in
+        absurd cc
+
 -- no arrow begins before this place
 abbrev pub NoArrowBelow : Text → ℕ → Type 0
 NoArrowBelow rest n = (k : ℕ) (back : Text) → k < n → drop k rest ≢ arrow ++ back
@@ -67,6 +102,18 @@ NoArrowBelow rest n = (k : ℕ) (back : Text) → k < n → drop k rest ≢ arro
 pub no_arrow_more : (rest : Text) (n : ℕ) → NoArrowBelow rest n → ((back : Text) → drop n rest ≢ arrow ++ back) → NoArrowBelow rest (n + 1)
 no_arrow_more rest n none here k back lt e =
     elim (cases_lt k n) [ inl before ↦ none k back before e | inr le ↦ let same : k ≡ n = omega arith in here back (subst (λ (m : ℕ). drop m rest ≡ arrow ++ back) same e) ]
+
+-- no arrow has its equals sign from this place on and below that one, so none does below that one
+pub no_arrow_to : (rest : Text) (seen at : ℕ) → NoArrowBelow rest (seen - 1) → ((k : ℕ) → seen ≤ k → k < at → (get_or rest k 0 == 61) ≡ false) → NoArrowBelow rest (at - 1)
+no_arrow_to rest seen at none other k back lt e =
+    elim (cases_lt (k + 1) seen) [
+      | inl before ↦ none k back (omega arith) e
+      | inr from ↦
+          let here : get_or rest (k + 1) 0 ≡ 61 = at_reads 0 rest arrow k back e 1 (omega arith) in
+          let same : (get_or rest (k + 1) 0 == 61) ≡ true = (Decides-eqb (get_or rest (k + 1) 0) 61).1 here in
+          let differs : (get_or rest (k + 1) 0 == 61) ≡ false = other (k + 1) from (omega arith) in
+          absurd cc
+    ]
 
 after_front : (rest front back : Text) → rest ≡ front ++ arrow ++ back → drop (length front) rest ≡ arrow ++ back
 after_front rest front back e = ap (drop (length front)) (e ∙ append_assoc front arrow back) ∙ drop-append_seam front (arrow ++ back)

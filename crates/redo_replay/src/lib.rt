@@ -6,7 +6,6 @@ mod fault;
 mod history;
 mod laws;
 mod merging;
-mod numbers;
 mod printed;
 mod read;
 mod replays;

@@ -12,8 +12,7 @@ ghost use Rattle.redo_replay.specs.HistoryFaults.{IsHistoryFault, IsLineCause, I
 use crate::cuts::{cut_at, cut_at_arrow, cut_at_space};
 use crate::fault::HistoryFault;
 use crate::history::{History, MOST_LINES, MOST_SESSIONS};
-use crate::numbers::number_of;
-use redo_command::{Line, ReadFault, ReplyFault, read_command, read_reply};
+use redo_command::{Line, ReadFault, ReplyFault, read_command, read_number, read_reply};
 use redo_names::Names;
 use std::alloc::Global;
 
@@ -24,7 +23,7 @@ const SHORTEST_LINE: usize = 12;
 fn session_of(word: &[u8]) -> Option<u8>
     ensures { MatchOption result ((session : ℕ) → ¬ (IsSessionWord word.now session)) (IsSessionWord word.now) }
 {
-    let number = number_of(word)?;
+    let number = read_number(word)?;
     if number == 0 || number > MOST_SESSIONS as u32 {
         return None;
     }
@@ -42,7 +41,7 @@ fn read_header(input: &[u8]) -> Result<(usize, &[u8]), HistoryFault>
     let Some(word) = header.strip_prefix(b"history ".as_slice()) else {
         return Err(HistoryFault::BadHeader);
     };
-    match number_of(word) {
+    match read_number(word) {
         Some(count) if count as usize <= MOST_LINES => Ok((count as usize, rest)),
         _ => Err(HistoryFault::BadHeader),
     }

@@ -7,8 +7,8 @@ use Rattle.redo_command.proofs.Added.{added_is, extends_then, all_below-Extends,
 use Rattle.redo_command.proofs.NameLists.{texts_of, text_of, length-texts, all_at, AllBelow-push, fails_alike, rest_more, rest_none, rest_done}
 use Rattle.redo_command.proofs.name_lists.numbers_of.Goals as goal
 
-pub number_of-requires : goal.number_of-requires
-number_of-requires c =
+pub number_of-requires-clause-name : goal.number_of-requires-clause-name
+number_of-requires-clause-name c =
     let words = c.args.words.now in
     let i = c.loop-word.word-index in
     let lt : i < length (texts_of words) = omega (arith, length-texts words) in
