@@ -2,7 +2,6 @@
 use redo_command::{Command, LineFault, ReadFault, read_command, read_script};
 use redo_names::Names;
 use std::alloc::{AllocError, Global};
-use std::process::Abort;
 use std::test::Fail;
 
 /// Where a text is faulty, the line of the fault and what is wrong with it.
@@ -28,60 +27,10 @@ pub(crate) fn fault_after_targets(
     fault_of(read_script(alloc, text.as_slice(), &mut names))
 }
 
-/// Each line has its fault.
-fn faulty_lines<R: Abort + AllocGlobal>(rt: &R) -> Result<(), Fail> {
+/// Skipped lines may hold any bytes, and bring no names; the last line needs no LF.
+#[test]
+fn skipped_lines(rt: HostRuntime) -> Result<(), Fail> {
     let alloc = rt.alloc();
-    for (line, want) in [
-        ("lock a\r", LineFault::BadByte),
-        ("lock a\x7f", LineFault::BadByte),
-        ("build\tT", LineFault::BadByte),
-        ("lock -", LineFault::BadName),
-        ("lock =>", LineFault::BadName),
-        ("file #a -", LineFault::BadName),
-        ("lock", LineFault::WrongWords),
-        ("lock a b", LineFault::WrongWords),
-        ("file a", LineFault::WrongWords),
-        ("done -", LineFault::WrongWords),
-        ("targets ", LineFault::WrongWords),
-        ("ifchange T", LineFault::WrongWords),
-        ("ifcreate T", LineFault::WrongWords),
-        ("ifcreate T -", LineFault::BadName),
-        ("ifchange T a  b", LineFault::BadName),
-        ("ifchange - =>", LineFault::BadName),
-        ("always", LineFault::WrongWords),
-        ("always T U", LineFault::WrongWords),
-        ("ood ", LineFault::WrongWords),
-        ("ood x", LineFault::WrongWords),
-        ("sources x", LineFault::WrongWords),
-        ("lock  a", LineFault::WrongWords),
-        ("build T", LineFault::UnknownCommand),
-        ("Lock a", LineFault::UnknownCommand),
-        (" lock a", LineFault::UnknownCommand),
-        ("file a -", LineFault::BadStamp),
-        ("done a =>", LineFault::BadStamp),
-        ("stamp T 6", LineFault::BadHex),
-        ("stamp T 6g", LineFault::BadHex),
-        ("stamp T ", LineFault::BadHex),
-        ("stamp - 61", LineFault::BadName),
-        ("stamp T", LineFault::WrongWords),
-    ] {
-        let fault = fault_after_targets(alloc, line.as_bytes())?;
-        assert_eq!(rt; fault, Some((2, want)), "{line:?}");
-    }
-    Ok(())
-}
-
-/// Only the length of a comment counts, and the last line needs no LF.
-fn accepted_lines<R: Abort + AllocGlobal>(rt: &R) -> Result<(), Fail> {
-    let alloc = rt.alloc();
-    for (first, want) in [(b'a', Some((2, LineFault::UnknownCommand))), (b'#', None)] {
-        let mut line = Vec::from_elem(alloc, first, 8193)?;
-        let fault = fault_after_targets(alloc, line.as_slice())?;
-        assert_eq!(rt; fault, Some((2, LineFault::LineTooLong)), "{first}");
-        line.truncate(8192);
-        let fault = fault_after_targets(alloc, line.as_slice())?;
-        assert_eq!(rt; fault, want, "{first}");
-    }
     let mut names = Names::new(alloc);
     let script = read_script(alloc, b"\n#\x00\xc8\r\ntargets\n\nlock a", &mut names)?;
     assert!(rt;
@@ -94,7 +43,8 @@ fn accepted_lines<R: Abort + AllocGlobal>(rt: &R) -> Result<(), Fail> {
 }
 
 /// A line read alone is line 1, and nothing is skipped.
-fn single_lines<R: Abort + AllocGlobal>(rt: &R) -> Result<(), Fail> {
+#[test]
+fn single_lines(rt: HostRuntime) -> Result<(), Fail> {
     let alloc = rt.alloc();
     let mut names = Names::new(alloc);
     let command = read_command(alloc, b"lock a", &mut names)?;
@@ -110,11 +60,4 @@ fn single_lines<R: Abort + AllocGlobal>(rt: &R) -> Result<(), Fail> {
         assert_eq!(rt; fault, Some((1, want)), "{line:?}");
     }
     Ok(())
-}
-
-#[test]
-fn session_file_faults(rt: HostRuntime) -> Result<(), Fail> {
-    faulty_lines(&rt)?;
-    accepted_lines(&rt)?;
-    single_lines(&rt)
 }

@@ -10,16 +10,8 @@ mod limits;
 #[cfg(test)]
 mod names;
 #[cfg(test)]
-mod replays;
-#[cfg(test)]
-mod runs;
-#[cfg(test)]
 mod several;
 #[cfg(test)]
 mod texts;
 #[cfg(test)]
-mod told;
-#[cfg(test)]
 mod watched;
-#[cfg(test)]
-mod worked;
