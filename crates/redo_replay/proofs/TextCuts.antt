@@ -1,5 +1,5 @@
 -- Texts that are cut at a byte and at an arrow, and the header of a history.
-use Rattle.std.proofs.Common.{◌≡◌, ◌≢◌, ℕ, suc, ◌+◌, ◌-◌, ◌<◌, ◌≤◌, ◌^◌, ◌%◌, inl, inr, Bool, true, false, ◌||◌, ◌==◌, List, [], ◌∷◌, ◌++◌, length, get_or, take, drop, drop-cons, add-one, position, Some, None, refl, sym, ap, subst, ◌∙◌, arith, codes, decimal, length-append, append_assoc}
+use Rattle.std.proofs.Common.{◌≡◌, ◌≢◌, ℕ, suc, ◌+◌, ◌-◌, ◌<◌, ◌≤◌, ◌^◌, ◌%◌, inl, inr, Bool, true, false, ◌||◌, ◌==◌, List, [], ◌∷◌, ◌++◌, length, get_or, take, drop, drop-cons, add-one, position, Some, None, refl, sym, ap, subst, ◌∙◌, arith, codes, decimal, length-append, length-drop, append_assoc}
 use Rattle.std.specs.Prelude.{Contains}
 use Rattle.std.specs.List.{list_any}
 use Rattle.std.proofs.Math.Seq.{drop-append_seam}
@@ -7,7 +7,7 @@ use Rattle.std.proofs.lemmas.Bool.{cases_lt}
 use Rattle.std.proofs.lemmas.Bool.Decides.{Decides-eqb}
 use Rattle.std.proofs.lemmas.Fmt.{decimal_by_steps}
 use Rattle.std.proofs.lemmas.Grind.{get_or_default_zero}
-use Rattle.std.proofs.lemmas.List.{take-append-drop, length-take-le, get_or-take}
+use Rattle.std.proofs.lemmas.List.{take-append-drop, take_all, length-take-le, get_or-take, get_or-drop}
 use Rattle.std.proofs.lemmas.List.Elements.{Contains-append_right, Contains-append_cases}
 use Rattle.std.proofs.lemmas.List.Prefix.{at_reads}
 use Rattle.std.proofs.lemmas.List.Quantifiers.{position-Some}
@@ -73,9 +73,10 @@ not_placed text x none c =
     absurd cc
 
 -- a text is cut at the first place of a byte
-pub cut_at_place : (text : Text) (x at : ℕ) → position (λ b. b == x) text ≡ Some at → (text ≡ take at text ++ x ∷ drop (at + 1) text) × ¬ (Contains (take at text) x)
+pub cut_at_place : (text : Text) (x at : ℕ) → position (λ b. b == x) text ≡ Some at
+    → (text ≡ take at text ++ x ∷ take (length text - (at + 1)) (drop (at + 1) text)) × ¬ (Contains (take at text) x)
 cut_at_place text x at e = (
-  sym (take-append-drop at text) ∙ ap (λ (l : Text). take at text ++ l) (drop-cons text at 0 place.0 ∙ (λ i. here i ∷ drop (sym (add-one at) i) text)),
+  sym (take-append-drop at text) ∙ ap (λ (l : Text). take at text ++ l) (drop-cons text at 0 place.0 ∙ (λ i. here i ∷ after i)),
   λ c. free c,
 )
   where
@@ -84,6 +85,11 @@ cut_at_place text x at e = (
 
     here : get_or text at 0 ≡ x
     here = (Decides-eqb (get_or text at 0) x).0 place.1
+
+    after : drop (suc at) text ≡ take (length text - (at + 1)) (drop (at + 1) text)
+    after =
+        let long = length-drop (at + 1) text in
+        ap (λ (n : ℕ). drop n text) (sym (add-one at)) ∙ sym (take_all (length text - (at + 1)) (drop (at + 1) text) (omega (arith, long)))
 
     free : ¬ (Contains (take at text) x)
     free c =
@@ -115,12 +121,45 @@ no_arrow_to rest seen at none other k back lt e =
           absurd cc
     ]
 
+-- the bytes before a place of what is left are other bytes of the whole
+others_after : (rest : Text) (seen at : ℕ)
+    → ((k : ℕ) → k < at - seen → (get_or (drop seen rest) k 0 == 61) ≡ false)
+    → (k : ℕ) → seen ≤ k → k < at → (get_or rest k 0 == 61) ≡ false
+others_after rest seen at other k from lt =
+    let same : seen + (k - seen) ≡ k = omega arith in
+    let read = get_or-drop seen rest (k - seen) 0 ∙ ap (λ (i : ℕ). get_or rest i 0) same in
+    ap (λ (b : ℕ). b == 61) (sym read) ∙ other (k - seen) (omega arith)
+
+-- up to the next equals sign no arrow has one
+pub no_arrow_to_sign : (rest : Text) (seen more : ℕ) → NoArrowBelow rest (seen - 1)
+    → position (λ b. b == 61) (drop seen rest) ≡ Some more → NoArrowBelow rest (seen + more - 1)
+no_arrow_to_sign rest seen more none e =
+    let place = position-Some (λ b. b == 61) (drop seen rest) more 0 e in
+    let other = others_after rest seen (seen + more) (λ k lt. place.2 k (omega arith)) in
+    no_arrow_to rest seen (seen + more) none other
+
+-- past an equals sign that is no arrow's
+pub no_arrow_past : (rest : Text) (at : ℕ) → NoArrowBelow rest (at - 1)
+    → ((back : Text) → 0 < at → drop (at - 1) rest ≢ arrow ++ back) → NoArrowBelow rest at
+no_arrow_past rest at none here k back lt e =
+    let other = λ (b : Text) (is : drop (at - 1) rest ≡ arrow ++ b). here b (omega arith) is in
+    no_arrow_more rest (at - 1) none other k back (omega arith) e
+
 after_front : (rest front back : Text) → rest ≡ front ++ arrow ++ back → drop (length front) rest ≡ arrow ++ back
 after_front rest front back e = ap (drop (length front)) (e ∙ append_assoc front arrow back) ∙ drop-append_seam front (arrow ++ back)
 
-pub no_arrow : (rest : Text) → NoArrowBelow rest (length rest) → HasNoArrow rest
+pub no_arrow : (rest : Text) → NoArrowBelow rest (length rest - 1) → HasNoArrow rest
 no_arrow rest none front back e =
     none (length front) back (omega (arith, ap length e, length-append (front ++ arrow) back, length-append front arrow)) (after_front rest front back e)
+
+-- where no equals sign is left, there is no arrow
+pub no_arrow_left : (rest : Text) (seen : ℕ) → NoArrowBelow rest (seen - 1)
+    → position (λ b. b == 61) (drop seen rest) ≡ None → HasNoArrow rest
+no_arrow_left rest seen none e =
+    let free = none_passes (λ b. b == 61) (drop seen rest) e in
+    let long = length-drop seen rest in
+    let other = others_after rest seen (length rest) (λ k lt. free k (omega (arith, long))) in
+    no_arrow rest (no_arrow_to rest seen (length rest) none other)
 
 pub cut_at_first : (rest reply : Text) (n : ℕ) → n ≤ length rest → NoArrowBelow rest n → drop n rest ≡ arrow ++ reply → IsCutAtArrow rest (take n rest) reply
 cut_at_first rest reply n within none here = record {
