@@ -1,5 +1,5 @@
 -- Texts that are cut at a byte and at an arrow, and the header of a history.
-use Rattle.std.proofs.Common.{◌≡◌, ◌≢◌, ℕ, suc, ◌+◌, ◌-◌, ◌<◌, ◌≤◌, ◌^◌, ◌%◌, inl, inr, Bool, true, false, ◌||◌, ◌==◌, List, [], ◌∷◌, ◌++◌, length, get_or, take, drop, drop-cons, add-one, position, Some, None, refl, sym, ap, subst, ◌∙◌, arith, codes, decimal, length-append, length-drop, append_assoc}
+use Rattle.std.proofs.Common.{◌≡◌, ◌≢◌, ℕ, suc, ◌+◌, ◌-◌, ◌<◌, ◌≤◌, ◌^◌, ◌%◌, inl, inr, Bool, true, false, ◌||◌, ◌==◌, List, [], ◌∷◌, ◌++◌, length, get_or, take, drop, drop-cons, add-one, position, Option, Some, None, refl, sym, ap, subst, ◌∙◌, arith, codes, decimal, length-append, length-drop, append_assoc}
 use Rattle.std.specs.Prelude.{Contains}
 use Rattle.std.specs.List.{list_any}
 use Rattle.std.proofs.Math.Seq.{drop-append_seam}
@@ -64,6 +64,12 @@ header_parts count rest = append_assoc (header_words count) (10 ∷ []) rest
 pub has_lf : (text rest : Text) (x : ℕ) → Contains (text ++ x ∷ rest) x
 has_lf text rest x = Contains-append_right text (x ∷ rest) x (Contains-first x x rest refl)
 
+-- what is left of a text after a place
+left_after : (text : Text) (n : ℕ) → take (length text - n) (drop n text) ≡ drop n text
+left_after text n =
+    let long = length-drop n text in
+    take_all (length text - n) (drop n text) (omega (arith, long))
+
 -- a byte that has no place is not there
 pub not_placed : (text : Text) (x : ℕ) → position (λ b. b == x) text ≡ None → ¬ (Contains text x)
 not_placed text x none c =
@@ -87,9 +93,7 @@ cut_at_place text x at e = (
     here = (Decides-eqb (get_or text at 0) x).0 place.1
 
     after : drop (suc at) text ≡ take (length text - (at + 1)) (drop (at + 1) text)
-    after =
-        let long = length-drop (at + 1) text in
-        ap (λ (n : ℕ). drop n text) (sym (add-one at)) ∙ sym (take_all (length text - (at + 1)) (drop (at + 1) text) (omega (arith, long)))
+    after = ap (λ (n : ℕ). drop n text) (sym (add-one at)) ∙ sym (left_after text (at + 1))
 
     free : ¬ (Contains (take at text) x)
     free c =
@@ -130,11 +134,23 @@ others_after rest seen at other k from lt =
     let read = get_or-drop seen rest (k - seen) 0 ∙ ap (λ (i : ℕ). get_or rest i 0) same in
     ap (λ (b : ℕ). b == 61) (sym read) ∙ other (k - seen) (omega arith)
 
--- up to the next equals sign no arrow has one
+-- the place of the first equals sign of what is left
+abbrev pub next_sign : Text → ℕ → Option ℕ
+next_sign rest seen = position (λ b. b == 61) (take (length rest - seen) (drop seen rest))
+
+of_left : (rest : Text) (seen : ℕ) → next_sign rest seen ≡ position (λ b. b == 61) (drop seen rest)
+of_left rest seen = ap (position (λ b. b == 61)) (left_after rest seen)
+
+pub sign_within : (rest : Text) (seen more : ℕ) → next_sign rest seen ≡ Some more → seen + more < length rest
+sign_within rest seen more e =
+    let place = position-Some (λ b. b == 61) (drop seen rest) more 0 (sym (of_left rest seen) ∙ e) in
+    omega (arith, place.0, length-drop seen rest)
+
+-- up to that equals sign no arrow has one
 pub no_arrow_to_sign : (rest : Text) (seen more : ℕ) → NoArrowBelow rest (seen - 1)
-    → position (λ b. b == 61) (drop seen rest) ≡ Some more → NoArrowBelow rest (seen + more - 1)
+    → next_sign rest seen ≡ Some more → NoArrowBelow rest (seen + more - 1)
 no_arrow_to_sign rest seen more none e =
-    let place = position-Some (λ b. b == 61) (drop seen rest) more 0 e in
+    let place = position-Some (λ b. b == 61) (drop seen rest) more 0 (sym (of_left rest seen) ∙ e) in
     let other = others_after rest seen (seen + more) (λ k lt. place.2 k (omega arith)) in
     no_arrow_to rest seen (seen + more) none other
 
@@ -153,10 +169,9 @@ no_arrow rest none front back e =
     none (length front) back (omega (arith, ap length e, length-append (front ++ arrow) back, length-append front arrow)) (after_front rest front back e)
 
 -- where no equals sign is left, there is no arrow
-pub no_arrow_left : (rest : Text) (seen : ℕ) → NoArrowBelow rest (seen - 1)
-    → position (λ b. b == 61) (drop seen rest) ≡ None → HasNoArrow rest
+pub no_arrow_left : (rest : Text) (seen : ℕ) → NoArrowBelow rest (seen - 1) → next_sign rest seen ≡ None → HasNoArrow rest
 no_arrow_left rest seen none e =
-    let free = none_passes (λ b. b == 61) (drop seen rest) e in
+    let free = none_passes (λ b. b == 61) (drop seen rest) (sym (of_left rest seen) ∙ e) in
     let long = length-drop seen rest in
     let other = others_after rest seen (length rest) (λ k lt. free k (omega (arith, long))) in
     no_arrow rest (no_arrow_to rest seen (length rest) none other)
