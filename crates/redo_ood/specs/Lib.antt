@@ -2,5 +2,4 @@ pub mod Marks
 pub mod KeptMarks
 pub mod Memo
 pub mod KeptMemo
-pub mod Reasons
 pub mod Regions

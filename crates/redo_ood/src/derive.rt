@@ -19,7 +19,7 @@ fn needs_marked(rows: &DepRows, marks: &Marks, t: u32, n: u32) -> bool
     requires name { n < size_of marks.now }
     ensures { IsTrue result ↔ (IsSome ((rows_of rows.now).change t n) × IsMarked marks.now n) }
 {
-    rows.change_of(t, n).is_some() && marks.has(n)
+    marks.has(n) && rows.change_of(t, n).is_some()
 }
 
 // Whether the target has a change row on a marked name.

@@ -7,4 +7,5 @@ pub mod Listed
 pub mod Rises
 pub mod SeatEdits
 pub mod Seats
+pub mod Told
 pub mod Writing

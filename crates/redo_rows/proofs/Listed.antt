@@ -4,7 +4,7 @@ use Rattle.std.proofs.lemmas.Bool.{cases_lt, false≢true}
 use Rattle.std.proofs.lemmas.List.{get_or_past, get_or_default}
 use Rattle.std.specs.List.{Contains}
 use Rattle.redo_model.specs.Renaming.{AllBelow}
-use Rattle.redo_rows.specs.Rows.{Seat, TargetRows, target_at, bare}
+use Rattle.redo_rows.specs.Rows.{Seat, TargetRows, has_seat, target_at, bare}
 use Rattle.redo_rows.specs.Target.{HasRowIn}
 use Rattle.redo_rows.specs.Numbers.{NumberList}
 use Rattle.redo_rows.specs.Kept.{passes_on, has_change, has_created, IsKept, IsInverse, numbers_at, no_numbers}
@@ -45,3 +45,10 @@ names_below targets now t target needed awaited seated xs is t_in at rows h =
     let found = found_target targets now t target is t_in at in
     subst (λ (ts : List TargetRows). AllBelow (length ts) xs) is
     (all_below (length targets) xs (λ n in'. name_below targets needed awaited seated t n h (subst (λ (x : TargetRows). HasRowIn x.seats n) found.1 (rows n in'))))
+
+pub seats_below : (targets now : List TargetRows) (t : ℕ) (target : TargetRows) (seats : List Seat) (needed awaited : List NumberList) (seated : List ℕ) → targets ≡ now → t < length now → target ≡ get_or targets t target
+    → seats ≡ target.seats → IsKept targets needed awaited seated → (n : ℕ) → has_seat seats n ≡ true → n < length now
+seats_below targets now t target seats needed awaited seated is t_in at same h n there =
+    let found = found_target targets now t target is t_in at in
+    let own : has_seat (target_at targets t).seats n ≡ true = subst (λ (x : TargetRows). has_seat x.seats n ≡ true) found.1 (subst (λ ss. has_seat ss n ≡ true) same there) in
+    subst (λ (ts : List TargetRows). n < length ts) is (h.below t n own)

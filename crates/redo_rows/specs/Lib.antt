@@ -1,5 +1,6 @@
 pub mod Kept
 pub mod KeptMark
+pub mod News
 pub mod Numbers
 pub mod Rows
 pub mod Seat

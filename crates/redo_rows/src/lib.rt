@@ -4,6 +4,7 @@
 mod inverse;
 mod kept_mark;
 mod made;
+mod news;
 mod numbers;
 mod rows;
 mod target;

@@ -1,14 +1,16 @@
-ghost use Rattle.std.specs.Prelude.{◌≡◌, ◌⊎◌, ℕ, ◌<◌, ◌==◌, ◌&&◌, not, false, IsTrue, length, Contains, ◌||◌, option_map, IfOk, OnOk, OnErr};
+ghost use Rattle.std.specs.Prelude.{◌≡◌, ◌⊎◌, ◌↔◌, ℕ, ◌<◌, ◌==◌, ◌&&◌, not, false, IsTrue, length, Contains, ◌||◌, option_map, IfOk, OnOk, OnErr};
 ghost use Rattle.redo_model.specs.Names.{IsListed};
+ghost use Rattle.redo_model.specs.OutOfDate.{SomeAppeared, SomeChanged};
 ghost use Rattle.redo_model.specs.State.{no_rows};
 ghost use Rattle.redo_model.specs.Renaming.{AllBelow};
 ghost use Rattle.redo_records.specs.Meaning.{mark_meaning};
-ghost use Rattle.redo_rows.specs.Rows.{count_of, rows_of, room_of, with_change, with_created, with_always, without_rows, HasRowOn, HasChangeRowOn, HasCreatedRowOn, by_number};
+ghost use Rattle.redo_rows.specs.Rows.{count_of, rows_of, room_of, with_change, with_created, with_always, without_rows, HasRowOn, HasChangeRowOn, HasCreatedRowOn, by_number, records_of};
 
+use crate::news::is_any_news;
 use crate::numbers::Numbers;
 use crate::target::Target;
 use crate::{inverse, made};
-use redo_records::Mark;
+use redo_records::{Mark, Records};
 use std::alloc::{AllocError, Global};
 use std::marker::Model;
 
@@ -182,6 +184,17 @@ impl DepRows {
         ensures below { AllBelow (count_of self.now) result.now }
     {
         self.targets[t as usize].names()
+    }
+
+    /// Whether `t` has a created row on a name that has a file now, or a change row with another mark than the name
+    /// has now.
+    pub fn has_news(&self, records: &Records, t: u32) -> bool
+        requires target { t < count_of self.now }
+        requires names { length records.now ≡ count_of self.now }
+        ensures { IsTrue result ↔ (SomeAppeared (records_of records.now self.now) t
+            ⊎ SomeChanged (records_of records.now self.now) t) }
+    {
+        is_any_news(records, self.targets[t as usize].seats())
     }
 
     /// The targets with a change row on `n`, by ascending number.

@@ -103,7 +103,7 @@ impl Store {
         requires { n < count_of self.now }
         ensures { IsTrue result ↔ (HasFile (records_of self.now) n × OutOfDate (records_of self.now) n) }
     {
-        self.has_file(n) && self.is_out(n)
+        self.is_out(n) && self.has_file(n)
     }
 
     fn is_source(&self, n: u32) -> bool
