@@ -1,7 +1,7 @@
 -- Which news the seats of a target tell, by their places.
-use Rattle.std.proofs.Common.{◌≡◌, ◌≢◌, refl, ℕ, ◌<◌, Bool, true, false, List, length, get_or, sym, subst, ap, ◌∙◌, inl, inr, Some, None}
+use Rattle.std.proofs.Common.{◌≡◌, ◌≢◌, refl, ℕ, ◌<◌, Bool, true, false, List, length, get_or, sym, subst, ap, ◌∙◌, inl, inr, Option, Some, None, ◌↔◌, IsTrue, not}
 use Rattle.std.proofs.lemmas.Bool.{false≢true}
-use Rattle.std.proofs.lemmas.Option.{none-some}
+use Rattle.std.proofs.lemmas.Option.{none-some, same_Some}
 use Rattle.redo_model.specs.State.{Records, Mark}
 use Rattle.redo_rows.specs.Rows.{Seat, seat_at, has_seat}
 use Rattle.redo_rows.specs.Target.{Ascending, blank}
@@ -39,3 +39,8 @@ no_news r seats ascending none some = at (has_seat seats some.0) refl
         none place.0 (blank 0) place.1 (subst (λ seat. HasNews r seat (get_or seats place.0 (blank 0)).name) found
         (subst (λ n. HasNews r (seat_at seats n) n) (sym named) some.1))
     at false none_there = blank_tells_nothing r some.0 (subst (λ seat. HasNews r seat some.0) (nothing_stands seats some.0 none_there) some.1)
+
+-- a row has another mark exactly where the test for this mark fails
+pub other_told : (change : Option Mark) (kept mark : Mark) (same : Bool) → change ≡ Some kept → IsTrue same ↔ (kept ≡ mark) → IsTrue (not same) ↔ ((x : Mark) × (change ≡ Some x) × (x ≢ mark))
+other_told change kept mark true e h = (λ t. absurd (false≢true t), λ other. absurd (other.2 (same_Some other.0 kept (sym other.1 ∙ e) ∙ h.0 refl)))
+other_told change kept mark false e h = (λ t. (kept, e, λ same. false≢true (h.1 same)), λ other. refl)

@@ -1,9 +1,10 @@
 -- What the rows of a target tell of the names that they are on.
-use Rattle.std.specs.Prelude.{◌≡◌, ◌≢◌, ◌⊎◌, ℕ, List, Some, IsTrue}
-use Rattle.redo_model.specs.State.{Cell, Mark, Records, mark_of, no_rows}
+use Rattle.std.specs.Prelude.{◌⊎◌, ℕ, List, IsTrue}
+use Rattle.redo_model.specs.State.{Cell, Records, mark_of, no_rows}
 use Rattle.redo_model.specs.OutOfDate.{HasFile}
 use Rattle.redo_records.specs.Cells.{cell_at}
 use Rattle.redo_rows.specs.Rows.{Seat, seat_at}
+use Rattle.redo_rows.specs.Target.{HasChangeBut}
 
 -- what is known of each name, without rows
 abbrev pub known : List Cell → Records ℕ
@@ -15,7 +16,7 @@ HasAppeared r seat n = IsTrue seat.created × HasFile r n
 
 -- there is a change row here with another mark than the name has now
 abbrev pub HasChanged : Records ℕ → Seat → ℕ → Type 0
-HasChanged r seat n = (mark : Mark) × (seat.change ≡ Some mark) × (mark ≢ mark_of r n)
+HasChanged r seat n = HasChangeBut (mark_of r n) seat
 
 abbrev pub HasNews : Records ℕ → Seat → ℕ → Type 0
 HasNews r seat n = HasAppeared r seat n ⊎ HasChanged r seat n

@@ -1,5 +1,6 @@
 -- What the rows of one target keep.
-use Rattle.std.specs.Prelude.{◌≡◌, ◌↔◌, ◌⊎◌, ℕ, ◌+◌, ◌<◌, ◌≤◌, Bool, false, not, ◌||◌, List, None, IsSome, is_some, IsTrue, length, slice_index_or, AllPairs, Contains, count_by}
+use Rattle.std.specs.Prelude.{◌≡◌, ◌≢◌, ◌↔◌, ◌⊎◌, ℕ, ◌+◌, ◌<◌, ◌≤◌, Bool, false, not, ◌||◌, List, None, Some, IsSome, is_some, IsTrue, length, slice_index_or, AllPairs, Contains, count_by}
+use Rattle.redo_model.specs.State.{Mark}
 use Rattle.redo_rows.specs.Numbers.{NumberList}
 use Rattle.redo_rows.specs.Rows.{Seat, seat_at}
 
@@ -13,6 +14,10 @@ has_row seat = is_some seat.change || seat.created
 -- a change row or a created row on the name
 abbrev pub HasRowIn : List Seat → ℕ → Type 0
 HasRowIn seats n = IsSome (seat_at seats n).change ⊎ IsTrue (seat_at seats n).created
+
+-- there is a change row with another mark
+abbrev pub HasChangeBut : Mark → Seat → Type 0
+HasChangeBut mark seat = (kept : Mark) × (seat.change ≡ Some kept) × (kept ≢ mark)
 
 -- the seats stand in the order of their names, one for each
 abbrev pub Ascending : List Seat → Type 0

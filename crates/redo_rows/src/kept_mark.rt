@@ -1,4 +1,4 @@
-ghost use Rattle.std.specs.Prelude.{◌≡◌};
+ghost use Rattle.std.specs.Prelude.{◌≡◌, ◌↔◌, IsTrue};
 ghost use Rattle.redo_records.specs.Meaning.{mark_meaning};
 ghost use Rattle.redo_rows.specs.KeptMark.{kept_meaning};
 
@@ -75,6 +75,19 @@ impl KeptMark {
             KeptMark::Pending => Mark::Pending,
             KeptMark::File(stamp) => Mark::File(stamp),
             KeptMark::Absent => Mark::Absent,
+        }
+    }
+
+    /// Whether it is this mark.
+    pub fn is(&self, mark: &Mark) -> bool
+        ensures { IsTrue result ↔ (kept_meaning self.now ≡ mark_meaning mark.now) }
+    {
+        match (self, mark) {
+            (KeptMark::Digest(kept), Mark::Digest(digest)) => kept == digest,
+            (KeptMark::Builds(kept), Mark::Builds(builds)) => kept.builds() == *builds,
+            (KeptMark::File(kept), Mark::File(stamp)) => kept.bytes() == stamp.bytes(),
+            (KeptMark::Pending, Mark::Pending) | (KeptMark::Absent, Mark::Absent) => true,
+            _ => false,
         }
     }
 }

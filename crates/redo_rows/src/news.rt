@@ -21,10 +21,7 @@ fn has_changed(records: &Records, seat: &Seat) -> bool
     requires { seat.now.name < length records.now }
     ensures { IsTrue result ↔ HasChanged (known records.now) seat.now seat.now.name }
 {
-    match seat.change() {
-        Some(mark) => mark != records.mark(seat.name()),
-        None => false,
-    }
+    seat.has_change_but(&records.mark(seat.name()))
 }
 
 // Whether the name has appeared or changed.

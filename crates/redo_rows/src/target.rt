@@ -2,7 +2,7 @@ ghost use Rattle.std.specs.Prelude.{◌≡◌, ◌⊎◌, ◌↔◌, ℕ, ◌+�
 ghost use Rattle.redo_model.specs.Names.{IsListed};
 ghost use Rattle.redo_records.specs.Meaning.{mark_meaning};
 ghost use Rattle.redo_rows.specs.Rows.{bare, seat_at, has_seat, by_number};
-ghost use Rattle.redo_rows.specs.Target.{blank, has_row, HasRowIn, Ascending, IsSeatOf, IsGapFor};
+ghost use Rattle.redo_rows.specs.Target.{blank, has_row, HasRowIn, HasChangeBut, Ascending, IsSeatOf, IsGapFor};
 
 use crate::kept_mark::KeptMark;
 use crate::numbers::Numbers;
@@ -57,6 +57,16 @@ impl Seat {
         ensures { option_map mark_meaning result ≡ self.now.change }
     {
         self.change.map(|kept| kept.mark())
+    }
+
+    /// Whether there is a change row with another mark.
+    pub fn has_change_but(&self, mark: &Mark) -> bool
+        ensures { IsTrue result ↔ HasChangeBut (mark_meaning mark.now) self.now }
+    {
+        match &self.change {
+            Some(kept) => !kept.is(mark),
+            None => false,
+        }
     }
 
     pub fn has_change(&self) -> bool
