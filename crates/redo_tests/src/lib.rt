@@ -1,16 +1,10 @@
-//! The tests of texts and of whole runs.
+//! The tests of names, of texts, and of runs whose readers and writers fail.
 #![tactic(auto)]
 
 #[cfg(test)]
 mod devices;
 #[cfg(test)]
-mod faults;
-#[cfg(test)]
-mod limits;
-#[cfg(test)]
 mod names;
-#[cfg(test)]
-mod several;
 #[cfg(test)]
 mod texts;
 #[cfg(test)]

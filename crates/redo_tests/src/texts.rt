@@ -1,36 +1,37 @@
-//! Texts of commands, replies and histories.
-use redo_command::{Kind, Reply, command_text, read_command, reply_text};
+//! Texts of commands and replies.
+use redo_command::{Command, LineFault, ReadFault, Reply, command_text, read_command, reply_text};
 use redo_names::Names;
-use redo_replay::{history_text, read_history};
 use std::test::Fail;
 
-/// What a command's text says is that command.
 #[test]
-fn command_texts(rt: HostRuntime) -> Result<(), Fail> {
+fn texts(rt: HostRuntime) -> Result<(), Fail> {
     let alloc = rt.alloc();
     let mut names = Names::new(alloc);
-    let line = b"ifchange d b a.o b d";
-    let command = read_command(alloc, line.as_slice(), &mut names)?.copy(alloc)?;
-    assert_eq!(rt; command.kind(), Kind::IfChange);
+    let command = read_command(alloc, b"ifchange d b a.o b d", &mut names)?;
     let text = command_text(alloc, &command, &names)?;
-    assert_eq!(rt; text.as_slice(), line.as_slice());
+    assert!(rt; text.as_slice() == b"ifchange d b a.o b d".as_slice());
+    let text = reply_text(alloc, &Reply::Busy(4294967295), &names)?;
+    assert!(rt; text.as_slice() == b"busy 4294967295".as_slice());
     Ok(())
 }
 
+/// A line read alone is line 1, and nothing is skipped.
 #[test]
-fn reply_texts(rt: HostRuntime) -> Result<(), Fail> {
+fn single_lines(rt: HostRuntime) -> Result<(), Fail> {
     let alloc = rt.alloc();
-    let text = reply_text(alloc, &Reply::Busy(4294967295), &Names::new(alloc))?;
-    assert_eq!(rt; text.as_slice(), b"busy 4294967295".as_slice());
-    Ok(())
-}
-
-#[test]
-fn history_texts(rt: HostRuntime) -> Result<(), Fail> {
-    let alloc = rt.alloc();
-    let want = b"history 2\n1 lock T => granted 1\n2 lock T => busy 1\n";
-    let history = read_history(alloc, want.as_slice())?;
-    let text = history_text(alloc, history.lines(), history.names())?;
-    assert_eq!(rt; text.as_slice(), want.as_slice());
+    let mut names = Names::new(alloc);
+    let command = read_command(alloc, b"lock a", &mut names)?;
+    assert!(rt; matches!(command, Command::Lock(0)));
+    for (text, want) in [
+        ("", LineFault::UnknownCommand),
+        ("# x", LineFault::UnknownCommand),
+        ("#\r", LineFault::BadByte),
+        ("lock a\n", LineFault::BadByte),
+        ("lock -", LineFault::BadName),
+    ] {
+        let read = read_command(alloc, text.as_bytes(), &mut names);
+        let is_right = matches!(read, Err(ReadFault::Line { line: 1, fault }) if fault == want);
+        assert!(rt; is_right, "{text:?}");
+    }
     Ok(())
 }

@@ -9,11 +9,11 @@ fn whole_reads(rt: HostRuntime) -> Result<(), Fail> {
     let alloc = rt.alloc();
     let mut reader = Watched::new(b"abcd".as_slice());
     let whole = read_whole(alloc, &mut reader, 4)?;
-    assert_eq!(rt; whole.as_slice(), b"abcd".as_slice());
+    assert!(rt; whole.as_slice() == b"abcd".as_slice());
     assert!(rt; !reader.faulted());
     let mut reader = Watched::new(b"abcde".as_slice());
     let read = read_whole(alloc, &mut reader, 4);
-    assert!(rt; matches!(read, Err(WholeFault::TooLong)), "{read:?}");
+    assert!(rt; matches!(read, Err(WholeFault::TooLong)));
     assert!(rt; !reader.faulted());
     let mut reader = Watched::new(FailingReader {
         left: 9,
@@ -21,7 +21,7 @@ fn whole_reads(rt: HostRuntime) -> Result<(), Fail> {
         fails_at: 2,
     });
     let read = read_whole(alloc, &mut reader, 4);
-    assert!(rt; matches!(read, Err(WholeFault::Device)), "{read:?}");
+    assert!(rt; matches!(read, Err(WholeFault::Device)));
     assert!(rt; reader.faulted());
     Ok(())
 }
@@ -36,7 +36,7 @@ fn watched(rt: HostRuntime) -> Result<(), Fail> {
     write_whole(&mut out, b"c\n")?;
     out.flush()?;
     assert!(rt; !out.faulted());
-    assert_eq!(rt; bytes.as_slice(), b"abc\n".as_slice());
+    assert!(rt; bytes.as_slice() == b"abc\n".as_slice());
 
     let mut writer = FullWriter {
         taken: Vec::new(alloc),
@@ -48,7 +48,7 @@ fn watched(rt: HostRuntime) -> Result<(), Fail> {
     assert!(rt; !out.faulted());
     assert!(rt; matches!(out.flush(), Err(WriteFault::Write)));
     assert!(rt; out.faulted());
-    assert_eq!(rt; writer.taken.as_slice(), b"ab".as_slice());
+    assert!(rt; writer.taken.as_slice() == b"ab".as_slice());
     Ok(())
 }
 
@@ -69,12 +69,9 @@ fn failing_writer(rt: HostRuntime) -> Result<(), Fail> {
         let mut out = Watched::new(&mut writer);
         let mut files = [Watched::new(b"".as_slice())];
         let run = run_texts(&rt, alloc, &mut files, &mut out);
-        assert!(rt;
-            matches!(run, Err(TextFault::Write)),
-            "{room} {fails} {run:?}"
-        );
+        assert!(rt; matches!(run, Err(TextFault::Write)));
         assert!(rt; out.faulted());
-        assert_eq!(rt; writer.taken.as_slice(), want, "{room} {fails}");
+        assert!(rt; writer.taken.as_slice() == want, "{room} {fails}");
     }
     Ok(())
 }
@@ -97,9 +94,9 @@ fn failing_writer_of_two(rt: HostRuntime) -> Result<(), Fail> {
         ];
         let run = run_texts(&rt, alloc, &mut files, &mut out);
         let is_full = matches!(run, Err(TextFault::Write));
-        assert_eq!(rt; is_full, room < text.len(), "{room} {run:?}");
-        assert_eq!(rt; out.faulted(), is_full, "{room}");
-        assert_eq!(rt; writer.taken.as_slice(), &text[..room], "{room}");
+        assert!(rt; is_full == (room < text.len()), "{room}");
+        assert!(rt; out.faulted() == is_full, "{room}");
+        assert!(rt; writer.taken.as_slice() == &text[..room], "{room}");
     }
     Ok(())
 }
@@ -114,10 +111,7 @@ fn failing_reader(rt: HostRuntime) -> Result<(), Fail> {
         fails_at: 1,
     })];
     let run = run_texts(&rt, alloc, &mut files, &mut Watched::new(&mut bytes));
-    assert!(rt;
-        matches!(run, Err(TextFault::Device { file: 0 })),
-        "{run:?}"
-    );
+    assert!(rt; matches!(run, Err(TextFault::Device { file: 0 })));
     assert!(rt; files[0].faulted());
 
     let mut files = [
@@ -133,11 +127,19 @@ fn failing_reader(rt: HostRuntime) -> Result<(), Fail> {
         }),
     ];
     let run = run_texts(&rt, alloc, &mut files, &mut Watched::new(&mut bytes));
-    assert!(rt;
-        matches!(run, Err(TextFault::Device { file: 1 })),
-        "{run:?}"
-    );
+    assert!(rt; matches!(run, Err(TextFault::Device { file: 1 })));
     assert!(rt; !files[0].faulted() && files[1].faulted());
+    assert!(rt; bytes.is_empty());
+    Ok(())
+}
+
+#[test]
+fn no_file(rt: HostRuntime) -> Result<(), Fail> {
+    let alloc = rt.alloc();
+    let mut bytes = Vec::new(alloc);
+    let mut files: [Watched<&[u8]>; 0] = [];
+    let run = run_texts(&rt, alloc, &mut files, &mut Watched::new(&mut bytes));
+    assert!(rt; matches!(run, Err(TextFault::NoSession)));
     assert!(rt; bytes.is_empty());
     Ok(())
 }
