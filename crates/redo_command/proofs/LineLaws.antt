@@ -39,15 +39,24 @@ line_found names line command after few e =
         ((says.form, short, spelled), says.adds)
 
 -- what the words of a line are read as has no bad byte
-good_line : (names : List Text) (line : Text) (command : Command Text) (after : List Text) → length names ≤ MOST_NAMES → words_in names (words_of line) ≡ Ok (command, after) → list_any is_bad line ≡ false
+good_line : (names : List Text) (line : Text) (command : Command Text) (after : List Text)
+    → length names ≤ MOST_NAMES → words_in names (words_of line) ≡ Ok (command, after)
+    → list_any is_bad line ≡ false
 good_line names line command after few e =
     let first = some_word line in
-    let says = words_say names first.0 first.1 command after few (ap (words_in names) (sym first.2) ∙ e) in
-    let spelled = subst (λ (l : Text). IsSpelled l command) (sym (line_is_spaced line first.0 first.1 first.2)) says.spelled in
+    let says =
+    words_say names first.0 first.1 command after few (ap (words_in names) (sym first.2) ∙ e) in
+    let spelled =
+    subst (λ (l : Text). IsSpelled l command)
+    (sym (line_is_spaced line first.0 first.1 first.2)) says.spelled in
     let from = read_from_words names line command after says.form spelled says.adds in
-    ap (list_any is_bad) from.text ∙ spaced_is_text from.word from.args from.visible.0 from.visible.1
+    ap (list_any is_bad) from.text
+    ∙ spaced_is_text from.word from.args from.visible.0 from.visible.1
 
-pub line_read : (names : List Text) (line : Text) (command : Command Text) (after : List Text) → length names ≤ MOST_NAMES → length line ≤ LONGEST_LINE → words_in names (words_of line) ≡ Ok (command, after) → line_in names line ≡ Ok (command, after)
+pub line_read : (names : List Text) (line : Text) (command : Command Text) (after : List Text)
+    → length names ≤ MOST_NAMES → length line ≤ LONGEST_LINE
+    → words_in names (words_of line) ≡ Ok (command, after)
+    → line_in names line ≡ Ok (command, after)
 unfolding line_in
 line_read names line command after few le e =
     let short : ltb LONGEST_LINE (length line) ≡ false = le-ltb _ _ le in

@@ -1,5 +1,5 @@
 -- Numbers that are read digit by digit.
-use Rattle.std.proofs.Common.{◌≡◌, ◌≢◌, ℕ, zero, suc, ◌+◌, ◌-◌, ◌*◌, ◌<◌, ◌≤◌, ◌^◌, Bool, true, false, ◌&&◌, List, [], ◌∷◌, length, get_or, drop, refl, sym, ap, subst, ◌∙◌, arith, drop-cons, add-one, Option, Some, None}
+use Rattle.std.proofs.Common.{◌≡◌, ◌≢◌, ℕ, zero, suc, ◌+◌, ◌-◌, ◌*◌, ◌<◌, ◌≤◌, ◌^◌, Bool, true, false, ◌&&◌, [], ◌∷◌, length, get_or, drop, sym, ap, ◌∙◌, arith, drop-cons, add-one, Option, Some, None}
 use Rattle.std.specs.Prelude.{decimal, MatchOption}
 use Rattle.std.specs.Char.{is_ascii_digit, digit_value}
 use Rattle.std.specs.Str.{all_ascii_digits}
@@ -21,21 +21,28 @@ pub digit_is : (c : ℕ) → is_ascii_digit c ≡ true → digit_value c ≡ c -
 digit_is c h = grind (arith, nat_tests)
 
 -- one more digit
-pub value_more : (word : Text) (i v : ℕ) → i < length word → is_ascii_digit (get_or word i 0) ≡ true → digits_value_after 10 v (drop i word) ≡ digits_value_after 10 (v * 10 + (get_or word i 0 - 48)) (drop (i + 1) word)
+pub value_more : (word : Text) (i v : ℕ) → i < length word → is_ascii_digit (get_or word i 0) ≡ true
+    → digits_value_after 10 v (drop i word)
+    ≡ digits_value_after 10 (v * 10 + (get_or word i 0 - 48)) (drop (i + 1) word)
 value_more word i v lt digit =
     ap (digits_value_after 10 v) (drop-cons word i 0 lt)
     ∙ (λ k. digits_value_after 10 (v * 10 + digit_is (get_or word i 0) digit k) (drop (suc i) word))
-    ∙ ap (λ (n : ℕ). digits_value_after 10 (v * 10 + (get_or word i 0 - 48)) (drop n word)) (sym (add-one i))
+    ∙ ap (λ (n : ℕ). digits_value_after 10 (v * 10 + (get_or word i 0 - 48)) (drop n word))
+    (sym (add-one i))
 
-pub digits_more : (word : Text) (i : ℕ) → i < length word → is_ascii_digit (get_or word i 0) ≡ true → all_ascii_digits (drop i word) ≡ all_ascii_digits (drop (i + 1) word)
+pub digits_more : (word : Text) (i : ℕ) → i < length word → is_ascii_digit (get_or word i 0) ≡ true
+    → all_ascii_digits (drop i word) ≡ all_ascii_digits (drop (i + 1) word)
 digits_more word i lt digit =
     ap all_ascii_digits (drop-cons word i 0 lt)
     ∙ ap (λ (b : Bool). b && all_ascii_digits (drop (suc i) word)) digit
     ∙ ap (λ (n : ℕ). all_ascii_digits (drop n word)) (sym (add-one i))
 
 -- a byte that is no digit
-pub digits_end : (word : Text) (i : ℕ) → i < length word → is_ascii_digit (get_or word i 0) ≡ false → all_ascii_digits (drop i word) ≡ false
-digits_end word i lt none = ap all_ascii_digits (drop-cons word i 0 lt) ∙ ap (λ (b : Bool). b && all_ascii_digits (drop (suc i) word)) none
+pub digits_end : (word : Text) (i : ℕ) → i < length word → is_ascii_digit (get_or word i 0) ≡ false
+    → all_ascii_digits (drop i word) ≡ false
+digits_end word i lt none =
+    ap all_ascii_digits (drop-cons word i 0 lt)
+    ∙ ap (λ (b : Bool). b && all_ascii_digits (drop (suc i) word)) none
 
 small : (n : ℕ) → n ≤ 4294967295 → n < 2 ^ 64
 small n le = omega arith
@@ -52,11 +59,16 @@ pub printed_first : (n : ℕ) → n ≤ 4294967295 → 0 < n → 48 < get_or (de
 printed_first n le some = first_decimal n some (small n le)
 
 -- digits with no zero in front are printed so
-pub printed_again : (word : Text) → 0 < length word → (get_or word 0 0 ≡ 48 → length word ≡ 1) → all_ascii_digits word ≡ true → digits_value 10 word ≤ 4294967295 → word ≡ decimal (digits_value 10 word)
-printed_again word long alone digits le = sym (decimal-digits_value own word digits long alone (small (digits_value 10 word) le))
+pub printed_again : (word : Text) → 0 < length word → (get_or word 0 0 ≡ 48 → length word ≡ 1)
+    → all_ascii_digits word ≡ true → digits_value 10 word ≤ 4294967295
+    → word ≡ decimal (digits_value 10 word)
+printed_again word long alone digits le =
+    sym (decimal-digits_value own word digits long alone (small (digits_value 10 word) le))
 
-pub printed_back : (word : Text) → 48 < get_or word 0 0 → all_ascii_digits word ≡ true → digits_value 10 word ≤ 4294967295 → word ≡ decimal (digits_value 10 word)
-printed_back word first digits le = printed_again word (long word first) (λ e. absurd (omega (arith, e, first))) digits le
+pub printed_back : (word : Text) → 48 < get_or word 0 0 → all_ascii_digits word ≡ true
+    → digits_value 10 word ≤ 4294967295 → word ≡ decimal (digits_value 10 word)
+printed_back word first digits le =
+    printed_again word (long word first) (λ e. absurd (omega (arith, e, first))) digits le
   where
     long : (w : Text) → 48 < get_or w 0 0 → 0 < length w
     long [] h = absurd (omega (arith, h))
@@ -68,14 +80,18 @@ printed_some n le = decimal_nonempty n (small n le)
 
 pub printed_zero : (n : ℕ) → n ≤ 4294967295 → get_or (decimal n) 0 0 ≡ 48 → length (decimal n) ≡ 1
 printed_zero zero le first = ap length (decimal_digit 0 (omega arith))
-printed_zero (suc n) le first = absurd (omega (arith, first, printed_first (suc n) le (omega arith)))
+printed_zero (suc n) le first =
+    absurd (omega (arith, first, printed_first (suc n) le (omega arith)))
 
 -- so the value of digits is the number that is printed so, if there is one
-pub read_as : (word : Text) (r : Option ℕ) → 0 < length word → (get_or word 0 0 ≡ 48 → length word ≡ 1)
-    → MatchOption r (all_ascii_digits word ≡ true → ¬ (digits_value 10 word ≤ 4294967295)) (λ n. (all_ascii_digits word ≡ true) × (n ≡ digits_value 10 word) × (n ≤ 4294967295))
+pub read_as : (word : Text) (r : Option ℕ) → 0 < length word
+    → (get_or word 0 0 ≡ 48 → length word ≡ 1)
+    → MatchOption r (all_ascii_digits word ≡ true → ¬ (digits_value 10 word ≤ 4294967295))
+    (λ n. (all_ascii_digits word ≡ true) × (n ≡ digits_value 10 word) × (n ≤ 4294967295))
     → MatchOption r ((n : ℕ) → n ≤ 4294967295 → word ≢ decimal n) (λ n. word ≡ decimal n)
 read_as word None long alone fails = λ n le e.
     let digits : all_ascii_digits word ≡ true = ap all_ascii_digits e ∙ printed_digits n le in
     let value : digits_value 10 word ≡ n = ap (digits_value 10) e ∙ printed_value n le in
     fails digits (omega (arith, value, le))
-read_as word (Some n) long alone is = printed_again word long alone is.0 (omega (arith, is.1, is.2)) ∙ ap decimal (sym is.1)
+read_as word (Some n) long alone is =
+    printed_again word long alone is.0 (omega (arith, is.1, is.2)) ∙ ap decimal (sym is.1)

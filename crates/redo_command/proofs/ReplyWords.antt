@@ -42,7 +42,8 @@ grant_says word g e =
     let first : 48 < get_or word 0 0 = grind (arith, nat_tests, l.0) in
     let le : v ≤ 4294967295 = grind (arith, nat_tests, k.1) in
     let is : word ≡ decimal v = printed_back word first l.1 le in
-    subst (λ (n : ℕ). IsGrant n × (word ≡ decimal n)) passed.1 ((not_zero word v first (sym is), le), is)
+    subst (λ (n : ℕ). IsGrant n × (word ≡ decimal n)) passed.1
+    ((not_zero word v first (sym is), le), is)
 
 -- and a printed number is read
 pub grant_read : (g : ℕ) → IsGrant g → grant_in (decimal g) ≡ Ok g
@@ -70,16 +71,22 @@ pub grant_is_visible : (g : ℕ) → IsGrant g → IsVisible (decimal g)
 grant_is_visible g is = decimals_are_visible (decimal g) (printed_digits g is.1)
 
 -- a word is read as a grant, or its fault is this
-grant_or_fault : (word : Text) → ((g : ℕ) × (grant_in word ≡ Ok g)) ⊎ (grant_in word ≡ Err WrongWords)
+grant_or_fault : (word : Text)
+    → ((g : ℕ) × (grant_in word ≡ Ok g)) ⊎ (grant_in word ≡ Err WrongWords)
 unfolding grant_in
-grant_or_fault word = by (ltb 48 (get_or word 0 0) && all_ascii_digits word && leb (digits_value 10 word) 4294967295) (digits_value 10 word)
+grant_or_fault word =
+    by (ltb 48 (get_or word 0 0) && all_ascii_digits word && leb (digits_value 10 word) 4294967295)
+    (digits_value 10 word)
   where
-    by : (b : Bool) (v : ℕ) → ((g : ℕ) × (cond b (Ok v) (Err WrongWords) ≡ Ok g)) ⊎ (cond b (Ok v) (Err WrongWords) ≡ Err WrongWords)
+    by : (b : Bool) (v : ℕ)
+        → ((g : ℕ) × (cond b (Ok v) (Err WrongWords) ≡ Ok g))
+        ⊎ (cond b (Ok v) (Err WrongWords) ≡ Err WrongWords)
     by true v = inl (v, refl)
     by false v = inr refl
 
 -- a word that is no grant as it is printed
-pub grant_refused : (word : Text) → ((g : ℕ) → IsGrant g → word ≢ decimal g) → grant_in word ≡ Err WrongWords
+pub grant_refused : (word : Text) → ((g : ℕ) → IsGrant g → word ≢ decimal g)
+    → grant_in word ≡ Err WrongWords
 grant_refused word other = elim (grant_or_fault word) [
   | inl read ↦ let says = grant_says word read.0 read.1 in absurd (other read.0 says.0 says.1)
   | inr fault ↦ fault
@@ -89,14 +96,20 @@ grant_refused word other = elim (grant_or_fault word) [
 pub one_grant : (text : Text) → one_word_in grant_in (words_of text) ≡ grant_in text
 one_grant text = by (words_of text) refl
   where
-    by : (words : List Text) → words_of text ≡ words → one_word_in grant_in (words_of text) ≡ grant_in text
+    by : (words : List Text) → words_of text ≡ words
+        → one_word_in grant_in (words_of text) ≡ grant_in text
     by [] e = absurd (not_none text e)
-    by (w ∷ []) e = ap (one_word_in grant_in) e ∙ ap grant_in (sym (append-nil w) ∙ sym (line_is_spaced text w [] e))
-    by (w ∷ v ∷ vs) e = ap (one_word_in grant_in) e ∙ sym (grant_refused text (λ g is same. more_words g is same))
+    by (w ∷ []) e =
+        ap (one_word_in grant_in) e
+        ∙ ap grant_in (sym (append-nil w) ∙ sym (line_is_spaced text w [] e))
+    by (w ∷ v ∷ vs) e =
+        ap (one_word_in grant_in) e ∙ sym (grant_refused text (λ g is same. more_words g is same))
       where
         more_words : (g : ℕ) → IsGrant g → text ≢ decimal g
         more_words g is same =
-            let one : words_of text ≡ decimal g ∷ [] = ap words_of (same ∙ sym (append-nil (decimal g))) ∙ words_of-spaced (decimal g) [] (grant_is_visible g is) tt in
+            let one : words_of text ≡ decimal g ∷ [] =
+            ap words_of (same ∙ sym (append-nil (decimal g)))
+            ∙ words_of-spaced (decimal g) [] (grant_is_visible g is) tt in
             let both : w ∷ v ∷ vs ≡ decimal g ∷ [] = sym e ∙ one in
             absurd cc
 

@@ -21,7 +21,8 @@ pub(crate) fn cut_word(text: &[u8]) -> (&[u8], Option<&[u8]>)
 #[inline]
 pub(crate) fn args_after<'a>(text: &'a [u8], word: &[u8]) -> Option<Option<&'a [u8]>>
     requires { list_any (λ b. b == 32) word.now ≡ false }
-    ensures { MatchOption result ((args : List Text) → words_of text.now ≢ word.now ∷ args) (λ args. words_of text.now ≡ word.now ∷ words_after args) }
+    ensures { MatchOption result ((args : List Text) → words_of text.now ≢ word.now ∷ args)
+        (λ args. words_of text.now ≡ word.now ∷ words_after args) }
 {
     let Some(rest) = text.strip_prefix(word) else {
         return None;
@@ -39,7 +40,8 @@ pub(crate) fn args_after<'a>(text: &'a [u8], word: &[u8]) -> Option<Option<&'a [
 /// The word, where there is one.
 #[inline]
 pub(crate) fn one(args: Option<&[u8]>) -> Option<&[u8]>
-    ensures { MatchOption result (length (words_after args.entry) ≢ 1) (λ a. words_after args.entry ≡ a.now ∷ []) }
+    ensures { MatchOption result (length (words_after args.entry) ≢ 1)
+        (λ a. words_after args.entry ≡ a.now ∷ []) }
 {
     let Some(text) = args else {
         return None;
@@ -54,7 +56,8 @@ pub(crate) fn one(args: Option<&[u8]>) -> Option<&[u8]>
 /// The words, where there are two.
 #[inline]
 pub(crate) fn two(args: Option<&[u8]>) -> Option<(&[u8], &[u8])>
-    ensures { MatchOption result (length (words_after args.entry) ≢ 2) (λ p. words_after args.entry ≡ p.0.now ∷ p.1.now ∷ []) }
+    ensures { MatchOption result (length (words_after args.entry) ≢ 2)
+        (λ p. words_after args.entry ≡ p.0.now ∷ p.1.now ∷ []) }
 {
     let Some(text) = args else {
         return None;

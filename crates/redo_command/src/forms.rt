@@ -23,7 +23,9 @@ use std::alloc::Global;
 /// The number of the one name that a form has.
 #[tactic(auto, using(crate::proofs::Added::extends_same), unfolding(crate::specs::Reading::one_name_in))]
 fn one_name_of(names: &mut Names, args: Option<&[u8]>) -> Result<u32, Unread>
-    ensures reads { (form : Text → commands.Command Text) → Reads (λ n. (form (text_at names.new n), names.new)) result (one_name_in form names.old (words_after args.entry)) }
+    ensures reads { (form : Text → commands.Command Text)
+        → Reads (λ n. (form (text_at names.new n), names.new)) result
+        (one_name_in form names.old (words_after args.entry)) }
     ensures within { IfOk result (λ n. n < length names.new) }
     ensures kept { Extends names.old names.new }
 {
@@ -39,7 +41,8 @@ fn one_name_of(names: &mut Names, args: Option<&[u8]>) -> Result<u32, Unread>
 
 #[tactic(auto, using(crate::proofs::Added::extends_same), unfolding(crate::specs::Reading::file_in))]
 fn file_of(names: &mut Names, args: Option<&[u8]>) -> Result<Command, Unread>
-    ensures reads { Reads (λ command. (command_at names.new command, names.new)) result (file_in names.old (words_after args.entry)) }
+    ensures reads { Reads (λ command. (command_at names.new command, names.new)) result
+        (file_in names.old (words_after args.entry)) }
     ensures within { IfOk result (λ command. IsBelow (length names.new) (command_of command)) }
     ensures kept { Extends names.old names.new }
 {
@@ -53,7 +56,8 @@ fn file_of(names: &mut Names, args: Option<&[u8]>) -> Result<Command, Unread>
 }
 
 fn gone_of(names: &mut Names, args: Option<&[u8]>) -> Result<Command, Unread>
-    ensures reads { Reads (λ command. (command_at names.new command, names.new)) result (one_name_in commands.Gone names.old (words_after args.entry)) }
+    ensures reads { Reads (λ command. (command_at names.new command, names.new)) result
+        (one_name_in commands.Gone names.old (words_after args.entry)) }
     ensures within { IfOk result (λ command. IsBelow (length names.new) (command_of command)) }
     ensures kept { Extends names.old names.new }
 {
@@ -61,7 +65,8 @@ fn gone_of(names: &mut Names, args: Option<&[u8]>) -> Result<Command, Unread>
 }
 
 fn lock_of(names: &mut Names, args: Option<&[u8]>) -> Result<Command, Unread>
-    ensures reads { Reads (λ command. (command_at names.new command, names.new)) result (one_name_in commands.Lock names.old (words_after args.entry)) }
+    ensures reads { Reads (λ command. (command_at names.new command, names.new)) result
+        (one_name_in commands.Lock names.old (words_after args.entry)) }
     ensures within { IfOk result (λ command. IsBelow (length names.new) (command_of command)) }
     ensures kept { Extends names.old names.new }
 {
@@ -69,7 +74,8 @@ fn lock_of(names: &mut Names, args: Option<&[u8]>) -> Result<Command, Unread>
 }
 
 fn unlock_of(names: &mut Names, args: Option<&[u8]>) -> Result<Command, Unread>
-    ensures reads { Reads (λ command. (command_at names.new command, names.new)) result (one_name_in commands.Unlock names.old (words_after args.entry)) }
+    ensures reads { Reads (λ command. (command_at names.new command, names.new)) result
+        (one_name_in commands.Unlock names.old (words_after args.entry)) }
     ensures within { IfOk result (λ command. IsBelow (length names.new) (command_of command)) }
     ensures kept { Extends names.old names.new }
 {
@@ -77,7 +83,8 @@ fn unlock_of(names: &mut Names, args: Option<&[u8]>) -> Result<Command, Unread>
 }
 
 fn start_of(names: &mut Names, args: Option<&[u8]>) -> Result<Command, Unread>
-    ensures reads { Reads (λ command. (command_at names.new command, names.new)) result (one_name_in commands.Start names.old (words_after args.entry)) }
+    ensures reads { Reads (λ command. (command_at names.new command, names.new)) result
+        (one_name_in commands.Start names.old (words_after args.entry)) }
     ensures within { IfOk result (λ command. IsBelow (length names.new) (command_of command)) }
     ensures kept { Extends names.old names.new }
 {
@@ -85,7 +92,8 @@ fn start_of(names: &mut Names, args: Option<&[u8]>) -> Result<Command, Unread>
 }
 
 fn failed_of(names: &mut Names, args: Option<&[u8]>) -> Result<Command, Unread>
-    ensures reads { Reads (λ command. (command_at names.new command, names.new)) result (one_name_in commands.Failed names.old (words_after args.entry)) }
+    ensures reads { Reads (λ command. (command_at names.new command, names.new)) result
+        (one_name_in commands.Failed names.old (words_after args.entry)) }
     ensures within { IfOk result (λ command. IsBelow (length names.new) (command_of command)) }
     ensures kept { Extends names.old names.new }
 {
@@ -93,7 +101,8 @@ fn failed_of(names: &mut Names, args: Option<&[u8]>) -> Result<Command, Unread>
 }
 
 fn ifchange_of(alloc: Global, names: &mut Names, args: Option<&[u8]>) -> Result<Command, Unread>
-    ensures reads { Reads (λ command. (command_at names.new command, names.new)) result (names_form_in commands.IfChange names.old (words_after args.entry)) }
+    ensures reads { Reads (λ command. (command_at names.new command, names.new)) result
+        (names_form_in commands.IfChange names.old (words_after args.entry)) }
     ensures within { IfOk result (λ command. IsBelow (length names.new) (command_of command)) }
     ensures kept { Extends names.old names.new }
 {
@@ -102,7 +111,8 @@ fn ifchange_of(alloc: Global, names: &mut Names, args: Option<&[u8]>) -> Result<
 }
 
 fn ifcreate_of(alloc: Global, names: &mut Names, args: Option<&[u8]>) -> Result<Command, Unread>
-    ensures reads { Reads (λ command. (command_at names.new command, names.new)) result (names_form_in commands.IfCreate names.old (words_after args.entry)) }
+    ensures reads { Reads (λ command. (command_at names.new command, names.new)) result
+        (names_form_in commands.IfCreate names.old (words_after args.entry)) }
     ensures within { IfOk result (λ command. IsBelow (length names.new) (command_of command)) }
     ensures kept { Extends names.old names.new }
 {
@@ -111,7 +121,8 @@ fn ifcreate_of(alloc: Global, names: &mut Names, args: Option<&[u8]>) -> Result<
 }
 
 fn always_of(names: &mut Names, args: Option<&[u8]>) -> Result<Command, Unread>
-    ensures reads { Reads (λ command. (command_at names.new command, names.new)) result (one_name_in commands.Always names.old (words_after args.entry)) }
+    ensures reads { Reads (λ command. (command_at names.new command, names.new)) result
+        (one_name_in commands.Always names.old (words_after args.entry)) }
     ensures within { IfOk result (λ command. IsBelow (length names.new) (command_of command)) }
     ensures kept { Extends names.old names.new }
 {
@@ -120,7 +131,8 @@ fn always_of(names: &mut Names, args: Option<&[u8]>) -> Result<Command, Unread>
 
 #[tactic(auto, using(crate::proofs::Added::extends_same), unfolding(crate::specs::Reading::stamp_in))]
 fn stamp_of(alloc: Global, names: &mut Names, args: Option<&[u8]>) -> Result<Command, Unread>
-    ensures reads { Reads (λ command. (command_at names.new command, names.new)) result (stamp_in names.old (words_after args.entry)) }
+    ensures reads { Reads (λ command. (command_at names.new command, names.new)) result
+        (stamp_in names.old (words_after args.entry)) }
     ensures within { IfOk result (λ command. IsBelow (length names.new) (command_of command)) }
     ensures kept { Extends names.old names.new }
 {
@@ -135,7 +147,8 @@ fn stamp_of(alloc: Global, names: &mut Names, args: Option<&[u8]>) -> Result<Com
 
 #[tactic(auto, using(crate::proofs::Added::extends_same), unfolding(crate::specs::Reading::done_in))]
 fn done_of(names: &mut Names, args: Option<&[u8]>) -> Result<Command, Unread>
-    ensures reads { Reads (λ command. (command_at names.new command, names.new)) result (done_in names.old (words_after args.entry)) }
+    ensures reads { Reads (λ command. (command_at names.new command, names.new)) result
+        (done_in names.old (words_after args.entry)) }
     ensures within { IfOk result (λ command. IsBelow (length names.new) (command_of command)) }
     ensures kept { Extends names.old names.new }
 {
@@ -151,7 +164,8 @@ fn done_of(names: &mut Names, args: Option<&[u8]>) -> Result<Command, Unread>
 /// Whether a form without words has none.
 #[tactic(auto, unfolding(crate::specs::Reading::no_words_in))]
 pub(crate) fn check_no_words(args: Option<&[u8]>) -> Result<(), Unread>
-    ensures command { (form : commands.Command Text) (names : List Text) → Reads (λ _. (form, names)) result (no_words_in form names (words_after args.entry)) }
+    ensures command { (form : commands.Command Text) (names : List Text)
+        → Reads (λ _. (form, names)) result (no_words_in form names (words_after args.entry)) }
     ensures reply { Reads (λ _. replies.Okay) result (okay_in (words_after args.entry)) }
 {
     match args {
@@ -162,7 +176,8 @@ pub(crate) fn check_no_words(args: Option<&[u8]>) -> Result<(), Unread>
 
 #[tactic(auto, using(crate::proofs::Added::extends_same))]
 fn ood_of(names: &mut Names, args: Option<&[u8]>) -> Result<Command, Unread>
-    ensures reads { Reads (λ command. (command_at names.new command, names.new)) result (no_words_in commands.Ood names.old (words_after args.entry)) }
+    ensures reads { Reads (λ command. (command_at names.new command, names.new)) result
+        (no_words_in commands.Ood names.old (words_after args.entry)) }
     ensures within { IfOk result (λ command. IsBelow (length names.new) (command_of command)) }
     ensures kept { Extends names.old names.new }
 {
@@ -172,7 +187,8 @@ fn ood_of(names: &mut Names, args: Option<&[u8]>) -> Result<Command, Unread>
 
 #[tactic(auto, using(crate::proofs::Added::extends_same))]
 fn targets_of(names: &mut Names, args: Option<&[u8]>) -> Result<Command, Unread>
-    ensures reads { Reads (λ command. (command_at names.new command, names.new)) result (no_words_in commands.Targets names.old (words_after args.entry)) }
+    ensures reads { Reads (λ command. (command_at names.new command, names.new)) result
+        (no_words_in commands.Targets names.old (words_after args.entry)) }
     ensures within { IfOk result (λ command. IsBelow (length names.new) (command_of command)) }
     ensures kept { Extends names.old names.new }
 {
@@ -182,7 +198,8 @@ fn targets_of(names: &mut Names, args: Option<&[u8]>) -> Result<Command, Unread>
 
 #[tactic(auto, using(crate::proofs::Added::extends_same))]
 fn sources_of(names: &mut Names, args: Option<&[u8]>) -> Result<Command, Unread>
-    ensures reads { Reads (λ command. (command_at names.new command, names.new)) result (no_words_in commands.Sources names.old (words_after args.entry)) }
+    ensures reads { Reads (λ command. (command_at names.new command, names.new)) result
+        (no_words_in commands.Sources names.old (words_after args.entry)) }
     ensures within { IfOk result (λ command. IsBelow (length names.new) (command_of command)) }
     ensures kept { Extends names.old names.new }
 {
@@ -193,7 +210,8 @@ fn sources_of(names: &mut Names, args: Option<&[u8]>) -> Result<Command, Unread>
 /// The command that a text is, by its first word.
 #[tactic(auto, using(crate::proofs::Added::extends_same), unfolding(crate::specs::Reading::form_in))]
 pub(crate) fn form_of(alloc: Global, names: &mut Names, text: &[u8]) -> Result<Command, Unread>
-    ensures reads { Reads (λ command. (command_at names.new command, names.new)) result (words_in names.old (words_of text.now)) }
+    ensures reads { Reads (λ command. (command_at names.new command, names.new)) result
+        (words_in names.old (words_of text.now)) }
     ensures within { IfOk result (λ command. IsBelow (length names.new) (command_of command)) }
     ensures kept { Extends names.old names.new }
 {

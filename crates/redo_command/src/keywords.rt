@@ -27,10 +27,13 @@ macro_rules! word_by_kind {
     };
 }
 
-/// The kind of command that the first word of a text says, and what stands after its space, where it has one.
+/// The kind of command that the first word of a text says, and what stands after its space,
+/// where it has one.
 #[tactic(auto, using(crate::proofs::Fronts::said))]
 pub(crate) fn cut_kind(text: &[u8]) -> Option<(Kind, Option<&[u8]>)>
-    ensures { (names : List Text) → MatchOption result (words_in names (words_of text.now) ≡ Err UnknownCommand) (λ k. words_in names (words_of text.now) ≡ form_in (Some k.0) names (words_after k.1)) }
+    ensures { (names : List Text)
+        → MatchOption result (words_in names (words_of text.now) ≡ Err UnknownCommand)
+        (λ k. words_in names (words_of text.now) ≡ form_in (Some k.0) names (words_after k.1)) }
 {
     cases!(kind_by_front text)
 }

@@ -25,7 +25,9 @@ pub(crate) fn known_numbers(
     names: &Names,
     args: Option<&[u8]>,
 ) -> Result<Option<Vec<u32>>, AllocError>
-    ensures { IfOk result (λ known. IfSome known (λ numbers. (words_after args.entry ≡ map (text_at names.now) numbers.items) × AllBelow (length names.now) numbers.items)) }
+    ensures { IfOk result (λ known. IfSome known (λ numbers.
+        (words_after args.entry ≡ map (text_at names.now) numbers.items)
+        × AllBelow (length names.now) numbers.items)) }
 {
     let mut numbers = Vec::with_capacity(alloc, room_for(args))?;
     let mut left = args;
@@ -46,9 +48,12 @@ pub(crate) fn known_target_and_numbers(
     names: &Names,
     args: Option<&[u8]>,
 ) -> Result<Option<(u32, Vec<u32>)>, AllocError>
-    ensures words { IfOk result (λ known. IfSome known (λ p. words_after args.entry ≡ text_at names.now p.0 ∷ map (text_at names.now) p.1.items)) }
-    ensures below { IfOk result (λ known. IfSome known (λ p. AllBelow (length names.now) (p.0 ∷ p.1.items))) }
-    ensures count { IfOk result (λ known. IfSome known (λ p. (1 ≤ length p.1.items) × (length p.1.items ≤ MOST_LISTED_NAMES))) }
+    ensures words { IfOk result (λ known. IfSome known
+        (λ p. words_after args.entry ≡ text_at names.now p.0 ∷ map (text_at names.now) p.1.items)) }
+    ensures below { IfOk result (λ known. IfSome known
+        (λ p. AllBelow (length names.now) (p.0 ∷ p.1.items))) }
+    ensures count { IfOk result (λ known. IfSome known
+        (λ p. (1 ≤ length p.1.items) × (length p.1.items ≤ MOST_LISTED_NAMES))) }
 {
     let Some(text) = args else {
         return Ok(None);

@@ -78,7 +78,9 @@ fn target_and_numbers_in(
     names: &mut Names,
     words: &[&[u8]],
 ) -> Result<(u32, Vec<u32>), Unread>
-    ensures reads { (form : Text → List Text → commands.Command Text) → Reads (λ p. (form (text_at names.new p.0) (map (text_at names.new) p.1.items), names.new)) result (names_form_in form names.old (map (λ w. w.now) words.now)) }
+    ensures reads { (form : Text → List Text → commands.Command Text) → Reads
+        (λ p. (form (text_at names.new p.0) (map (text_at names.new) p.1.items), names.new))
+        result (names_form_in form names.old (map (λ w. w.now) words.now)) }
     ensures within { IfOk result (λ p. AllBelow (length names.new) (p.0 ∷ p.1.items)) }
     ensures kept { Extends names.old names.new }
 {
@@ -96,7 +98,9 @@ pub(crate) fn target_and_numbers_of(
     names: &mut Names,
     args: Option<&[u8]>,
 ) -> Result<(u32, Vec<u32>), Unread>
-    ensures reads { (form : Text → List Text → commands.Command Text) → Reads (λ p. (form (text_at names.new p.0) (map (text_at names.new) p.1.items), names.new)) result (names_form_in form names.old (words_after args.entry)) }
+    ensures reads { (form : Text → List Text → commands.Command Text) → Reads
+        (λ p. (form (text_at names.new p.0) (map (text_at names.new) p.1.items), names.new))
+        result (names_form_in form names.old (words_after args.entry)) }
     ensures within { IfOk result (λ p. AllBelow (length names.new) (p.0 ∷ p.1.items)) }
     ensures kept { Extends names.old names.new }
 {

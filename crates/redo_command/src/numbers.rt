@@ -4,7 +4,10 @@ ghost use Rattle.std.specs.Str.Parse.{digits_value};
 
 /// The number that decimal digits are, where all are digits and the number is not too large.
 fn value_of(word: &[u8]) -> Option<u32>
-    ensures { MatchOption result (all_ascii_digits word.now ≡ true → ¬ (digits_value 10 word.now ≤ 4294967295)) (λ n. (all_ascii_digits word.now ≡ true) × (n ≡ digits_value 10 word.now) × (n ≤ 4294967295)) }
+    ensures { MatchOption result
+        (all_ascii_digits word.now ≡ true → ¬ (digits_value 10 word.now ≤ 4294967295))
+        (λ n. (all_ascii_digits word.now ≡ true)
+        × (n ≡ digits_value 10 word.now) × (n ≤ 4294967295)) }
 {
     let mut value: u32 = 0;
     for digit in word {
@@ -22,7 +25,8 @@ fn value_of(word: &[u8]) -> Option<u32>
 
 /// The number whose decimal digits a word is, without a sign and without a zero in front.
 pub fn read_number(word: &[u8]) -> Option<u32>
-    ensures { MatchOption result ((n : ℕ) → n ≤ 4294967295 → word.now ≢ decimal n) (λ n. word.now ≡ decimal n) }
+    ensures { MatchOption result ((n : ℕ) → n ≤ 4294967295 → word.now ≢ decimal n)
+        (λ n. word.now ≡ decimal n) }
 {
     if word.is_empty() {
         return None;

@@ -20,7 +20,8 @@ use std::alloc::Global;
 #[tactic(auto, using(crate::proofs::Added::extends_same, crate::proofs::ReplyNames::none_added), unfolding(crate::specs::ReplyReading::reply_in, crate::specs::ReplyReading::reply_args_in))]
 fn text_read(alloc: Global, text: &[u8], names: &mut Names) -> Result<Reply, Unread>
     requires { length names.old ≤ MOST_NAMES }
-    ensures reads { Reads (λ reply. (reply_at names.new reply, names.new)) result (reply_in names.old text.now) }
+    ensures reads { Reads (λ reply. (reply_at names.new reply, names.new)) result
+        (reply_in names.old text.now) }
     ensures within { IfOk result (λ reply. IsReplyBelow (length names.new) (reply_of reply)) }
     ensures kept { Extends names.old names.new }
 {

@@ -21,10 +21,12 @@ pub(crate) enum ReplyKind {
     Refused,
 }
 
-/// The kind of reply that the first word of a text says, and what stands after its space, where it has one.
+/// The kind of reply that the first word of a text says, and what stands after its space,
+/// where it has one.
 #[tactic(auto, using(crate::proofs::Fronts::answered))]
 pub(crate) fn cut_reply_kind(text: &[u8]) -> Option<(ReplyKind, Option<&[u8]>)>
-    ensures { MatchOption result (reply_words_in (words_of text.now) ≡ Err WrongWords) (λ k. reply_words_in (words_of text.now) ≡ reply_args_in (Some k.0) (words_after k.1)) }
+    ensures { MatchOption result (reply_words_in (words_of text.now) ≡ Err WrongWords)
+        (λ k. reply_words_in (words_of text.now) ≡ reply_args_in (Some k.0) (words_after k.1)) }
 {
     if let Some(args) = args_after(text, b"ok") {
         return Some((ReplyKind::Okay, args));

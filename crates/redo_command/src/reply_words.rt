@@ -77,7 +77,8 @@ pub(crate) fn listed_of(
     args: Option<&[u8]>,
 ) -> Result<Vec<u32>, Unread>
     requires { length names.old ≤ MOST_NAMES }
-    ensures reads { Reads (λ numbers. (map (text_at names.new) numbers.items, names.new)) result (with_its_names (λ ns. ns) names.old (names_in_words (words_after args.entry))) }
+    ensures reads { Reads (λ numbers. (map (text_at names.new) numbers.items, names.new)) result
+        (with_its_names (λ ns. ns) names.old (names_in_words (words_after args.entry))) }
     ensures within { IfOk result (λ numbers. AllBelow (length names.new) numbers.items) }
     ensures kept { Extends names.old names.new }
 {
@@ -100,7 +101,8 @@ pub(crate) fn some_listed_of(
     args: Option<&[u8]>,
 ) -> Result<Vec<u32>, Unread>
     requires { length names.old ≤ MOST_NAMES }
-    ensures reads { Reads (λ numbers. (map (text_at names.new) numbers.items, names.new)) result (with_its_names (λ ns. ns) names.old (some_names_in_words (words_after args.entry))) }
+    ensures reads { Reads (λ numbers. (map (text_at names.new) numbers.items, names.new)) result
+        (with_its_names (λ ns. ns) names.old (some_names_in_words (words_after args.entry))) }
     ensures within { IfOk result (λ numbers. AllBelow (length names.new) numbers.items) }
     ensures kept { Extends names.old names.new }
 {
@@ -133,7 +135,10 @@ fn plain_refusal_of(word: &[u8]) -> Result<Refusal, Unread>
 #[tactic(auto, using(crate::proofs::Added::extends_same, crate::proofs::ReplyNames::none_added, crate::proofs::ReplyNames::one_all_added))]
 pub(crate) fn refusal_of_words(names: &mut Names, args: Option<&[u8]>) -> Result<Refusal, Unread>
     requires { length names.old ≤ MOST_NAMES }
-    ensures reads { Reads (λ refusal. (named_refusal (text_at names.new) (refusal_of refusal), names.new)) result (with_its_names names_in_refusal names.old (refusal_in_words (words_after args.entry))) }
+    ensures reads { Reads
+        (λ refusal. (named_refusal (text_at names.new) (refusal_of refusal), names.new))
+        result
+        (with_its_names names_in_refusal names.old (refusal_in_words (words_after args.entry))) }
     ensures within { IfOk result (λ refusal. IsReplyBelow (length names.new) (Refused (refusal_of refusal))) }
     ensures kept { Extends names.old names.new }
 {

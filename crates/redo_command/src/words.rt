@@ -64,7 +64,8 @@ pub(crate) fn content_of(alloc: Global, word: &[u8]) -> Result<Vec<u8>, Unread>
 /// The number of a name that is all the words, where it is among the names.
 #[inline]
 pub(crate) fn known_alone(names: &Names, args: Option<&[u8]>) -> Option<u32>
-    ensures { IfSome result (λ number. (text : Text) × (words_after args.entry ≡ text ∷ []) × IsNumbered names.now text number) }
+    ensures { IfSome result (λ number. (text : Text) × (words_after args.entry ≡ text ∷ [])
+        × IsNumbered names.now text number) }
 {
     // This call says that each is a name.
     let _ = names.len();

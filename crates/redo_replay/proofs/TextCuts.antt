@@ -80,13 +80,17 @@ not_placed text x none c =
 
 -- a text is cut at the first place of a byte
 pub cut_at_place : (text : Text) (x at : ℕ) → position (λ b. b == x) text ≡ Some at
-    → (text ≡ take at text ++ x ∷ take (length text - (at + 1)) (drop (at + 1) text)) × ¬ (Contains (take at text) x)
+    → (text ≡ take at text ++ x ∷ take (length text - (at + 1)) (drop (at + 1) text))
+    × ¬ (Contains (take at text) x)
 cut_at_place text x at e = (
-  sym (take-append-drop at text) ∙ ap (λ (l : Text). take at text ++ l) (drop-cons text at 0 place.0 ∙ (λ i. here i ∷ after i)),
+  sym (take-append-drop at text)
+      ∙ ap (λ (l : Text). take at text ++ l)
+      (drop-cons text at 0 place.0 ∙ (λ i. here i ∷ after i)),
   λ c. free c,
 )
   where
-    place : (at < length text) × ((get_or text at 0 == x) ≡ true) × ((k : ℕ) → k < at → (get_or text k 0 == x) ≡ false)
+    place : (at < length text) × ((get_or text at 0 == x) ≡ true)
+        × ((k : ℕ) → k < at → (get_or text k 0 == x) ≡ false)
     place = position-Some (λ b. b == x) text at 0 e
 
     here : get_or text at 0 ≡ x
@@ -101,7 +105,8 @@ cut_at_place text x at e = (
         let lt : c.0 < at = omega (arith, long, c.1) in
         let other : (get_or text c.0 0 == x) ≡ false = place.2 c.0 lt in
         let read : get_or (take at text) c.0 0 ≡ get_or text c.0 0 = get_or-take at text c.0 0 lt in
-        let same : get_or text c.0 0 ≡ x = sym read ∙ sym (get_or_default_zero (take at text) c.0 x c.1) ∙ c.2 in
+        let same : get_or text c.0 0 ≡ x =
+        sym read ∙ sym (get_or_default_zero (take at text) c.0 x c.1) ∙ c.2 in
         let yes : (get_or text c.0 0 == x) ≡ true = (Decides-eqb (get_or text c.0 0) x).1 same in
         absurd cc
 
@@ -114,13 +119,15 @@ no_arrow_more rest n none here k back lt e =
     elim (cases_lt k n) [ inl before ↦ none k back before e | inr le ↦ let same : k ≡ n = omega arith in here back (subst (λ (m : ℕ). drop m rest ≡ arrow ++ back) same e) ]
 
 -- no arrow has its equals sign from this place on and below that one, so none does below that one
-pub no_arrow_to : (rest : Text) (seen at : ℕ) → NoArrowBelow rest (seen - 1) → ((k : ℕ) → seen ≤ k → k < at → (get_or rest k 0 == 61) ≡ false) → NoArrowBelow rest (at - 1)
+pub no_arrow_to : (rest : Text) (seen at : ℕ) → NoArrowBelow rest (seen - 1)
+    → ((k : ℕ) → seen ≤ k → k < at → (get_or rest k 0 == 61) ≡ false) → NoArrowBelow rest (at - 1)
 no_arrow_to rest seen at none other k back lt e =
     elim (cases_lt (k + 1) seen) [
       | inl before ↦ none k back (omega arith) e
       | inr from ↦
           let here : get_or rest (k + 1) 0 ≡ 61 = at_reads 0 rest arrow k back e 1 (omega arith) in
-          let same : (get_or rest (k + 1) 0 == 61) ≡ true = (Decides-eqb (get_or rest (k + 1) 0) 61).1 here in
+          let same : (get_or rest (k + 1) 0 == 61) ≡ true =
+          (Decides-eqb (get_or rest (k + 1) 0) 61).1 here in
           let differs : (get_or rest (k + 1) 0 == 61) ≡ false = other (k + 1) from (omega arith) in
           absurd cc
     ]
@@ -141,16 +148,19 @@ next_sign rest seen = position (λ b. b == 61) (take (length rest - seen) (drop 
 of_left : (rest : Text) (seen : ℕ) → next_sign rest seen ≡ position (λ b. b == 61) (drop seen rest)
 of_left rest seen = ap (position (λ b. b == 61)) (left_after rest seen)
 
-pub sign_within : (rest : Text) (seen more : ℕ) → next_sign rest seen ≡ Some more → seen + more < length rest
+pub sign_within : (rest : Text) (seen more : ℕ) → next_sign rest seen ≡ Some more
+    → seen + more < length rest
 sign_within rest seen more e =
-    let place = position-Some (λ b. b == 61) (drop seen rest) more 0 (sym (of_left rest seen) ∙ e) in
+    let place =
+    position-Some (λ b. b == 61) (drop seen rest) more 0 (sym (of_left rest seen) ∙ e) in
     omega (arith, place.0, length-drop seen rest)
 
 -- up to that equals sign no arrow has one
 pub no_arrow_to_sign : (rest : Text) (seen more : ℕ) → NoArrowBelow rest (seen - 1)
     → next_sign rest seen ≡ Some more → NoArrowBelow rest (seen + more - 1)
 no_arrow_to_sign rest seen more none e =
-    let place = position-Some (λ b. b == 61) (drop seen rest) more 0 (sym (of_left rest seen) ∙ e) in
+    let place =
+    position-Some (λ b. b == 61) (drop seen rest) more 0 (sym (of_left rest seen) ∙ e) in
     let other = others_after rest seen (seen + more) (λ k lt. place.2 k (omega arith)) in
     no_arrow_to rest seen (seen + more) none other
 
@@ -169,7 +179,8 @@ no_arrow rest none front back e =
     none (length front) back (omega (arith, ap length e, length-append (front ++ arrow) back, length-append front arrow)) (after_front rest front back e)
 
 -- where no equals sign is left, there is no arrow
-pub no_arrow_left : (rest : Text) (seen : ℕ) → NoArrowBelow rest (seen - 1) → next_sign rest seen ≡ None → HasNoArrow rest
+pub no_arrow_left : (rest : Text) (seen : ℕ) → NoArrowBelow rest (seen - 1)
+    → next_sign rest seen ≡ None → HasNoArrow rest
 no_arrow_left rest seen none e =
     let free = none_passes (λ b. b == 61) (drop seen rest) (sym (of_left rest seen) ∙ e) in
     let long = length-drop seen rest in

@@ -29,7 +29,8 @@ pub(crate) fn cut_at_space(line: &[u8]) -> (&[u8], &[u8])
 #[inline]
 fn after_arrow(rest: &[u8], at: usize) -> Option<&[u8]>
     requires { at < length rest.now }
-    ensures { MatchOption result ((back : Text) → 0 < at → drop (at - 1) rest.now ≢ arrow ++ back) (λ reply. (0 < at) × (drop (at - 1) rest.now ≡ arrow ++ reply.now)) }
+    ensures { MatchOption result ((back : Text) → 0 < at → drop (at - 1) rest.now ≢ arrow ++ back)
+        (λ reply. (0 < at) × (drop (at - 1) rest.now ≡ arrow ++ reply.now)) }
 {
     if at == 0 {
         return None;

@@ -9,7 +9,9 @@ returns-in-Some c =
     let text = c.args.text.now in
     let end = c.in-Some.end in
     let h = cut_some (λ b. b == 32) text end (sym c.in-Some.ensures) in
-    let rest : take (length text - (end + 1)) (drop (end + 1) text) ≡ drop (end + 1) text = take_all (length text - (end + 1)) (drop (end + 1) text) (omega (arith, length-drop (end + 1) text)) in
+    let rest : take (length text - (end + 1)) (drop (end + 1) text) ≡ drop (end + 1) text =
+    take_all (length text - (end + 1)) (drop (end + 1) text)
+    (omega (arith, length-drop (end + 1) text)) in
     h.0 ∙ ap (λ (r : List ℕ). take end text ∷ words_of r) (sym rest)
 
 pub returns-in-None : goal.returns-in-None

@@ -7,19 +7,21 @@ use Rattle.redo_command.proofs.Fronts.{unsaid}
 use Rattle.redo_command.proofs.keywords.cut_kind.Goals as goal
 
 pub returns : goal.returns
-returns c = unsaid c.args.text.now (λ kind. elim kind as (λ k. (args : List Text) → words_of c.args.text.now ≢ word_of k ∷ args) [
-  | kinds.File ↦ c.in_default.ensures
-  | kinds.Gone ↦ c.in_default-args_after.ensures
-  | kinds.Lock ↦ c.in_default-args_after-2.ensures
-  | kinds.Unlock ↦ c.in_default-args_after-3.ensures
-  | kinds.Start ↦ c.in_default-args_after-4.ensures
-  | kinds.IfChange ↦ c.in_default-args_after-5.ensures
-  | kinds.IfCreate ↦ c.in_default-args_after-6.ensures
-  | kinds.Always ↦ c.in_default-args_after-7.ensures
-  | kinds.Stamp ↦ c.in_default-args_after-8.ensures
-  | kinds.Done ↦ c.in_default-args_after-9.ensures
-  | kinds.Failed ↦ c.in_default-args_after-10.ensures
-  | kinds.Ood ↦ c.in_default-args_after-11.ensures
-  | kinds.Targets ↦ c.in_default-args_after-12.ensures
-  | kinds.Sources ↦ c.in_default-args_after-13.ensures
-])
+returns c =
+    unsaid c.args.text.now (λ kind. elim kind as
+    (λ k. (args : List Text) → words_of c.args.text.now ≢ word_of k ∷ args) [
+      | kinds.File ↦ c.in_default.ensures
+      | kinds.Gone ↦ c.in_default-args_after.ensures
+      | kinds.Lock ↦ c.in_default-args_after-2.ensures
+      | kinds.Unlock ↦ c.in_default-args_after-3.ensures
+      | kinds.Start ↦ c.in_default-args_after-4.ensures
+      | kinds.IfChange ↦ c.in_default-args_after-5.ensures
+      | kinds.IfCreate ↦ c.in_default-args_after-6.ensures
+      | kinds.Always ↦ c.in_default-args_after-7.ensures
+      | kinds.Stamp ↦ c.in_default-args_after-8.ensures
+      | kinds.Done ↦ c.in_default-args_after-9.ensures
+      | kinds.Failed ↦ c.in_default-args_after-10.ensures
+      | kinds.Ood ↦ c.in_default-args_after-11.ensures
+      | kinds.Targets ↦ c.in_default-args_after-12.ensures
+      | kinds.Sources ↦ c.in_default-args_after-13.ensures
+    ])

@@ -1,4 +1,4 @@
-use Rattle.std.proofs.Common.{◌≡◌, ◌<◌, ◌≤◌, ◌∙◌, get_or, length, sym, ap, arith, rules}
+use Rattle.std.proofs.Common.{◌≡◌, ◌<◌, ◌∙◌, get_or, length, sym, ap, arith, rules}
 use Rattle.redo_model.specs.Names.{Text}
 use Rattle.redo_command.proofs.Numerals.{printed_some, printed_zero, read_as}
 use Rattle.redo_command.proofs.numbers.read_number.Goals.{else-word-eq48-via-then-word-eq48+else-word-gt1, else-word-eq48-via-else-word-eq48}

@@ -9,7 +9,9 @@ returns-in_default c = grant_refused c.args.word.now (λ g is e. c.in_default.en
 
 pub returns-then-grant-eq0 : goal.returns-then-grant-eq0
 returns-then-grant-eq0 c = grant_refused c.args.word.now (λ g is e.
-    let same : c.in-Some.grant ≡ g = decimal_injective c.in-Some.grant g (omega arith) (omega (arith, is.1)) (sym c.in-Some.ensures ∙ e) in
+    let same : c.in-Some.grant ≡ g =
+    decimal_injective c.in-Some.grant g (omega arith) (omega (arith, is.1))
+    (sym c.in-Some.ensures ∙ e) in
     omega (arith, same, is.0))
 
 pub returns : goal.returns

@@ -16,4 +16,5 @@ returns-else-hits-eq0 c =
     let block = chunk c.args.at 16 c.args.text.now in
     let long = length-chunk c.args.at 16 c.args.text.now c.requires in
     let hits = bitmask_splat w8 eqb block 16 c.args.byte long (omega arith) in
-    ap (count_trailing_zeros 64) hits ∙ trailing_mask_l (λ b. eqb b c.args.byte) 64 block (omega arith) (omega arith)
+    ap (count_trailing_zeros 64) hits
+    ∙ trailing_mask_l (λ b. eqb b c.args.byte) 64 block (omega arith) (omega arith)

@@ -16,7 +16,10 @@ returns-in_default-read_number-clause-fault c count rest few e =
     let word : c.in-Some-strip_prefix.word.now ≡ decimal count = c.in-Some-strip_prefix.ensures.cases.1 ∙ (λ i. drop (length (c.as_slice.ensures i)) (header.0 i)) in
     elim c.in_default-read_number.branch [
       | in_default-read_number-via-in-Some-read_number+else-count-le-MOST_LINES w ↦
-          let same : w.in-Some-read_number.count ≡ count = decimal_injective w.in-Some-read_number.count count (omega arith) (omega arith) (sym w.in-Some-read_number.ensures ∙ word) in
+          let same : w.in-Some-read_number.count ≡ count =
+          decimal_injective w.in-Some-read_number.count count (omega arith) (omega arith)
+          (sym w.in-Some-read_number.ensures ∙ word) in
           omega arith
-      | in_default-read_number-via-in_default-read_number w ↦ w.in_default-read_number.ensures count (omega arith) word
+      | in_default-read_number-via-in_default-read_number w ↦
+          w.in_default-read_number.ensures count (omega arith) word
     ]
