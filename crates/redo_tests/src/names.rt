@@ -1,6 +1,8 @@
 //! Names and their numbers.
-use redo_names::{Names, is_name};
+use redo_names::{Names, NamesFault, is_name};
+use std::alloc::Global;
 use std::cmp::Ordering;
+use std::process::Abort;
 use std::test::Fail;
 
 /// Names are numbered as they come, and ordered by their bytes.
@@ -25,5 +27,28 @@ fn numbers(rt: HostRuntime) -> Result<(), Fail> {
         assert!(rt; first < 4 && second < 4);
         assert!(rt; names.order(first, second) == want);
     }
+    Ok(())
+}
+
+/// Adds the name of this number.
+fn add(rt: &impl Abort, alloc: Global, names: &mut Names, number: u32) -> Result<u32, NamesFault> {
+    let text = format!(in alloc; "n{number}")?;
+    assert!(rt; is_name(text.as_bytes()));
+    names.add(text.as_bytes())
+}
+
+/// There are up to 65,536 names; those that are there keep their numbers.
+#[test]
+fn full_names(rt: HostRuntime) -> Result<(), Fail> {
+    let alloc = rt.alloc();
+    let mut names = Names::new(alloc);
+    for number in 0..65536 {
+        assert!(rt; add(&rt, alloc, &mut names, number)? == number);
+    }
+    assert!(rt; matches!(add(&rt, alloc, &mut names, 65536), Err(NamesFault::Full)));
+    for number in [0, 4096, 65535] {
+        assert!(rt; add(&rt, alloc, &mut names, number)? == number);
+    }
+    assert!(rt; names.len() == 65536);
     Ok(())
 }
