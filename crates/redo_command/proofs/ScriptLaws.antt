@@ -8,7 +8,7 @@ use Rattle.redo_model.specs.Command.{Command, names_in}
 use Rattle.redo_command.specs.declared.read.TheConstants.{LONGEST_LINE, MOST_COMMANDS}
 use Rattle.redo_command.specs.declared.fault.LineFault.{LineFault}
 use Rattle.redo_command.specs.declared.fault.LineFault.TheVariants.{LineTooLong, TooManyLines}
-use Rattle.redo_command.specs.Grammar.{is_skipped, AddsNames, AreCommandLines, AreScriptLines}
+use Rattle.redo_command.specs.Grammar.{is_skipped, lines_of, AddsNames, AreCommandLines, AreScriptLines, IsScript}
 use Rattle.redo_command.specs.Reading.{Reading, ◌>>=◌, line_in, script_line_in, FailsAfter}
 use Rattle.redo_command.proofs.LineLaws.{line_found, line_only}
 use Rattle.redo_command.proofs.ScriptParts.{with_names-longer, InParts, script_split}
@@ -144,6 +144,11 @@ scripts_agree names (line ∷ lines) commands after others others_after one othe
     let rest = scripts_agree q.mid lines p.second after q.second others_after (subst (λ (m : List Text). AreScriptLines m lines p.second after) same.1 p.other) q.other in
     let first : p.first ≡ q.first = x.whole ∙ ap commands_read same.0 ∙ sym y.whole in
     (p.whole ∙ (λ i. first i ++ rest.0 i) ∙ sym q.whole, rest.1)
+
+-- with the same names before, a text is one script
+pub one_script : (names : List Text) (text : Text) (a b : List (Command Text)) (n m : List Text)
+    → IsScript names text a n → IsScript names text b m → (a ≡ b) × (n ≡ m)
+one_script names text a b n m = scripts_agree names (lines_of text) a n b m
 
 -- no line of a script fails after the commands of the lines before it
 pub no_fault_in_a_script : (names : List Text) (before : List Text) (line : Text) (rest : List Text) (commands : List (Command Text)) (after : List Text) (fault : LineFault)

@@ -54,6 +54,11 @@ pub no_first_fault : (names : List Text) (text : Text) (commands : List (Command
 no_first_fault names text commands after number fault script first =
     no_fault_in_a_script names first.before first.line first.rest commands after fault (subst (λ (l : List Text). AreScriptLines names l commands after) first.lines script) first.fails
 
+pub no_read_fault : (names : List Text) (text : Text) (commands : List (Command Text)) (after : List Text) (fault : ReadFault)
+    → IsScript names text commands after → IsReadFault names text fault → fault ≡ faults.Memory
+no_read_fault names text commands after faults.Memory script is = refl
+no_read_fault names text commands after (faults.Line number fault) script is = absurd (no_first_fault names text commands after number fault script is)
+
 module _ (names : List Text) (text : Text) (number : ℕ) (why : Unread) (result : ReadFault)
     (memory : why ≡ unread.Memory → result ≡ faults.Memory)
     (line : (fault : LineFault) → why ≡ unread.Fault fault → result ≡ faults.Line number fault)

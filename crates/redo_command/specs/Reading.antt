@@ -1,5 +1,5 @@
 -- Reading a line by steps: the first step that it fails is its fault.
-use Rattle.std.specs.Prelude.{◌≡◌, ℕ, ◌+◌, List, [], ◌∷◌, ◌++◌, length, Option, Some, None, Result, Ok, Err, Bool, not, ◌&&◌, nat_lt, nat_le, ◌==◌, if◌then◌else◌, codes, bytes_eq, find, slice_get, true}
+use Rattle.std.specs.Prelude.{◌≡◌, ℕ, ◌+◌, List, [], ◌∷◌, ◌++◌, length, Option, Some, None, Result, Ok, Err, Bool, not, ◌&&◌, nat_lt, nat_le, ◌==◌, if◌then◌else◌, codes, bytes_eq, find, slice_get, true, IsTrue}
 use Rattle.std.specs.Borrow.{Bor}
 use Rattle.std.specs.List.{slice_split, list_any, list_all}
 use Rattle.hex.specs.Hex.{decode_of}
@@ -166,6 +166,10 @@ words_after (Some text) = words_of text.now
 
 abbrev pub is_text_byte : ℕ → Bool
 is_text_byte b = nat_le 32 b && nat_le b 126
+
+-- one of its bytes is no text
+abbrev pub HasBadByte : Text → Type 0
+HasBadByte line = IsTrue (list_any (λ b. not (is_text_byte b)) line)
 
 -- a line without its LF
 unfoldable pub line_in : List Text → Text → Reading

@@ -1,3 +1,5 @@
+ghost use Rattle.std.specs.Prelude.{◌≡◌, ◌↔◌};
+
 use std::alloc::{AllocError, AllocFailed};
 use thiserror::Error;
 
@@ -91,5 +93,20 @@ impl<T: Drop> From<AllocFailed<T>> for Unread {
 
     fn from(_e: AllocFailed<T>) -> Unread {
         Unread::Memory
+    }
+}
+
+/// The fault of the line of this number: only want of memory stays want of memory.
+pub(crate) fn at_line(number: usize, unread: Unread) -> ReadFault
+    ensures memory { (result ≡ ReadFault.Memory) ↔ (unread ≡ Unread.Memory) }
+    ensures fault { (fault : LineFault) → unread ≡ Unread.Fault fault
+        → result ≡ ReadFault.Line number fault }
+{
+    match unread {
+        Unread::Memory => ReadFault::Memory,
+        Unread::Fault(fault) => ReadFault::Line {
+            line: number,
+            fault,
+        },
     }
 }

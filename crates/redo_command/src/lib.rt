@@ -28,7 +28,10 @@ mod words;
 pub use command::Command;
 pub use fault::{LineFault, ReadFault, ReplyFault};
 pub use kind::Kind;
-pub use laws::{command_reads_back, one_command_a_line, one_reply_a_text, reply_reads_back};
+pub use laws::{
+    command_reads_back, no_read_fault, one_command_a_line, one_reply_a_text, one_script,
+    reply_reads_back,
+};
 pub use name_lists::MOST_LISTED_NAMES;
 pub use numbers::read_number;
 pub use read::{LONGEST_LINE, MOST_COMMANDS, read_command};

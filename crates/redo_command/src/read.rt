@@ -5,11 +5,11 @@ ghost use Rattle.redo_model.specs.Names.{Text};
 ghost use Rattle.redo_model.specs.Command.{Command as CommandOf};
 ghost use Rattle.redo_model.specs.Renaming.{IsBelow};
 ghost use Rattle.redo_command.specs.Meaning.{command_of, command_at};
-ghost use Rattle.redo_command.specs.Grammar.{IsCommandLine, AddsNames, is_skipped as skipped_test};
-ghost use Rattle.redo_command.specs.Reading.{Gives, Reads, line_in, script_line_in};
+ghost use Rattle.redo_command.specs.Grammar.{IsCommandLine, IsShort, AddsNames, is_skipped as skipped_test};
+ghost use Rattle.redo_command.specs.Reading.{Gives, Reads, HasBadByte, line_in, script_line_in};
 
 use crate::command::Command;
-use crate::fault::{LineFault, ReadFault, Unread};
+use crate::fault::{LineFault, ReadFault, Unread, at_line};
 use crate::forms::form_of;
 use crate::words::has_bad_byte;
 use redo_names::{MOST_NAMES, Names};
@@ -25,6 +25,9 @@ pub const MOST_COMMANDS: usize = 4096;
 #[tactic(auto, using(crate::proofs::Added::extends_same), unfolding(crate::specs::Reading::line_in))]
 fn line_of(alloc: Global, line: &[u8], names: &mut Names) -> Result<Command, Unread>
     ensures reads { Reads (λ command. (command_at names.new command, names.new)) result (line_in names.old line.now) }
+    ensures too_long { ¬ (IsShort line.now) → result ≡ Err (Unread.Fault LineFault.LineTooLong) }
+    ensures bad_byte { IsShort line.now → HasBadByte line.now
+        → result ≡ Err (Unread.Fault LineFault.BadByte) }
     ensures within { IfOk result (λ command. IsBelow (length names.new) (command_of command)) }
     ensures kept { Extends names.old names.new }
 {
@@ -50,14 +53,18 @@ pub fn read_command(alloc: Global, line: &[u8], names: &mut Names) -> Result<Com
         → (result ≡ Err ReadFault.Memory) ⊎ IsOkAnd result (λ read. (command_at names.new read ≡ command) × (names.new ≡ after)) }
     // The fault is that of the first step that the line fails.
     ensures fault { Gives (λ read. (command_at names.new read, names.new)) result (line_in names.old line.now) }
+    // These two are found before anything grows: they come before want of memory.
+    ensures too_long { ¬ (IsShort line.now)
+        → result ≡ Err (ReadFault.Line 1 LineFault.LineTooLong) }
+    ensures bad_byte { IsShort line.now → HasBadByte line.now
+        → result ≡ Err (ReadFault.Line 1 LineFault.BadByte) }
     ensures within { IfOk result (λ command. IsBelow (length names.new) (command_of command)) }
     ensures kept { Extends names.old names.new }
 {
     prove!(names.len() as usize <= MOST_NAMES);
     match line_of(alloc, line, names) {
         Ok(command) => Ok(command),
-        Err(Unread::Memory) => Err(ReadFault::Memory),
-        Err(Unread::Fault(fault)) => Err(ReadFault::Line { line: 1, fault }),
+        Err(unread) => Err(at_line(1, unread)),
     }
 }
 

@@ -9,7 +9,7 @@ ghost use Rattle.redo_command.specs.Grammar.{lines_of, IsScript, AreScriptLines}
 ghost use Rattle.redo_command.specs.Reading.{script_line_in, IsReadFault};
 
 use crate::command::Command;
-use crate::fault::{LineFault, ReadFault, Unread};
+use crate::fault::{LineFault, ReadFault, Unread, at_line};
 use crate::read::{MOST_COMMANDS, read_script_line};
 use crate::stamp::FileStamp;
 use redo_names::{MOST_NAMES, Names};
@@ -81,20 +81,6 @@ fn take_line(
         commands.push(command)?;
     }
     Ok(())
-}
-
-/// The fault of the line of this number.
-fn at_line(number: usize, unread: Unread) -> ReadFault
-    ensures memory { unread ≡ Unread.Memory → result ≡ ReadFault.Memory }
-    ensures fault { (fault : LineFault) → unread ≡ Unread.Fault fault → result ≡ ReadFault.Line number fault }
-{
-    match unread {
-        Unread::Memory => ReadFault::Memory,
-        Unread::Fault(fault) => ReadFault::Line {
-            line: number,
-            fault,
-        },
-    }
 }
 
 /// Reads the commands of a session file. After a fault the old names are a front of the names.

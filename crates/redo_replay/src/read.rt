@@ -1,4 +1,4 @@
-ghost use Rattle.std.specs.Prelude.{◌≡◌, ◌⊎◌, ℕ, ◌<◌, ◌≤◌, ◌++◌, List, length, MatchOption, IfOk, IfErr, IsOkAnd};
+ghost use Rattle.std.specs.Prelude.{◌≡◌, ◌⊎◌, ◌↔◌, ℕ, ◌<◌, ◌≤◌, ◌++◌, List, length, MatchOption, IfOk, IfErr, IsOkAnd};
 ghost use Rattle.redo_names.specs.Names.{Extends};
 ghost use Rattle.redo_model.specs.Names.{Text};
 ghost use Rattle.redo_model.specs.History.{Line as LineOf};
@@ -12,7 +12,9 @@ ghost use Rattle.redo_replay.specs.HistoryFaults.{IsHistoryFault, IsLineCause, I
 use crate::cuts::{cut_at, cut_at_arrow, cut_at_space};
 use crate::fault::HistoryFault;
 use crate::history::{History, MOST_LINES, MOST_SESSIONS};
-use redo_command::{Line, ReadFault, ReplyFault, read_command, read_number, read_reply};
+use redo_command::{
+    Line, LineFault, ReadFault, ReplyFault, read_command, read_number, read_reply,
+};
 use redo_names::Names;
 use std::alloc::Global;
 
@@ -34,6 +36,7 @@ fn session_of(word: &[u8]) -> Option<u8>
 fn read_header(input: &[u8]) -> Result<(usize, &[u8]), HistoryFault>
     ensures read { IfOk result (λ header. (header.0 ≤ MOST_LINES) × (input.now ≡ header_of header.0 ++ header.1.now)) }
     ensures fault { IfErr result (IsHistoryFault input.now) }
+    ensures bad { IfErr result (λ fault. fault ≡ HistoryFault.BadHeader) }
 {
     let Some((header, rest)) = cut_at(input, b'\n') else {
         return Err(HistoryFault::BadHeader);
@@ -44,6 +47,29 @@ fn read_header(input: &[u8]) -> Result<(usize, &[u8]), HistoryFault>
     match read_number(word) {
         Some(count) if count as usize <= MOST_LINES => Ok((count as usize, rest)),
         _ => Err(HistoryFault::BadHeader),
+    }
+}
+
+/// The fault of the line of this number whose command has this fault.
+fn command_fault(number: usize, fault: ReadFault) -> HistoryFault
+    ensures memory { (result ≡ HistoryFault.Memory) ↔ (fault ≡ ReadFault.Memory) }
+    ensures line { (at : ℕ) (own : LineFault) → fault ≡ ReadFault.Line at own
+        → result ≡ HistoryFault.BadLine number own }
+{
+    match fault {
+        ReadFault::Memory => HistoryFault::Memory,
+        ReadFault::Line { line: _, fault } => HistoryFault::BadLine(number, fault),
+    }
+}
+
+/// The fault of the line of this number whose reply has this fault.
+fn reply_fault(number: usize, fault: ReplyFault) -> HistoryFault
+    ensures memory { (result ≡ HistoryFault.Memory) ↔ (fault ≡ ReplyFault.Memory) }
+    ensures reply { fault ≡ ReplyFault.BadReply → result ≡ HistoryFault.BadReply number }
+{
+    match fault {
+        ReplyFault::Memory => HistoryFault::Memory,
+        ReplyFault::BadReply => HistoryFault::BadReply(number),
     }
 }
 
@@ -70,13 +96,11 @@ fn read_line(
     };
     let command = match read_command(alloc, command, names) {
         Ok(command) => command,
-        Err(ReadFault::Memory) => return Err(HistoryFault::Memory),
-        Err(ReadFault::Line { line: _, fault }) => return Err(HistoryFault::BadLine(number, fault)),
+        Err(fault) => return Err(command_fault(number, fault)),
     };
     let reply = match read_reply(alloc, reply, names) {
         Ok(reply) => reply,
-        Err(ReplyFault::Memory) => return Err(HistoryFault::Memory),
-        Err(ReplyFault::BadReply) => return Err(HistoryFault::BadReply(number)),
+        Err(fault) => return Err(reply_fault(number, fault)),
     };
     Ok(Line {
         session,
@@ -89,6 +113,8 @@ fn read_line(
 fn history_in(alloc: Global, input: &[u8]) -> Result<History, HistoryFault>
     ensures read { IfOk result (λ history. IsHistory input.now history.names (lines_of history)) }
     ensures fault { IfErr result (IsHistoryFault input.now) }
+    ensures bad_header { IsHistoryFault input.now HistoryFault.BadHeader
+        → result ≡ Err HistoryFault.BadHeader }
 {
     let (count, rest) = read_header(input)?;
     let mut names = Names::new(alloc);
@@ -113,6 +139,9 @@ pub fn read_history(alloc: Global, input: &[u8]) -> Result<History, HistoryFault
         → (result ≡ Err HistoryFault.Memory) ⊎ IsOkAnd result (λ history. (history.names ≡ names) × (lines_of history ≡ lines)) }
     // A fault is that of the header or of the first faulty line.
     ensures fault { IfErr result (IsHistoryFault input.now) }
+    // A bad header is found before anything grows: it comes before want of memory.
+    ensures bad_header { IsHistoryFault input.now HistoryFault.BadHeader
+        → result ≡ Err HistoryFault.BadHeader }
 {
     history_in(alloc, input)
 }

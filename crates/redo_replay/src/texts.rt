@@ -19,6 +19,19 @@ use std::io::{Read, Write};
 /// An input of more bytes is refused.
 pub const INPUT_LIMIT: usize = 1_073_741_824;
 
+/// The fault of a replay whose input has this one.
+fn whole_fault(fault: WholeFault) -> ReplayFault
+    ensures memory { (result ≡ ReplayFault.Memory) ↔ (fault ≡ WholeFault.Memory) }
+    ensures device { (result ≡ ReplayFault.Device) ↔ (fault ≡ WholeFault.Device) }
+    ensures too_long { (result ≡ ReplayFault.TooLong) ↔ (fault ≡ WholeFault.TooLong) }
+{
+    match fault {
+        WholeFault::Memory => ReplayFault::Memory,
+        WholeFault::Device => ReplayFault::Device,
+        WholeFault::TooLong => ReplayFault::TooLong,
+    }
+}
+
 /// Reads all of the input as a history.
 fn history_of<R: Read>(alloc: Global, input: &mut Watched<R>) -> Result<History, ReplayFault>
     ensures read { IfOk result (λ history. IfSome (R.remaining (inner_of input.old)) (λ bytes. IsReadAs bytes history.names (lines_of history))) }
@@ -31,9 +44,7 @@ fn history_of<R: Read>(alloc: Global, input: &mut Watched<R>) -> Result<History,
 {
     let bytes = match read_whole(alloc, input, INPUT_LIMIT) {
         Ok(bytes) => bytes,
-        Err(WholeFault::Memory) => return Err(ReplayFault::Memory),
-        Err(WholeFault::Device) => return Err(ReplayFault::Device),
-        Err(WholeFault::TooLong) => return Err(ReplayFault::TooLong),
+        Err(fault) => return Err(whole_fault(fault)),
     };
     Ok(read_history(alloc, &bytes)?)
 }

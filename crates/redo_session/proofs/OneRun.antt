@@ -1,5 +1,5 @@
 -- What a session asks decides what it is answered.
-use Rattle.std.proofs.Common.{◌≡◌, ℕ, ◌<◌, List, [], ◌∷◌, refl, ap, ◌∙◌, sym, subst, map, lit<, arith}
+use Rattle.std.proofs.Common.{◌≡◌, ℕ, ◌<◌, List, [], ◌∷◌, Some, length, refl, ap, ◌∙◌, sym, subst, map, lit<, arith}
 use Rattle.std.specs.List.{AllByRecursion}
 use Rattle.redo_model.specs.Names.{Naming, IsNaming, Text}
 use Rattle.redo_model.specs.State.{State, empty}
@@ -8,7 +8,10 @@ use Rattle.redo_model.specs.Step.{Answers, after}
 use Rattle.redo_model.specs.History.{Line, LegalFrom}
 use Rattle.redo_model.proofs.Texts.{texts_are_names}
 use Rattle.redo_model.proofs.Unique.{one_answer}
-use Rattle.redo_session.specs.Runs.{IsRun}
+use Rattle.redo_command.specs.Grammar.{IsScript}
+use Rattle.redo_command.specs.Histories.{run_text_of, sessions_below}
+use Rattle.redo_command.proofs.ScriptLaws.{one_script}
+use Rattle.redo_session.specs.Runs.{IsRun, AreAccepted, RunsAs}
 use Rattle.redo_session.proofs.Parts.{whole_part}
 
 -- below 1 there is session 0 alone
@@ -47,3 +50,26 @@ one_said commands lines run = ap (map (λ (line : Line Text). line.command)) (sy
 pub one_run : (commands : List (Command Text)) (a b : List (Line Text)) → IsRun (commands ∷ []) a → IsRun (commands ∷ []) b → a ≡ b
 one_run commands a b p q =
     one_history texts_are_names empty a b (alone a p.sessions) (alone b q.sessions) (one_said commands a p ∙ sym (one_said commands b q)) p.legal q.legal
+
+-- the commands of one file
+record IsOnly (file : Text) (scripts : List (List (Command Text))) : Type 0 where
+  script : List (Command Text)
+  names : List Text
+  whole : scripts ≡ script ∷ []
+  is : IsScript [] file script names
+
+only_script : (file : Text) (scripts : List (List (Command Text))) (names : List Text) → AreAccepted [] (Some file ∷ []) scripts names → IsOnly file scripts
+only_script file [] names are = absurd are
+only_script file (script ∷ []) names are = record { script = script; names = are.0; whole = refl; is = are.1.1 }
+only_script file (script ∷ more ∷ scripts) names are = absurd are.2
+
+-- one run text for the bytes of one file
+pub one_run_text : (file a b : Text) → RunsAs (Some file ∷ []) a → RunsAs (Some file ∷ []) b → a ≡ b
+one_run_text file a b (scripts, (some, few, (names, are)), (lines, run, is)) (others, (one, most, (more_names, accepted)), (more, other_run, is_other)) =
+    let p : IsOnly file scripts = only_script file scripts names are in
+    let q : IsOnly file others = only_script file others more_names accepted in
+    let commands : p.script ≡ q.script = (one_script [] file p.script q.script p.names q.names p.is q.is).0 in
+    let first : scripts ≡ q.script ∷ [] = p.whole ∙ ap (λ (cs : List (Command Text)). cs ∷ []) commands in
+    let same : lines ≡ more = one_run q.script lines more (subst (λ (all : List (List (Command Text))). IsRun all lines) first run) (subst (λ (all : List (List (Command Text))). IsRun all more) q.whole other_run) in
+    let scripts_same : scripts ≡ others = first ∙ sym q.whole in
+    is ∙ (λ i. run_text_of (sessions_below (length (scripts_same i))) (same i)) ∙ sym is_other

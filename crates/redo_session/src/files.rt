@@ -1,4 +1,4 @@
-ghost use Rattle.std.specs.Prelude.{◌≡◌, ◌<◌, false, [], length, map, IfOk, IfErr, IsErrAnd, OnErr};
+ghost use Rattle.std.specs.Prelude.{◌≡◌, ◌↔◌, ℕ, ◌<◌, false, [], length, map, IfOk, IfErr, IsErrAnd, OnErr};
 ghost use Rattle.redo_names.specs.Names.{Extends};
 ghost use Rattle.redo_command.specs.Meaning.{command_at};
 ghost use Rattle.redo_command.specs.Watched.{is_faulted, inner_of};
@@ -7,13 +7,38 @@ ghost use Rattle.redo_session.specs.Files.{bytes_of_files, flags_of_files, scrip
 ghost use Rattle.redo_session.specs.Faults.{IsFileCause, IsCause, IsDeviceFault};
 
 use crate::fault::TextFault;
-use redo_command::{ReadFault, Script, Watched, WholeFault, read_script, read_whole};
+use redo_command::{LineFault, ReadFault, Script, Watched, WholeFault, read_script, read_whole};
 use redo_names::Names;
 use std::alloc::Global;
 use std::io::Read;
 
 /// A file of more bytes is refused.
 pub const FILE_LIMIT: usize = 67_108_864;
+
+/// The run's fault where the bytes of this file have this one.
+fn whole_fault(file: usize, fault: WholeFault) -> TextFault
+    ensures memory { (result ≡ TextFault.Memory) ↔ (fault ≡ WholeFault.Memory) }
+    ensures device { fault ≡ WholeFault.Device → result ≡ TextFault.Device file }
+    ensures too_long { fault ≡ WholeFault.TooLong → result ≡ TextFault.TooLong file }
+{
+    match fault {
+        WholeFault::Memory => TextFault::Memory,
+        WholeFault::Device => TextFault::Device { file },
+        WholeFault::TooLong => TextFault::TooLong { file },
+    }
+}
+
+/// The run's fault where the commands of this file have this one.
+fn read_fault(file: usize, fault: ReadFault) -> TextFault
+    ensures memory { (result ≡ TextFault.Memory) ↔ (fault ≡ ReadFault.Memory) }
+    ensures line { (line : ℕ) (own : LineFault) → fault ≡ ReadFault.Line line own
+        → result ≡ TextFault.Read file line own }
+{
+    match fault {
+        ReadFault::Memory => TextFault::Memory,
+        ReadFault::Line { line, fault } => TextFault::Read { file, line, fault },
+    }
+}
 
 /// Reads one file, which is the one of this number.
 fn read_file<R: Read>(
@@ -32,18 +57,11 @@ fn read_file<R: Read>(
 {
     let text = match read_whole(alloc, file, FILE_LIMIT) {
         Ok(text) => text,
-        Err(WholeFault::Memory) => return Err(TextFault::Memory),
-        Err(WholeFault::Device) => return Err(TextFault::Device { file: at }),
-        Err(WholeFault::TooLong) => return Err(TextFault::TooLong { file: at }),
+        Err(fault) => return Err(whole_fault(at, fault)),
     };
     match read_script(alloc, &text, names) {
         Ok(script) => Ok(script),
-        Err(ReadFault::Memory) => Err(TextFault::Memory),
-        Err(ReadFault::Line { line, fault }) => Err(TextFault::Read {
-            file: at,
-            line,
-            fault,
-        }),
+        Err(fault) => Err(read_fault(at, fault)),
     }
 }
 

@@ -2,14 +2,14 @@
 
 ghost use Rattle.std.specs.Prelude.{◌≡◌, List, [], ◌∷◌, Some, map};
 ghost use Rattle.redo_model.specs.Names.{Text, texts};
-ghost use Rattle.redo_model.specs.Command.{Command};
 ghost use Rattle.redo_model.specs.History.{Line, Legal};
 ghost use Rattle.redo_replay.specs.HistoryTexts.{IsHistory};
-ghost use Rattle.redo_session.specs.Runs.{IsRun, RunsAs};
+ghost use Rattle.redo_session.specs.Runs.{RunsAs};
 
-/// The commands of one file have one run: what is printed for a file is a function of the file.
+/// One file whose bytes are known has at most one run text: what is printed for a file is a
+/// function of its bytes.
 pub fn one_run()
-    ensures { (commands : List (Command Text)) (a b : List (Line Text)) → IsRun (commands ∷ []) a → IsRun (commands ∷ []) b → a ≡ b }
+    ensures { (file a b : Text) → RunsAs (Some file ∷ []) a → RunsAs (Some file ∷ []) b → a ≡ b }
 {}
 
 /// The run text of files whose bytes are known is a history, whose lines are legal: to replay it

@@ -1,5 +1,39 @@
 //! The rows of the table of commands as code of the store.
 
+/// Returns the refusal of a need of a row, where the need is not met, by the store and the command's fields. A need of
+/// the target alone is passed over.
+macro_rules! refuse_names_unless {
+    (held $refusal:ident $row:tt) => {};
+    (resting $refusal:ident $row:tt) => {};
+    (own_build $refusal:ident $row:tt) => {};
+    (others $refusal:ident [$store:tt $t:ident $names:ident]) => {
+        if is_among($names, *$t) {
+            return Some(Refusal::$refusal);
+        }
+    };
+    (missing $refusal:ident [$store:tt $t:ident $names:ident]) => {
+        if let Some(n) = $store.existing($names) {
+            return Some(Refusal::$refusal(n));
+        }
+    };
+}
+
+/// The refusal of the first of a row's needs of names that is not met.
+macro_rules! first_refusal_of_names {
+    ($row:tt $($need:ident $refusal:ident)*) => {{
+        $(refuse_names_unless!($need $refusal $row);)*
+        None
+    }};
+}
+
+macro_rules! refusals_of_names {
+    ([$store:tt $command:ident] $(($case:ident $(($($field:ident),*))?, $word:literal, [$($need:ident $refusal:ident),*], $answer:ident, $effect:ident))*) => {
+        match $command {
+            $(Command::$case $(($($field),*))? => first_refusal_of_names!([$store $($($field)*)?] $($need $refusal)*),)*
+        }
+    };
+}
+
 /// The reply to an accepted command, by the word for its answer, the store and allocator, and the command's fields.
 macro_rules! answer {
     (okay [$store:tt $alloc:tt] $($field:ident)*) => {
@@ -79,3 +113,6 @@ pub(crate) use answer;
 pub(crate) use answers;
 pub(crate) use effect;
 pub(crate) use effects;
+pub(crate) use first_refusal_of_names;
+pub(crate) use refusals_of_names;
+pub(crate) use refuse_names_unless;

@@ -1,4 +1,4 @@
-ghost use Rattle.std.specs.Prelude.{◌≡◌, ◌+◌, ◌^◌, ◌<◌, Some, None, length, option_map, IsTrue, IsFalse, true, false, IfOk, IsOk, OnOk, OnErr};
+ghost use Rattle.std.specs.Prelude.{◌≡◌, ◌+◌, ◌^◌, ◌<◌, Some, None, length, option_map, IsTrue, IsFalse, true, false, IfOk, IsOk, IsSome, OnOk, OnErr};
 ghost use Rattle.redo_model.specs.Names.{texts};
 ghost use Rattle.redo_model.specs.State.{empty, is_building, target_state};
 ghost use Rattle.redo_model.specs.Command as commands;
@@ -109,6 +109,10 @@ impl Store {
         ensures count { count_of self.new ≡ count_of self.old }
         ensures order { order_of self.new ≡ order_of self.old }
         ensures ok { has_room_for self.old (command_of command.now) ≡ true → IsOk result }
+
+        // That it is refused is found before any room is made, so want of memory is no answer then.
+        ensures refused { IsSome (verdict_of (naming_of self.old) (records_of self.old) s holds
+            (command_of command.now)) → IsOk result }
         ensures err { OnErr result (IsSameButRoom self.old self.new) }
     {
         match self.verdict(s, command, holds) {

@@ -18,11 +18,11 @@ first_fault c fault e =
     line_fails _ _ c.lines.rest.now c.cut.result.0.now first.0 c.lines.number _ _ fault c.lines.invariant.so_far first.1 (rw length-map fails)
 
 pub returns-in-Err-clause-fault : goal.returns-in-Err-clause-fault
-returns-in-Err-clause-fault c = read_fault c.args.names.now c.args.text.now c.lines.number c.in-Err.unread c.at_line.result c.at_line.ensures.memory c.at_line.ensures.fault (first_fault c)
+returns-in-Err-clause-fault c = read_fault c.args.names.now c.args.text.now c.lines.number c.in-Err.unread c.at_line.result c.at_line.ensures.memory.1 c.at_line.ensures.fault (first_fault c)
 
 pub returns-in-Err-clause-only : goal.returns-in-Err-clause-only
 returns-in-Err-clause-only c cs after script =
-    let memory = only_memory c.args.names.now c.args.text.now c.lines.number c.in-Err.unread c.at_line.result c.at_line.ensures.memory c.at_line.ensures.fault (first_fault c) cs after script in
+    let memory = only_memory c.args.names.now c.args.text.now c.lines.number c.in-Err.unread c.at_line.result c.at_line.ensures.memory.1 c.at_line.ensures.fault (first_fault c) cs after script in
     inl (λ i. Err (memory i))
 
 whole : (c : goal.In_default-after) → IsScript c.args.names.now c.args.text.now (map (command_at c.take_line.new.names) c.take_line.new.commands.items) c.take_line.new.names

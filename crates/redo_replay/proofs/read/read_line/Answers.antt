@@ -1,24 +1,36 @@
-use Rattle.std.proofs.Common.{◌≡◌, [], ◌∷◌, inl, inr, refl, sym, subst}
+use Rattle.std.proofs.Common.{◌≡◌, List, [], ◌∷◌, inl, inr, refl, sym, subst}
 use Rattle.redo_model.specs.Names.{Text}
 use Rattle.redo_model.specs.Command as commands
 use Rattle.redo_command.specs.Meaning.{command_of, command_at, line_at}
 use Rattle.redo_command.specs.Grammar.{IsCommandLine, AddsNames}
 use Rattle.redo_command.proofs.Added.{command_at-Extends, IsBelow-Extends}
-use Rattle.redo_replay.specs.HistoryFaults.{IsNoReply}
+use Rattle.redo_command.specs.declared.fault.ReplyFault.{ReplyFault}
+use Rattle.redo_command.specs.declared.fault.ReplyFault.TheVariants as replies
+use Rattle.redo_replay.specs.declared.fault.HistoryFault.{HistoryFault}
+use Rattle.redo_replay.specs.HistoryFaults.{IsNoReply, HasBadReply, IsLineCause}
 use Rattle.redo_replay.proofs.LineParts.{line_parts, line_named}
 use Rattle.redo_replay.proofs.read.read_line.Goals as goal
 
-pub returns-in-Err-BadReply-clause-fault : goal.returns-in-Err-BadReply-clause-fault
-returns-in-Err-BadReply-clause-fault c =
-    let mid = c.read_command.new.names in
-    let none : IsNoReply mid c.in-Some-cut_at_arrow.reply.now = λ reply after is adds. elim (c.in-Err-BadReply.ensures.only reply after is adds) [ inl e ↦ absurd cc | inr ok ↦ ok ] in (
-      refl,
-      (
-        c.cut_at_space.result.1.now,
-        (c.cut_at_space.result.0.now, c.in-Some.session, c.cut_at_space.ensures, c.in-Some.ensures),
-        inr (c.in-Some-cut_at_arrow.command.now, c.in-Some-cut_at_arrow.reply.now, command_at mid c.in-Ok.command, mid, c.in-Some-cut_at_arrow.ensures, c.in-Ok.ensures.read.0, c.in-Ok.ensures.read.1, none),
-      ),
-    )
+pub returns-in-Err-read_reply-clause-fault : goal.returns-in-Err-read_reply-clause-fault
+returns-in-Err-read_reply-clause-fault c = by c.in-Err-read_reply.fault refl
+  where
+    mid : List Text
+    mid = c.read_command.new.names
+
+    cause : HistoryFault → Type 0
+    cause = IsLineCause c.args.names.now c.args.number c.args.text.now
+
+    bad : c.in-Err-read_reply.fault ≡ replies.BadReply → HasBadReply c.args.names.now c.args.text.now
+    bad e =
+        let none : IsNoReply mid c.in-Some-cut_at_arrow.reply.now = λ reply after is adds. elim (c.in-Err-read_reply.ensures.only reply after is adds) [ inl memory ↦ absurd cc | inr ok ↦ ok ] in (
+          c.cut_at_space.result.1.now,
+          (c.cut_at_space.result.0.now, c.in-Some.session, c.cut_at_space.ensures, c.in-Some.ensures),
+          inr (c.in-Some-cut_at_arrow.command.now, c.in-Some-cut_at_arrow.reply.now, command_at mid c.in-Ok.command, mid, c.in-Some-cut_at_arrow.ensures, c.in-Ok.ensures.read.0, c.in-Ok.ensures.read.1, none),
+        )
+
+    by : (why : ReplyFault) → c.in-Err-read_reply.fault ≡ why → cause c.reply_fault.result
+    by replies.Memory e = subst cause (sym (c.reply_fault.ensures.memory.1 e)) tt
+    by replies.BadReply e = subst cause (sym (c.reply_fault.ensures.reply e)) (refl, bad e)
 
 pub returns-clause-read : goal.returns-clause-read
 returns-clause-read c =
