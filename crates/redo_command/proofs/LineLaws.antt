@@ -39,7 +39,7 @@ line_found names line command after few e =
         ((says.form, short, spelled), says.adds)
 
 -- what the words of a line are read as has no bad byte
-good_line : (names : List Text) (line : Text) (command : Command Text) (after : List Text)
+pub good_line : (names : List Text) (line : Text) (command : Command Text) (after : List Text)
     → length names ≤ MOST_NAMES → words_in names (words_of line) ≡ Ok (command, after)
     → list_any is_bad line ≡ false
 good_line names line command after few e =

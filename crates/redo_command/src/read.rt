@@ -38,9 +38,8 @@ fn line_of(alloc: Global, line: &[u8], names: &mut Names) -> Result<Command, Unr
     let _ = names.len();
     match form_of(alloc, names, line) {
         Ok(command) => Ok(command),
-        Err(Unread::Memory) => Err(Unread::Memory),
-        Err(Unread::Fault(_)) if has_bad_byte(line) => Err(Unread::Fault(LineFault::BadByte)),
-        Err(Unread::Fault(fault)) => Err(Unread::Fault(fault)),
+        Err(_) if has_bad_byte(line) => Err(Unread::Fault(LineFault::BadByte)),
+        Err(unread) => Err(unread),
     }
 }
 
@@ -53,7 +52,7 @@ pub fn read_command(alloc: Global, line: &[u8], names: &mut Names) -> Result<Com
         → (result ≡ Err ReadFault.Memory) ⊎ IsOkAnd result (λ read. (command_at names.new read ≡ command) × (names.new ≡ after)) }
     // The fault is that of the first step that the line fails.
     ensures fault { Gives (λ read. (command_at names.new read, names.new)) result (line_in names.old line.now) }
-    // These two are found before anything grows: they come before want of memory.
+    // These two come before want of memory.
     ensures too_long { ¬ (IsShort line.now)
         → result ≡ Err (ReadFault.Line 1 LineFault.LineTooLong) }
     ensures bad_byte { IsShort line.now → HasBadByte line.now
