@@ -18,7 +18,10 @@ use Rattle.redo_ood.specs.Memo.{IsRight, WasRight}
 numbered : (count n : ℕ) → n < count → Contains (range_with_len 0 count) n
 numbered count n below =
     let l : length (range_with_len 0 count) ≡ count = length-range_with_len 0 count in
-    (n, omega arith, get_or-range_with_len 0 count n n below)
+    let e : get_or (range_with_len 0 count) n n ≡ 0 + n =
+    get_or-range_with_len 0 count n n below
+    in
+    (n, omega arith, omega arith)
 
 numbered_below : (count n : ℕ) → Contains (range_with_len 0 count) n → n < count
 numbered_below count n (k, within, is) =
