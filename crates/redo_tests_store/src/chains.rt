@@ -2,7 +2,7 @@
 ghost use Rattle.std.specs.Prelude.{◌≡◌, ◌<◌, ◌≤◌, length, IfOk};
 ghost use Rattle.redo_rows.specs.Rows.{count_of};
 
-use crate::memos::{change_file, memo_of, put_always};
+use crate::memos::{memo_of, put_always};
 use redo_command::FileStamp;
 use redo_ood::Ood;
 use redo_records::{Mark, Records, State};
@@ -83,12 +83,12 @@ fn long_chain(rt: HostRuntime) -> Result<(), Fail> {
 #[test]
 fn long_ring(rt: HostRuntime) -> Result<(), Fail> {
     let alloc = rt.alloc();
-    let mut records = all_built(&rt, alloc, RING)?;
+    let records = all_built(&rt, alloc, RING)?;
     let mut rows = chain(&rt, alloc, RING)?;
     link(&rt, &mut rows, RING - 1, 0)?;
     let mut ood = memo_of(&rt, alloc, RING, &records, &rows)?;
     assert_eq!(rt; out_of_date(alloc, &ood)?, 0);
-    assert_eq!(rt; change_file(&mut ood, &mut records, &rows, 7, None), RING);
+    assert_eq!(rt; put_always(&mut ood, &records, &mut rows, 7), RING);
     assert_eq!(rt; out_of_date(alloc, &ood)?, RING);
     Ok(())
 }

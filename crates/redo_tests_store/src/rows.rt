@@ -127,8 +127,9 @@ fn check_mark(rt: &impl Abort, rows: &mut DepRows, mark: Mark)
     requires { count_of rows.old ≡ NAMES }
     ensures { count_of rows.new ≡ NAMES }
 {
+    let want = Some(mark);
     put_change(rt, rows, 0, 1, mark);
-    assert_eq!(rt; rows.change_of(0, 1), Some(mark));
+    assert_eq!(rt; rows.change_of(0, 1), want);
 }
 
 #[test]

@@ -23,8 +23,8 @@ use std::test::Fail;
 
 #[derive(Drop)]
 pub(crate) struct Told {
-    pub(crate) records: Records,
-    pub(crate) rows: DepRows,
+    records: Records,
+    rows: DepRows,
     // for each name, whether it is a target that is out of date
     found: Vec<bool>,
     // the numbers of the names, in the order of the bytes of the names
@@ -87,6 +87,32 @@ impl Told {
         ensures right { IfOk result (λ ood. IsRight ood (records_of self.now.records self.now.rows)) }
     {
         memo_of(rt, alloc, NAMES, &self.records, &self.rows)
+    }
+
+    /// The name has another file, or none. Answers how many names the region of the change has.
+    pub(crate) fn change_file(&mut self, ood: &mut Ood, n: u32, file: Option<FileStamp>) -> u32
+        requires name { n < NAMES }
+        requires count { memo_count ood.old ≡ NAMES }
+        requires right { IsRight ood.old (records_of self.old.records self.old.rows) }
+        ensures count { memo_count ood.new ≡ NAMES }
+        ensures right { IsRight ood.new (records_of self.new.records self.new.rows) }
+    {
+        self.records.set_file(n, file);
+        ood.refresh(&self.records, &self.rows, &[n])
+    }
+
+    /// The target is built from now on. Answers how many names the region of the change has.
+    pub(crate) fn begin(&mut self, rt: &impl Abort, ood: &mut Ood, t: u32) -> u32
+        requires target { t < NAMES }
+        requires count { memo_count ood.old ≡ NAMES }
+        requires right { IsRight ood.old (records_of self.old.records self.old.rows) }
+        ensures count { memo_count ood.new ≡ NAMES }
+        ensures right { IsRight ood.new (records_of self.new.records self.new.rows) }
+    {
+        assert!(rt; !self.is_building(t));
+        self.records.start(0, t);
+        self.rows.clear(t);
+        ood.refresh(&self.records, &self.rows, &[t])
     }
 
     fn is_building(&self, t: u32) -> bool
