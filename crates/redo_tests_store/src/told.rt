@@ -193,7 +193,7 @@ impl Told {
         ensures records { self.new.records ≡ self.old.records }
         ensures rows { self.new.rows ≡ self.old.rows }
     {
-        self.found = search(alloc, &self.records, &self.rows)?;
+        self.found = search(alloc, &self.records, &self.rows, NAMES)?;
         Ok(())
     }
 
