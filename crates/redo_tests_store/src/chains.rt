@@ -62,8 +62,8 @@ fn chain(rt: &impl Abort, alloc: Global, count: u32) -> Result<DepRows, Fail>
 }
 
 /// How many targets are out of date by the memo.
-fn out_of_date(alloc: Global, ood: &Ood) -> Result<u32, Fail> {
-    Ok(ood.list(alloc)?.len() as u32)
+fn out_of_date(alloc: Global, ood: &Ood) -> Result<usize, Fail> {
+    Ok(ood.list(alloc)?.len())
 }
 
 #[test]
@@ -76,7 +76,7 @@ fn long_chain(rt: HostRuntime) -> Result<(), Fail> {
     assert_eq!(rt; put_always(&mut ood, &records, &mut rows, 0), 1);
     assert_eq!(rt; out_of_date(alloc, &ood)?, 1);
     assert_eq!(rt; put_always(&mut ood, &records, &mut rows, CHAIN - 1), CHAIN);
-    assert_eq!(rt; out_of_date(alloc, &ood)?, CHAIN);
+    assert_eq!(rt; out_of_date(alloc, &ood)?, CHAIN as usize);
     Ok(())
 }
 
@@ -89,6 +89,6 @@ fn long_ring(rt: HostRuntime) -> Result<(), Fail> {
     let mut ood = memo_of(&rt, alloc, RING, &records, &rows)?;
     assert_eq!(rt; out_of_date(alloc, &ood)?, 0);
     assert_eq!(rt; put_always(&mut ood, &records, &mut rows, 7), RING);
-    assert_eq!(rt; out_of_date(alloc, &ood)?, RING);
+    assert_eq!(rt; out_of_date(alloc, &ood)?, RING as usize);
     Ok(())
 }

@@ -2,7 +2,7 @@
 ghost use Rattle.std.specs.Prelude.{◌≡◌, ◌<◌, IfOk};
 ghost use Rattle.redo_ood.specs.Memo.{count_of as memo_count};
 
-use crate::compared::{TEXTS, all_names};
+use crate::compared::all_names;
 use crate::random::NAMES;
 use crate::told::Told;
 use redo_command::{FileStamp, read_command};
@@ -51,7 +51,7 @@ fn told_by(
     names: &mut Names,
     lines: &[&str],
 ) -> Result<Told, Fail> {
-    let mut told = Told::new(alloc, &TEXTS)?;
+    let mut told = Told::new(alloc)?;
     for line in lines {
         let command = read_command(alloc, line.as_bytes(), names)?;
         assert_eq!(rt; names.len(), NAMES);

@@ -120,7 +120,7 @@ pub(crate) fn search(
     ensures { IfOk result (λ found. length found.items ≡ count) }
 {
     let mut found = with_reason(alloc, records, rows, count)?;
-    for _ in 0..count {
+    'rounds: for _ in 0..count {
         if !find_more(records, rows, count, &mut found) {
             break;
         }

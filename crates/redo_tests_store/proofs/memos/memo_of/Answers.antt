@@ -7,11 +7,11 @@ use Rattle.redo_ood.specs.Memo.{WasRight}
 use Rattle.redo_tests_store.proofs.Seeds.{numbers_below, differ_everywhere}
 use Rattle.redo_tests_store.proofs.memos.memo_of.Goals as goal
 
-pub refresh-requires-clause-seeds : goal.refresh-requires-clause-seeds
-refresh-requires-clause-seeds g c = rw (c.in_ok-names.ensures, c.in_ok-ood.ensures.count) (numbers_below c.args.count)
+pub refresh-region-requires-clause-seeds : goal.refresh-region-requires-clause-seeds
+refresh-region-requires-clause-seeds g c = rw (c.in_ok-names.ensures, c.in_ok-ood.ensures.count) (numbers_below c.args.count)
 
-pub refresh-requires-clause-right : goal.refresh-requires-clause-right
-refresh-requires-clause-right g c =
+pub refresh-region-requires-clause-right : goal.refresh-region-requires-clause-right
+refresh-region-requires-clause-right g c =
     rw c.in_ok-names.ensures (
       empty.records,
       differ_everywhere c.args.count c.args.records.now c.args.rows.now
