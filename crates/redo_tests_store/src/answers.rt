@@ -5,6 +5,14 @@ use std::alloc::Global;
 use std::process::Abort;
 use std::test::Fail;
 
+/// Names whose order by bytes is another than that of their numbers.
+pub(crate) const TEXTS: [&str; 12] = [
+    "lib.o", "b", "lib", "a.o", "B", "a", "a.c", "lib.c", "y", "all", "T", "top",
+];
+
+/// The numbers of those names, in the order of their bytes.
+pub(crate) const SORTED: [u32; 12] = [4, 10, 5, 6, 3, 9, 1, 2, 7, 0, 11, 8];
+
 /// These names, numbered as they come.
 pub(crate) fn names_of(rt: &impl Abort, alloc: Global, texts: &[&str]) -> Result<Names, Fail> {
     let mut names = Names::new(alloc);

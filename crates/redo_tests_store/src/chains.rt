@@ -2,7 +2,7 @@
 ghost use Rattle.std.specs.Prelude.{◌≡◌, ◌<◌, ◌≤◌, length, IfOk};
 ghost use Rattle.redo_rows.specs.Rows.{count_of};
 
-use crate::memos::{change_file, memo_of, put_always};
+use crate::memos::{memo_of, put_always};
 use redo_command::FileStamp;
 use redo_ood::Ood;
 use redo_records::{Mark, Records, State};
@@ -62,8 +62,8 @@ fn chain(rt: &impl Abort, alloc: Global, count: u32) -> Result<DepRows, Fail>
 }
 
 /// How many targets are out of date by the memo.
-fn out_of_date(alloc: Global, ood: &Ood) -> Result<u32, Fail> {
-    Ok(ood.list(alloc)?.len() as u32)
+fn out_of_date(alloc: Global, ood: &Ood) -> Result<usize, Fail> {
+    Ok(ood.list(alloc)?.len())
 }
 
 #[test]
@@ -76,19 +76,19 @@ fn long_chain(rt: HostRuntime) -> Result<(), Fail> {
     assert_eq!(rt; put_always(&mut ood, &records, &mut rows, 0), 1);
     assert_eq!(rt; out_of_date(alloc, &ood)?, 1);
     assert_eq!(rt; put_always(&mut ood, &records, &mut rows, CHAIN - 1), CHAIN);
-    assert_eq!(rt; out_of_date(alloc, &ood)?, CHAIN);
+    assert_eq!(rt; out_of_date(alloc, &ood)?, CHAIN as usize);
     Ok(())
 }
 
 #[test]
 fn long_ring(rt: HostRuntime) -> Result<(), Fail> {
     let alloc = rt.alloc();
-    let mut records = all_built(&rt, alloc, RING)?;
+    let records = all_built(&rt, alloc, RING)?;
     let mut rows = chain(&rt, alloc, RING)?;
     link(&rt, &mut rows, RING - 1, 0)?;
     let mut ood = memo_of(&rt, alloc, RING, &records, &rows)?;
     assert_eq!(rt; out_of_date(alloc, &ood)?, 0);
-    assert_eq!(rt; change_file(&mut ood, &mut records, &rows, 7, None), RING);
-    assert_eq!(rt; out_of_date(alloc, &ood)?, RING);
+    assert_eq!(rt; put_always(&mut ood, &records, &mut rows, 7), RING);
+    assert_eq!(rt; out_of_date(alloc, &ood)?, RING as usize);
     Ok(())
 }

@@ -5,7 +5,7 @@ ghost use Rattle.redo_model.specs.Renaming.{IsBelow, IsReplyBelow};
 ghost use Rattle.redo_command.specs.Meaning.{command_of, reply_of};
 ghost use Rattle.redo_tests_store.specs.declared.random.TheConstants.{NAMES};
 
-use crate::answers::names_of;
+use crate::answers::{TEXTS, names_of};
 use crate::random::NAMES;
 use crate::told::Told;
 use redo_command::{Command, Reply};
@@ -16,12 +16,7 @@ use std::alloc::Global;
 use std::process::Abort;
 use std::test::Fail;
 
-/// Names whose order by bytes is another than that of their numbers.
-pub(crate) const TEXTS: [&str; 12] = [
-    "lib.o", "b", "lib", "a.o", "B", "a", "a.c", "lib.c", "y", "all", "T", "top",
-];
-
-/// The names, numbered in that order.
+/// The names, numbered as their texts stand.
 pub(crate) fn all_names(rt: &impl Abort, alloc: Global) -> Result<Names, Fail>
     ensures { IfOk result (λ names. length names ≡ NAMES) }
 {
@@ -47,7 +42,7 @@ impl Compared {
         Ok(Compared {
             redo: Redo::new(alloc, names)?,
             plain: Plain::new(alloc, names)?,
-            told: Told::new(alloc, &TEXTS)?,
+            told: Told::new(alloc)?,
         })
     }
 

@@ -16,7 +16,7 @@ const LISTS: u32 = 40;
 
 const BUILDS: u32 = 75;
 
-/// What the commands left, or did.
+/// What a build left, or a command did.
 #[derive(Clone, Copy, Debug, PartialEq, Eq)]
 enum Met {
     Shape(Shape),
@@ -47,17 +47,21 @@ fn count_lost(first: &[bool], second: &[bool]) -> usize {
     pairs.filter(|(one, other)| **one && !**other).count()
 }
 
-/// Adds what is met after a command, where these were out of date before it.
-fn note(alloc: Global, told: &Told, before: &[bool], met: &mut Vec<Met>) -> Result<(), AllocError> {
-    let after = told.found();
-    let shapes = told.shapes(alloc)?;
+/// Adds what a command did, where these were out of date before it and those after it.
+fn note_turns(before: &[bool], after: &[bool], met: &mut Vec<Met>) -> Result<(), AllocError> {
     if count_lost(after, before) >= 3 {
         met.push(Met::Spread)?;
     }
     if count_lost(before, after) >= 3 {
         met.push(Met::Settled)?;
     }
-    if shapes.contains(&Shape::Cycle) && !after.contains(&true) {
+    Ok(())
+}
+
+/// Adds what a build left.
+fn note_shapes(alloc: Global, told: &Told, met: &mut Vec<Met>) -> Result<(), AllocError> {
+    let shapes = told.shapes(alloc)?;
+    if shapes.contains(&Shape::Cycle) && !told.found().contains(&true) {
         met.push(Met::FreshCycle)?;
     }
     for shape in &shapes {
@@ -81,8 +85,9 @@ fn build(
         let command = step_command(random, alloc, t, step)?;
         let before = Vec::from_slice(alloc, compared.told.found())?;
         compared.call(rt, alloc, owner(t), &command)?;
-        note(alloc, &compared.told, &before, met)?;
+        note_turns(&before, compared.told.found(), met)?;
     }
+    note_shapes(alloc, &compared.told, met)?;
     Ok(())
 }
 
@@ -108,13 +113,13 @@ fn compare(
 /// Each of these was met, and often.
 fn check_all_met(rt: &impl Abort, met: &[Met]) {
     for (want, least) in [
-        (Met::Shape(Shape::Cycle), 10_000),
-        (Met::Shape(Shape::Diamond), 5_000),
-        (Met::Shape(Shape::Chain), 10_000),
-        (Met::Shape(Shape::Popular), 5_000),
+        (Met::Shape(Shape::Cycle), 1_000),
+        (Met::Shape(Shape::Diamond), 500),
+        (Met::Shape(Shape::Chain), 1_000),
+        (Met::Shape(Shape::Popular), 500),
         (Met::Spread, 500),
         (Met::Settled, 500),
-        (Met::FreshCycle, 500),
+        (Met::FreshCycle, 50),
     ] {
         let count = met.iter().filter(|one| **one == want).count();
         assert!(rt; count >= least, "{want:?} {count}");

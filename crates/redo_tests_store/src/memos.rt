@@ -1,12 +1,9 @@
-//! The memo of what is out of date, made anew, and kept right through one change.
-ghost use Rattle.std.specs.Prelude.{◌≡◌, ◌<◌, IsFalse, length, IfOk};
+//! The memo of what is out of date, made anew, and kept right through an always row.
+ghost use Rattle.std.specs.Prelude.{◌≡◌, ◌<◌, length, IfOk};
 ghost use Rattle.std.specs.List.{range_with_len};
-ghost use Rattle.redo_model.specs.State.{is_building};
-ghost use Rattle.redo_records.specs.Cells.{cell_at};
 ghost use Rattle.redo_rows.specs.Rows.{count_of, records_of};
 ghost use Rattle.redo_ood.specs.Memo.{count_of as memo_count, IsRight};
 
-use redo_command::FileStamp;
 use redo_ood::Ood;
 use redo_records::Records;
 use redo_rows::DepRows;
@@ -38,43 +35,6 @@ pub(crate) fn memo_of(
     let region = ood.refresh(records, rows, &names);
     assert_eq!(rt; region, count);
     Ok(ood)
-}
-
-/// The name has another file, or none. Answers how many names the region of the change has.
-pub(crate) fn change_file(
-    ood: &mut Ood,
-    records: &mut Records,
-    rows: &DepRows,
-    n: u32,
-    file: Option<FileStamp>,
-) -> u32
-    requires name { n < length records.old }
-    requires rows { count_of rows.now ≡ length records.old }
-    requires count { memo_count ood.old ≡ length records.old }
-    requires right { IsRight ood.old (records_of records.old rows.now) }
-    ensures right { IsRight ood.new (records_of records.new rows.now) }
-    ensures count { memo_count ood.new ≡ memo_count ood.old }
-    ensures records { length records.new ≡ length records.old }
-{
-    records.set_file(n, file);
-    ood.refresh(records, rows, &[n])
-}
-
-/// The target is built from now on. Answers how many names the region of the change has.
-pub(crate) fn start(ood: &mut Ood, records: &mut Records, rows: &mut DepRows, t: u32) -> u32
-    requires target { t < length records.old }
-    requires free { IsFalse (is_building (cell_at records.old t).state) }
-    requires rows { count_of rows.old ≡ length records.old }
-    requires count { memo_count ood.old ≡ length records.old }
-    requires right { IsRight ood.old (records_of records.old rows.old) }
-    ensures right { IsRight ood.new (records_of records.new rows.new) }
-    ensures count { memo_count ood.new ≡ memo_count ood.old }
-    ensures records { length records.new ≡ length records.old }
-    ensures rows { count_of rows.new ≡ count_of rows.old }
-{
-    records.start(0, t);
-    rows.clear(t);
-    ood.refresh(records, rows, &[t])
 }
 
 /// The target has an always row. Answers how many names the region of the change has.

@@ -2,14 +2,12 @@
 ghost use Rattle.std.specs.Prelude.{◌≡◌, ◌<◌, IfOk};
 ghost use Rattle.redo_ood.specs.Memo.{count_of as memo_count};
 
-use crate::compared::{TEXTS, all_names};
-use crate::memos::{change_file, start};
+use crate::compared::all_names;
 use crate::random::NAMES;
 use crate::told::Told;
 use redo_command::{FileStamp, read_command};
 use redo_names::Names;
 use redo_ood::Ood;
-use redo_records::State;
 use std::alloc::Global;
 use std::process::Abort;
 use std::test::Fail;
@@ -53,7 +51,7 @@ fn told_by(
     names: &mut Names,
     lines: &[&str],
 ) -> Result<Told, Fail> {
-    let mut told = Told::new(alloc, &TEXTS)?;
+    let mut told = Told::new(alloc)?;
     for line in lines {
         let command = read_command(alloc, line.as_bytes(), names)?;
         assert_eq!(rt; names.len(), NAMES);
@@ -104,7 +102,7 @@ fn region_of_file(
     check_memo(rt, alloc, &mut told, &ood, 0)?;
     let n = number_of(rt, &names, name)?;
     let stamp = FileStamp::new(stamp);
-    let region = change_file(&mut ood, &mut told.records, &told.rows, n, stamp);
+    let region = told.change_file(&mut ood, n, stamp);
     check_memo(rt, alloc, &mut told, &ood, out_of_date)?;
     Ok(region)
 }
@@ -123,8 +121,7 @@ fn region_of_start(
     let mut ood = told.memo(rt, alloc)?;
     check_memo(rt, alloc, &mut told, &ood, 0)?;
     let t = number_of(rt, &names, name)?;
-    assert!(rt; told.records.state(t) == State::Built);
-    let region = start(&mut ood, &mut told.records, &mut told.rows, t);
+    let region = told.begin(rt, &mut ood, t);
     check_memo(rt, alloc, &mut told, &ood, out_of_date)?;
     Ok(region)
 }

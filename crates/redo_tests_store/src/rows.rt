@@ -123,26 +123,27 @@ fn inverse_rows(rt: HostRuntime) -> Result<(), Fail> {
 }
 
 /// A change row of 0 on 1 gives back the mark that was put.
-fn check_mark(rt: &impl Abort, rows: &mut DepRows, mark: Mark)
+fn check_mark(rt: &impl Abort, rows: &mut DepRows, mark: &Mark)
     requires { count_of rows.old ≡ NAMES }
     ensures { count_of rows.new ≡ NAMES }
 {
-    put_change(rt, rows, 0, 1, mark);
-    assert_eq!(rt; rows.change_of(0, 1), Some(mark));
+    put_change(rt, rows, 0, 1, *mark);
+    let kept = rows.change_of(0, 1);
+    assert_eq!(rt; kept.as_ref(), Some(mark));
 }
 
 #[test]
 fn marks_of_rows(rt: HostRuntime) -> Result<(), Fail> {
     let mut rows = no_rows(rt.alloc())?;
     reserve(&mut rows, 0, &[1])?;
-    check_mark(&rt, &mut rows, Mark::Digest([0xa9; 20]));
-    check_mark(&rt, &mut rows, Mark::Builds(0x0102_0304));
-    check_mark(&rt, &mut rows, Mark::Builds(u32::MAX));
-    check_mark(&rt, &mut rows, Mark::Pending);
-    check_mark(&rt, &mut rows, Mark::Absent);
+    check_mark(&rt, &mut rows, &Mark::Digest([0xa9; 20]));
+    check_mark(&rt, &mut rows, &Mark::Builds(0x0102_0304));
+    check_mark(&rt, &mut rows, &Mark::Builds(u32::MAX));
+    check_mark(&rt, &mut rows, &Mark::Pending);
+    check_mark(&rt, &mut rows, &Mark::Absent);
     assert_eq!(rt; FileStamp::new(&[b'x'; 65]), None);
     let stamp = FileStamp::new(&[b'x'; 64]).expect(&rt, "a stamp");
     assert_eq!(rt; stamp.bytes(), [b'x'; 64].as_slice());
-    check_mark(&rt, &mut rows, Mark::File(stamp));
+    check_mark(&rt, &mut rows, &Mark::File(stamp));
     Ok(())
 }

@@ -64,21 +64,48 @@ fn needs_found(rows: &DepRows, found: &[bool], t: u32) -> bool
     false
 }
 
-/// Finds the targets that need one that was found. Whether there are any.
-fn find_more(records: &Records, rows: &DepRows, found: &mut Vec<bool>) -> bool
+/// Whether it is a target that wasn't found, and needs one that was.
+fn is_next(records: &Records, rows: &DepRows, found: &[bool], t: u32) -> bool
+    requires target { t < count_of rows.now }
     requires names { length records.now ≡ count_of rows.now }
-    requires found { length found.old.items ≡ count_of rows.now }
-    ensures { length found.new.items ≡ length found.old.items }
+    requires found { length found.now ≡ count_of rows.now }
+{
+    !found[t as usize] && records.state(t) != State::Idle && needs_found(rows, found, t)
+}
+
+/// Finds the targets that need one that was found. Whether there are any.
+fn find_more(records: &Records, rows: &DepRows, count: u32, found: &mut Vec<bool>) -> bool
+    requires names { length records.now ≡ count }
+    requires rows { count_of rows.now ≡ count }
+    requires found { length found.old.items ≡ count }
+    ensures { length found.new.items ≡ count }
 {
     let mut any = false;
-    for t in 0..found.len() {
-        let is_target = records.state(t as u32) != State::Idle;
-        if !found[t] && is_target && needs_found(rows, found, t as u32) {
-            found[t] = true;
+    for t in 0..count {
+        if is_next(records, rows, found, t) {
+            found[t as usize] = true;
             any = true;
         }
     }
     any
+}
+
+/// For each name, whether it is a target with a reason of its own.
+fn with_reason(
+    alloc: Global,
+    records: &Records,
+    rows: &DepRows,
+    count: u32,
+) -> Result<Vec<bool>, AllocError>
+    requires names { length records.now ≡ count }
+    requires rows { count_of rows.now ≡ count }
+    ensures { IfOk result (λ found. length found.items ≡ count) }
+{
+    let mut found = vec![in alloc; false; count as usize]?;
+    for t in 0..count {
+        found[t as usize] = has_reason(records, rows, t);
+    }
+    Ok(found)
 }
 
 /// For each name, whether it is a target that is out of date.
@@ -86,17 +113,15 @@ pub(crate) fn search(
     alloc: Global,
     records: &Records,
     rows: &DepRows,
+    count: u32,
 ) -> Result<Vec<bool>, AllocError>
-    requires { length records.now ≡ count_of rows.now }
-    ensures { IfOk result (λ found. length found.items ≡ length records.now) }
+    requires names { length records.now ≡ count }
+    requires rows { count_of rows.now ≡ count }
+    ensures { IfOk result (λ found. length found.items ≡ count) }
 {
-    let count = records.count();
-    let mut found = Vec::with_capacity(alloc, count)?;
-    'reasons: for t in 0..count {
-        found.push(has_reason(records, rows, t as u32))?;
-    }
+    let mut found = with_reason(alloc, records, rows, count)?;
     'rounds: for _ in 0..count {
-        if !find_more(records, rows, &mut found) {
+        if !find_more(records, rows, count, &mut found) {
             break;
         }
     }

@@ -9,6 +9,7 @@ ghost use Rattle.redo_rows.specs.Rows.{count_of, records_of};
 ghost use Rattle.redo_ood.specs.Memo.{count_of as memo_count, IsRight};
 ghost use Rattle.redo_tests_store.specs.declared.random.TheConstants.{NAMES};
 
+use crate::answers::SORTED;
 use crate::memos::memo_of;
 use crate::random::NAMES;
 use crate::search::{has_reason, search};
@@ -23,35 +24,22 @@ use std::test::Fail;
 
 #[derive(Drop)]
 pub(crate) struct Told {
-    pub(crate) records: Records,
-    pub(crate) rows: DepRows,
+    records: Records,
+    rows: DepRows,
     // for each name, whether it is a target that is out of date
     found: Vec<bool>,
-    // the numbers of the names, in the order of the bytes of the names
-    sorted: Vec<u32>,
     ghost records_count: { length records ≡ NAMES },
     ghost rows_count: { count_of rows ≡ NAMES },
     ghost found_count: { length found.items ≡ NAMES },
 }
 
-/// The numbers of the texts, in the order of their bytes.
-fn sorted_numbers(alloc: Global, texts: &[&str]) -> Result<Vec<u32>, AllocError> {
-    let mut pairs = Vec::new(alloc);
-    for (number, text) in texts.iter().enumerate() {
-        pairs.push((text.as_bytes(), number as u32))?;
-    }
-    pairs.sort()?;
-    pairs.iter().map(|pair| pair.1).collect(alloc)
-}
-
 impl Told {
-    /// Nothing was told so far. The names are numbered as the texts are.
-    pub(crate) fn new(alloc: Global, texts: &[&str]) -> Result<Told, AllocError> {
+    /// Nothing was told so far.
+    pub(crate) fn new(alloc: Global) -> Result<Told, AllocError> {
         Ok(Told {
             records: Records::new(alloc, NAMES)?,
             rows: DepRows::new(alloc, NAMES)?,
             found: vec![in alloc; false; NAMES as usize]?,
-            sorted: sorted_numbers(alloc, texts)?,
         })
     }
 
@@ -89,6 +77,32 @@ impl Told {
         memo_of(rt, alloc, NAMES, &self.records, &self.rows)
     }
 
+    /// The name has another file, or none. Answers how many names the region of the change has.
+    pub(crate) fn change_file(&mut self, ood: &mut Ood, n: u32, file: Option<FileStamp>) -> u32
+        requires name { n < NAMES }
+        requires count { memo_count ood.old ≡ NAMES }
+        requires right { IsRight ood.old (records_of self.old.records self.old.rows) }
+        ensures count { memo_count ood.new ≡ NAMES }
+        ensures right { IsRight ood.new (records_of self.new.records self.new.rows) }
+    {
+        self.records.set_file(n, file);
+        ood.refresh(&self.records, &self.rows, &[n])
+    }
+
+    /// The target is built from now on. Answers how many names the region of the change has.
+    pub(crate) fn begin(&mut self, rt: &impl Abort, ood: &mut Ood, t: u32) -> u32
+        requires target { t < NAMES }
+        requires count { memo_count ood.old ≡ NAMES }
+        requires right { IsRight ood.old (records_of self.old.records self.old.rows) }
+        ensures count { memo_count ood.new ≡ NAMES }
+        ensures right { IsRight ood.new (records_of self.new.records self.new.rows) }
+    {
+        assert!(rt; !self.is_building(t));
+        self.records.start(0, t);
+        self.rows.clear(t);
+        ood.refresh(&self.records, &self.rows, &[t])
+    }
+
     fn is_building(&self, t: u32) -> bool
         requires { t < NAMES }
         ensures { result ≡ is_building (cell_at self.now.records t).state }
@@ -120,7 +134,7 @@ impl Told {
     /// The targets with a file that are out of date, by their bytes.
     fn old_targets(&self, rt: &impl Abort, alloc: Global) -> Result<Vec<u32>, Fail> {
         let mut old = Vec::new(alloc);
-        for &n in &self.sorted {
+        for n in SORTED {
             assert!(rt; n < NAMES);
             if self.found[n as usize] && self.records.file(n).is_some() {
                 old.push(n)?;
@@ -132,7 +146,7 @@ impl Told {
     /// Those of the names that are out of date, or idle without a file, by their bytes.
     fn stale(&self, rt: &impl Abort, alloc: Global, names: &[u32]) -> Result<Vec<u32>, Fail> {
         let mut stale = Vec::new(alloc);
-        for &n in &self.sorted {
+        for n in SORTED {
             assert!(rt; n < NAMES);
             if names.contains(&n) && (self.found[n as usize] || self.is_missing(n)) {
                 stale.push(n)?;
@@ -167,7 +181,7 @@ impl Told {
         ensures records { self.new.records ≡ self.old.records }
         ensures rows { self.new.rows ≡ self.old.rows }
     {
-        self.found = search(alloc, &self.records, &self.rows)?;
+        self.found = search(alloc, &self.records, &self.rows, NAMES)?;
         Ok(())
     }
 
