@@ -12,9 +12,7 @@ ghost use Rattle.redo_replay.specs.HistoryFaults.{IsHistoryFault, IsLineCause, I
 use crate::cuts::{cut_at, cut_at_arrow, cut_at_space};
 use crate::fault::HistoryFault;
 use crate::history::{History, MOST_LINES, MOST_SESSIONS};
-use redo_command::{
-    Line, LineFault, ReadFault, ReplyFault, read_command, read_number, read_reply,
-};
+use redo_command::{Line, LineFault, ReadFault, ReplyFault, read_command, read_number, read_reply};
 use redo_names::Names;
 use std::alloc::Global;
 

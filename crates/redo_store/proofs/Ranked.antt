@@ -146,7 +146,7 @@ all_kept P from to same all i d in' =
 pub named_more : (sorted places names : List ℕ) (i : ℕ) → i < length places
     → names ≡ map (λ k. get_or sorted k 0) (take i places)
     → names ++ get_or sorted (get_or places i 0) 0 ∷ []
-        ≡ map (λ k. get_or sorted k 0) (take (i + 1) places)
+    ≡ map (λ k. get_or sorted k 0) (take (i + 1) places)
 named_more sorted places names i in' named =
     let n = get_or sorted (get_or places i 0) 0 in
     ap (λ (ns : List ℕ). ns ++ n ∷ []) named

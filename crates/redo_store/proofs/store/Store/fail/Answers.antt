@@ -8,7 +8,7 @@ refresh-requires-clause-right c =
     let inside = c.self.inside in
     rw c.failed.ensures
     (was_right_by_cell inside.memo inside.records inside.rows c.args.t
-        c.self.invariant.memo_right _)
+    c.self.invariant.memo_right _)
 
 pub invariant_of-self : goal.invariant_of-self
 invariant_of-self c =

@@ -34,7 +34,7 @@ invariant_of-result c =
     let count : length cells ≡ length names =
     ap length all_idle ∙ length-replicate (length names) idle in
     let first = empty_records c.len.result cells rows c.in_ok-records.ensures
-        c.in_ok-rows.ensures.rows in
+    c.in_ok-rows.ensures.rows in
     record {
       stored = IsStored-new names stored c.in_ok-sorted.ensures all_idle
           (c.in_ok-rows.ensures.count ∙ c.len-2.ensures.count) few;

@@ -25,4 +25,4 @@ pub returns-clause-after : goal.returns-clause-after
 returns-clause-after c =
     rw (← c.self.view_is)
     (put_for_always (stored_of c.self.inside) c.args.t c.put_always.new.self
-        c.put_always.ensures.rows)
+    c.put_always.ensures.rows)

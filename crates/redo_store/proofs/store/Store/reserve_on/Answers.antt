@@ -14,7 +14,7 @@ invariant_of-self c =
     let inside = c.self.inside in
     let made = c.reserve in
     let IsRightAt : Rows ℕ → Type 0 =
-        λ rows. IsRight inside.memo (record { cell = cell_at inside.records; rows = rows }) in
+    λ rows. IsRight inside.memo (record { cell = cell_at inside.records; rows = rows }) in
     record {
       stored = IsStored-set_rows (stored_of inside) made.new.self c.self.invariant.stored
           made.ensures.count;
@@ -26,5 +26,5 @@ invariant_of-self c =
 pub returns-clause-made : goal.returns-clause-made
 returns-clause-made c =
     on_ok_weaker c.reserve.result
-        (all_of_them (room_of c.reserve.new.self c.args.t) c.args.names.now)
+    (all_of_them (room_of c.reserve.new.self c.args.t) c.args.names.now)
     c.reserve.ensures.made
