@@ -1,4 +1,4 @@
-use Rattle.std.proofs.Common.{◌≡◌, ◌∙◌, ℕ, List}
+use Rattle.std.proofs.Common.{◌≡◌, ◌∙◌}
 use Rattle.std.specs.List.{range_with_len}
 use Rattle.redo_model.specs.State.{empty}
 use Rattle.redo_tests_store.proofs.Seeds.{differ_everywhere, numbers_below}
