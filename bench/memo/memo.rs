@@ -1,6 +1,7 @@
 // Which targets are out of date, kept up to date. Where a name has changed, its region is searched:
 // the name, the targets with a change or created row on it, and each target from which change rows
-// lead to one of these.
+// lead to one of these. Only the first of these names can have come to be out of date by their own
+// rows; what else is out of date then depends on one of them, or was out of date before.
 use crate::graph::Graph;
 
 // the flags of a name: it is out of date; it was before it was met; it was met
@@ -12,11 +13,13 @@ pub struct Memo {
     flags: Vec<u8>,
     region: Vec<u32>,
     found: Vec<u32>,
+    // how many of the names found have told those that depend on them
+    spread: usize,
 }
 
 impl Memo {
     pub fn new(names: usize) -> Memo {
-        Memo { flags: vec![0; names], region: Vec::new(), found: Vec::new() }
+        Memo { flags: vec![0; names], region: Vec::new(), found: Vec::new(), spread: 0 }
     }
 
     pub fn is_out(&self, n: u32) -> bool {
@@ -39,49 +42,65 @@ impl Memo {
         }
     }
 
-    fn meet_region(&mut self, graph: &Graph, seed: u32) {
+    // answers how many names at the front of the region have a row on the seed, with the seed
+    fn meet_region(&mut self, graph: &Graph, seed: u32) -> usize {
         self.region.clear();
         self.meet(seed);
+        for row in graph.changes.on(seed) {
+            self.meet(row.target);
+        }
         for row in graph.created.on(seed) {
             self.meet(row.target);
         }
-        let mut next = 0;
+        let front = self.region.len();
+        let mut next = 1;
         while let Some(n) = self.region.get(next).copied() {
             for row in graph.changes.on(n) {
                 self.meet(row.target);
             }
             next += 1;
         }
+        front
+    }
+
+    fn was_out(&self, n: u32) -> bool {
+        self.flags[n as usize] & WAS != 0
     }
 
     // what has a reason, or a row on what is known to be out of date: outside of the region, or
     // found before
-    fn find_reasons(&mut self, graph: &Graph) {
+    fn look_at(&mut self, graph: &Graph, t: u32) {
+        if !self.is_out(t) && graph.has_reason(t, |n| self.is_out(n)) {
+            self.find(t);
+            self.spread(graph);
+        }
+    }
+
+    fn find_reasons(&mut self, graph: &Graph, front: usize) {
         self.found.clear();
+        self.spread = 0;
         for at in 0..self.region.len() {
             let t = self.region[at];
-            if graph.has_reason(t, |n| self.is_out(n)) {
-                self.find(t);
+            if at < front || self.was_out(t) {
+                self.look_at(graph, t);
             }
         }
     }
 
     fn spread(&mut self, graph: &Graph) {
-        let mut next = 0;
-        while let Some(n) = self.found.get(next).copied() {
+        while let Some(n) = self.found.get(self.spread).copied() {
             for row in graph.changes.on(n) {
                 self.find(row.target);
             }
-            next += 1;
+            self.spread += 1;
         }
     }
 
     // Searches the region of a name that has changed, and tells each target that came to be out of
     // date, or that no longer is.
     pub fn refresh(&mut self, graph: &Graph, seed: u32, mut tell: impl FnMut(u32, bool)) {
-        self.meet_region(graph, seed);
-        self.find_reasons(graph);
-        self.spread(graph);
+        let front = self.meet_region(graph, seed);
+        self.find_reasons(graph, front);
         for n in &self.region {
             let flags = &mut self.flags[*n as usize];
             let (is_out, was_out) = (*flags & OUT != 0, *flags & WAS != 0);

@@ -1,9 +1,9 @@
 -- What is out of date in two states that differ at some names alone.
-use Rattle.std.proofs.Common.{◌≡◌, ◌↔◌, ◌∙◌, Bool, List, [], ◌∷◌, IsTrue, refl, sym, subst, inl, inr}
+use Rattle.std.proofs.Common.{◌≡◌, ◌⊎◌, ◌↔◌, ◌∙◌, Bool, List, [], ◌∷◌, IsTrue, refl, sym, subst, inl, inr}
 use Rattle.std.specs.Prelude.{IsSome, Contains}
 use Rattle.std.proofs.lemmas.Bool.{cases_Bool, false≢true}
 use Rattle.redo_model.specs.State.{Records, Cell, TargetState, Idle, Building, Built, Failed, mark_in}
-use Rattle.redo_model.specs.OutOfDate.{IsTarget, HasRow, ReasonIn, HasReason, Depends, Chain, OutOfDate, InRegion, DifferAt}
+use Rattle.redo_model.specs.OutOfDate.{IsTarget, HasRow, ReasonIn, HasReason, Depends, Chain, OutOfDate, TouchesSeed, InRegion, DifferAt}
 
 pub differ_back : {N : Type 0} {seeds : List N} {old new : Records N}
     → DifferAt seeds old new → DifferAt seeds new old
@@ -109,6 +109,26 @@ module _ {N : Type 0} {seeds : List N} {old new : Records N} (d : DifferAt seeds
   pub as_before_outside : (t : N) → (InRegion new seeds t → ⊥) → OutOfDate old t ↔ OutOfDate new t
   as_before_outside t out =
       (λ was. (was.0, chain_kept was.0 t out was.1), λ is. (is.0, chain_was is.0 t out is.1))
+
+  -- what touches no seed, and has a reason or depends on what is out of date outside of the region,
+  -- was out of date before
+  pub was_out_of_date : (t : N) → (TouchesSeed new seeds t → ⊥)
+      → HasReason new t
+      ⊎ ((n : N) × Depends new t n × (InRegion new seeds n → ⊥) × OutOfDate new n)
+      → OutOfDate old t
+  was_out_of_date t away due =
+      let far : Contains seeds t → ⊥ = λ seed. away (inl seed) in
+      elim due [
+        | inl reason ↦
+            let target : IsTarget new t = target_with_reason new t (new.cell t).state reason in (
+              [],
+              reason_kept (differ_back d) t far
+                  (λ n row seed. away (inr (target, (n, seed, row)))) reason,
+            )
+        | inr w ↦
+            let before : OutOfDate old w.0 = (as_before_outside w.0 w.2).1 w.3 in
+            (w.0 ∷ before.0, (step_kept (differ_back d) t w.0 far w.1, before.1))
+      ]
 
   -- a test that holds of what was out of date outside of the region, and in it of each target with
   -- a reason and of each that depends on a name of which it holds, holds of all that is out of date

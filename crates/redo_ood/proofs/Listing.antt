@@ -1,16 +1,16 @@
 -- A list of numbers that grows by its greatest.
-use Rattle.std.proofs.Common.{◌≡◌, ◌↔◌, ℕ, ◌<◌, ◌+◌, List, [], ◌∷◌, ◌++◌, get_or, Bool, true, false, cond, IsTrue, refl, subst, sym, inl, inr, arith}
-use Rattle.std.proofs.lemmas.Bool.{cases_lt, false≢true}
-use Rattle.std.proofs.lemmas.List.{append-nil}
+use Rattle.std.proofs.Common.{◌≡◌, ◌⊎◌, ◌↔◌, ℕ, ◌<◌, ◌+◌, List, [], ◌∷◌, ◌++◌, get_or, take, drop, Bool, true, false, cond, IsTrue, refl, subst, sym, inl, inr, arith}
+use Rattle.std.proofs.lemmas.Bool.{cases_eq, cases_lt, false≢true}
+use Rattle.std.proofs.lemmas.List.{append-nil, take-append-drop}
 use Rattle.std.proofs.lemmas.List.Quantifiers.{all_pairs_push}
-use Rattle.std.proofs.lemmas.List.Elements.{Contains-get_or, Contains-push, Contains-push_cases, Contains-append_left}
+use Rattle.std.proofs.lemmas.List.Elements.{Contains-get_or, Contains-push, Contains-push_cases, Contains-append_left, Contains-append_right}
 use Rattle.std.specs.List.{Contains}
 use Rattle.std.specs.Cmp.{nat_cmp_is}
 use Rattle.std.specs.Ordering.{nat_cmp}
 use Rattle.std.specs.declared.cmp.Ordering.TheVariants.{Less}
 use Rattle.redo_model.specs.Names.{IsListed}
 use Rattle.redo_model.specs.Renaming.{AllBelow}
-use Rattle.redo_model.proofs.Members.{contains_first, contains_later}
+use Rattle.redo_model.proofs.Members.{contains_first, contains_later, contains_cases, contains_none}
 use Rattle.redo_rows.specs.Rows.{by_number}
 use Rattle.redo_ood.specs.Marks.{Marked, IsQueue, size_of}
 use Rattle.redo_ood.proofs.Marking.{marked_below}
@@ -57,6 +57,38 @@ listed_all P k ts below h = (h.0, λ t. (λ c. ((h.1 t).0 c).1, λ p. (h.1 t).1 
 pub each_below : (n : ℕ) (ts : List ℕ) → ((t : ℕ) → Contains ts t → t < n) → AllBelow n ts
 each_below n [] h = tt
 each_below n (t ∷ ts) h = (h t (contains_first t ts), each_below n ts (λ u c. h u (contains_later t ts u c)))
+
+below_in : (n : ℕ) (ts : List ℕ) (t : ℕ) → AllBelow n ts → Contains ts t → t < n
+below_in n [] t all c = absurd (contains_none t c)
+below_in n (u ∷ us) t all c = elim (contains_cases u us t c) [
+  | inl e ↦ subst (λ v. v < n) e all.0
+  | inr later ↦ below_in n us t all.1 later
+]
+
+-- the parts of a list of numbers below the bound
+pub front_below : (n k : ℕ) (ts : List ℕ) → AllBelow n ts → AllBelow n (take k ts)
+front_below n k ts all = each_below n (take k ts) (λ t c.
+    let whole = Contains-append_left (take k ts) (drop k ts) t c in
+    below_in n ts t all (subst (λ (us : List ℕ). Contains us t) (take-append-drop k ts) whole))
+
+pub rest_below : (n k : ℕ) (ts : List ℕ) → AllBelow n ts → AllBelow n (drop k ts)
+rest_below n k ts all = each_below n (drop k ts) (λ t c.
+    let whole = Contains-append_right (take k ts) (drop k ts) t c in
+    below_in n ts t all (subst (λ (us : List ℕ). Contains us t) (take-append-drop k ts) whole))
+
+-- a number is on a list or isn't
+pub listed_or_not : (ts : List ℕ) (t : ℕ) → Contains ts t ⊎ (Contains ts t → ⊥)
+listed_or_not [] t = inr (contains_none t)
+listed_or_not (u ∷ us) t = elim (cases_eq u t) [
+  | inl e ↦ inl (subst (Contains (u ∷ us)) e (contains_first u us))
+  | inr other ↦ elim (listed_or_not us t) [
+    | inl later ↦ inl (contains_later u us t later)
+    | inr not ↦ inr (λ c. elim (contains_cases u us t c) [
+      | inl e ↦ other e
+      | inr later ↦ not later
+    ])
+  ]
+]
 
 -- what is queued is marked, so it is below the end of the marks
 pub queue_below : (m : Marked) → IsQueue m → AllBelow (size_of m) m.queue

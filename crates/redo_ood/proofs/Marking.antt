@@ -2,13 +2,13 @@
 use Rattle.std.proofs.Common.{◌≡◌, ◌⊎◌, ◌↔◌, ◌∙◌, ℕ, ◌<◌, ◌≤◌, ◌+◌, ◌^◌, Bool, true, false, cond, not, IsTrue, List, [], ◌∷◌, ◌++◌, length, get_or, set, take, refl, sym, ap, subst, inl, inr, arith, length-append, append_assoc}
 use Rattle.std.proofs.Math.ListN.{replicate, length-replicate}
 use Rattle.std.proofs.lemmas.Bool.{cases_Bool, cases_eq, cases_lt, false≢true}
-use Rattle.std.proofs.lemmas.List.{append-nil, length-set, get_or-set_same, get_or-set_other, get_or_past, get_or-replicate, take_all, take_more}
+use Rattle.std.proofs.lemmas.List.{append-nil, length-set, get_or-set_same, get_or-set_other, get_or_past, get_or-replicate, take_all, take_more, take-append-le}
 use Rattle.std.proofs.lemmas.List.Sums.{sum_by-set, count_by-le-length}
 use Rattle.std.proofs.lemmas.List.Quantifiers.{all_pairs_push}
 use Rattle.std.proofs.lemmas.List.Elements.{Contains-get_or, Contains-push, Contains-push_cases, Contains-append_left, All-from_recursion}
 use Rattle.std.specs.List.{count_by, Contains}
 use Rattle.redo_model.specs.Renaming.{AllBelow}
-use Rattle.redo_ood.specs.Marks.{Marked, IsMarked, IsQueued, IsQueue, Grows, Enters, Unmarks, IsSet, size_of}
+use Rattle.redo_ood.specs.Marks.{Marked, IsMarked, IsQueued, IsQueue, Grows, Enters, HoldsOnly, Unmarks, IsSet, size_of}
 
 -- a flag that was read
 pub read_off : (marks : List Bool) (t : ℕ) (b : Bool) → b ≡ false → b ≡ get_or marks t b
@@ -91,6 +91,15 @@ grows_then {a = a} {b = b} {c = c} f g = record {
 pub grows_longer : {a b : Marked} → Grows a b → length a.queue ≤ length b.queue
 grows_longer {a = a} {b = b} f =
     omega (arith, ap length f.behind.1, length-append a.queue f.behind.0)
+
+-- what was queued stands at the queue's front
+pub front_of : {a b : Marked} → Grows a b → (k : ℕ) → k ≡ length a.queue
+    → take k b.queue ≡ a.queue
+front_of {a = a} {b = b} f k at =
+    let inside : k ≤ length a.queue = omega (arith, at) in
+    let whole : length a.queue ≤ k = omega (arith, at) in
+    ap (take k) f.behind.1 ∙ take-append-le k a.queue f.behind.0 inside
+    ∙ take_all k a.queue whole
 
 -- a name that wasn't marked enters
 module _ (m : Marked) (t : ℕ) (below : t < size_of m) (off : get_or m.marks t false ≡ false) where
@@ -223,6 +232,22 @@ enters_one_more P ts k d due in' is f g =
         | inr new ↦ (subst P (sym new.1) (is.0 new.0), (one_more ts k d u in').1 (inr new.1))
       ],
     )) f g
+
+-- where nothing was marked or queued, exactly what enters is
+pub holds_entered : {P : ℕ → Type 0} {a b : Marked} → ((t : ℕ) → IsMarked a t → ⊥)
+    → ((t : ℕ) → IsQueued a t → ⊥) → Enters P a b → HoldsOnly P b
+holds_entered {b = b} unmarked empty e =
+    let queued : (t : ℕ) → IsMarked b t → IsQueued b t = λ t on. (e.grown.queued t).1 (inr (on, unmarked t)) in
+    record {
+      queued = λ t. (
+        λ q. elim ((e.grown.queued t).0 q) [
+          | inl before ↦ absurd (empty t before)
+          | inr w ↦ elim ((e.each t).0 w.0) [ inl on ↦ absurd (w.1 on) | inr p ↦ p ]
+        ],
+        λ p. queued t ((e.each t).1 (inr p)),
+      );
+      marked = queued;
+    }
 
 -- the mark of one more name of a list is taken away
 pub unmarked_one_more : (old marks : List Bool) (ts : List ℕ) (k d : ℕ) → k < length ts

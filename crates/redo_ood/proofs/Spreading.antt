@@ -3,11 +3,11 @@ use Rattle.std.proofs.Common.{◌≡◌, ◌⊎◌, ◌∙◌, ℕ, ◌<◌, ◌
 use Rattle.std.proofs.lemmas.List.{get_or_default, take-append-le}
 use Rattle.std.specs.List.{Contains}
 use Rattle.redo_model.specs.State.{Records}
-use Rattle.redo_model.specs.OutOfDate.{IsTarget, HasRow, Chain, Depends, OutOfDate, TouchesSeed}
+use Rattle.redo_model.specs.OutOfDate.{IsTarget, HasRow, Chain, Depends, OutOfDate, TouchesSeed, InRegion}
 use Rattle.redo_model.proofs.Region.{out_of_date_by_step}
-use Rattle.redo_ood.specs.Marks.{Marked, IsMarked, IsQueued, Enters}
-use Rattle.redo_ood.specs.Regions.{Reaches, Spreads, IsRegion}
-use Rattle.redo_ood.proofs.Marking.{grows_same, grows_then, enters_same, enters_then, one_more}
+use Rattle.redo_ood.specs.Marks.{Marked, IsMarked, IsQueued, Enters, HoldsOnly}
+use Rattle.redo_ood.specs.Regions.{Reaches, Spreads, IsClosed}
+use Rattle.redo_ood.proofs.Marking.{grows_same, grows_then, front_of, enters_same, enters_then, one_more}
 
 module _ (r : Records ℕ) where
   reaches_weaker : {P Q : ℕ → Type 0} → ((t : ℕ) → P t → Q t) → (ns : List ℕ) (t : ℕ)
@@ -34,11 +34,12 @@ module _ (r : Records ℕ) where
     | inr w ↦ elim (s.reaches t w.0) [ inl on ↦ absurd (w.1 on) | inr reach ↦ reach ]
   ]
 
-  pub spreads_none : (m : Marked) → Spreads r [] m m
-  spreads_none m = record {
+  -- nothing has spread yet
+  pub spreads_first : (done : List ℕ) (m : Marked) → IsClosed r done m → Spreads r done m m
+  spreads_first done m closed = record {
     grown = grows_same m;
     reaches = λ t on. inl on;
-    closed = λ t n c. absurd (omega (arith, c.1));
+    closed = closed;
   }
 
   -- the targets that depend on the queue's next name enter
@@ -127,7 +128,15 @@ module _ (r : Records ℕ) where
         ]
       ]
 
-      pub region_found : ((t : ℕ) → IsQueued none t → ⊥) → IsRegion r seeds new
+      -- what touches a seed stands at the queue's front
+      pub touched_first : (front : ℕ) → front ≡ length m.queue → (t : ℕ) → TouchesSeed r seeds t
+          → Contains (take front new.queue) t
+      touched_first front at t touches =
+          let on : IsMarked m t = (touched.each t).1 (inr touches) in
+          let queued : IsQueued m t = (touched.grown.queued t).1 (inr (on, unmarked t)) in
+          subst (λ (xs : List ℕ). Contains xs t) (sym (front_of s.grown front at)) queued
+
+      pub region_found : ((t : ℕ) → IsQueued none t → ⊥) → HoldsOnly (InRegion r seeds) new
       region_found empty = record {
         queued = λ t. (
           λ q. reaches_queued m (queued_touches empty) t (queued_reaches s t q),

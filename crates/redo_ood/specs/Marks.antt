@@ -39,6 +39,11 @@ pub record Enters (P : ℕ → Type 0) (old new : Marked) : Type 0 where
   pub grown : Grows old new
   pub each : (t : ℕ) → IsMarked new t ↔ (IsMarked old t ⊎ P t)
 
+-- exactly the names with P are marked, and all of them are queued
+pub record HoldsOnly (P : ℕ → Type 0) (m : Marked) : Type 0 where
+  pub queued : (t : ℕ) → IsQueued m t ↔ P t
+  pub marked : (t : ℕ) → IsMarked m t → IsQueued m t
+
 -- the queue is empty, and the marks are taken from the names with P
 pub record Unmarks (P : ℕ → Type 0) (old new : Marked) : Type 0 where
   pub sized : size_of new ≡ size_of old

@@ -1,11 +1,11 @@
 //! What is out of date in a region, told by what is out of date outside of it.
 
-ghost use Rattle.std.specs.Prelude.{◌≡◌, ◌<◌, ◌↔◌, ℕ, IsTrue, IsSome, length};
-ghost use Rattle.redo_model.specs.OutOfDate.{Depends, OutOfDate};
+ghost use Rattle.std.specs.Prelude.{◌≡◌, ◌<◌, ◌↔◌, ℕ, IsTrue, IsSome, [], ◌∷◌, length};
+ghost use Rattle.redo_model.specs.OutOfDate.{Depends};
 ghost use Rattle.redo_model.specs.Renaming.{AllBelow};
 ghost use Rattle.redo_rows.specs.Rows.{records_of, rows_of, count_of};
-ghost use Rattle.redo_ood.specs.Marks.{IsMarked, IsQueued, size_of};
-ghost use Rattle.redo_ood.specs.Regions.{IsDue, EntersDue, IsDerived};
+ghost use Rattle.redo_ood.specs.Marks.{IsMarked, size_of};
+ghost use Rattle.redo_ood.specs.Regions.{IsDue, IsClosed, EntersDue};
 
 use crate::marks::Marks;
 use crate::reason::has_reason;
@@ -58,29 +58,30 @@ fn is_due(records: &Records, rows: &DepRows, marks: &Marks, t: u32) -> bool
     has_reason(records, rows, t) || depends_on_marked(records, rows, marks, t)
 }
 
-// Marks the names of the region that are due.
-fn enter_due(records: &Records, rows: &DepRows, region: &[u32], marks: &mut Marks)
-    requires region { AllBelow (size_of marks.old) region.now }
+// Marks the target where it is due, and all that depend on it.
+fn enter_due(records: &Records, rows: &DepRows, t: u32, marks: &mut Marks)
+    requires target { t < count_of rows.now }
     requires records { length records.now ≡ count_of rows.now }
     requires sized { size_of marks.old ≡ count_of rows.now }
-    ensures { EntersDue (records_of records.now rows.now) region.now marks.old marks.new }
+    requires closed { IsClosed (records_of records.now rows.now) marks.old.queue marks.old }
+    ensures { EntersDue (records_of records.now rows.now) (t ∷ []) marks.old marks.new }
 {
-    for &t in region {
-        let due = is_due(records, rows, marks, t);
-        marks.enter_if(t, due);
+    if !marks.has(t) && is_due(records, rows, marks, t) {
+        let next = marks.queue_len();
+        marks.enter(t);
+        spread(records, rows, next, marks);
     }
 }
 
-/// Marks what is out of date in the region, where what is out of date outside of it is marked and nothing else is.
-pub(crate) fn derive(records: &Records, rows: &DepRows, region: &[u32], marks: &mut Marks)
-    requires region { AllBelow (size_of marks.old) region.now }
+/// Marks those of the names that are due, and all that depend on them.
+pub(crate) fn derive(records: &Records, rows: &DepRows, names: &[u32], marks: &mut Marks)
+    requires names { AllBelow (size_of marks.old) names.now }
     requires records { length records.now ≡ count_of rows.now }
     requires sized { size_of marks.old ≡ count_of rows.now }
-    requires empty { (t : ℕ) → IsQueued marks.old t → ⊥ }
-    requires sound { (t : ℕ) → IsMarked marks.old t →
-        OutOfDate (records_of records.now rows.now) t }
-    ensures { IsDerived (records_of records.now rows.now) region.now marks.old marks.new }
+    requires closed { IsClosed (records_of records.now rows.now) marks.old.queue marks.old }
+    ensures { EntersDue (records_of records.now rows.now) names.now marks.old marks.new }
 {
-    enter_due(records, rows, region, marks);
-    spread(records, rows, marks);
+    for &t in names {
+        enter_due(records, rows, t, marks);
+    }
 }

@@ -8,7 +8,7 @@ ghost use Rattle.redo_ood.specs.Memo.{count_of, is_out, IsRight, WasRight, HasCo
 
 use crate::derive::derive;
 use crate::marks::Marks;
-use crate::region::find_region;
+use crate::region::{enter_marked, find_region};
 use redo_records::Records;
 use redo_rows::DepRows;
 use std::alloc::{AllocError, Global};
@@ -30,8 +30,9 @@ fn push_if(targets: &mut Vec<u32>, t: u32, is_due: bool) -> Result<(), AllocErro
 #[derive(Drop)]
 pub struct Ood {
     out: Marks,
-    // where no refresh is under way, nothing is marked in it
+    // where no refresh is under way, nothing is marked in these
     region: Marks,
+    outdated: Marks,
 }
 
 impl Model for Ood {
@@ -54,7 +55,12 @@ impl Ood {
     {
         let out = Marks::new(alloc, names)?;
         let region = Marks::new(alloc, names)?;
-        Ok(Ood { out, region })
+        let outdated = Marks::new(alloc, names)?;
+        Ok(Ood {
+            out,
+            region,
+            outdated,
+        })
     }
 
     /// Makes it right for the records and rows, where it was right before they were changed at the seeds. Answers how
@@ -68,11 +74,16 @@ impl Ood {
         ensures count { count_of self.new ≡ count_of self.old }
         ensures region { HasCount (InRegion (records_of records.now rows.now) seeds.now) result }
     {
-        find_region(records, rows, seeds, &mut self.region);
+        let front = find_region(records, rows, seeds, &mut self.region);
         let region = self.region.queue();
+        let (touched, others) = region.split_at(front);
+        enter_marked(&self.out, others, &mut self.outdated);
         self.out.unmark(region);
-        derive(records, rows, region, &mut self.out);
+        // of the others only what was out of date can be so by rows of its own
+        derive(records, rows, touched, &mut self.out);
+        derive(records, rows, self.outdated.queue(), &mut self.out);
         let size = region.len() as u32;
+        self.outdated.unmark_queue();
         self.region.unmark_queue();
         size
     }

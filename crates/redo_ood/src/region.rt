@@ -1,14 +1,14 @@
 //! The region of some names: these, the targets with a row on one of them, and all targets from which a chain of
 //! change rows leads there.
 
-ghost use Rattle.std.specs.Prelude.{◌≡◌, ◌≢◌, ◌<◌, ◌↔◌, ℕ, IsTrue, length, Contains};
-ghost use Rattle.redo_model.specs.OutOfDate.{IsTarget, Depends, HasRow, TouchesSeed};
+ghost use Rattle.std.specs.Prelude.{◌≡◌, ◌≢◌, ◌<◌, ◌≤◌, ◌↔◌, ℕ, IsTrue, length, take, Contains};
+ghost use Rattle.redo_model.specs.OutOfDate.{IsTarget, Depends, HasRow, TouchesSeed, InRegion};
 ghost use Rattle.redo_model.specs.Renaming.{AllBelow};
 ghost use Rattle.redo_model.specs.State.{Idle};
 ghost use Rattle.redo_records.specs.Cells.{cell_at};
 ghost use Rattle.redo_rows.specs.Rows.{records_of, count_of};
-ghost use Rattle.redo_ood.specs.Marks.{IsMarked, IsQueued, Enters, size_of};
-ghost use Rattle.redo_ood.specs.Regions.{Spreads, IsRegion};
+ghost use Rattle.redo_ood.specs.Marks.{IsMarked, IsQueued, Enters, HoldsOnly, size_of};
+ghost use Rattle.redo_ood.specs.Regions.{Spreads, IsClosed};
 
 use crate::marks::Marks;
 use redo_records::{Records, State};
@@ -79,13 +79,17 @@ fn enter_touched(records: &Records, rows: &DepRows, seeds: &[u32], marks: &mut M
     }
 }
 
-/// Marks the targets from which a chain of change rows leads to a queued name.
-pub(crate) fn spread(records: &Records, rows: &DepRows, marks: &mut Marks)
+/// Marks the targets from which a chain of change rows leads to a name that is queued from this
+/// place on, where all that depend on the names before it are marked.
+pub(crate) fn spread(records: &Records, rows: &DepRows, from: usize, marks: &mut Marks)
     requires records { length records.now ≡ count_of rows.now }
     requires sized { size_of marks.old ≡ count_of rows.now }
+    requires from { from ≤ length marks.old.queue }
+    requires closed { IsClosed (records_of records.now rows.now)
+        (take from marks.old.queue) marks.old }
     ensures { Spreads (records_of records.now rows.now) marks.new.queue marks.old marks.new }
 {
-    let mut next = 0;
+    let mut next = from;
     'names: while next < marks.queue_len() {
         let n = marks.queued(next);
         enter_dependents(records, rows, n, marks);
@@ -93,16 +97,39 @@ pub(crate) fn spread(records: &Records, rows: &DepRows, marks: &mut Marks)
     }
 }
 
-/// Marks the region of the seeds, where nothing is marked.
-pub(crate) fn find_region(records: &Records, rows: &DepRows, seeds: &[u32], marks: &mut Marks)
+/// Marks the region of the seeds, where nothing is marked. Answers how many names stand at the
+/// queue's front for touching a seed.
+pub(crate) fn find_region(
+    records: &Records,
+    rows: &DepRows,
+    seeds: &[u32],
+    marks: &mut Marks,
+) -> usize
     requires seeds { AllBelow (size_of marks.old) seeds.now }
     requires records { length records.now ≡ count_of rows.now }
     requires sized { size_of marks.old ≡ count_of rows.now }
     requires unmarked { (t : ℕ) → IsMarked marks.old t → ⊥ }
     requires empty { (t : ℕ) → IsQueued marks.old t → ⊥ }
-    ensures region { IsRegion (records_of records.now rows.now) seeds.now marks.new }
+    ensures region { HoldsOnly (InRegion (records_of records.now rows.now) seeds.now) marks.new }
+    ensures front { result ≤ length marks.new.queue }
+    ensures touched { (t : ℕ) → TouchesSeed (records_of records.now rows.now) seeds.now t →
+        Contains (take result marks.new.queue) t }
     ensures sized { size_of marks.new ≡ size_of marks.old }
 {
     enter_touched(records, rows, seeds, marks);
-    spread(records, rows, marks);
+    let touched = marks.queue_len();
+    spread(records, rows, 0, marks);
+    touched
+}
+
+/// Marks those of the names that are marked elsewhere.
+pub(crate) fn enter_marked(elsewhere: &Marks, names: &[u32], marks: &mut Marks)
+    requires below { AllBelow (size_of marks.old) names.now }
+    requires sized { size_of marks.old ≡ size_of elsewhere.now }
+    ensures { Enters (λ t. IsMarked elsewhere.now t × Contains names.now t) marks.old marks.new }
+{
+    for &t in names {
+        let is_marked = elsewhere.has(t);
+        marks.enter_if(t, is_marked);
+    }
 }

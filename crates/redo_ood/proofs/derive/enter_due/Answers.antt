@@ -1,18 +1,13 @@
 use Rattle.redo_rows.specs.Rows.{records_of}
-use Rattle.redo_ood.specs.Regions.{EntersDue}
-use Rattle.redo_ood.proofs.Deriving.{due_more}
-use Rattle.redo_ood.proofs.Marking.{at_take_all}
+use Rattle.redo_ood.proofs.Deriving.{closed_then, due_spread}
 use Rattle.redo_ood.proofs.derive.enter_due.Goals as goal
 
-pub loop-t-preserved : goal.loop-t-preserved
-loop-t-preserved c =
-    let r = records_of c.args.records.now c.args.rows.now in
-    let m = c.loop-t in
-    due_more r c.args.marks.now m.marks c.enter_if.new.self c.args.region.now m.t-index 0
-    c.is_due-due.result c.loop-t-test.true c.is_due-due.ensures m.invariant c.enter_if.ensures
+pub spread-requires-clause-closed : goal.spread-requires-clause-closed
+spread-requires-clause-closed c =
+    closed_then (records_of c.args.records.now c.args.rows.now) c.queue_len-next.result
+    c.queue_len-next.ensures.len c.enter.ensures.grown c.requires.closed
 
-pub returns : goal.returns
-returns c =
-    let r = records_of c.args.records.now c.args.rows.now in
-    at_take_all (λ ns. EntersDue r ns c.args.marks.now c.loop-t.marks)
-    c.args.region.now c.loop-t.t-index c.loop-t-test.false c.loop-t.invariant
+pub returns-then-is_due : goal.returns-then-is_due
+returns-then-is_due c =
+    due_spread (records_of c.args.records.now c.args.rows.now) c.args.t
+    (c.is_due.ensures.0 c.if-is_due.true) c.enter.ensures c.spread.ensures
