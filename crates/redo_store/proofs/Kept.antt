@@ -19,7 +19,8 @@ use Rattle.redo_store.specs.Tables.{Tables, records_of, locks_of, state_of, nami
 use Rattle.redo_store.proofs.Places.{listed_by_place}
 
 -- what holds at every place still does after a write that keeps it
-each_set : {X : Type 0} (P : X → Type 0) (xs : List X) (i : ℕ) (x d : X) → ((k : ℕ) → P (get_or xs k d)) → P x → (k : ℕ) → P (get_or (set xs i x) k d)
+each_set : {X : Type 0} (P : X → Type 0) (xs : List X) (i : ℕ) (x d : X)
+    → ((k : ℕ) → P (get_or xs k d)) → P x → (k : ℕ) → P (get_or (set xs i x) k d)
 each_set P [] i x d all here k = all k
 each_set P (y ∷ ys) zero x d all here zero = here
 each_set P (y ∷ ys) zero x d all here (suc k) = all (suc k)
@@ -27,7 +28,8 @@ each_set P (y ∷ ys) (suc i) x d all here zero = all zero
 each_set P (y ∷ ys) (suc i) x d all here (suc k) = each_set P ys i x d (λ j. all (suc j)) here k
 
 -- a cell with no more builds than commands may be written
-pub IsStored-set_cell : (t : Stored) (n : ℕ) (c : Cell) → IsStored t → c.builds ≤ t.applied → IsStored (record t { cells = set t.cells n c })
+pub IsStored-set_cell : (t : Stored) (n : ℕ) (c : Cell) → IsStored t → c.builds ≤ t.applied
+    → IsStored (record t { cells = set t.cells n c })
 IsStored-set_cell t n c h few = record {
   rows_for_each = h.rows_for_each ∙ sym (length-set t.cells n c);
   all_in_order = simp length-set h.all_in_order;
@@ -36,38 +38,69 @@ IsStored-set_cell t n c h few = record {
 }
 
 -- the rows of as many targets may be written
-pub IsStored-set_rows : (t : Stored) (to : List TargetRows) → IsStored t → rows.count_of to ≡ rows.count_of t.rows → IsStored (record t { rows = to })
-IsStored-set_rows t to h same = record { rows_for_each = same ∙ h.rows_for_each; all_in_order = h.all_in_order; few_builds = h.few_builds; few_names = h.few_names }
+pub IsStored-set_rows : (t : Stored) (to : List TargetRows) → IsStored t
+    → rows.count_of to ≡ rows.count_of t.rows → IsStored (record t { rows = to })
+IsStored-set_rows t to h same = record {
+  rows_for_each = same ∙ h.rows_for_each;
+  all_in_order = h.all_in_order;
+  few_builds = h.few_builds;
+  few_names = h.few_names;
+}
 
 -- a store that knows nothing
-pub IsStored-new : (names : List (List ℕ)) (t : Stored) → AreSorted names t.sorted → t.cells ≡ replicate (length names) idle → rows.count_of t.rows ≡ length names → length names < 2 ^ 32 → IsStored t
+pub IsStored-new : (names : List (List ℕ)) (t : Stored) → AreSorted names t.sorted
+    → t.cells ≡ replicate (length names) idle → rows.count_of t.rows ≡ length names
+    → length names < 2 ^ 32 → IsStored t
 IsStored-new names t sorted cells each few =
-    let count : length t.cells ≡ length names = ap length cells ∙ length-replicate (length names) idle in
+    let count : length t.cells ≡ length names =
+    ap length cells ∙ length-replicate (length names) idle in
     record {
       rows_for_each = each ∙ sym count;
-      all_in_order = subst (λ (m : ℕ). IsListed (stored.naming_of t) (λ n. n < m) t.sorted) (sym count) (listed_by_place sorted);
+      all_in_order = subst (λ (m : ℕ). IsListed (stored.naming_of t) (λ n. n < m) t.sorted)
+          (sym count) (listed_by_place sorted);
       few_builds = λ n.
-          let none : (get_or t.cells n idle).builds ≡ 0 = ap (λ (xs : List Cell). (get_or xs n idle).builds) cells ∙ ap (λ (x : Cell). x.builds) (same_everywhere (length names) n idle) in
+          let none : (get_or t.cells n idle).builds ≡ 0 =
+          ap (λ (xs : List Cell). (get_or xs n idle).builds) cells
+          ∙ ap (λ (x : Cell). x.builds) (same_everywhere (length names) n idle) in
           omega arith;
       few_names = subst (λ (m : ℕ). m < 2 ^ 32) (sym count) few;
     }
 
 -- a write to a list is one to the function of its places
-pub set_is_put : {X : Type 0} (xs : List X) (i : ℕ) (x d : X) → i < length xs → (k : ℕ) → get_or (set xs i x) k d ≡ cond (i == k) x (get_or xs k d)
+pub set_is_put : {X : Type 0} (xs : List X) (i : ℕ) (x d : X) → i < length xs → (k : ℕ)
+    → get_or (set xs i x) k d ≡ cond (i == k) x (get_or xs k d)
 set_is_put xs i x d below k = elim (cases_eq i k) [
-  | inl e ↦ get_or-set_at xs i k x d (sym e) below ∙ ap (λ (b : Bool). cond b x (get_or xs k d)) (sym (eq-eqb i k e))
-  | inr ne ↦ get_or-set_other xs i k x d (λ e. ne (sym e)) ∙ ap (λ (b : Bool). cond b x (get_or xs k d)) (sym (ne_eqb i k ne))
+  | inl e ↦ get_or-set_at xs i k x d (sym e) below
+      ∙ ap (λ (b : Bool). cond b x (get_or xs k d)) (sym (eq-eqb i k e))
+  | inr ne ↦ get_or-set_other xs i k x d (λ e. ne (sym e))
+      ∙ ap (λ (b : Bool). cond b x (get_or xs k d)) (sym (ne_eqb i k ne))
 ]
 
 -- a free lock is granted: o is the holder that was read, and g the grants
-pub granted : (t : Tables) (s n g : ℕ) (o : Option ℕ) → n < length t.holders → n < length t.grants → o ≡ get_or t.holders n o → o ≡ None → g ≡ get_or t.grants n g
-    → state_of (record t { holders = set t.holders n (Some s); grants = set t.grants n (g + 1) }) ≡ after (naming_of t) (state_of t) s (commands.Lock n)
+pub granted : (t : Tables) (s n g : ℕ) (o : Option ℕ) → n < length t.holders → n < length t.grants
+    → o ≡ get_or t.holders n o → o ≡ None → g ≡ get_or t.grants n g
+    → state_of (record t { holders = set t.holders n (Some s); grants = set t.grants n (g + 1) })
+    ≡ after (naming_of t) (state_of t) s (commands.Lock n)
 granted t s n g o has_holder has_grants read free count =
-    let none : get_or t.holders n None ≡ None = get_or_default t.holders n None o has_holder ∙ sym read ∙ free in
+    let none : get_or t.holders n None ≡ None =
+    get_or_default t.holders n None o has_holder ∙ sym read ∙ free in
     let so_far : g ≡ get_or t.grants n 0 = count ∙ get_or_default t.grants n g 0 has_grants in
-    let holders : (λ (k : ℕ). get_or (set t.holders n (Some s)) k None) ≡ put (naming_of t) n (Some s) (λ k. get_or t.holders k None) = fun_ext (set_is_put t.holders n (Some s) None has_holder) in
-    let grants : (λ (k : ℕ). get_or (set t.grants n (g + 1)) k 0) ≡ put (naming_of t) n (get_or t.grants n 0 + 1) (λ k. get_or t.grants k 0) =
-    fun_ext (set_is_put t.grants n (g + 1) 0 has_grants) ∙ ap (λ (m : ℕ). put (naming_of t) n (m + 1) (λ k. get_or t.grants k 0)) so_far
+    let holders : (λ (k : ℕ). get_or (set t.holders n (Some s)) k None)
+    ≡ put (naming_of t) n (Some s) (λ k. get_or t.holders k None) =
+    fun_ext (set_is_put t.holders n (Some s) None has_holder) in
+    let grants : (λ (k : ℕ). get_or (set t.grants n (g + 1)) k 0)
+    ≡ put (naming_of t) n (get_or t.grants n 0 + 1) (λ k. get_or t.grants k 0) =
+    fun_ext (set_is_put t.grants n (g + 1) 0 has_grants)
+    ∙ ap (λ (m : ℕ). put (naming_of t) n (m + 1) (λ k. get_or t.grants k 0)) so_far
     in
-    subst (λ (h : Option ℕ). state_of (record t { holders = set t.holders n (Some s); grants = set t.grants n (g + 1) }) ≡ record { records = records_of t; locks = locks_granted (naming_of t) h (locks_of t) s n }) (sym none)
-    (λ i. record { records = records_of t; locks = record { holder = holders i; grants = grants i } })
+    subst (λ (h : Option ℕ). state_of (record t {
+      holders = set t.holders n (Some s);
+      grants = set t.grants n (g + 1);
+    }) ≡ record {
+      records = records_of t;
+      locks = locks_granted (naming_of t) h (locks_of t) s n;
+    }) (sym none)
+    (λ i. record {
+      records = records_of t;
+      locks = record { holder = holders i; grants = grants i };
+    })

@@ -14,45 +14,65 @@ use Rattle.redo_model.proofs.Members.{contains_first, contains_none}
 use Rattle.redo_store.specs.Stored.{Stored, IsStored, AreInOrder, records_of, naming_of, count_of}
 
 -- a number of the list is below the count
-pub number_below : {t : Stored} {items : List ℕ} (k d : ℕ) → IsStored t → items ≡ t.sorted → k < length items → get_or items k d < count_of t
-number_below {t} {items} k d stored is below = (stored.all_in_order.1 (get_or items k d)).0 (subst (λ (ns : List ℕ). Contains ns (get_or items k d)) is (Contains-get_or items k d below))
+pub number_below : {t : Stored} {items : List ℕ} (k d : ℕ) → IsStored t → items ≡ t.sorted
+    → k < length items → get_or items k d < count_of t
+number_below {t} {items} k d stored is below =
+    (stored.all_in_order.1 (get_or items k d)).0
+    (subst (λ (ns : List ℕ). Contains ns (get_or items k d)) is (Contains-get_or items k d below))
 
 -- those of the first k items that have P, in order
-pub record AreFirst (t : Stored) (P : ℕ → Type 0) (items : List ℕ) (k : ℕ) (names : List ℕ) : Type 0 where
+pub record AreFirst (t : Stored) (P : ℕ → Type 0) (items : List ℕ) (k : ℕ)
+    (names : List ℕ) : Type 0 where
   pub listed : IsListed (naming_of t) (λ n. Contains (take k items) n × P n) names
 
-module _ (naming : Naming ℕ) (P : ℕ → Type 0) (sorted : List ℕ) (k d : ℕ) (below : k < length sorted) where
+module _ (naming : Naming ℕ) (P : ℕ → Type 0) (sorted : List ℕ) (k d : ℕ)
+    (below : k < length sorted) where
   -- what is among the first k stands before the next
-  before_next : Ascending naming sorted → (n : ℕ) → Contains (take k sorted) n → naming.order n (get_or sorted k d) ≡ Less
+  before_next : Ascending naming sorted → (n : ℕ) → Contains (take k sorted) n
+      → naming.order n (get_or sorted k d) ≡ Less
   before_next up n (j, less, is) =
       let size : length (take k sorted) ≡ k = length-take-le k sorted (omega arith) in
-      let at : get_or sorted j d ≡ n = sym (get_or-take k sorted j d (omega arith)) ∙ (get_or_default (take k sorted) j d n less ∙ is) in
+      let at : get_or sorted j d ≡ n =
+      sym (get_or-take k sorted j d (omega arith))
+      ∙ (get_or_default (take k sorted) j d n less ∙ is) in
       subst (λ m. naming.order m (get_or sorted k d) ≡ Less) at (up j k d (omega arith) below)
 
   -- the next has P
-  listed_with : Ascending naming sorted → (names : List ℕ) → P (get_or sorted k d) → IsListed naming (λ n. Contains (take k sorted) n × P n) names
-      → IsListed naming (λ n. Contains (take k sorted ++ get_or sorted k d ∷ []) n × P n) (names ++ get_or sorted k d ∷ [])
+  listed_with : Ascending naming sorted → (names : List ℕ) → P (get_or sorted k d)
+      → IsListed naming (λ n. Contains (take k sorted) n × P n) names
+      → IsListed naming (λ n. Contains (take k sorted ++ get_or sorted k d ∷ []) n × P n)
+      (names ++ get_or sorted k d ∷ [])
   listed_with up names p h = (
     all_pairs_push (λ m n. naming.order m n ≡ Less) names (get_or sorted k d) h.0
-        (λ i e in'. before_next up (get_or names i e) ((h.1 (get_or names i e)).0 (Contains-get_or names i e in')).0),
+        (λ i e in'. before_next up (get_or names i e)
+        ((h.1 (get_or names i e)).0 (Contains-get_or names i e in')).0),
     λ n. (
       λ c. elim (Contains-push_cases names (get_or sorted k d) n c) [
-        | inl old ↦ (let o = (h.1 n).0 old in (Contains-append_left (take k sorted) (get_or sorted k d ∷ []) n o.0, o.1))
-        | inr e ↦ (subst (Contains (take k sorted ++ get_or sorted k d ∷ [])) e (Contains-push (take k sorted) (get_or sorted k d)), subst P e p)
+        | inl old ↦ (let o = (h.1 n).0 old in
+            (Contains-append_left (take k sorted) (get_or sorted k d ∷ []) n o.0, o.1))
+        | inr e ↦ (
+          subst (Contains (take k sorted ++ get_or sorted k d ∷ [])) e
+              (Contains-push (take k sorted) (get_or sorted k d)),
+          subst P e p,
+        )
       ],
       λ x. elim (Contains-push_cases (take k sorted) (get_or sorted k d) n x.0) [
         | inl old ↦ Contains-append_left names (get_or sorted k d ∷ []) n ((h.1 n).1 (old, x.1))
-        | inr e ↦ subst (Contains (names ++ get_or sorted k d ∷ [])) e (Contains-push names (get_or sorted k d))
+        | inr e ↦ subst (Contains (names ++ get_or sorted k d ∷ [])) e
+            (Contains-push names (get_or sorted k d))
       ],
     ),
   )
 
   -- the next doesn't have P
-  listed_without : (names : List ℕ) → (P (get_or sorted k d) → ⊥) → IsListed naming (λ n. Contains (take k sorted) n × P n) names → IsListed naming (λ n. Contains (take k sorted ++ get_or sorted k d ∷ []) n × P n) names
+  listed_without : (names : List ℕ) → (P (get_or sorted k d) → ⊥)
+      → IsListed naming (λ n. Contains (take k sorted) n × P n) names
+      → IsListed naming (λ n. Contains (take k sorted ++ get_or sorted k d ∷ []) n × P n) names
   listed_without names p h = (
     h.0,
     λ n. (
-      λ c. (let o = (h.1 n).0 c in (Contains-append_left (take k sorted) (get_or sorted k d ∷ []) n o.0, o.1)),
+      λ c. (let o = (h.1 n).0 c in
+          (Contains-append_left (take k sorted) (get_or sorted k d ∷ []) n o.0, o.1)),
       λ x. elim (Contains-push_cases (take k sorted) (get_or sorted k d) n x.0) [
         | inl old ↦ (h.1 n).1 (old, x.1)
         | inr e ↦ absurd (p (subst P (sym e) x.1))
@@ -60,47 +80,82 @@ module _ (naming : Naming ℕ) (P : ℕ → Type 0) (sorted : List ℕ) (k d : �
     ),
   )
 
-  listed_more : Ascending naming sorted → (names : List ℕ) (due : Bool) → (IsTrue due ↔ P (get_or sorted k d)) → IsListed naming (λ n. Contains (take k sorted) n × P n) names
-      → IsListed naming (λ n. Contains (take k sorted ++ get_or sorted k d ∷ []) n × P n) (names ++ cond due (get_or sorted k d ∷ []) [])
+  listed_more : Ascending naming sorted → (names : List ℕ) (due : Bool)
+      → (IsTrue due ↔ P (get_or sorted k d))
+      → IsListed naming (λ n. Contains (take k sorted) n × P n) names
+      → IsListed naming (λ n. Contains (take k sorted ++ get_or sorted k d ∷ []) n × P n)
+      (names ++ cond due (get_or sorted k d ∷ []) [])
   listed_more up names true is h = listed_with up names (is.0 refl) h
-  listed_more up names false is h = subst (IsListed naming (λ n. Contains (take k sorted ++ get_or sorted k d ∷ []) n × P n)) (sym (append-nil names)) (listed_without names (λ p. false≢true (is.1 p)) h)
+  listed_more up names false is h =
+      subst (IsListed naming (λ n. Contains (take k sorted ++ get_or sorted k d ∷ []) n × P n))
+      (sym (append-nil names)) (listed_without names (λ p. false≢true (is.1 p)) h)
 
 -- the next item is added where it is due
-pub first_more : {t : Stored} {P : ℕ → Type 0} {items names new_names : List ℕ} {due : Bool} (k d : ℕ) → IsStored t → items ≡ t.sorted → k < length items → AreFirst t P items k names
-    → (IsTrue due ↔ P (get_or items k d)) → new_names ≡ names ++ cond due (get_or items k d ∷ []) [] → AreFirst t P items (k + 1) new_names
+pub first_more : {t : Stored} {P : ℕ → Type 0} {items names new_names : List ℕ} {due : Bool}
+    (k d : ℕ) → IsStored t → items ≡ t.sorted → k < length items → AreFirst t P items k names
+    → (IsTrue due ↔ P (get_or items k d)) → new_names ≡ names ++ cond due (get_or items k d ∷ []) []
+    → AreFirst t P items (k + 1) new_names
 first_more {t} {P} {items} {names} {new_names} {due} k d stored is below h due_is added =
-    let up : Ascending (naming_of t) items = subst (Ascending (naming_of t)) (sym is) stored.all_in_order.0 in
-    let more : take (k + 1) items ≡ take k items ++ get_or items k d ∷ [] = take_more items k d below in
-    let listed : IsListed (naming_of t) (λ n. Contains (take k items ++ get_or items k d ∷ []) n × P n) new_names =
-    subst (IsListed (naming_of t) (λ n. Contains (take k items ++ get_or items k d ∷ []) n × P n)) (sym added) (listed_more (naming_of t) P items k d below up names due due_is h.listed)
+    let up : Ascending (naming_of t) items =
+    subst (Ascending (naming_of t)) (sym is) stored.all_in_order.0 in
+    let more : take (k + 1) items ≡ take k items ++ get_or items k d ∷ [] =
+    take_more items k d below in
+    let listed : IsListed (naming_of t)
+    (λ n. Contains (take k items ++ get_or items k d ∷ []) n × P n) new_names =
+    subst (IsListed (naming_of t) (λ n. Contains (take k items ++ get_or items k d ∷ []) n × P n))
+    (sym added) (listed_more (naming_of t) P items k d below up names due due_is h.listed)
     in
-    record { listed = subst (λ (ns : List ℕ). IsListed (naming_of t) (λ n. Contains ns n × P n) new_names) (sym more) listed }
+    record {
+      listed = subst (λ (ns : List ℕ). IsListed (naming_of t)
+          (λ n. Contains ns n × P n) new_names) (sym more) listed;
+    }
 
 -- after all items, the list is that of the names with P
-pub first_all : {t : Stored} {P : ℕ → Type 0} {items names : List ℕ} {k : ℕ} → IsStored t → items ≡ t.sorted → length items ≤ k → ((n : ℕ) → P n → n < count_of t) → AreFirst t P items k names → AreInOrder t P names
+pub first_all : {t : Stored} {P : ℕ → Type 0} {items names : List ℕ} {k : ℕ} → IsStored t
+    → items ≡ t.sorted → length items ≤ k → ((n : ℕ) → P n → n < count_of t)
+    → AreFirst t P items k names → AreInOrder t P names
 first_all {t} {P} {items} {names} {k} stored is whole below h =
     let all : take k items ≡ t.sorted = take_all k items whole ∙ is in
-    let listed : IsListed (naming_of t) (λ n. Contains t.sorted n × P n) names = subst (λ (ns : List ℕ). IsListed (naming_of t) (λ n. Contains ns n × P n) names) all h.listed in
+    let listed : IsListed (naming_of t) (λ n. Contains t.sorted n × P n) names =
+    subst (λ (ns : List ℕ). IsListed (naming_of t) (λ n. Contains ns n × P n) names) all h.listed in
     record {
-      listed = (listed.0, λ n. (λ c. ((listed.1 n).0 c).1, λ p. (listed.1 n).1 ((stored.all_in_order.1 n).1 (below n p), p)));
-      below = recursion_from_All (λ n. n < count_of t) names (All-weaker (Contains names) (λ n. n < count_of t) (λ n c. below n ((listed.1 n).0 c).1) names (All-contains_itself names));
+      listed = (
+        listed.0,
+        λ n. (
+          λ c. ((listed.1 n).0 c).1,
+          λ p. (listed.1 n).1 ((stored.all_in_order.1 n).1 (below n p), p),
+        ),
+      );
+      below = recursion_from_All (λ n. n < count_of t) names
+          (All-weaker (Contains names) (λ n. n < count_of t)
+          (λ n c. below n ((listed.1 n).0 c).1) names (All-contains_itself names));
     }
 
 -- only a number below the count has a file
 pub file_below : (t : Stored) (n : ℕ) → HasFile (records_of t) n → n < count_of t
 file_below t n h = elim (cases_lt n (count_of t)) [
   | inl l ↦ l
-  | inr past ↦ absurd (false≢true (sym (ap (λ c. is_some c.file) (get_or_past t.cells n idle past)) ∙ h))
+  | inr past ↦
+      absurd (false≢true (sym (ap (λ c. is_some c.file) (get_or_past t.cells n idle past)) ∙ h))
 ]
 
 -- a number among those that are below the count
-pub named_below : {count : ℕ} (names : List ℕ) (n : ℕ) → AllBelow count names → Contains names n → n < count
-named_below {count} names n below h = All-contains (λ m. m < count) names n (All-from_recursion (λ m. m < count) names below) h
+pub named_below : {count : ℕ} (names : List ℕ) (n : ℕ) → AllBelow count names → Contains names n
+    → n < count
+named_below {count} names n below h =
+    All-contains (λ m. m < count) names n (All-from_recursion (λ m. m < count) names below) h
 
 -- there is a name with P just where their list isn't empty
-some_in : {P : ℕ → Type 0} (naming : Naming ℕ) (names : List ℕ) → IsListed naming P names → IsTrue (not (length names == 0)) ↔ ((n : ℕ) × P n)
-some_in naming [] h = (λ t. absurd (false≢true t), λ p. absurd (contains_none p.0 ((h.1 p.0).1 p.1)))
-some_in naming (x ∷ xs) h = (λ _. (x, (h.1 x).0 (contains_first x xs)), λ _. ap not (ne_eqb (length (x ∷ xs)) 0 (λ e. omega (arith, e))))
+some_in : {P : ℕ → Type 0} (naming : Naming ℕ) (names : List ℕ) → IsListed naming P names
+    → IsTrue (not (length names == 0)) ↔ ((n : ℕ) × P n)
+some_in naming [] h =
+    (λ t. absurd (false≢true t), λ p. absurd (contains_none p.0 ((h.1 p.0).1 p.1)))
+some_in naming (x ∷ xs) h = (
+  λ _. (x, (h.1 x).0 (contains_first x xs)),
+  λ _. ap not (ne_eqb (length (x ∷ xs)) 0 (λ e. omega (arith, e))),
+)
 
-pub some_listed : {P : ℕ → Type 0} {empty : Bool} (naming : Naming ℕ) (names : List ℕ) → IsListed naming P names → empty ≡ (length names == 0) → IsTrue (not empty) ↔ ((n : ℕ) × P n)
-some_listed {P} naming names h is = subst (λ b. IsTrue (not b) ↔ ((n : ℕ) × P n)) (sym is) (some_in naming names h)
+pub some_listed : {P : ℕ → Type 0} {empty : Bool} (naming : Naming ℕ) (names : List ℕ)
+    → IsListed naming P names → empty ≡ (length names == 0) → IsTrue (not empty) ↔ ((n : ℕ) × P n)
+some_listed {P} naming names h is =
+    subst (λ b. IsTrue (not b) ↔ ((n : ℕ) × P n)) (sym is) (some_in naming names h)

@@ -18,19 +18,29 @@ freed naming locks None = locks
 freed naming locks (Some t) = locks_freed naming locks t
 
 -- an unlock frees its target where it is answered okay
-unlocked : (naming : Naming ℕ) (locks : Locks ℕ) (t : ℕ) (reply : Reply ℕ) (verdict : Option (Refusal ℕ)) → MatchOption verdict (reply ≡ Okay) (λ refusal. reply ≡ Refused refusal)
-    → unless_refused verdict locks (locks_freed naming locks t) ≡ freed naming locks (freed_by (Unlock t) reply)
-unlocked naming locks t reply None h = ap (λ (r : Reply ℕ). freed naming locks (freed_by (Unlock t) r)) (sym h)
-unlocked naming locks t reply (Some refusal) h = ap (λ (r : Reply ℕ). freed naming locks (freed_by (Unlock t) r)) (sym h)
+unlocked : (naming : Naming ℕ) (locks : Locks ℕ) (t : ℕ) (reply : Reply ℕ)
+    (verdict : Option (Refusal ℕ))
+    → MatchOption verdict (reply ≡ Okay) (λ refusal. reply ≡ Refused refusal)
+    → unless_refused verdict locks (locks_freed naming locks t)
+    ≡ freed naming locks (freed_by (Unlock t) reply)
+unlocked naming locks t reply None h =
+    ap (λ (r : Reply ℕ). freed naming locks (freed_by (Unlock t) r)) (sym h)
+unlocked naming locks t reply (Some refusal) h =
+    ap (λ (r : Reply ℕ). freed naming locks (freed_by (Unlock t) r)) (sym h)
 
 module _ (old : Tables) (s : ℕ) (holds : Bool) where
   -- the locks that a command leaves, by its reply
-  freed_after : (command : Command ℕ) (reply : Reply ℕ) → asked_lock command ≡ None → Replies (naming_of old) (records_of old) s holds command reply
-      → locks_after (naming_of old) (locks_of old) s (verdict_of (naming_of old) (records_of old) s holds command) command ≡ freed (naming_of old) (locks_of old) (freed_by command reply)
+  freed_after : (command : Command ℕ) (reply : Reply ℕ) → asked_lock command ≡ None
+      → Replies (naming_of old) (records_of old) s holds command reply
+      → locks_after (naming_of old) (locks_of old) s
+      (verdict_of (naming_of old) (records_of old) s holds command) command
+      ≡ freed (naming_of old) (locks_of old) (freed_by command reply)
   freed_after (File n stamp) reply none h = refl
   freed_after (Gone n) reply none h = refl
   freed_after (Lock t) reply none h = cc
-  freed_after (Unlock t) reply none h = unlocked (naming_of old) (locks_of old) t reply (verdict_of (naming_of old) (records_of old) s holds (Unlock t)) h
+  freed_after (Unlock t) reply none h =
+      unlocked (naming_of old) (locks_of old) t reply
+      (verdict_of (naming_of old) (records_of old) s holds (Unlock t)) h
   freed_after (Start t) reply none h = refl
   freed_after (IfChange t ns) reply none h = refl
   freed_after (IfCreate t ns) reply none h = refl
@@ -43,12 +53,22 @@ module _ (old : Tables) (s : ℕ) (holds : Bool) where
   freed_after Sources reply none h = refl
 
   -- the state that it leaves, where its target's lock is freed after its change
-  pub obeyed : (new : Tables) (command : Command ℕ) (reply : Reply ℕ) → asked_lock command ≡ None → holds ≡ holds_target (locks_of old) s command → Replies (naming_of old) (records_of old) s holds command reply
-      → records_of new ≡ records_after (naming_of old) (records_of old) s holds command → locks_of new ≡ freed (naming_of old) (locks_of old) (freed_by command reply)
+  pub obeyed : (new : Tables) (command : Command ℕ) (reply : Reply ℕ) → asked_lock command ≡ None
+      → holds ≡ holds_target (locks_of old) s command
+      → Replies (naming_of old) (records_of old) s holds command reply
+      → records_of new ≡ records_after (naming_of old) (records_of old) s holds command
+      → locks_of new ≡ freed (naming_of old) (locks_of old) (freed_by command reply)
       → state_of new ≡ after (naming_of old) (state_of old) s command
   obeyed new command reply none held replies records locks =
-      let whole : locks_of new ≡ locks_after (naming_of old) (locks_of old) s (verdict_of (naming_of old) (records_of old) s holds command) command = locks ∙ sym (freed_after command reply none replies) in
-      subst (λ (h : Bool). state_of new ≡ record { records = records_after (naming_of old) (records_of old) s h command; locks = locks_after (naming_of old) (locks_of old) s (verdict_of (naming_of old) (records_of old) s h command) command }) held
+      let whole : locks_of new ≡ locks_after (naming_of old) (locks_of old) s
+      (verdict_of (naming_of old) (records_of old) s holds command) command =
+      locks ∙ sym (freed_after command reply none replies) in
+      subst (λ (h : Bool). state_of new ≡ record {
+        records = records_after (naming_of old)
+            (records_of old) s h command;
+        locks = locks_after (naming_of old) (locks_of old) s
+            (verdict_of (naming_of old) (records_of old) s h command) command;
+      }) held
       (λ i. record { records = records i; locks = whole i })
 
 none_there : (xs : List (Option ℕ)) (i : ℕ) → get_or (set xs i None) i None ≡ None
@@ -56,16 +76,22 @@ none_there [] i = refl
 none_there (x ∷ xs) zero = refl
 none_there (x ∷ xs) (suc i) = none_there xs i
 
-none_is_put : (xs : List (Option ℕ)) (i k : ℕ) → get_or (set xs i None) k None ≡ cond (i == k) None (get_or xs k None)
+none_is_put : (xs : List (Option ℕ)) (i k : ℕ)
+    → get_or (set xs i None) k None ≡ cond (i == k) None (get_or xs k None)
 none_is_put xs i k = elim (cases_eq i k) [
-  | inl e ↦ ap (λ (j : ℕ). get_or (set xs i None) j None) (sym e) ∙ none_there xs i ∙ ap (λ (b : Bool). cond b None (get_or xs k None)) (sym (eq-eqb i k e))
-  | inr ne ↦ get_or-set_other xs i k None None (λ e. ne (sym e)) ∙ ap (λ (b : Bool). cond b None (get_or xs k None)) (sym (ne_eqb i k ne))
+  | inl e ↦ ap (λ (j : ℕ). get_or (set xs i None) j None) (sym e) ∙ none_there xs i
+      ∙ ap (λ (b : Bool). cond b None (get_or xs k None)) (sym (eq-eqb i k e))
+  | inr ne ↦ get_or-set_other xs i k None None (λ e. ne (sym e))
+      ∙ ap (λ (b : Bool). cond b None (get_or xs k None)) (sym (ne_eqb i k ne))
 ]
 
 -- a target without a holder is free
-pub freed_at : (t : Tables) (n : ℕ) → locks_of (record t { holders = set t.holders n None }) ≡ freed (naming_of t) (locks_of t) (Some n)
+pub freed_at : (t : Tables) (n : ℕ) → locks_of (record t { holders = set t.holders n None })
+    ≡ freed (naming_of t) (locks_of t) (Some n)
 freed_at t n =
-    let holders : (λ (k : ℕ). get_or (set t.holders n None) k None) ≡ (λ k. cond (n == k) None (get_or t.holders k None)) = fun_ext (none_is_put t.holders n) in
+    let holders : (λ (k : ℕ). get_or (set t.holders n None) k None)
+    ≡ (λ k. cond (n == k) None (get_or t.holders k None)) =
+    fun_ext (none_is_put t.holders n) in
     λ i. record { holder = holders i; grants = (locks_of t).grants }
 
 -- only a lock asks for a lock

@@ -1,4 +1,5 @@
--- What a command changes of the records and rows is at one name, so the memo was right but for that.
+-- What a command changes of the records and rows is at one name, so the memo was right but for
+-- that.
 use Rattle.std.proofs.Common.{◌≡◌, ◌∙◌, ℕ, Bool, true, false, cond, List, [], ◌∷◌, Option, None, refl, sym, ap, subst}
 use Rattle.std.specs.List.{Contains}
 use Rattle.std.proofs.Math.ListN.{replicate}

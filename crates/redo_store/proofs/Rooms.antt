@@ -13,11 +13,16 @@ use Rattle.redo_store.specs.Stored.{Stored, records_of, naming_of, applied_of, I
 use Rattle.redo_store.specs.Tables.{Tables, IsAsBefore, locks_of}
 
 -- a test that holds for each of the names
-pub all_of_them : (test : ℕ → Bool) (ns : List ℕ) → ((n : ℕ) → Contains ns n → IsTrue (test n)) → list_all test ns ≡ true
-all_of_them test ns each = list_all-from_AllPass test ns (All-weaker (Contains ns) (λ n. test n ≡ true) each ns (All-contains_itself ns))
+pub all_of_them : (test : ℕ → Bool) (ns : List ℕ) → ((n : ℕ) → Contains ns n → IsTrue (test n))
+    → list_all test ns ≡ true
+all_of_them test ns each =
+    list_all-from_AllPass test ns
+    (All-weaker (Contains ns) (λ n. test n ≡ true) each ns (All-contains_itself ns))
 
 -- what is accepted is accepted from one that holds its target
-accepted_of_holder : (naming : Naming ℕ) (r : Records ℕ) (s : ℕ) (holds : Bool) (command : Command ℕ) → verdict_of naming r s holds command ≡ None → verdict_of naming r s true command ≡ None
+accepted_of_holder : (naming : Naming ℕ) (r : Records ℕ) (s : ℕ) (holds : Bool)
+    (command : Command ℕ) → verdict_of naming r s holds command ≡ None
+    → verdict_of naming r s true command ≡ None
 accepted_of_holder naming r s true command none = none
 accepted_of_holder naming r s false (Unlock t) none = cc
 accepted_of_holder naming r s false (Start t) none = cc
@@ -35,7 +40,10 @@ accepted_of_holder naming r s false Targets none = none
 accepted_of_holder naming r s false Sources none = none
 
 -- a command was counted after its room was made
-module _ (old made counted : Stored) (same : IsSameButRoom old made) (is_counted : counted ≡ record made { applied = applied_of made + 1 }) (s : ℕ) (holds : Bool) (command : Command ℕ) (accepted : verdict_of (naming_of old) (records_of old) s holds command ≡ None) where
+module _ (old made counted : Stored) (same : IsSameButRoom old made)
+    (is_counted : counted ≡ record made { applied = applied_of made + 1 }) (s : ℕ) (holds : Bool)
+    (command : Command ℕ)
+    (accepted : verdict_of (naming_of old) (records_of old) s holds command ≡ None) where
   same_naming : naming_of counted ≡ naming_of old
   same_naming = ap naming_of is_counted ∙ ap (λ (ns : List ℕ). numbers (by_place ns)) same.sorted
 
@@ -48,12 +56,15 @@ module _ (old made counted : Stored) (same : IsSameButRoom old made) (is_counted
       ∙ ap (λ (r : Records ℕ). verdict_of (naming_of old) r s true command) same_records
       ∙ accepted_of_holder (naming_of old) (records_of old) s holds command accepted
 
-  pub changed_after_room : (new : Stored) → records_of new ≡ effect_of (naming_of counted) (records_of counted) s command → records_of new ≡ records_after (naming_of old) (records_of old) s holds command
+  pub changed_after_room : (new : Stored)
+      → records_of new ≡ effect_of (naming_of counted) (records_of counted) s command
+      → records_of new ≡ records_after (naming_of old) (records_of old) s holds command
   changed_after_room new changed =
       changed
       ∙ ap (λ (n : Naming ℕ). effect_of n (records_of counted) s command) same_naming
       ∙ ap (λ (r : Records ℕ). effect_of (naming_of old) r s command) same_records
-      ∙ ap (λ verdict. unless_refused verdict (records_of old) (effect_of (naming_of old) (records_of old) s command)) (sym accepted)
+      ∙ ap (λ verdict. unless_refused verdict (records_of old)
+      (effect_of (naming_of old) (records_of old) s command)) (sym accepted)
 
 -- an error comes with P, if P holds in any case
 pub on_err_from : {X E P : Type 0} (r : Result X E) → P → OnErr r P
@@ -61,7 +72,8 @@ on_err_from (Ok x) p = tt
 on_err_from (Err e) p = p
 
 -- more room leaves all that callers see
-pub IsAsBefore-room : (t : Tables) (to : Stored) → IsSameButRoom t.store to → IsAsBefore t (record t { store = to })
+pub IsAsBefore-room : (t : Tables) (to : Stored) → IsSameButRoom t.store to
+    → IsAsBefore t (record t { store = to })
 IsAsBefore-room t to same = record {
   state = λ i. record { records = same.records i; locks = locks_of t };
   count = same.count;

@@ -33,13 +33,19 @@ same_kind coded.Sources = refl
 
 module _ (naming : Naming ℕ) (r : Records ℕ) (s : ℕ) (holds : Bool) where
   -- a command without a target is not refused
-  pub free_without_target : (command : commands.Command ℕ) → None ≡ target_of command → None ≡ verdict_of naming r s holds command
+  pub free_without_target : (command : commands.Command ℕ) → None ≡ target_of command
+      → None ≡ verdict_of naming r s holds command
   free_without_target command none = grind arith
 
   -- the refusal by the target's cell, else that of the names, is the verdict
-  pub verdict_by_parts : (command : Command) (t : ℕ) (own names : Option (replies.Refusal ℕ)) → Some t ≡ target_of (command_of command) → own ≡ verdict_at (target_state r t) s holds (kind_of command) → names ≡ refusal_of_names naming r (command_of command)
+  pub verdict_by_parts : (command : Command) (t : ℕ) (own names : Option (replies.Refusal ℕ))
+      → Some t ≡ target_of (command_of command)
+      → own ≡ verdict_at (target_state r t) s holds (kind_of command)
+      → names ≡ refusal_of_names naming r (command_of command)
       → option_or own names ≡ verdict_of naming r s holds (command_of command)
   verdict_by_parts command t own names on by_cell by_names =
-      ap (λ (o : Option (replies.Refusal ℕ)). option_or o names) (by_cell ∙ ap (verdict_at (target_state r t) s holds) (same_kind command))
-      ∙ ap (option_or (verdict_at (target_state r t) s holds (verdicts.kind_of (command_of command)))) by_names
+      ap (λ (o : Option (replies.Refusal ℕ)). option_or o names)
+      (by_cell ∙ ap (verdict_at (target_state r t) s holds) (same_kind command))
+      ∙ ap (option_or
+      (verdict_at (target_state r t) s holds (verdicts.kind_of (command_of command)))) by_names
       ∙ verdict_on_target naming r s holds (command_of command) t (sym on)

@@ -4,7 +4,9 @@ use Rattle.std.specs.Borrow.{Bor}
 use Rattle.redo_names.specs.Names.{text_at}
 
 -- the numbers below `count`, in order, each with its text
-pub record AreNumbered (names : List (List ℕ)) (count : ℕ) (pairs : List (Bor (List ℕ) × ℕ)) : Type 0 where
+pub record AreNumbered (names : List (List ℕ)) (count : ℕ)
+    (pairs : List (Bor (List ℕ) × ℕ)) : Type 0 where
   pub whole : length pairs ≡ count
   pub number : (k : ℕ) (d : Bor (List ℕ) × ℕ) → k < count → (slice_index_or pairs k d).1 ≡ k
-  pub text : (k : ℕ) (d : Bor (List ℕ) × ℕ) → k < count → (slice_index_or pairs k d).0.now ≡ text_at names k
+  pub text : (k : ℕ) (d : Bor (List ℕ) × ℕ) → k < count
+      → (slice_index_or pairs k d).0.now ≡ text_at names k

@@ -11,7 +11,8 @@ use Rattle.redo_rows.specs.Rows.{TargetRows, room_of}
 use Rattle.redo_rows.specs.Rows as rows
 use Rattle.redo_store.specs.Orders.{by_place}
 
--- a cell and the rows for each name, the numbers of all names in order, and how many commands were applied
+-- a cell and the rows for each name, the numbers of all names in order, and how many commands were
+-- applied
 pub record Stored : Type 0 where
   pub cells : List Cell
   pub rows : List TargetRows
@@ -36,8 +37,8 @@ naming_of stored = numbers (order_of stored)
 abbrev pub applied_of : Stored → ℕ
 applied_of stored = stored.applied
 
--- each name has a cell and rows, each number stands once, in order, no name was built more often than commands were
--- applied, and each name has a number of 32 bits
+-- each name has a cell and rows, each number stands once, in order, no name was built more often
+-- than commands were applied, and each name has a number of 32 bits
 pub record IsStored (stored : Stored) : Type 0 where
   pub rows_for_each : rows.count_of stored.rows ≡ count_of stored
   pub all_in_order : IsListed (naming_of stored) (λ n. n < count_of stored) stored.sorted

@@ -19,7 +19,10 @@ abbrev pub records_of : Tables → Records ℕ
 records_of tables = stored.records_of tables.store
 
 abbrev pub locks_of : Tables → Locks ℕ
-locks_of tables = record { holder = λ t. slice_index_or tables.holders t None; grants = λ t. slice_index tables.grants t }
+locks_of tables = record {
+  holder = λ t. slice_index_or tables.holders t None;
+  grants = λ t. slice_index tables.grants t;
+}
 
 -- the state that the tables hold
 abbrev pub state_of : Tables → State ℕ

@@ -62,7 +62,8 @@ impl Redo {
     pub fn new(alloc: Global, names: &Names) -> Result<Redo, AllocError>
         ensures empty { IfOk result (λ redo. state_of redo ≡ empty) }
         ensures count { IfOk result (λ redo. count_of redo ≡ length names.now) }
-        ensures order { IfOk result (λ redo. OrdersAlike (numbering names.now) texts (order_of redo)) }
+        ensures order { IfOk result
+            (λ redo. OrdersAlike (numbering names.now) texts (order_of redo)) }
         ensures calls { IfOk result (λ redo. calls_of redo ≡ 0) }
     {
         let count = names.len() as usize;
@@ -86,8 +87,10 @@ impl Redo {
     ) -> Result<Reply, AllocError>
         requires numbers { IsBelow (count_of self.old) (command_of command.now) }
         requires calls { calls_of self.old + 1 < 2 ^ 32 }
-        ensures answers { IfOk result (λ reply. Answers (numbers (order_of self.old)) (state_of self.old) session (command_of command.now) (reply_of reply)) }
-        ensures after { OnOk result (state_of self.new ≡ after (numbers (order_of self.old)) (state_of self.old) session (command_of command.now)) }
+        ensures answers { IfOk result (λ reply. Answers (numbers (order_of self.old))
+            (state_of self.old) session (command_of command.now) (reply_of reply)) }
+        ensures after { OnOk result (state_of self.new ≡ after (numbers (order_of self.old))
+            (state_of self.old) session (command_of command.now)) }
         ensures calls { OnOk result (calls_of self.new ≡ calls_of self.old + 1) }
         ensures below { IfOk result (λ reply. IsReplyBelow (count_of self.old) (reply_of reply)) }
         ensures count { count_of self.new ≡ count_of self.old }
@@ -122,8 +125,10 @@ impl Redo {
     fn lock(&mut self, session: u8, t: u32) -> Reply
         requires number { t < count_of self.old }
         requires room { HasRoom self.old }
-        ensures answers { Answers (naming_of self.old) (state_of self.old) session (commands.Lock t) (reply_of result) }
-        ensures after { state_of self.new ≡ after (naming_of self.old) (state_of self.old) session (commands.Lock t) }
+        ensures answers { Answers (naming_of self.old) (state_of self.old) session (commands.Lock t)
+            (reply_of result) }
+        ensures after { state_of self.new
+            ≡ after (naming_of self.old) (state_of self.old) session (commands.Lock t) }
         ensures below { IsReplyBelow (count_of self.old) (reply_of result) }
         ensures calls { calls_of self.new ≡ calls_of self.old }
         ensures count { count_of self.new ≡ count_of self.old }
@@ -166,8 +171,10 @@ impl Redo {
         requires numbers { IsBelow (count_of self.old) (command_of command.now) }
         requires no_lock { asked_lock (command_of command.now) ≡ None }
         requires calls { calls_of self.old + 1 < 2 ^ 32 }
-        ensures answers { IfOk result (λ reply. Answers (naming_of self.old) (state_of self.old) session (command_of command.now) (reply_of reply)) }
-        ensures after { OnOk result (state_of self.new ≡ after (naming_of self.old) (state_of self.old) session (command_of command.now)) }
+        ensures answers { IfOk result (λ reply. Answers (naming_of self.old)
+            (state_of self.old) session (command_of command.now) (reply_of reply)) }
+        ensures after { OnOk result (state_of self.new
+            ≡ after (naming_of self.old) (state_of self.old) session (command_of command.now)) }
         ensures calls { OnOk result (calls_of self.new ≡ calls_of self.old + 1) }
         ensures below { IfOk result (λ reply. IsReplyBelow (count_of self.old) (reply_of reply)) }
         ensures count { count_of self.new ≡ count_of self.old }
@@ -188,7 +195,8 @@ impl Redo {
         requires numbers { IsBelow (count_of self.old) (command_of command.now) }
         requires no_lock { asked_lock (command_of command.now) ≡ None }
         requires calls { calls_of self.old + 1 < 2 ^ 32 }
-        ensures records { OnOk result (records_of self.new ≡ records_after (naming_of self.old) (records_of self.old) session holds (command_of command.now)) }
+        ensures records { OnOk result (records_of self.new ≡ records_after (naming_of self.old)
+            (records_of self.old) session holds (command_of command.now)) }
         ensures locks { locks_of self.new ≡ locks_of self.old }
         ensures calls { OnOk result (calls_of self.new ≡ calls_of self.old + 1) }
         ensures count { count_of self.new ≡ count_of self.old }

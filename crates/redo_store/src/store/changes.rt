@@ -20,7 +20,8 @@ fn change_each(rows: &mut DepRows, records: &Records, t: u32, names: &[u32])
     requires number { t < length records.now }
     requires numbers { AllBelow (length records.now) names.now }
     requires room { list_all (room_of rows.old t) names.now ≡ true }
-    ensures after { with_rows records.now rows.new ≡ effect_of by_number (with_rows records.now rows.old) 0 (commands.IfChange t names.now) }
+    ensures after { with_rows records.now rows.new
+        ≡ effect_of by_number (with_rows records.now rows.old) 0 (commands.IfChange t names.now) }
     ensures count { rows_count rows.new ≡ rows_count rows.old }
 {
     for &n in names {
@@ -33,7 +34,8 @@ fn create_each(rows: &mut DepRows, t: u32, names: &[u32])
     requires number { t < rows_count rows.old }
     requires numbers { AllBelow (rows_count rows.old) names.now }
     requires room { list_all (room_of rows.old t) names.now ≡ true }
-    ensures after { (cells : List Cell) → with_rows cells rows.new ≡ effect_of by_number (with_rows cells rows.old) 0 (commands.IfCreate t names.now) }
+    ensures after { (cells : List Cell) → with_rows cells rows.new
+        ≡ effect_of by_number (with_rows cells rows.old) 0 (commands.IfCreate t names.now) }
     ensures count { rows_count rows.new ≡ rows_count rows.old }
 {
     for &n in names {
@@ -56,7 +58,8 @@ fn refresh(memo: &mut Ood, records: &Records, rows: &DepRows, n: u32)
 impl Store {
     pub(crate) fn set_file(&mut self, n: u32, file: Option<FileStamp>)
         requires { n < count_of self.old }
-        ensures after { records_of self.new ≡ with_cell (naming_of self.old) (records_of self.old) n (record ((records_of self.old).cell n) { file = file }) }
+        ensures after { records_of self.new ≡ with_cell (naming_of self.old) (records_of self.old) n
+            (record ((records_of self.old).cell n) { file = file }) }
         ensures kept { KeepsNames self.old self.new }
     {
         self.records.set_file(n, file);
@@ -66,7 +69,8 @@ impl Store {
     pub(crate) fn start(&mut self, s: u8, t: u32)
         requires number { t < count_of self.old }
         requires free { IsFalse (is_building (target_state (records_of self.old) t)) }
-        ensures after { records_of self.new ≡ effect_of (naming_of self.old) (records_of self.old) s (commands.Start t) }
+        ensures after { records_of self.new
+            ≡ effect_of (naming_of self.old) (records_of self.old) s (commands.Start t) }
         ensures kept { KeepsNames self.old self.new }
     {
         self.records.start(s, t);
@@ -77,7 +81,8 @@ impl Store {
     pub(crate) fn stamp(&mut self, t: u32, content: &[u8])
         requires number { t < count_of self.old }
         requires building { IsTrue (is_building (target_state (records_of self.old) t)) }
-        ensures after { records_of self.new ≡ effect_of (naming_of self.old) (records_of self.old) 0 (commands.Stamp t content.now) }
+        ensures after { records_of self.new ≡ effect_of (naming_of self.old) (records_of self.old) 0
+            (commands.Stamp t content.now) }
         ensures kept { KeepsNames self.old self.new }
     {
         self.records.stamp(t, digest_of(content));
@@ -88,7 +93,8 @@ impl Store {
         requires number { t < count_of self.old }
         requires building { IsTrue (is_building (target_state (records_of self.old) t)) }
         requires builds { HasBuildsLeft self.old }
-        ensures after { records_of self.new ≡ effect_of (naming_of self.old) (records_of self.old) 0 (commands.Done t stamp) }
+        ensures after { records_of self.new
+            ≡ effect_of (naming_of self.old) (records_of self.old) 0 (commands.Done t stamp) }
         ensures kept { KeepsNames self.old self.new }
     {
         self.records.done(t, stamp);
@@ -98,7 +104,8 @@ impl Store {
     pub(crate) fn fail(&mut self, t: u32)
         requires number { t < count_of self.old }
         requires building { IsTrue (is_building (target_state (records_of self.old) t)) }
-        ensures after { records_of self.new ≡ effect_of (naming_of self.old) (records_of self.old) 0 (commands.Failed t) }
+        ensures after { records_of self.new
+            ≡ effect_of (naming_of self.old) (records_of self.old) 0 (commands.Failed t) }
         ensures kept { KeepsNames self.old self.new }
     {
         self.records.failed(t);
@@ -110,7 +117,8 @@ impl Store {
         requires number { t < count_of self.old }
         requires numbers { AllBelow (count_of self.old) names.now }
         requires room { has_room_for self.old (commands.IfChange t names.now) ≡ true }
-        ensures after { records_of self.new ≡ effect_of (naming_of self.old) (records_of self.old) 0 (commands.IfChange t names.now) }
+        ensures after { records_of self.new ≡ effect_of (naming_of self.old) (records_of self.old) 0
+            (commands.IfChange t names.now) }
         ensures kept { KeepsNames self.old self.new }
     {
         change_each(&mut self.rows, &self.records, t, names);
@@ -122,7 +130,8 @@ impl Store {
         requires number { t < count_of self.old }
         requires numbers { AllBelow (count_of self.old) names.now }
         requires room { has_room_for self.old (commands.IfCreate t names.now) ≡ true }
-        ensures after { records_of self.new ≡ effect_of (naming_of self.old) (records_of self.old) 0 (commands.IfCreate t names.now) }
+        ensures after { records_of self.new ≡ effect_of (naming_of self.old) (records_of self.old) 0
+            (commands.IfCreate t names.now) }
         ensures kept { KeepsNames self.old self.new }
     {
         create_each(&mut self.rows, t, names);
@@ -132,7 +141,8 @@ impl Store {
     /// An always row of the target.
     pub(crate) fn put_always(&mut self, t: u32)
         requires { t < count_of self.old }
-        ensures after { records_of self.new ≡ effect_of (naming_of self.old) (records_of self.old) 0 (commands.Always t) }
+        ensures after { records_of self.new
+            ≡ effect_of (naming_of self.old) (records_of self.old) 0 (commands.Always t) }
         ensures kept { KeepsNames self.old self.new }
     {
         self.rows.put_always(t);

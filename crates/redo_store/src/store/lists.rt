@@ -35,7 +35,8 @@ impl Store {
     /// Which of the names are stale, or that none is.
     pub(crate) fn stale_reply(&self, alloc: Global, names: &[u32]) -> Result<Reply, AllocError>
         requires { AllBelow (count_of self.now) names.now }
-        ensures tells { IfOk result (λ reply. (t : ℕ) → Tells (naming_of self.now) (records_of self.now) (commands.IfChange t names.now) (reply_of reply)) }
+        ensures tells { IfOk result (λ reply. (t : ℕ) → Tells (naming_of self.now)
+            (records_of self.now) (commands.IfChange t names.now) (reply_of reply)) }
         ensures below { IfOk result (λ reply. IsReplyBelow (count_of self.now) (reply_of reply)) }
     {
         Ok(reply_to_ifchange(self.stale(alloc, names)?))
@@ -43,7 +44,8 @@ impl Store {
 
     /// The targets that have a file and are out of date.
     pub(crate) fn ood_reply(&self, alloc: Global) -> Result<Reply, AllocError>
-        ensures tells { IfOk result (λ reply. Tells (naming_of self.now) (records_of self.now) commands.Ood (reply_of reply)) }
+        ensures tells { IfOk result (λ reply. Tells (naming_of self.now)
+            (records_of self.now) commands.Ood (reply_of reply)) }
         ensures below { IfOk result (λ reply. IsReplyBelow (count_of self.now) (reply_of reply)) }
     {
         Ok(Reply::Ood(self.ood(alloc)?))
@@ -51,7 +53,8 @@ impl Store {
 
     /// The idle names that have a file and on which a target has a row.
     pub(crate) fn sources_reply(&self, alloc: Global) -> Result<Reply, AllocError>
-        ensures tells { IfOk result (λ reply. Tells (naming_of self.now) (records_of self.now) commands.Sources (reply_of reply)) }
+        ensures tells { IfOk result (λ reply. Tells (naming_of self.now)
+            (records_of self.now) commands.Sources (reply_of reply)) }
         ensures below { IfOk result (λ reply. IsReplyBelow (count_of self.now) (reply_of reply)) }
     {
         Ok(Reply::Sources(self.sources(alloc)?))
@@ -59,14 +62,16 @@ impl Store {
 
     /// The targets that have a file.
     pub(crate) fn targets_reply(&self, alloc: Global) -> Result<Reply, AllocError>
-        ensures tells { IfOk result (λ reply. Tells (naming_of self.now) (records_of self.now) commands.Targets (reply_of reply)) }
+        ensures tells { IfOk result (λ reply. Tells (naming_of self.now)
+            (records_of self.now) commands.Targets (reply_of reply)) }
         ensures below { IfOk result (λ reply. IsReplyBelow (count_of self.now) (reply_of reply)) }
     {
         Ok(Reply::Targets(self.targets(alloc)?))
     }
 
     fn ood(&self, alloc: Global) -> Result<Vec<u32>, AllocError>
-        ensures { IfOk result (λ names. AreInOrder self.now (λ t. HasFile (records_of self.now) t × OutOfDate (records_of self.now) t) names.items) }
+        ensures { IfOk result (λ names. AreInOrder self.now (λ t. HasFile (records_of self.now) t
+            × OutOfDate (records_of self.now) t) names.items) }
     {
         let mut names = Vec::new(alloc);
         for &n in self.sorted() {
@@ -77,7 +82,8 @@ impl Store {
     }
 
     fn sources(&self, alloc: Global) -> Result<Vec<u32>, AllocError>
-        ensures { IfOk result (λ names. AreInOrder self.now (IsSource (records_of self.now)) names.items) }
+        ensures { IfOk result
+            (λ names. AreInOrder self.now (IsSource (records_of self.now)) names.items) }
     {
         let mut names = Vec::new(alloc);
         for &n in self.sorted() {
@@ -88,7 +94,8 @@ impl Store {
     }
 
     fn targets(&self, alloc: Global) -> Result<Vec<u32>, AllocError>
-        ensures { IfOk result (λ names. AreInOrder self.now (λ t. HasFile (records_of self.now) t × IsTarget (records_of self.now) t) names.items) }
+        ensures { IfOk result (λ names. AreInOrder self.now
+            (λ t. HasFile (records_of self.now) t × IsTarget (records_of self.now) t) names.items) }
     {
         let mut names = Vec::new(alloc);
         for &n in self.sorted() {
@@ -101,7 +108,8 @@ impl Store {
     /// Whether it is an out-of-date target with a file.
     fn is_out_with_file(&self, n: u32) -> bool
         requires { n < count_of self.now }
-        ensures { IsTrue result ↔ (HasFile (records_of self.now) n × OutOfDate (records_of self.now) n) }
+        ensures { IsTrue result
+            ↔ (HasFile (records_of self.now) n × OutOfDate (records_of self.now) n) }
     {
         self.is_out(n) && self.has_file(n)
     }
@@ -116,7 +124,8 @@ impl Store {
     /// Whether it is a target with a file.
     fn is_listed(&self, n: u32) -> bool
         requires { n < count_of self.now }
-        ensures { IsTrue result ↔ (HasFile (records_of self.now) n × IsTarget (records_of self.now) n) }
+        ensures { IsTrue result
+            ↔ (HasFile (records_of self.now) n × IsTarget (records_of self.now) n) }
     {
         self.has_file(n) && !self.is_idle(n)
     }
@@ -124,7 +133,8 @@ impl Store {
     /// Whether it is an idle name without a file.
     pub(super) fn is_missing(&self, n: u32) -> bool
         requires { n < count_of self.now }
-        ensures { IsTrue result ↔ ((target_state (records_of self.now) n ≡ Idle) × IsNone ((records_of self.now).cell n).file) }
+        ensures { IsTrue result ↔ ((target_state (records_of self.now) n ≡ Idle)
+            × IsNone ((records_of self.now).cell n).file) }
     {
         self.is_idle(n) && !self.has_file(n)
     }

@@ -20,7 +20,8 @@ impl Store {
     /// The first refusal for the names after the command's target.
     pub(crate) fn refusal_of_names(&self, command: &Command) -> Option<Refusal>
         requires { IsBelow (count_of self.now) (command_of command.now) }
-        ensures { option_map refusal_of result ≡ refusal_of_names (naming_of self.now) (records_of self.now) (command_of command.now) }
+        ensures { option_map refusal_of result
+            ≡ refusal_of_names (naming_of self.now) (records_of self.now) (command_of command.now) }
     {
         cases!(refusals_of_names self command)
     }

@@ -7,7 +7,9 @@ pub loop-n-init : goal.loop-n-init
 loop-n-init c = rw c.new-pairs.ensures.items (AreNumbered-none c.args.names.now)
 
 pub loop-n-preserved : goal.loop-n-preserved
-loop-n-preserved c = rw c.in_ok-push.ensures.items (AreNumbered-push c.args.names.now c.loop-n.n c.loop-n.pairs.items (c.text.result, c.loop-n.n) c.loop-n.invariant refl c.text.ensures)
+loop-n-preserved c =
+    rw c.in_ok-push.ensures.items (AreNumbered-push c.args.names.now c.loop-n.n c.loop-n.pairs.items
+    (c.text.result, c.loop-n.n) c.loop-n.invariant refl c.text.ensures)
 
 pub returns-clause-pairs : goal.returns-clause-pairs
 returns-clause-pairs c =

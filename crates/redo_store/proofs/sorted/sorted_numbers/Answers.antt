@@ -6,5 +6,9 @@ use Rattle.redo_store.proofs.sorted.sorted_numbers.Goals as goal
 
 pub returns : goal.returns
 returns c =
-    let sorted = AreSorted-from_pairs c.args.names.now c.in_ok-pairs.pairs.items c.sort.new.self.items c.in_ok-pairs.ensures.names c.in_ok-pairs.ensures.pairs c.in_ok-sort.ensures.permutation c.in_ok-sort.ensures.sorted in
-    IfOk-weaker c.numbers_of.result _ _ (λ v e. subst (AreSorted c.args.names.now) (sym (e ∙ ap numbers_in c.deref.ensures.value)) sorted) c.numbers_of.ensures
+    let sorted =
+    AreSorted-from_pairs c.args.names.now c.in_ok-pairs.pairs.items c.sort.new.self.items
+    c.in_ok-pairs.ensures.names c.in_ok-pairs.ensures.pairs c.in_ok-sort.ensures.permutation
+    c.in_ok-sort.ensures.sorted in
+    IfOk-weaker c.numbers_of.result _ _ (λ v e. subst (AreSorted c.args.names.now)
+    (sym (e ∙ ap numbers_in c.deref.ensures.value)) sorted) c.numbers_of.ensures

@@ -10,6 +10,9 @@ pub returns-in-Some-clause-after : goal.returns-in-Some-clause-after
 returns-in-Some-clause-after c =
     let old : Tables = c.args.self.now in
     let command : Command ℕ = command_of c.args.command.now in
-    let counted : state_of c.lock.new.self ≡ after (naming_of old) (state_of old) c.args.session (Lock c.in-Some.t) =
-    subst (λ (t : Tables). state_of c.lock.new.self ≡ after (naming_of t) (state_of t) c.args.session (Lock c.in-Some.t)) c.count_call.ensures.after c.lock.ensures.after in
-    subst (λ (asked : Command ℕ). state_of c.lock.new.self ≡ after (naming_of old) (state_of old) c.args.session asked) (sym (lock_asked command c.in-Some.t (sym c.in-Some.ensures))) counted
+    let counted : state_of c.lock.new.self
+    ≡ after (naming_of old) (state_of old) c.args.session (Lock c.in-Some.t) =
+    subst (λ (t : Tables). state_of c.lock.new.self ≡ after (naming_of t) (state_of t)
+    c.args.session (Lock c.in-Some.t)) c.count_call.ensures.after c.lock.ensures.after in
+    subst (λ (asked : Command ℕ). state_of c.lock.new.self ≡ after (naming_of old) (state_of old)
+    c.args.session asked) (sym (lock_asked command c.in-Some.t (sym c.in-Some.ensures))) counted

@@ -13,16 +13,22 @@ returns-clause-after c =
     let new : Tables = c.match-freed_by.self in
     let reply = reply_of c.in_ok-reply.reply in
     let command = command_of c.args.command.now in
-    let replies : Replies (naming_of old) (records_of old) c.args.session c.holds_target-holds.result command reply =
-    subst (λ (t : Tables). Replies (naming_of t) (records_of t) c.args.session c.holds_target-holds.result command reply) c.self.view_is c.in_ok-reply.ensures.replies in
+    let replies : Replies (naming_of old)
+    (records_of old) c.args.session c.holds_target-holds.result command reply =
+    subst (λ (t : Tables). Replies (naming_of t) (records_of t) c.args.session
+    c.holds_target-holds.result command reply) c.self.view_is c.in_ok-reply.ensures.replies in
     let same_records : records_of new ≡ records_of mid = elim c.match-freed_by.branch [
       | in-Some w ↦ ap records_of (w.self-is ∙ w.free.ensures)
       | in_default w ↦ ap records_of w.self-is
     ] in
-    let locks : locks_of new ≡ freed (naming_of old) (locks_of mid) (freed_by command reply) = elim c.match-freed_by.branch [
-      | in-Some w ↦ ap locks_of (w.self-is ∙ w.free.ensures) ∙ freed_at mid w.in-Some.t ∙ ap (freed (naming_of old) (locks_of mid)) w.in-Some.ensures
-      | in_default w ↦ ap locks_of w.self-is ∙ ap (freed (naming_of old) (locks_of mid)) w.in_default.ensures
+    let locks : locks_of new ≡ freed (naming_of old) (locks_of mid) (freed_by command reply) =
+    elim c.match-freed_by.branch [
+      | in-Some w ↦ ap locks_of (w.self-is ∙ w.free.ensures) ∙ freed_at mid w.in-Some.t
+          ∙ ap (freed (naming_of old) (locks_of mid)) w.in-Some.ensures
+      | in_default w ↦
+          ap locks_of w.self-is ∙ ap (freed (naming_of old) (locks_of mid)) w.in_default.ensures
     ] in
-    obeyed old c.args.session c.holds_target-holds.result new command reply c.requires.no_lock c.holds_target-holds.ensures replies
+    obeyed old c.args.session c.holds_target-holds.result new command reply c.requires.no_lock
+    c.holds_target-holds.ensures replies
     (same_records ∙ c.in_ok-apply.ensures.records)
     (locks ∙ ap (λ l. freed (naming_of old) l (freed_by command reply)) c.in_ok-apply.ensures.locks)

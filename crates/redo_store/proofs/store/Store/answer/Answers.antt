@@ -11,7 +11,10 @@ pub returns-in-IfChange-clause-tells : goal.returns-in-IfChange-clause-tells
 returns-in-IfChange-clause-tells c =
     let now : Stored = c.args.self.now in
     let same : c.as_slice.result.now ≡ c.in-IfChange.field-1.items = search rules in
-    let told : IfOk c.stale_reply.result (λ reply. (t : ℕ) → Tells (naming_of now) (records_of now) (commands.IfChange t c.in-IfChange.field-1.items) (reply_of reply)) =
-    subst (λ (ns : List ℕ). IfOk c.stale_reply.result (λ reply. (t : ℕ) → Tells (naming_of now) (records_of now) (commands.IfChange t ns) (reply_of reply))) same c.stale_reply.ensures.tells
+    let told : IfOk c.stale_reply.result (λ reply. (t : ℕ) → Tells (naming_of now) (records_of now)
+    (commands.IfChange t c.in-IfChange.field-1.items) (reply_of reply)) =
+    subst (λ (ns : List ℕ). IfOk c.stale_reply.result (λ reply. (t : ℕ) → Tells (naming_of now)
+    (records_of now) (commands.IfChange t ns) (reply_of reply))) same c.stale_reply.ensures.tells
     in
-    rw c.in-IfChange.is (IfOk-weaker c.stale_reply.result _ _ (λ reply tells. tells c.in-IfChange.field-0) told)
+    rw c.in-IfChange.is
+    (IfOk-weaker c.stale_reply.result _ _ (λ reply tells. tells c.in-IfChange.field-0) told)

@@ -8,7 +8,9 @@ use Rattle.redo_store.proofs.store.Store.is_awaited.Goals as goal
 
 pub returns : goal.returns
 returns c =
-    let listed : IsListed by_number (λ t. HasCreatedRow (records_of c.args.self.now) t c.args.n) c.awaited_by.result.now =
-    subst (λ (s : Stored). IsListed by_number (λ t. HasCreatedRow (records_of s) t c.args.n) c.awaited_by.result.now) c.self.view_is c.awaited_by.ensures.listed
+    let listed : IsListed by_number
+    (λ t. HasCreatedRow (records_of c.args.self.now) t c.args.n) c.awaited_by.result.now =
+    subst (λ (s : Stored). IsListed by_number (λ t. HasCreatedRow (records_of s) t c.args.n)
+    c.awaited_by.result.now) c.self.view_is c.awaited_by.ensures.listed
     in
     some_listed by_number c.awaited_by.result.now listed c.is_empty.ensures

@@ -8,7 +8,9 @@ use Rattle.redo_store.proofs.store.Store.is_needed.Goals as goal
 
 pub returns : goal.returns
 returns c =
-    let listed : IsListed by_number (λ t. HasChangeRow (records_of c.args.self.now) t c.args.n) c.needed_by.result.now =
-    subst (λ (s : Stored). IsListed by_number (λ t. HasChangeRow (records_of s) t c.args.n) c.needed_by.result.now) c.self.view_is c.needed_by.ensures.listed
+    let listed : IsListed by_number
+    (λ t. HasChangeRow (records_of c.args.self.now) t c.args.n) c.needed_by.result.now =
+    subst (λ (s : Stored). IsListed by_number (λ t. HasChangeRow (records_of s) t c.args.n)
+    c.needed_by.result.now) c.self.view_is c.needed_by.ensures.listed
     in
     some_listed by_number c.needed_by.result.now listed c.is_empty.ensures

@@ -7,4 +7,5 @@ use Rattle.redo_store.proofs.store.Store.reply.Goals as goal
 pub returns-in-Some-clause-below : goal.returns-in-Some-clause-below
 returns-in-Some-clause-below c =
     subst (RefusesBelow (count_of c.args.self.now)) (sym c.in-Some.ensures)
-    (verdict_below (count_of c.args.self.now) (order_of c.args.self.now) (records_of c.args.self.now) c.args.s c.args.holds (command_of c.args.command.now) c.requires.numbers)
+    (verdict_below (count_of c.args.self.now) (order_of c.args.self.now) (records_of
+    c.args.self.now) c.args.s c.args.holds (command_of c.args.command.now) c.requires.numbers)

@@ -3,10 +3,16 @@ use Rattle.redo_store.proofs.Listed.{number_below, first_more, first_all, file_b
 use Rattle.redo_store.proofs.store.Store.sources.Goals as goal
 
 pub is_source-is_due-requires : goal.is_source-is_due-requires
-is_source-is_due-requires c = number_below c.loop-n.n-index 0 c.sorted-n-items.ensures.stored c.sorted-n-items.ensures.sorted (omega arith)
+is_source-is_due-requires c =
+    number_below c.loop-n.n-index 0 c.sorted-n-items.ensures.stored c.sorted-n-items.ensures.sorted
+    (omega arith)
 
 pub loop-n-preserved : goal.loop-n-preserved
-loop-n-preserved c = first_more c.loop-n.n-index 0 c.sorted-n-items.ensures.stored c.sorted-n-items.ensures.sorted (omega arith) c.loop-n.invariant c.is_source-is_due.ensures c.in_ok-push_if.ensures
+loop-n-preserved c =
+    first_more c.loop-n.n-index 0 c.sorted-n-items.ensures.stored c.sorted-n-items.ensures.sorted
+    (omega arith) c.loop-n.invariant c.is_source-is_due.ensures c.in_ok-push_if.ensures
 
 pub returns : goal.returns
-returns c = first_all c.sorted-n-items.ensures.stored c.sorted-n-items.ensures.sorted (omega arith) (λ n p. file_below c.args.self.now n p.1) c.loop-n.invariant
+returns c =
+    first_all c.sorted-n-items.ensures.stored c.sorted-n-items.ensures.sorted (omega arith)
+    (λ n p. file_below c.args.self.now n p.1) c.loop-n.invariant

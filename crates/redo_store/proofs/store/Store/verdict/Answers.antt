@@ -9,20 +9,26 @@ use Rattle.redo_store.proofs.store.Store.verdict.Goals as goal
 pub returns-in_err-t : goal.returns-in_err-t
 returns-in_err-t c =
     let none : c.from_residual.result ≡ None = grind arith in
-    rw none (free_without_target (naming_of c.args.self.now) (records_of c.args.self.now) c.args.s c.args.holds (command_of c.args.command.now) c.in_err-t.ensures)
+    rw none (free_without_target (naming_of c.args.self.now) (records_of c.args.self.now) c.args.s
+    c.args.holds (command_of c.args.command.now) c.in_err-t.ensures)
 
 pub returns-in-Some : goal.returns-in-Some
 returns-in-Some c =
     let now : Stored = c.args.self.now in
-    let by_cell : Some (refusal_of c.in-Some.refusal) ≡ verdict_at (target_state (records_of now) c.in_ok-t.t) c.args.s c.args.holds (kind_of c.args.command.now) =
+    let by_cell : Some (refusal_of c.in-Some.refusal) ≡ verdict_at
+    (target_state (records_of now) c.in_ok-t.t) c.args.s c.args.holds (kind_of c.args.command.now) =
     rw (← c.self.view_is, ← c.kind.ensures) c.in-Some.ensures
     in
-    verdict_by_parts (naming_of now) (records_of now) c.args.s c.args.holds c.args.command.now c.in_ok-t.t (Some (refusal_of c.in-Some.refusal)) _ c.in_ok-t.ensures by_cell refl
+    verdict_by_parts (naming_of now) (records_of now) c.args.s c.args.holds c.args.command.now
+    c.in_ok-t.t (Some (refusal_of c.in-Some.refusal)) _ c.in_ok-t.ensures by_cell refl
 
 pub returns-in-None : goal.returns-in-None
 returns-in-None c =
     let now : Stored = c.args.self.now in
-    let by_cell : None ≡ verdict_at (target_state (records_of now) c.in_ok-t.t) c.args.s c.args.holds (kind_of c.args.command.now) =
+    let by_cell : None ≡ verdict_at
+    (target_state (records_of now) c.in_ok-t.t) c.args.s c.args.holds (kind_of c.args.command.now) =
     rw (← c.self.view_is, ← c.kind.ensures) c.in-None.ensures
     in
-    verdict_by_parts (naming_of now) (records_of now) c.args.s c.args.holds c.args.command.now c.in_ok-t.t None (option_map refusal_of c.refusal_of_names.result) c.in_ok-t.ensures by_cell c.refusal_of_names.ensures
+    verdict_by_parts (naming_of now) (records_of now) c.args.s c.args.holds c.args.command.now
+    c.in_ok-t.t None (option_map refusal_of c.refusal_of_names.result) c.in_ok-t.ensures by_cell
+    c.refusal_of_names.ensures

@@ -9,7 +9,9 @@ use Rattle.redo_store.proofs.store.changes.change_each.Goals as goal
 
 pub loop-n-preserved : goal.loop-n-preserved
 loop-n-preserved c = record {
-  so_far = change_more (with_rows c.args.records.now c.args.rows.now) c.args.t c.args.names.now c.loop-n.n-index c.loop-n-test.true (rows_of c.loop-n.rows) (rows_of c.put_change.new.self) _ c.loop-n.invariant.so_far c.put_change.ensures.rows c.mark.ensures;
+  so_far = change_more (with_rows c.args.records.now c.args.rows.now) c.args.t c.args.names.now
+      c.loop-n.n-index c.loop-n-test.true (rows_of c.loop-n.rows) (rows_of c.put_change.new.self) _
+      c.loop-n.invariant.so_far c.put_change.ensures.rows c.mark.ensures;
   room = λ k. c.put_change.ensures.room c.args.t k ∙ c.loop-n.invariant.room k;
   count = c.put_change.ensures.count ∙ c.loop-n.invariant.count;
 }
@@ -17,5 +19,7 @@ loop-n-preserved c = record {
 pub returns-clause-after : goal.returns-clause-after
 returns-clause-after c =
     let r : Records ℕ = with_rows c.args.records.now c.args.rows.now in
-    let whole : take c.loop-n.n-index c.args.names.now ≡ c.args.names.now = take_all c.loop-n.n-index c.args.names.now (omega arith) in
-    c.loop-n.invariant.so_far ∙ ap (λ ns. effect_of by_number r 0 (commands.IfChange c.args.t ns)) whole
+    let whole : take c.loop-n.n-index c.args.names.now ≡ c.args.names.now =
+    take_all c.loop-n.n-index c.args.names.now (omega arith) in
+    c.loop-n.invariant.so_far
+    ∙ ap (λ ns. effect_of by_number r 0 (commands.IfChange c.args.t ns)) whole

@@ -8,12 +8,16 @@ use Rattle.redo_store.proofs.store.changes.create_each.Goals as goal
 
 pub loop-n-preserved : goal.loop-n-preserved
 loop-n-preserved c = record {
-  so_far = λ cells. created_more (with_rows cells c.args.rows.now) c.args.t c.args.names.now c.loop-n.n-index c.loop-n-test.true (rows_of c.loop-n.rows) (rows_of c.put_created.new.self) (c.loop-n.invariant.so_far cells) c.put_created.ensures.rows;
+  so_far = λ cells. created_more (with_rows cells c.args.rows.now) c.args.t c.args.names.now
+      c.loop-n.n-index c.loop-n-test.true (rows_of c.loop-n.rows) (rows_of c.put_created.new.self)
+      (c.loop-n.invariant.so_far cells) c.put_created.ensures.rows;
   room = λ k. c.put_created.ensures.room c.args.t k ∙ c.loop-n.invariant.room k;
   count = c.put_created.ensures.count ∙ c.loop-n.invariant.count;
 }
 
 pub returns-clause-after : goal.returns-clause-after
 returns-clause-after c cells =
-    let whole : take c.loop-n.n-index c.args.names.now ≡ c.args.names.now = take_all c.loop-n.n-index c.args.names.now (omega arith) in
-    c.loop-n.invariant.so_far cells ∙ ap (λ ns. effect_of by_number (with_rows cells c.args.rows.now) 0 (commands.IfCreate c.args.t ns)) whole
+    let whole : take c.loop-n.n-index c.args.names.now ≡ c.args.names.now =
+    take_all c.loop-n.n-index c.args.names.now (omega arith) in
+    c.loop-n.invariant.so_far cells ∙ ap (λ ns. effect_of by_number
+    (with_rows cells c.args.rows.now) 0 (commands.IfCreate c.args.t ns)) whole

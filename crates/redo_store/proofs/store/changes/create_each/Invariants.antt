@@ -7,7 +7,8 @@ use Rattle.redo_store.proofs.store.changes.create_each.Given as goal
 
 abbrev pub invariant-loop-n : goal.invariant-loop-n
 invariant-loop-n l = record {
-  so_far : (cells : List Cell) → with_rows cells l.rows ≡ effect_of by_number (with_rows cells l.fn.rows) 0 (commands.IfCreate l.t (take l.n-index l.names));
+  so_far : (cells : List Cell) → with_rows cells l.rows ≡ effect_of by_number
+      (with_rows cells l.fn.rows) 0 (commands.IfCreate l.t (take l.n-index l.names));
   room : (k : ℕ) → room_of l.rows l.t k ≡ room_of l.fn.rows l.t k;
   count : rows_count l.rows ≡ rows_count l.fn.rows;
 }
