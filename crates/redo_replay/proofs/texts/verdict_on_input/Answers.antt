@@ -14,9 +14,17 @@ returns-in_err-history-clause-only g c bytes names lines is read =
 pub returns-clause-verdict : goal.returns-clause-verdict
 returns-clause-verdict g c =
     let history = c.in_ok-history.history in
-    let text = c.in_ok-text.ensures ∙ ap (λ (names : List Text). verdict_text_of (verdict_at names c.in_ok-verdict.verdict)) c.names.ensures in
-    (history.names, lines_of history, c.in_ok-history.ensures.read, c.in_ok-verdict.ensures.verdict, text)
+    let text = c.in_ok-text.ensures
+    ∙ ap (λ (names : List Text). verdict_text_of (verdict_at names c.in_ok-verdict.verdict))
+    c.names.ensures in (
+      history.names,
+      lines_of history,
+      c.in_ok-history.ensures.read,
+      c.in_ok-verdict.ensures.verdict,
+      text,
+    )
 
 pub returns-clause-same : goal.returns-clause-same
 returns-clause-same g c bytes names lines is read =
-    subst (λ (all : List (Line Text)). IsSame c.in_ok-verdict.verdict ↔ Legal texts all) (c.in_ok-history.ensures.same bytes names lines is read) c.in_ok-verdict.ensures.same
+    subst (λ (all : List (Line Text)). IsSame c.in_ok-verdict.verdict ↔ Legal texts all)
+    (c.in_ok-history.ensures.same bytes names lines is read) c.in_ok-verdict.ensures.same
