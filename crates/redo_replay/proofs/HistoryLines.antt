@@ -13,7 +13,6 @@ use Rattle.redo_command.specs.Histories.{ended, header_of}
 use Rattle.redo_command.proofs.LineLaws.{one_command}
 use Rattle.redo_replay.specs.HistoryTexts.{IsHistoryLine, AreHistoryLines}
 use Rattle.redo_replay.specs.HistoryFaults.{IsCutAtArrow, arrow}
-use Rattle.redo_replay.specs.declared.history.TheConstants.{MOST_LINES, MOST_SESSIONS}
 use Rattle.redo_replay.proofs.CutOnce.{Without, without_append, first_cut, same_front, cut_after, one_cut_at_arrow}
 use Rattle.redo_replay.proofs.FreeWords.{without_unseen, decimal_is_visible, command_words, command_is_one_line, reply_is_one_line}
 use Rattle.redo_command.proofs.RepliesRead.{one_reply}
@@ -30,7 +29,7 @@ pub line_parts : (text : Text) (line : Line Text) (is : IsHistoryLine text line)
     → text ≡ decimal (line.session + 1) ++ 32 ∷ (is.command ++ arrow ++ is.reply)
 line_parts text line is = is.parts ∙ regroup (decimal (line.session + 1)) is.command arrow is.reply
 
-small : (session : ℕ) → session < MOST_SESSIONS → session + 1 < 2 ^ 64
+small : (session : ℕ) → session < 64 → session + 1 < 2 ^ 64
 small session few = omega arith
 
 pub session_is_without : (b : ℕ) (text : Text) (line : Line Text) → is_visible b ≡ false
@@ -87,7 +86,7 @@ pub one_end : (a b r s : Text) → Without 10 a → Without 10 b → ended a ++ 
 one_end a b r s p q e = first_cut 10 a b r s p q (sym (append_assoc a (10 ∷ []) r) ∙ e
     ∙ append_assoc b (10 ∷ []) s)
 
-header_is_one : (n : ℕ) → n ≤ MOST_LINES → Without 10 (codes "history " ++ decimal n)
+header_is_one : (n : ℕ) → n ≤ 1048576 → Without 10 (codes "history " ++ decimal n)
 header_is_one n few =
     without_append 10 (codes "history ") (decimal n)
     (without_append 10 (codes "history") (codes " ")
@@ -95,7 +94,7 @@ header_is_one n few =
     (number_is_without 10 n refl (omega arith))
 
 -- and so is a header
-pub one_header : (n m : ℕ) (r s : Text) → n ≤ MOST_LINES → m ≤ MOST_LINES
+pub one_header : (n m : ℕ) (r s : Text) → n ≤ 1048576 → m ≤ 1048576
     → header_of n ++ r ≡ header_of m ++ s → (n ≡ m) × (r ≡ s)
 one_header n m r s few other e =
     let end = one_end (codes "history " ++ decimal n) (codes "history " ++ decimal m) r s

@@ -8,7 +8,6 @@ use Rattle.redo_command.specs.Texts.{command_text_of, reply_text_of}
 use Rattle.redo_command.specs.Histories.{ended, answer_text_of, line_text_of, header_of, history_text_of}
 use Rattle.redo_command.proofs.LineLaws.{text_is_spelled}
 use Rattle.redo_replay.specs.HistoryTexts.{IsHistoryLine, HasLineForm, AreHistoryLines, AreNamesOf, IsHistory}
-use Rattle.redo_replay.specs.declared.history.TheConstants.{MOST_LINES}
 
 -- without its LF
 abbrev own_text_of : Line Text → Text
@@ -40,7 +39,7 @@ all_ended [] = refl
 all_ended (line ∷ lines) = ap (λ (t : Text). line_text_of line ++ t) (all_ended lines)
 
 pub history_reads_back : (lines : List (Line Text)) (names : List Text) (rest : Text)
-    → AllByRecursion HasLineForm lines → length lines ≤ MOST_LINES → AreNamesOf lines names
+    → AllByRecursion HasLineForm lines → length lines ≤ 1048576 → AreNamesOf lines names
     → IsHistory (history_text_of lines ++ rest) names lines
 history_reads_back lines names rest forms few named = record {
   few = few;

@@ -14,11 +14,10 @@ use Rattle.redo_command.specs.Histories.{ended, header_of}
 use Rattle.redo_command.proofs.ScriptParts.{with_names-append}
 use Rattle.redo_replay.specs.HistoryTexts.{IsHistoryLine, AreHistoryLines, names_in_line, AddsLineNames, AreNamesOf, AreLinesOf, IsHistory}
 use Rattle.redo_replay.specs.HistoryFaults.{IsLineCause, IsReadUpTo, IsReadBefore, IsHistoryFault}
-use Rattle.redo_replay.specs.Recorded.{Recorded, lines_of}
-use Rattle.redo_replay.specs.declared.history.TheConstants.{MOST_LINES}
+use Rattle.redo_replay.specs.Recorded.{Recorded, lines_of, AreLinesBelow}
 use Rattle.redo_replay.specs.declared.fault.HistoryFault.{HistoryFault}
 use Rattle.redo_replay.specs.declared.fault.HistoryFault.TheVariants.{Memory, BadHeader, Cut, BadSession, BadLine, BadReply}
-use Rattle.redo_replay.proofs.Replayed.{AreLinesBelow, recorded_lines}
+use Rattle.redo_replay.proofs.Replayed.{recorded_lines}
 use Rattle.redo_replay.proofs.MoreNames.{lines_at-Extends}
 
 -- these lines are read, with these names, and this is what is left of the input
@@ -113,7 +112,7 @@ one_read input count lines names left text after line new so_far cut below kept 
 -- all lines are read
 pub all_read : (input : Text) (count : ℕ) (lines : List Line) (names : List Text) (left : Text)
     (history : Recorded)
-    → count ≤ MOST_LINES → length lines ≡ count → IsReadSoFar input count lines names left
+    → count ≤ 1048576 → length lines ≡ count → IsReadSoFar input count lines names left
     → history.names ≡ names → history.lines ≡ map line_of lines
     → IsHistory input history.names (lines_of history)
 all_read input count lines names left history few counted so_far named recorded =
@@ -134,7 +133,7 @@ all_read input count lines names left history few counted so_far named recorded 
 
 pub read_up_to : (input : Text) (count number : ℕ) (lines : List Line) (names : List Text)
     (left : Text)
-    → count ≤ MOST_LINES → number ≤ count → number ≡ length lines + 1
+    → count ≤ 1048576 → number ≤ count → number ≡ length lines + 1
     → IsReadSoFar input count lines names left → IsReadUpTo input number names left
 read_up_to input count number lines names left few within counted so_far = record {
   count = count;

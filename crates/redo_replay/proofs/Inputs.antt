@@ -4,7 +4,6 @@ use Rattle.std.specs.Prelude.{IfSome}
 use Rattle.redo_model.specs.Names.{Text}
 use Rattle.redo_replay.specs.HistoryFaults.{IsHistoryFault}
 use Rattle.redo_replay.specs.Replays.{IsCause, IsDeviceFault, replay_fault}
-use Rattle.redo_replay.specs.declared.texts.TheConstants.{INPUT_LIMIT}
 use Rattle.redo_replay.specs.declared.fault.HistoryFault.{HistoryFault}
 use Rattle.redo_replay.specs.declared.fault.HistoryFault.TheVariants as history_faults
 use Rattle.redo_replay.specs.declared.fault.ReplayFault.TheVariants.{Memory}
@@ -37,7 +36,7 @@ read_alone (inr rest) = rest
 -- the fault of what was read is the input's
 pub IsCause-read : (known : Option Text) (whole : Text) (faulted out_faulted : Bool)
     (fault : HistoryFault) → IfSome known (λ bytes. whole ≡ bytes)
-    → length whole ≤ INPUT_LIMIT → IsHistoryFault whole fault
+    → length whole ≤ 1073741824 → IsHistoryFault whole fault
     → IsCause known faulted out_faulted (replay_fault fault)
 IsCause-read known whole faulted out_faulted fault same few is = by fault is
   where
@@ -46,26 +45,26 @@ IsCause-read known whole faulted out_faulted fault same few is = by fault is
     by history_faults.Memory is = tt
     by history_faults.BadHeader is = (
       λ e. cc,
-      known_read known whole (λ input. (length input ≤ INPUT_LIMIT)
+      known_read known whole (λ input. (length input ≤ 1073741824)
           × IsHistoryFault input history_faults.BadHeader) same (few, is),
     )
     by history_faults.Cut is = (
       λ e. cc,
-      known_read known whole (λ input. (length input ≤ INPUT_LIMIT)
+      known_read known whole (λ input. (length input ≤ 1073741824)
           × IsHistoryFault input history_faults.Cut) same (few, is),
     )
     by (history_faults.BadSession n) is = (
       λ e. cc,
-      known_read known whole (λ input. (length input ≤ INPUT_LIMIT)
+      known_read known whole (λ input. (length input ≤ 1073741824)
           × IsHistoryFault input (history_faults.BadSession n)) same (few, is),
     )
     by (history_faults.BadLine n f) is = (
       λ e. cc,
-      known_read known whole (λ input. (length input ≤ INPUT_LIMIT)
+      known_read known whole (λ input. (length input ≤ 1073741824)
           × IsHistoryFault input (history_faults.BadLine n f)) same (few, is),
     )
     by (history_faults.BadReply n) is = (
       λ e. cc,
-      known_read known whole (λ input. (length input ≤ INPUT_LIMIT)
+      known_read known whole (λ input. (length input ≤ 1073741824)
           × IsHistoryFault input (history_faults.BadReply n)) same (few, is),
     )

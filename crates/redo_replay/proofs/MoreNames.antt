@@ -10,7 +10,7 @@ use Rattle.redo_command.specs.declared.reply.Reply.TheVariants.{Okay, Granted, B
 use Rattle.redo_command.specs.declared.reply.Line.{Line}
 use Rattle.redo_command.specs.Meaning.{command_of, reply_of, reply_at, line_of, line_at}
 use Rattle.redo_command.proofs.Added.{text_at-Extends, texts-Extends, all_below-Extends, IsBelow-Extends, command_at-Extends}
-use Rattle.redo_replay.proofs.Replayed.{AreLinesBelow}
+use Rattle.redo_replay.specs.Recorded.{AreLinesBelow}
 
 module _ (old new : List Text) (x : Extends old new) where
   pub IsReplyBelow-Extends : (reply : replies.Reply ℕ) → IsReplyBelow (length old) reply

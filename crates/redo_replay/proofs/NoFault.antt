@@ -3,7 +3,6 @@ use Rattle.std.proofs.Common.{◌≡◌, ℕ, ◌+◌, ◌<◌, ◌≤◌, suc, 
 use Rattle.std.specs.Prelude.{Contains, decimal}
 use Rattle.std.specs.List.{flat_map}
 use Rattle.std.proofs.lemmas.Grind.{flat_map-append}
-use Rattle.redo_names.specs.declared.names.TheConstants.{MOST_NAMES}
 use Rattle.redo_model.specs.Names.{Text}
 use Rattle.redo_model.specs.Command.{Command, names_in}
 use Rattle.redo_model.specs.History.{Line}
@@ -27,8 +26,8 @@ record IsNext (names : List Text) (left : Text) : Type 0 where
   pub more : Text
   pub is : IsHistoryLine text line
   pub parts : left ≡ ended text ++ more
-  pub few : length names ≤ MOST_NAMES
-  pub room : length (with_names names (names_in_line line)) ≤ MOST_NAMES
+  pub few : length names ≤ 65536
+  pub room : length (with_names names (names_in_line line)) ≤ 65536
 
 -- a front's names, and those of the next line
 room_for : (before : List (Line Text)) (line : Line Text) (after : List (Line Text))
@@ -52,8 +51,8 @@ same_length (text ∷ texts) [] each = absurd each
 same_length (text ∷ texts) (line ∷ lines) each = omega (arith, same_length texts lines each.1)
 
 next_of_front : (lines all : List (Line Text)) (left rest : Text) (names before : List Text)
-    → names ≡ with_names [] (flat_map names_in_line all) → length names ≤ MOST_NAMES
-    → before ≡ with_names [] (flat_map names_in_line lines) → length before ≤ MOST_NAMES
+    → names ≡ with_names [] (flat_map names_in_line all) → length names ≤ 65536
+    → before ≡ with_names [] (flat_map names_in_line lines) → length before ≤ 65536
     → length lines < length all → IsFront lines all left rest → IsNext before left
 next_of_front lines all left rest names before named room early few short front =
     by front.texts front.others front.whole front.each front.parts
@@ -101,8 +100,8 @@ next_line input names lines number before left is up =
 record IsGood (names : List Text) (text : Text) : Type 0 where
   pub line : Line Text
   pub is : IsHistoryLine text line
-  pub few : length names ≤ MOST_NAMES
-  pub room : length (with_names names (names_in_line line)) ≤ MOST_NAMES
+  pub few : length names ≤ 65536
+  pub room : length (with_names names (names_in_line line)) ≤ 65536
 
 good_line : (input : Text) (names : List Text) (lines : List (Line Text)) (number : ℕ)
     (before : List Text) (text : Text) → IsHistory input names lines
@@ -163,7 +162,7 @@ command_fits names text good =
     (names_in_reply good.line.reply) in
     let long = with_names-longer (with_names names (names_in good.line.command))
     (names_in_reply good.line.reply) in
-    let room : length (with_names names (names_in_line good.line)) ≤ MOST_NAMES = good.room in (
+    let room : length (with_names names (names_in_line good.line)) ≤ 65536 = good.room in (
       ap (with_names names) (sym (append-nil (names_in good.line.command))),
       omega (arith, ap length all),
     )
@@ -173,7 +172,7 @@ reply_fits : (names : List Text) (text : Text) (good : IsGood names text)
     (with_names (with_names names (names_in good.line.command)) (names_in_reply good.line.reply))
 reply_fits names text good = (
   refl,
-  subst (λ (l : List Text). length l ≤ MOST_NAMES)
+  subst (λ (l : List Text). length l ≤ 65536)
       (with_names-append names (names_in good.line.command) (names_in_reply good.line.reply))
       good.room,
 )

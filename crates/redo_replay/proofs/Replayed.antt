@@ -22,7 +22,7 @@ use Rattle.redo_model.proofs.RepliesByName.{same_reply}
 use Rattle.redo_command.specs.Meaning.{command_of, command_at, reply_of, line_of, line_at, reply_at}
 use Rattle.redo_command.specs.declared.reply.Line.{Line}
 use Rattle.redo_command.specs.declared.reply.Reply.{Reply}
-use Rattle.redo_replay.specs.Recorded.{Recorded, lines_of}
+use Rattle.redo_replay.specs.Recorded.{Recorded, AreLinesBelow, lines_of}
 use Rattle.redo_replay.specs.Verdicts.{IsFirstWrong}
 
 -- the lines of the code are those of the history, under its names
@@ -98,10 +98,6 @@ replayed_next {order} {now_order} {state} {next} {lines} {now_lines} line reply 
     subst (λ (at : (ℕ → ℕ → Ordering) × List Line). Replayed at.0 next at.1)
     (λ i. (sym orders i, sym grows i))
     (replayed_more order state next lines line reply replayed same answers step)
-
--- the lines' numbers have names
-abbrev pub AreLinesBelow : List Text → List Line → Type 0
-AreLinesBelow names lines = AllByRecursion (λ line. IsLineBelow (length names) (line_of line)) lines
 
 module _ (names : List Text) (distinct : IsDistinct bytes_eq names) (order : ℕ → ℕ → Ordering)
     (orders : OrdersAlike (numbering names) texts order) where

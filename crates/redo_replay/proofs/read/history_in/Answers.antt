@@ -3,7 +3,6 @@ use Rattle.std.proofs.lemmas.Result.{err_from_is_err_and}
 use Rattle.redo_model.specs.Renaming.{IsLineBelow}
 use Rattle.redo_command.specs.declared.reply.Line.{Line}
 use Rattle.redo_command.specs.Meaning.{line_of}
-use Rattle.redo_replay.specs.declared.history.TheConstants.{MOST_SESSIONS}
 use Rattle.redo_replay.proofs.Replayed.{all_more}
 use Rattle.redo_replay.proofs.MoreNames.{AreLinesBelow-Extends}
 use Rattle.redo_replay.proofs.HistorySteps.{one_read, all_read, read_up_to, read_before, line_fails}
@@ -42,7 +41,7 @@ lines-preserved c =
     let below = all_more (λ (l : Line). IsLineBelow (length new) (line_of l)) lines line
     (AreLinesBelow-Extends old new c.read_line.ensures.kept lines c.lines.invariant.below)
     c.in_ok-read_line.ensures.below in
-    let sessions = all_more (λ (l : Line). l.session < MOST_SESSIONS) lines line
+    let sessions = all_more (λ (l : Line). l.session < 64) lines line
     c.lines.invariant.sessions c.in_ok-read_line.ensures.session in
     record {
       so_far = rw c.in_ok-push.ensures.items so_far;

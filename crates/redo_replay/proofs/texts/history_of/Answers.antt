@@ -8,7 +8,7 @@ use Rattle.redo_replay.proofs.Inputs.{whole_known, memory_alone, read_alone, IsC
 use Rattle.redo_replay.proofs.texts.history_of.Goals as goal
 
 pub returns-in_err-read_history-clause-only : goal.returns-in_err-read_history-clause-only
-returns-in_err-read_history-clause-only g c bytes names lines is read =
+returns-in_err-read_history-clause-only g c lines (bytes, names, is, read) =
     let whole : bytes ≡ c.deref.result.now =
     whole_known (g.R.Read.remaining (inner_of c.args.input.now)) c.in-Ok.bytes.items bytes is
     c.in-Ok.ensures.whole ∙ sym c.deref.ensures.value in
@@ -29,7 +29,7 @@ returns-in_err-read_history-clause-cause g c =
     rw (p.1, p.2) cause
 
 pub returns-clause-same : goal.returns-clause-same
-returns-clause-same g c bytes names lines is read =
+returns-clause-same g c lines (bytes, names, is, read) =
     let whole : bytes ≡ c.deref.result.now =
     whole_known (g.R.Read.remaining (inner_of c.args.input.now)) c.in-Ok.bytes.items bytes is
     c.in-Ok.ensures.whole ∙ sym c.deref.ensures.value in
