@@ -21,7 +21,8 @@ part_of-own s line lines e = cond_same line.session s (line ∷ part_of s lines)
 
 pub part_of-other : {N : Type 0} (s : ℕ) (line : PlacedLine N) (lines : List (PlacedLine N))
     → line.session ≢ s → part_of s (line ∷ lines) ≡ part_of s lines
-part_of-other s line lines n = cond_other line.session s (line ∷ part_of s lines) (part_of s lines) n
+part_of-other s line lines n = cond_other line.session s (line ∷ part_of s lines) (part_of s lines)
+    n
 
 -- what holds of each line of each session holds of all lines
 pub all_by_parts : {N : Type 0} (P : PlacedLine N → Type 0) (lines : List (PlacedLine N))
@@ -70,7 +71,8 @@ push_same s xs ys line e = dite (ℕ_discrete line.session s)
 -- two lines of two sessions, in either order
 pub push_swap : {N : Type 0} (s : ℕ) (lines : List (PlacedLine N)) (line other : PlacedLine N)
     → line.session ≢ other.session
-    → part_of s ((lines ++ line ∷ []) ++ other ∷ []) ≡ part_of s ((lines ++ other ∷ []) ++ line ∷ [])
+    → part_of s ((lines ++ line ∷ []) ++ other ∷ [])
+    ≡ part_of s ((lines ++ other ∷ []) ++ line ∷ [])
 push_swap s lines line other ne = dite (ℕ_discrete line.session s)
     (λ q. let n : other.session ≢ s = (λ z. ne (q ∙ sym z)) in
     push_other s (lines ++ line ∷ []) other n ∙ push_own s lines line q

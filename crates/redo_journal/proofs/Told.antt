@@ -36,13 +36,15 @@ told_next t script before entry next =
     told_from t (length before) script entry (slice_get script (length before)) refl next
 
 -- where they are: they bear its number, and are numbered on within the script
-pub told_own : (t s : ℕ) (script : List (Command ℕ)) (before : List (PlacedLine ℕ)) (entries : List Entry)
+pub told_own : (t s : ℕ) (script : List (Command ℕ)) (before : List (PlacedLine ℕ))
+    (entries : List Entry)
     → IsJournalAfter s script before (map (line_told t script) entries)
     → 0 < length entries → t ≡ s
 told_own t s script before [] is some = absurd (omega (arith, some))
 told_own t s script before (entry ∷ entries) is some = is.0
 
-pub told_few : (t s : ℕ) (script : List (Command ℕ)) (before : List (PlacedLine ℕ)) (entries : List Entry)
+pub told_few : (t s : ℕ) (script : List (Command ℕ)) (before : List (PlacedLine ℕ))
+    (entries : List Entry)
     → IsJournalAfter s script before (map (line_told t script) entries)
     → length before ≤ length script → length before + length entries ≤ length script
 told_few t s script before [] is few = omega arith
@@ -53,7 +55,8 @@ told_few t s script before (entry ∷ entries) is few =
     let rest = told_few t s script (before ++ line ∷ []) entries is.2 (omega arith) in
     omega arith
 
-pub told_numbers : (t s : ℕ) (script : List (Command ℕ)) (before : List (PlacedLine ℕ)) (entries : List Entry)
+pub told_numbers : (t s : ℕ) (script : List (Command ℕ)) (before : List (PlacedLine ℕ))
+    (entries : List Entry)
     → IsJournalAfter s script before (map (line_told t script) entries)
     → (k : ℕ) → k < length entries → get_or (numbers_in entries) k 0 ≡ length before + k
 told_numbers t s script before [] is k within = absurd (omega (arith, within))
@@ -66,7 +69,8 @@ told_numbers t s script before (entry ∷ entries) is (suc k) within =
 
 -- they are, where they bear its number and are numbered from the count of those before them, within
 -- the script
-pub is_told : (t s : ℕ) (script : List (Command ℕ)) (before : List (PlacedLine ℕ)) (entries : List Entry)
+pub is_told : (t s : ℕ) (script : List (Command ℕ)) (before : List (PlacedLine ℕ))
+    (entries : List Entry)
     → (0 < length entries → t ≡ s) → length before + length entries ≤ length script
     → ((k : ℕ) → k < length entries → get_or (numbers_in entries) k 0 ≡ length before + k)
     → IsJournalAfter s script before (map (line_told t script) entries)

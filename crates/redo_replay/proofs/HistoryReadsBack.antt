@@ -8,34 +8,38 @@ use Rattle.redo_command.specs.Texts.{command_text_of, reply_text_of}
 use Rattle.redo_command.specs.Histories.{ended, answer_text_of, line_text_of, header_of, history_text_of}
 use Rattle.redo_command.proofs.LineLaws.{text_is_spelled}
 use Rattle.redo_replay.specs.HistoryTexts.{IsHistoryLine, HasLineForm, AreHistoryLines, AreNamesOf, IsHistory}
-use Rattle.redo_replay.specs.declared.history.TheConstants.{MOST_LINES}
 
 -- without its LF
 abbrev own_text_of : Line Text → Text
 own_text_of line = decimal (line.session + 1) ++ codes " " ++ answer_text_of line
 
 regroup : (s c a r : Text) → s ++ (c ++ a ++ r) ≡ s ++ c ++ a ++ r
-regroup s c a r = sym (append_assoc s (c ++ a) r) ∙ ap (λ (t : Text). t ++ r) (sym (append_assoc s c a))
+regroup s c a r = sym (append_assoc s (c ++ a) r)
+    ∙ ap (λ (t : Text). t ++ r) (sym (append_assoc s c a))
 
 line_reads_back : (line : Line Text) → HasLineForm line → IsHistoryLine (own_text_of line) line
 line_reads_back line form = record {
   session = form.session;
   command = command_text_of line.command;
   reply = reply_text_of line.reply;
-  parts = regroup (decimal (line.session + 1) ++ codes " ") (command_text_of line.command) (codes " => ") (reply_text_of line.reply);
+  parts = regroup (decimal (line.session + 1) ++ codes " ") (command_text_of line.command)
+      (codes " => ") (reply_text_of line.reply);
   said = (form.command, form.short, text_is_spelled line.command form.command);
   answered = (form.reply, refl);
 }
 
-lines_read_back : (lines : List (Line Text)) → AllByRecursion HasLineForm lines → AreHistoryLines (map own_text_of lines) lines
+lines_read_back : (lines : List (Line Text)) → AllByRecursion HasLineForm lines
+    → AreHistoryLines (map own_text_of lines) lines
 lines_read_back [] forms = tt
 lines_read_back (line ∷ lines) forms = (line_reads_back line forms.0, lines_read_back lines forms.1)
 
-all_ended : (lines : List (Line Text)) → flat_map line_text_of lines ≡ flat_map ended (map own_text_of lines)
+all_ended : (lines : List (Line Text))
+    → flat_map line_text_of lines ≡ flat_map ended (map own_text_of lines)
 all_ended [] = refl
 all_ended (line ∷ lines) = ap (λ (t : Text). line_text_of line ++ t) (all_ended lines)
 
-pub history_reads_back : (lines : List (Line Text)) (names : List Text) (rest : Text) → AllByRecursion HasLineForm lines → length lines ≤ MOST_LINES → AreNamesOf lines names
+pub history_reads_back : (lines : List (Line Text)) (names : List Text) (rest : Text)
+    → AllByRecursion HasLineForm lines → length lines ≤ 1048576 → AreNamesOf lines names
     → IsHistory (history_text_of lines ++ rest) names lines
 history_reads_back lines names rest forms few named = record {
   few = few;

@@ -4,38 +4,67 @@ use Rattle.std.specs.Prelude.{IfSome}
 use Rattle.redo_model.specs.Names.{Text}
 use Rattle.redo_replay.specs.HistoryFaults.{IsHistoryFault}
 use Rattle.redo_replay.specs.Replays.{IsCause, IsDeviceFault, replay_fault}
-use Rattle.redo_replay.specs.declared.texts.TheConstants.{INPUT_LIMIT}
 use Rattle.redo_replay.specs.declared.fault.HistoryFault.{HistoryFault}
 use Rattle.redo_replay.specs.declared.fault.HistoryFault.TheVariants as history_faults
 use Rattle.redo_replay.specs.declared.fault.ReplayFault.TheVariants.{Memory}
 
 -- what holds of all that was read holds of the bytes, where they are known
-known_read : (known : Option Text) (whole : Text) (P : Text → Type 0) → IfSome known (λ bytes. whole ≡ bytes) → P whole → IfSome known P
+known_read : (known : Option Text) (whole : Text) (P : Text → Type 0)
+    → IfSome known (λ bytes. whole ≡ bytes) → P whole → IfSome known P
 known_read None whole P same h = tt
 known_read (Some bytes) whole P same h = subst P same h
 
 -- bytes that are known are what was read
-pub whole_known : (known : Option Text) (whole bytes : Text) → known ≡ Some bytes → IfSome known (λ all. whole ≡ all) → bytes ≡ whole
-whole_known known whole bytes is same = sym (subst (λ (k : Option Text). IfSome k (λ all. whole ≡ all)) is same)
+pub whole_known : (known : Option Text) (whole bytes : Text) → known ≡ Some bytes
+    → IfSome known (λ all. whole ≡ all) → bytes ≡ whole
+whole_known known whole bytes is same =
+    sym (subst (λ (k : Option Text). IfSome k (λ all. whole ≡ all)) is same)
 
 -- an answer that is want of memory, or a read history, is the one or the other
-pub memory_alone : {H : Type 0} {result : Result H HistoryFault} (fault : HistoryFault) → result ≡ Err fault → ((result ≡ Err history_faults.Memory) ⊎ ⊥) → (replay_fault fault ≡ Memory) ⊎ IsDeviceFault (replay_fault fault)
-memory_alone fault refused (inl is) = let same : fault ≡ history_faults.Memory = cc in inl (ap replay_fault same)
+pub memory_alone : {H : Type 0} {result : Result H HistoryFault} (fault : HistoryFault)
+    → result ≡ Err fault → ((result ≡ Err history_faults.Memory) ⊎ ⊥)
+    → (replay_fault fault ≡ Memory) ⊎ IsDeviceFault (replay_fault fault)
+memory_alone fault refused (inl is) = let same : fault ≡ history_faults.Memory = cc in
+    inl (ap replay_fault same)
 memory_alone fault refused (inr none) = absurd none
 
-pub read_alone : {H A : Type 0} {history : H} {fault : HistoryFault} → ((Ok history ≡ Err fault) ⊎ A) → A
+pub read_alone : {H A : Type 0} {history : H} {fault : HistoryFault}
+    → ((Ok history ≡ Err fault) ⊎ A) → A
 read_alone (inl is) = absurd cc
 read_alone (inr rest) = rest
 
 -- the fault of what was read is the input's
-pub IsCause-read : (known : Option Text) (whole : Text) (faulted out_faulted : Bool) (fault : HistoryFault) → IfSome known (λ bytes. whole ≡ bytes)
-    → length whole ≤ INPUT_LIMIT → IsHistoryFault whole fault → IsCause known faulted out_faulted (replay_fault fault)
+pub IsCause-read : (known : Option Text) (whole : Text) (faulted out_faulted : Bool)
+    (fault : HistoryFault) → IfSome known (λ bytes. whole ≡ bytes)
+    → length whole ≤ 1073741824 → IsHistoryFault whole fault
+    → IsCause known faulted out_faulted (replay_fault fault)
 IsCause-read known whole faulted out_faulted fault same few is = by fault is
   where
-    by : (fault : HistoryFault) → IsHistoryFault whole fault → IsCause known faulted out_faulted (replay_fault fault)
+    by : (fault : HistoryFault) → IsHistoryFault whole fault
+        → IsCause known faulted out_faulted (replay_fault fault)
     by history_faults.Memory is = tt
-    by history_faults.BadHeader is = (λ e. cc, known_read known whole (λ input. (length input ≤ INPUT_LIMIT) × IsHistoryFault input history_faults.BadHeader) same (few, is))
-    by history_faults.Cut is = (λ e. cc, known_read known whole (λ input. (length input ≤ INPUT_LIMIT) × IsHistoryFault input history_faults.Cut) same (few, is))
-    by (history_faults.BadSession n) is = (λ e. cc, known_read known whole (λ input. (length input ≤ INPUT_LIMIT) × IsHistoryFault input (history_faults.BadSession n)) same (few, is))
-    by (history_faults.BadLine n f) is = (λ e. cc, known_read known whole (λ input. (length input ≤ INPUT_LIMIT) × IsHistoryFault input (history_faults.BadLine n f)) same (few, is))
-    by (history_faults.BadReply n) is = (λ e. cc, known_read known whole (λ input. (length input ≤ INPUT_LIMIT) × IsHistoryFault input (history_faults.BadReply n)) same (few, is))
+    by history_faults.BadHeader is = (
+      λ e. cc,
+      known_read known whole (λ input. (length input ≤ 1073741824)
+          × IsHistoryFault input history_faults.BadHeader) same (few, is),
+    )
+    by history_faults.Cut is = (
+      λ e. cc,
+      known_read known whole (λ input. (length input ≤ 1073741824)
+          × IsHistoryFault input history_faults.Cut) same (few, is),
+    )
+    by (history_faults.BadSession n) is = (
+      λ e. cc,
+      known_read known whole (λ input. (length input ≤ 1073741824)
+          × IsHistoryFault input (history_faults.BadSession n)) same (few, is),
+    )
+    by (history_faults.BadLine n f) is = (
+      λ e. cc,
+      known_read known whole (λ input. (length input ≤ 1073741824)
+          × IsHistoryFault input (history_faults.BadLine n f)) same (few, is),
+    )
+    by (history_faults.BadReply n) is = (
+      λ e. cc,
+      known_read known whole (λ input. (length input ≤ 1073741824)
+          × IsHistoryFault input (history_faults.BadReply n)) same (few, is),
+    )

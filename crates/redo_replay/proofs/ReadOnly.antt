@@ -11,8 +11,14 @@ use Rattle.redo_replay.specs.declared.fault.HistoryFault.TheVariants.{Memory}
 use Rattle.redo_replay.proofs.OneHistory.{one_history}
 use Rattle.redo_replay.proofs.NoFault.{no_fault}
 
-pub read_only : (result : Result Recorded HistoryFault) (input : Text) (names : List Text) (lines : List (Line Text))
-    → IsHistory input names lines → IfOk result (λ history. IsHistory input history.names (lines_of history)) → IfErr result (IsHistoryFault input)
-    → (result ≡ Err Memory) ⊎ IsOkAnd result (λ history. (history.names ≡ names) × (lines_of history ≡ lines))
-read_only (Ok history) input names lines is read fault = inr (one_history input history.names names (lines_of history) lines read is)
-read_only (Err e) input names lines is read fault = inl (ap Err (no_fault input names lines e is fault))
+pub read_only : (result : Result Recorded HistoryFault) (input : Text) (names : List Text)
+    (lines : List (Line Text))
+    → IsHistory input names lines
+    → IfOk result (λ history. IsHistory input history.names (lines_of history))
+    → IfErr result (IsHistoryFault input)
+    → (result ≡ Err Memory) ⊎ IsOkAnd result (λ history. (history.names ≡ names)
+    × (lines_of history ≡ lines))
+read_only (Ok history) input names lines is read fault =
+    inr (one_history input history.names names (lines_of history) lines read is)
+read_only (Err e) input names lines is read fault =
+    inl (ap Err (no_fault input names lines e is fault))

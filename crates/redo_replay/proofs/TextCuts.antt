@@ -22,7 +22,8 @@ Contains-first : (x y : ℕ) (xs : List ℕ) → x ≡ y → Contains (x ∷ xs)
 Contains-first x y xs e = (0, omega arith, e)
 
 -- a text is cut in one way at the first such byte
-pub one_cut : (a b r s : Text) (x : ℕ) → ¬ (Contains a x) → ¬ (Contains b x) → a ++ x ∷ r ≡ b ++ x ∷ s → (a ≡ b) × (r ≡ s)
+pub one_cut : (a b r s : Text) (x : ℕ) → ¬ (Contains a x) → ¬ (Contains b x)
+    → a ++ x ∷ r ≡ b ++ x ∷ s → (a ≡ b) × (r ≡ s)
 one_cut a b r s x p q e = first_cut x a b r s (without_from x a p) (without_from x b q) e
 
 both_false : (a b : Bool) → (a || b) ≡ false → (a ≡ false) × (b ≡ false)
@@ -34,7 +35,8 @@ not_among : (xs : Text) (b : ℕ) → list_any (λ y. y == b) xs ≡ false → �
 not_among [] b e c = absurd (omega (arith, c.1))
 not_among (x ∷ xs) b e c =
     let both = both_false (x == b) (list_any (λ y. y == b) xs) e in
-    let other : ¬ (x ≡ b) = λ same. let yes : (x == b) ≡ true = (Decides-eqb x b).1 same in absurd cc in
+    let other : ¬ (x ≡ b) = λ same. let yes : (x == b) ≡ true = (Decides-eqb x b).1 same in
+    absurd cc in
     not_among xs b both.1 (Contains-tail x xs b other c)
 
 not_single : (x y : ℕ) → ¬ (x ≡ y) → ¬ (Contains (x ∷ []) y)
@@ -47,8 +49,13 @@ no_byte_in_decimal b n low = decimal_by_steps (λ m ds. ¬ (Contains ds b)) one 
     one : (m : ℕ) → m < 10 → ¬ (Contains ((48 + m) ∷ []) b)
     one m lt = not_single (48 + m) b (λ e. omega arith)
 
-    more : (m : ℕ) (ds : List ℕ) → 10 ≤ m → ¬ (Contains ds b) → ¬ (Contains (ds ++ ((48 + m % 10) ∷ [])) b)
-    more m ds le none c = elim (Contains-append_cases ds ((48 + m % 10) ∷ []) b c) [ inl before ↦ none before | inr last ↦ not_single (48 + m % 10) b (λ e. omega arith) last ]
+    more : (m : ℕ) (ds : List ℕ) → 10 ≤ m → ¬ (Contains ds b)
+        → ¬ (Contains (ds ++ ((48 + m % 10) ∷ [])) b)
+    more m ds le none c = elim (Contains-append_cases ds ((48 + m % 10) ∷ []) b c) [
+      | inl before ↦
+          none before
+      | inr last ↦ not_single (48 + m % 10) b (λ e. omega arith) last
+    ]
 
 -- the header without its LF
 abbrev pub header_words : ℕ → Text
@@ -56,9 +63,15 @@ header_words count = codes "history " ++ decimal count
 
 pub no_lf_in_header : (count : ℕ) → count < 2 ^ 64 → ¬ (Contains (header_words count) 10)
 no_lf_in_header count small c =
-    elim (Contains-append_cases (codes "history ") (decimal count) 10 c) [ inl word ↦ not_among (codes "history ") 10 refl word | inr digit ↦ no_byte_in_decimal 10 count (omega arith) small digit ]
+    elim (Contains-append_cases (codes "history ") (decimal count) 10 c) [
+      | inl word ↦
+          not_among (codes "history ") 10 refl word
+      | inr digit ↦
+          no_byte_in_decimal 10 count (omega arith) small digit
+    ]
 
-pub header_parts : (count : ℕ) (rest : Text) → header_of count ++ rest ≡ header_words count ++ 10 ∷ rest
+pub header_parts : (count : ℕ) (rest : Text) → header_of count ++ rest ≡ header_words count ++ 10
+    ∷ rest
 header_parts count rest = append_assoc (header_words count) (10 ∷ []) rest
 
 pub has_lf : (text rest : Text) (x : ℕ) → Contains (text ++ x ∷ rest) x
@@ -114,9 +127,14 @@ cut_at_place text x at e = (
 abbrev pub NoArrowBelow : Text → ℕ → Type 0
 NoArrowBelow rest n = (k : ℕ) (back : Text) → k < n → drop k rest ≢ arrow ++ back
 
-pub no_arrow_more : (rest : Text) (n : ℕ) → NoArrowBelow rest n → ((back : Text) → drop n rest ≢ arrow ++ back) → NoArrowBelow rest (n + 1)
+pub no_arrow_more : (rest : Text) (n : ℕ) → NoArrowBelow rest n
+    → ((back : Text) → drop n rest ≢ arrow ++ back) → NoArrowBelow rest (n + 1)
 no_arrow_more rest n none here k back lt e =
-    elim (cases_lt k n) [ inl before ↦ none k back before e | inr le ↦ let same : k ≡ n = omega arith in here back (subst (λ (m : ℕ). drop m rest ≡ arrow ++ back) same e) ]
+    elim (cases_lt k n) [
+      | inl before ↦ none k back before e
+      | inr le ↦ let same : k ≡ n =
+          omega arith in here back (subst (λ (m : ℕ). drop m rest ≡ arrow ++ back) same e)
+    ]
 
 -- no arrow has its equals sign from this place on and below that one, so none does below that one
 pub no_arrow_to : (rest : Text) (seen at : ℕ) → NoArrowBelow rest (seen - 1)
@@ -171,12 +189,19 @@ no_arrow_past rest at none here k back lt e =
     let other = λ (b : Text) (is : drop (at - 1) rest ≡ arrow ++ b). here b (omega arith) is in
     no_arrow_more rest (at - 1) none other k back (omega arith) e
 
-after_front : (rest front back : Text) → rest ≡ front ++ arrow ++ back → drop (length front) rest ≡ arrow ++ back
-after_front rest front back e = ap (drop (length front)) (e ∙ append_assoc front arrow back) ∙ drop-append_seam front (arrow ++ back)
+after_front : (rest front back : Text) → rest ≡ front ++ arrow ++ back
+    → drop (length front) rest ≡ arrow ++ back
+after_front rest front back e = ap (drop (length front)) (e ∙ append_assoc front arrow back)
+    ∙ drop-append_seam front (arrow ++ back)
 
 pub no_arrow : (rest : Text) → NoArrowBelow rest (length rest - 1) → HasNoArrow rest
 no_arrow rest none front back e =
-    none (length front) back (omega (arith, ap length e, length-append (front ++ arrow) back, length-append front arrow)) (after_front rest front back e)
+    none (length front) back (omega (
+      arith,
+      ap length e,
+      length-append (front ++ arrow) back,
+      length-append front arrow,
+    )) (after_front rest front back e)
 
 -- where no equals sign is left, there is no arrow
 pub no_arrow_left : (rest : Text) (seen : ℕ) → NoArrowBelow rest (seen - 1)
@@ -187,13 +212,16 @@ no_arrow_left rest seen none e =
     let other = others_after rest seen (length rest) (λ k lt. free k (omega (arith, long))) in
     no_arrow rest (no_arrow_to rest seen (length rest) none other)
 
-pub cut_at_first : (rest reply : Text) (n : ℕ) → n ≤ length rest → NoArrowBelow rest n → drop n rest ≡ arrow ++ reply → IsCutAtArrow rest (take n rest) reply
+pub cut_at_first : (rest reply : Text) (n : ℕ) → n ≤ length rest → NoArrowBelow rest n
+    → drop n rest ≡ arrow ++ reply → IsCutAtArrow rest (take n rest) reply
 cut_at_first rest reply n within none here = record {
-  parts = sym (take-append-drop n rest) ∙ ap (λ (l : Text). take n rest ++ l) here ∙ sym (append_assoc (take n rest) arrow reply);
+  parts = sym (take-append-drop n rest) ∙ ap (λ (l : Text). take n rest ++ l) here
+      ∙ sym (append_assoc (take n rest) arrow reply);
   first = λ front back e. not_before front back e;
 }
   where
-    not_before : (front back : Text) → rest ≡ front ++ arrow ++ back → length (take n rest) ≤ length front
+    not_before : (front back : Text) → rest ≡ front ++ arrow ++ back
+        → length (take n rest) ≤ length front
     not_before front back e =
         elim (cases_lt (length front) n) [
           | inl before ↦ absurd (none (length front) back before (after_front rest front back e))

@@ -1,7 +1,6 @@
 -- Which texts are histories.
 use Rattle.std.specs.Prelude.{◌≡◌, ◌+◌, ◌<◌, ◌≤◌, List, [], ◌∷◌, ◌++◌, length, codes, decimal, ⊤}
 use Rattle.std.specs.List.{flat_map}
-use Rattle.redo_names.specs.declared.names.TheConstants.{MOST_NAMES}
 use Rattle.redo_model.specs.Names.{Text}
 use Rattle.redo_model.specs.Command.{names_in}
 use Rattle.redo_model.specs.History.{Line}
@@ -9,11 +8,10 @@ use Rattle.redo_command.specs.Grammar.{HasForm, IsShort, IsCommandLine, with_nam
 use Rattle.redo_command.specs.Texts.{command_text_of}
 use Rattle.redo_command.specs.Replies.{HasReplyForm, IsReplyText, names_in_reply}
 use Rattle.redo_command.specs.Histories.{ended, header_of}
-use Rattle.redo_replay.specs.declared.history.TheConstants.{MOST_LINES, MOST_SESSIONS}
 
 -- the text, without its LF, is the line's: its session's number, its command and its reply
 pub record IsHistoryLine (text : Text) (line : Line Text) : Type 0 where
-  pub session : line.session < MOST_SESSIONS
+  pub session : line.session < 64
   pub command : Text
   pub reply : Text
   pub parts : text ≡ decimal (line.session + 1) ++ codes " " ++ command ++ codes " => " ++ reply
@@ -22,7 +20,7 @@ pub record IsHistoryLine (text : Text) (line : Line Text) : Type 0 where
 
 -- what a line has to be, so that its text is a line of a history
 pub record HasLineForm (line : Line Text) : Type 0 where
-  pub session : line.session < MOST_SESSIONS
+  pub session : line.session < 64
   pub command : HasForm line.command
   pub short : IsShort (command_text_of line.command)
   pub reply : HasReplyForm line.reply
@@ -32,7 +30,8 @@ abbrev pub AreHistoryLines : List Text → List (Line Text) → Type 0
 AreHistoryLines [] [] = ⊤
 AreHistoryLines [] (line ∷ lines) = ⊥
 AreHistoryLines (text ∷ texts) [] = ⊥
-AreHistoryLines (text ∷ texts) (line ∷ lines) = IsHistoryLine text line × AreHistoryLines texts lines
+AreHistoryLines (text ∷ texts) (line ∷ lines) =
+    IsHistoryLine text line × AreHistoryLines texts lines
 
 -- its names, in the order in which they are written
 abbrev pub names_in_line : Line Text → List Text
@@ -40,20 +39,24 @@ names_in_line line = names_in line.command ++ names_in_reply line.reply
 
 -- after are the names with those of the line, and not too many
 abbrev pub AddsLineNames : List Text → Line Text → List Text → Type 0
-AddsLineNames names line after = (after ≡ with_names names (names_in_line line)) × (length after ≤ MOST_NAMES)
+AddsLineNames names line after =
+    (after ≡ with_names names (names_in_line line)) × (length after ≤ 65536)
 
 -- after are the names of the lines, each once, in the order in which they are met, and not too many
 abbrev pub AreNamesOf : List (Line Text) → List Text → Type 0
-AreNamesOf lines after = (after ≡ with_names [] (flat_map names_in_line lines)) × (length after ≤ MOST_NAMES)
+AreNamesOf lines after =
+    (after ≡ with_names [] (flat_map names_in_line lines)) × (length after ≤ 65536)
 
 -- the texts are these lines, one by one, with these names
-pub record AreLinesOf (texts : List Text) (lines : List (Line Text)) (names : List Text) : Type 0 where
+pub record AreLinesOf (texts : List Text) (lines : List (Line Text)) (names : List Text)
+    : Type 0 where
   pub each : AreHistoryLines texts lines
   pub named : AreNamesOf lines names
 
--- the input is a history of these lines and names: a header, as many lines as it says, and whatever follows
+-- the input is a history of these lines and names: a header, as many lines as it says, and
+-- whatever follows
 pub record IsHistory (input : Text) (names : List Text) (lines : List (Line Text)) : Type 0 where
-  pub few : length lines ≤ MOST_LINES
+  pub few : length lines ≤ 1048576
   pub texts : List Text
   pub rest : Text
   pub parts : input ≡ header_of (length lines) ++ flat_map ended texts ++ rest

@@ -1,10 +1,8 @@
 -- What the fields of a history show, and what they keep.
 use Rattle.std.specs.Prelude.{◌<◌, ◌≤◌, length, map}
 use Rattle.std.specs.List.{AllByRecursion}
-use Rattle.redo_model.specs.Renaming.{IsLineBelow}
 use Rattle.redo_command.specs.Meaning.{line_of}
-use Rattle.redo_replay.specs.Recorded.{Recorded}
-use Rattle.redo_replay.specs.declared.history.TheConstants.{MOST_LINES, MOST_SESSIONS}
+use Rattle.redo_replay.specs.Recorded.{Recorded, AreLinesBelow}
 use Rattle.redo_replay.specs.declared.history.History.TheInside.{Inside}
 
 abbrev pub recorded_of : Inside → Recorded
@@ -12,6 +10,6 @@ recorded_of inside = record { names = inside.names; lines = map line_of inside.l
 
 -- the lines' numbers are those of the names, and neither sessions nor lines are too many
 pub record KeepsLines (inside : Inside) : Type 0 where
-  pub below : AllByRecursion (λ line. IsLineBelow (length inside.names) (line_of line)) inside.lines.items
-  pub sessions : AllByRecursion (λ line. line.session < MOST_SESSIONS) inside.lines.items
-  pub few : length inside.lines.items ≤ MOST_LINES
+  pub below : AreLinesBelow inside.names inside.lines.items
+  pub sessions : AllByRecursion (λ line. line.session < 64) inside.lines.items
+  pub few : length inside.lines.items ≤ 1048576

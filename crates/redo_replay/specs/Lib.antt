@@ -3,6 +3,7 @@ pub mod Kept
 pub mod Verdicts
 pub mod HistoryTexts
 pub mod HistoryFaults
+pub mod Devices
 pub mod Replays
 pub mod Merges
 pub mod Merging

@@ -1,9 +1,9 @@
 -- What a replay reads and writes, and why it is refused.
-use Rattle.std.specs.Prelude.{◌≡◌, ◌≢◌, ◌<◌, ◌≤◌, Bool, List, ◌++◌, length, Option, IfSome, IsTrue, ⊤}
+use Rattle.std.specs.Prelude.{◌≡◌, ◌≢◌, ◌<◌, ◌≤◌, Bool, List, ◌++◌, length, Option, Some, IfSome, IsTrue, ⊤}
 use Rattle.std.specs.Io.KnownBytes.{Appends}
 use Rattle.redo_model.specs.Names.{Text}
 use Rattle.redo_model.specs.History.{Line}
-use Rattle.redo_replay.specs.Verdicts.{Verdict, IsVerdict, verdict_at, verdict_text_of}
+use Rattle.redo_replay.specs.Verdicts.{IsVerdict, verdict_at, verdict_text_of}
 use Rattle.redo_replay.specs.HistoryTexts.{IsHistory}
 use Rattle.redo_replay.specs.HistoryFaults.{IsHistoryFault}
 use Rattle.redo_replay.specs.declared.verdict.Verdict as declared
@@ -16,31 +16,43 @@ use Rattle.redo_replay.specs.declared.fault.ReplayFault.TheVariants.{Memory, His
 abbrev pub IsReadAs : Text → List Text → List (Line Text) → Type 0
 IsReadAs input names lines = (length input ≤ 1073741824) × IsHistory input names lines
 
--- the input, where it is known, is a history; the verdict is the right one on its lines, and this is its text
+-- the input's bytes are known, and they are a history of these lines
+abbrev pub IsKnownAs : Option Text → List (Line Text) → Type 0
+IsKnownAs known lines =
+    (input : Text) × (names : List Text) × (known ≡ Some input) × IsReadAs input names lines
+
+-- the input, where it is known, is a history; the verdict is the right one on its lines, and this
+-- is its text
 abbrev pub HasVerdict : Option Text → declared.Verdict → Text → Type 0
-HasVerdict known verdict text = (names : List Text) × (lines : List (Line Text)) × IfSome known (λ input. IsReadAs input names lines)
-    × IsVerdict lines (verdict_at names verdict) × (text ≡ verdict_text_of (verdict_at names verdict))
+HasVerdict known verdict text =
+    (names : List Text) × (lines : List (Line Text))
+    × IfSome known (λ input. IsReadAs input names lines)
+    × IsVerdict lines (verdict_at names verdict)
+    × (text ≡ verdict_text_of (verdict_at names verdict))
 
 -- the same, where its text was written
-abbrev pub WritesVerdict : Option Text → declared.Verdict → Option Text → Option Text → Type 0
-WritesVerdict known verdict before after = (names : List Text) × (lines : List (Line Text)) × IfSome known (λ input. IsReadAs input names lines)
-    × IsVerdict lines (verdict_at names verdict) × Appends before after (verdict_text_of (verdict_at names verdict))
+abbrev pub WritesVerdict : Option Text → Option Text → Option Text → declared.Verdict → Type 0
+WritesVerdict known before after verdict =
+    (text : Text) × HasVerdict known verdict text × Appends before after text
 
 -- the same, where of the verdict's text a front was written
 abbrev pub WritesPart : Option Text → Option Text → Option Text → Type 0
-WritesPart known before after = (names : List Text) × (lines : List (Line Text)) × (verdict : Verdict) × (sent : Text) × (rest : Text)
-    × IfSome known (λ input. IsReadAs input names lines) × IsVerdict lines verdict × (verdict_text_of verdict ≡ sent ++ rest) × Appends before after sent
+WritesPart known before after =
+    (verdict : declared.Verdict) × (sent : Text) × (rest : Text)
+    × HasVerdict known verdict (sent ++ rest) × Appends before after sent
 
 -- want of memory has one name
 abbrev pub replay_fault : HistoryFault → ReplayFault
 replay_fault history_faults.Memory = Memory
 replay_fault fault = History fault
 
--- the cause of a fault: `known` are the input's bytes, where they are known, `faulted` says whether a read failed,
--- and `out_faulted` whether a write failed
+-- the cause of a fault: `known` are the input's bytes, where they are known, `faulted` says whether
+-- a read failed, and `out_faulted` whether a write failed
 abbrev pub IsCause : Option Text → Bool → Bool → ReplayFault → Type 0
 IsCause known faulted out_faulted Memory = ⊤
-IsCause known faulted out_faulted (History fault) = (fault ≢ history_faults.Memory) × IfSome known (λ input. (length input ≤ 1073741824) × IsHistoryFault input fault)
+IsCause known faulted out_faulted (History fault) =
+    (fault ≢ history_faults.Memory)
+    × IfSome known (λ input. (length input ≤ 1073741824) × IsHistoryFault input fault)
 IsCause known faulted out_faulted Device = IsTrue faulted
 IsCause known faulted out_faulted TooLong = IfSome known (λ input. 1073741824 < length input)
 IsCause known faulted out_faulted Write = IsTrue out_faulted

@@ -12,7 +12,8 @@ use Rattle.redo_command.specs.Histories.{ended}
 use Rattle.redo_replay.specs.declared.verdict.Verdict as declared
 use Rattle.redo_replay.specs.declared.verdict.Verdict.TheVariants as coded
 
--- they are, in so many lines; or the first wrong one is in this line, counted from 1, and this is the right one
+-- they are, in so many lines; or the first wrong one is in this line, counted from 1, and this is
+-- the right one
 pub data Verdict : Type 0 where
   Same : ℕ → Verdict
   Differs : ℕ → Reply Text → Verdict
@@ -35,7 +36,8 @@ IsVerdict lines (Differs number reply) = IsFirstWrong lines number reply
 
 abbrev pub verdict_text_of : Verdict → Text
 verdict_text_of (Same count) = ended (codes "same " ++ decimal count)
-verdict_text_of (Differs number reply) = ended (codes "differs " ++ decimal number ++ codes " " ++ reply_text_of reply)
+verdict_text_of (Differs number reply) =
+    ended (codes "differs " ++ decimal number ++ codes " " ++ reply_text_of reply)
 
 -- a verdict of the code, under the names that its numbers stand for
 abbrev pub verdict_at : List Text → declared.Verdict → Verdict

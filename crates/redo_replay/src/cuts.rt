@@ -1,6 +1,6 @@
 ghost use Rattle.std.specs.Prelude.{◌≡◌, ◌≢◌, ◌<◌, ◌-◌, ◌∷◌, ◌++◌, length, drop, Contains, MatchOption};
 ghost use Rattle.redo_model.specs.Names.{Text};
-ghost use Rattle.redo_replay.specs.HistoryFaults.{arrow, IsCutAtSpace, IsCutAtArrow, HasNoArrow};
+ghost use Rattle.redo_replay.specs.HistoryFaults.{arrow, IsCutAt, IsCutAtSpace, IsCutAtArrow, HasNoArrow};
 
 use redo_command::place_of;
 
@@ -9,13 +9,15 @@ const ARROW: &[u8] = b" => ";
 /// What stands before the first such byte, and what stands after it.
 #[inline]
 pub(crate) fn cut_at(text: &[u8], byte: u8) -> Option<(&[u8], &[u8])>
-    ensures { MatchOption result (¬ (Contains text.now byte)) (λ parts. (text.now ≡ parts.0.now ++ byte ∷ parts.1.now) × ¬ (Contains parts.0.now byte)) }
+    ensures { MatchOption result (¬ (Contains text.now byte))
+        (λ parts. IsCutAt byte text.now parts.0.now parts.1.now) }
 {
     let at = place_of(text, byte)?;
     Some((&text[..at], &text[at + 1..]))
 }
 
-/// What stands before the first space, and what stands after it. All of it stands before, where there is none.
+/// What stands before the first space, and what stands after it. All of it stands before, where
+/// there is none.
 pub(crate) fn cut_at_space(line: &[u8]) -> (&[u8], &[u8])
     ensures { IsCutAtSpace line.now result.0.now result.1.now }
 {
@@ -40,7 +42,8 @@ fn after_arrow(rest: &[u8], at: usize) -> Option<&[u8]>
 
 /// What stands before the first arrow, and what stands after it.
 pub(crate) fn cut_at_arrow(rest: &[u8]) -> Option<(&[u8], &[u8])>
-    ensures { MatchOption result (HasNoArrow rest.now) (λ parts. IsCutAtArrow rest.now parts.0.now parts.1.now) }
+    ensures { MatchOption result (HasNoArrow rest.now)
+        (λ parts. IsCutAtArrow rest.now parts.0.now parts.1.now) }
 {
     let mut seen = 0;
     while let Some(more) = place_of(&rest[seen..], b'=') {

@@ -1,8 +1,7 @@
 ghost use Rattle.std.specs.Prelude.{◌≡◌, ◌<◌, ◌≤◌, length, map};
 ghost use Rattle.std.specs.List.{AllByRecursion};
-ghost use Rattle.redo_names.specs.Names.{AreNames};
-ghost use Rattle.redo_model.specs.Renaming.{IsLineBelow};
 ghost use Rattle.redo_command.specs.Meaning.{line_of};
+ghost use Rattle.redo_replay.specs.Recorded.{AreLinesBelow};
 
 use redo_command::Line;
 use redo_names::Names;
@@ -10,9 +9,6 @@ use std::marker::Model;
 
 /// How many lines a history has at most.
 pub const MOST_LINES: usize = 1_048_576;
-
-/// How many sessions a history has at most.
-pub const MOST_SESSIONS: u8 = 64;
 
 /// What was asked and answered, line after line, with the names that the lines' numbers stand for.
 #[derive(Drop)]
@@ -36,9 +32,9 @@ impl Model for History {
 impl History {
     /// The history of these lines.
     pub fn new(names: Names, lines: Vec<Line>) -> History
-        requires below { AllByRecursion (λ line. IsLineBelow (length names) (line_of line)) lines.items }
-        requires sessions { AllByRecursion (λ line. line.session < MOST_SESSIONS) lines.items }
-        requires few { length lines.items ≤ MOST_LINES }
+        requires below { AreLinesBelow names lines.items }
+        requires sessions { AllByRecursion (λ line. line.session < 64) lines.items }
+        requires few { length lines.items ≤ 1048576 }
         ensures names { result.names ≡ names }
         ensures lines { result.lines ≡ map line_of lines.items }
     {
@@ -55,9 +51,9 @@ impl History {
     /// Its lines, whose numbers are those of its names.
     pub fn lines(&self) -> &[Line]
         ensures lines { map line_of result.now ≡ self.now.lines }
-        ensures below { AllByRecursion (λ line. IsLineBelow (length self.now.names) (line_of line)) result.now }
-        ensures sessions { AllByRecursion (λ line. line.session < MOST_SESSIONS) result.now }
-        ensures few { length result.now ≤ MOST_LINES }
+        ensures below { AreLinesBelow self.now.names result.now }
+        ensures sessions { AllByRecursion (λ line. line.session < 64) result.now }
+        ensures few { length result.now ≤ 1048576 }
     {
         &self.lines
     }

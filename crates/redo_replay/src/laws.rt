@@ -7,32 +7,37 @@ ghost use Rattle.redo_model.specs.History.{Legal, Line};
 ghost use Rattle.redo_command.specs.Histories.{history_text_of};
 ghost use Rattle.redo_replay.specs.HistoryTexts.{IsHistory, HasLineForm, AreNamesOf};
 ghost use Rattle.redo_replay.specs.HistoryFaults.{IsHistoryFault};
-ghost use Rattle.redo_replay.specs.declared.history.TheConstants.{MOST_LINES};
 ghost use Rattle.redo_replay.specs.declared.fault.HistoryFault.{HistoryFault};
 ghost use Rattle.redo_replay.specs.Verdicts.{IsVerdict, Verdict, Same};
 
 /// Lines have at most one verdict.
 pub fn one_verdict()
-    ensures { (lines : List (Line Text)) (a b : Verdict) → IsVerdict lines a → IsVerdict lines b → a ≡ b }
+    ensures { (lines : List (Line Text)) (a b : Verdict) →
+        IsVerdict lines a → IsVerdict lines b → a ≡ b }
 {}
 
 /// The verdict on lines is `Same` exactly where they are legal.
 pub fn same_where_legal()
-    ensures { (lines : List (Line Text)) (verdict : Verdict) → IsVerdict lines verdict → (verdict ≡ Same (length lines)) ↔ Legal texts lines }
+    ensures { (lines : List (Line Text)) (verdict : Verdict) → IsVerdict lines verdict →
+        (verdict ≡ Same (length lines)) ↔ Legal texts lines }
 {}
 
-/// The text of lines is a history of these lines, whatever follows, where their commands, replies and names fit.
+/// The text of lines is a history of these lines, whatever follows, where their commands, replies
+/// and names fit.
 pub fn history_reads_back()
-    ensures { (lines : List (Line Text)) (names : List Text) (rest : Text) → AllByRecursion HasLineForm lines → length lines ≤ MOST_LINES → AreNamesOf lines names
-        → IsHistory (history_text_of lines ++ rest) names lines }
+    ensures { (lines : List (Line Text)) (names : List Text) (rest : Text) →
+        AllByRecursion HasLineForm lines → length lines ≤ 1048576 → AreNamesOf lines names →
+        IsHistory (history_text_of lines ++ rest) names lines }
 {}
 
 /// A text is the history of at most one list of names and lines.
 pub fn one_history()
-    ensures { (input : Text) (n m : List Text) (a b : List (Line Text)) → IsHistory input n a → IsHistory input m b → (n ≡ m) × (a ≡ b) }
+    ensures { (input : Text) (n m : List Text) (a b : List (Line Text)) →
+        IsHistory input n a → IsHistory input m b → (n ≡ m) × (a ≡ b) }
 {}
 
 /// A history has no fault but want of memory.
 pub fn no_fault()
-    ensures { (input : Text) (names : List Text) (lines : List (Line Text)) (fault : HistoryFault) → IsHistory input names lines → IsHistoryFault input fault → fault ≡ HistoryFault.Memory }
+    ensures { (input : Text) (names : List Text) (lines : List (Line Text)) (fault : HistoryFault) →
+        IsHistory input names lines → IsHistoryFault input fault → fault ≡ HistoryFault.Memory }
 {}

@@ -13,11 +13,12 @@ mod texts;
 mod verdict;
 
 pub use fault::{HistoryFault, ReplayFault};
-pub use history::{History, MOST_LINES, MOST_SESSIONS};
+pub use history::{History, MOST_LINES};
 pub use laws::{history_reads_back, no_fault, one_history, one_verdict, same_where_legal};
 pub use merging::merge;
 pub use printed::{history_text, put_answer, put_number};
 pub use read::read_history;
+pub use redo_journal::MOST_SESSIONS;
 pub use replays::replay;
 pub use texts::{INPUT_LIMIT, replay_text};
 pub use verdict::{Verdict, verdict_text};

@@ -1,8 +1,8 @@
 ghost use Rattle.std.specs.Prelude.{◌≡◌, ◌++◌, length, map, decimal, IfOk, OnOk};
-ghost use Rattle.std.specs.List.{AllByRecursion};
 ghost use Rattle.redo_model.specs.Renaming.{IsLineBelow};
 ghost use Rattle.redo_command.specs.Meaning.{line_of, line_at};
 ghost use Rattle.redo_command.specs.Histories.{ended, answer_text_of, line_text_of, history_text_of};
+ghost use Rattle.redo_replay.specs.Recorded.{AreLinesBelow};
 
 use redo_command::{Line, command_text, reply_text};
 use redo_names::Names;
@@ -23,7 +23,8 @@ pub fn put_answer(
     names: &Names,
 ) -> Result<(), AllocError>
     requires { IsLineBelow (length names.now) (line_of line.now) }
-    ensures { OnOk result (text.new.items ≡ text.old.items ++ ended (answer_text_of (line_at names.now line.now))) }
+    ensures { OnOk result (text.new.items
+        ≡ text.old.items ++ ended (answer_text_of (line_at names.now line.now))) }
 {
     text.extend_from_slice(&command_text(alloc, &line.command, names)?)?;
     text.extend_from_slice(b" => ")?;
@@ -34,7 +35,8 @@ pub fn put_answer(
 
 fn put_line(alloc: Global, text: &mut Vec<u8>, line: &Line, names: &Names) -> Result<(), AllocError>
     requires { IsLineBelow (length names.now) (line_of line.now) }
-    ensures { OnOk result (text.new.items ≡ text.old.items ++ line_text_of (line_at names.now line.now)) }
+    ensures { OnOk result (text.new.items
+        ≡ text.old.items ++ line_text_of (line_at names.now line.now)) }
 {
     put_number(alloc, text, line.session as usize + 1)?;
     text.push(b' ')?;
@@ -43,8 +45,9 @@ fn put_line(alloc: Global, text: &mut Vec<u8>, line: &Line, names: &Names) -> Re
 
 /// The text of a history: how many lines it has, and the lines.
 pub fn history_text(alloc: Global, lines: &[Line], names: &Names) -> Result<Vec<u8>, AllocError>
-    requires { AllByRecursion (λ line. IsLineBelow (length names.now) (line_of line)) lines.now }
-    ensures { IfOk result (λ text. text.items ≡ history_text_of (map (line_at names.now) lines.now)) }
+    requires { AreLinesBelow names.now lines.now }
+    ensures { IfOk result (λ text. text.items
+        ≡ history_text_of (map (line_at names.now) lines.now)) }
 {
     let mut text = Vec::new(alloc);
     text.extend_from_slice(b"history ")?;

@@ -11,8 +11,9 @@ ghost use Rattle.redo_replay.specs.HistoryFaults.{IsHistoryFault, IsLineCause, I
 
 use crate::cuts::{cut_at, cut_at_arrow, cut_at_space};
 use crate::fault::HistoryFault;
-use crate::history::{History, MOST_LINES, MOST_SESSIONS};
+use crate::history::{History, MOST_LINES};
 use redo_command::{Line, LineFault, ReadFault, ReplyFault, read_command, read_number, read_reply};
+use redo_journal::MOST_SESSIONS;
 use redo_names::Names;
 use std::alloc::Global;
 
@@ -21,7 +22,8 @@ const SHORTEST_LINE: usize = 12;
 
 /// The session, counted from 0, whose number a word is.
 fn session_of(word: &[u8]) -> Option<u8>
-    ensures { MatchOption result ((session : ℕ) → ¬ (IsSessionWord word.now session)) (IsSessionWord word.now) }
+    ensures { MatchOption result ((session : ℕ) → ¬ (IsSessionWord word.now session))
+        (IsSessionWord word.now) }
 {
     let number = read_number(word)?;
     if number == 0 || number > MOST_SESSIONS as u32 {
@@ -32,7 +34,8 @@ fn session_of(word: &[u8]) -> Option<u8>
 
 /// How many lines the header says there are, and what stands after it.
 fn read_header(input: &[u8]) -> Result<(usize, &[u8]), HistoryFault>
-    ensures read { IfOk result (λ header. (header.0 ≤ MOST_LINES) × (input.now ≡ header_of header.0 ++ header.1.now)) }
+    ensures read { IfOk result (λ header. (header.0 ≤ 1048576)
+        × (input.now ≡ header_of header.0 ++ header.1.now)) }
     ensures fault { IfErr result (IsHistoryFault input.now) }
     ensures bad { IfErr result (λ fault. fault ≡ HistoryFault.BadHeader) }
 {
@@ -79,9 +82,10 @@ fn read_line(
     names: &mut Names,
 ) -> Result<Line, HistoryFault>
     ensures read { IfOk result (λ line. IsHistoryLine text.now (line_at names.new line)) }
-    ensures named { IfOk result (λ line. AddsLineNames names.old (line_at names.new line) names.new) }
+    ensures named { IfOk result (λ line.
+        AddsLineNames names.old (line_at names.new line) names.new) }
     ensures below { IfOk result (λ line. IsLineBelow (length names.new) (line_of line)) }
-    ensures session { IfOk result (λ line. line.session < MOST_SESSIONS) }
+    ensures session { IfOk result (λ line. line.session < 64) }
     ensures kept { Extends names.old names.new }
     ensures fault { IfErr result (IsLineCause names.old number text.now) }
 {
@@ -133,8 +137,9 @@ pub fn read_history(alloc: Global, input: &[u8]) -> Result<History, HistoryFault
     // What is read is a history of these names and lines.
     ensures read { IfOk result (λ history. IsHistory input.now history.names (lines_of history)) }
     // A history is read, unless memory runs out.
-    ensures only { (names : List Text) (lines : List (LineOf Text)) → IsHistory input.now names lines
-        → (result ≡ Err HistoryFault.Memory) ⊎ IsOkAnd result (λ history. (history.names ≡ names) × (lines_of history ≡ lines)) }
+    ensures only { (names : List Text) (lines : List (LineOf Text))
+        → IsHistory input.now names lines → (result ≡ Err HistoryFault.Memory)
+        ⊎ IsOkAnd result (λ history. (history.names ≡ names) × (lines_of history ≡ lines)) }
     // A fault is that of the header or of the first faulty line.
     ensures fault { IfErr result (IsHistoryFault input.now) }
     // A bad header is found before anything grows: it comes before want of memory.

@@ -1,13 +1,11 @@
 ghost use Rattle.std.specs.Prelude.{◌≡◌, ◌↔◌, ◌≤◌, length, map, IfOk};
-ghost use Rattle.std.specs.List.{AllByRecursion};
 ghost use Rattle.redo_model.specs.Names.{texts};
 ghost use Rattle.redo_model.specs.History.{Legal};
-ghost use Rattle.redo_model.specs.Renaming.{IsLineBelow};
-ghost use Rattle.redo_command.specs.Meaning.{line_of, line_at};
-ghost use Rattle.redo_replay.specs.Recorded.{lines_of};
+ghost use Rattle.redo_command.specs.Meaning.{line_at};
+ghost use Rattle.redo_replay.specs.Recorded.{AreLinesBelow, lines_of};
 ghost use Rattle.redo_replay.specs.Verdicts.{IsSame, IsVerdict, IsVerdictBelow, verdict_at};
 
-use crate::history::{History, MOST_LINES};
+use crate::history::History;
 use crate::verdict::Verdict;
 use redo_command::Line;
 use redo_names::Names;
@@ -16,9 +14,10 @@ use std::alloc::{AllocError, Global};
 
 /// The verdict on lines over these names.
 fn verdict_on(alloc: Global, names: &Names, lines: &[Line]) -> Result<Verdict, AllocError>
-    requires below { AllByRecursion (λ line. IsLineBelow (length names.now) (line_of line)) lines.now }
-    requires few { length lines.now ≤ MOST_LINES }
-    ensures verdict { IfOk result (λ verdict. IsVerdict (map (line_at names.now) lines.now) (verdict_at names.now verdict)) }
+    requires below { AreLinesBelow names.now lines.now }
+    requires few { length lines.now ≤ 1048576 }
+    ensures verdict { IfOk result (λ verdict.
+        IsVerdict (map (line_at names.now) lines.now) (verdict_at names.now verdict)) }
     ensures below { IfOk result (λ verdict. IsVerdictBelow (length names.now) verdict) }
 {
     // This call says that the names are distinct.
@@ -38,8 +37,10 @@ fn verdict_on(alloc: Global, names: &Names, lines: &[Line]) -> Result<Verdict, A
 
 /// Does the commands of a history again, and compares each reply with the one that it has.
 pub fn replay(alloc: Global, history: &History) -> Result<Verdict, AllocError>
-    // The verdict is the right one: all lines are legal, or this is the first wrong line and its right reply.
-    ensures verdict { IfOk result (λ verdict. IsVerdict (lines_of history.now) (verdict_at history.now.names verdict)) }
+    // The verdict is the right one: all lines are legal, or this is the first wrong line and its
+    // right reply.
+    ensures verdict { IfOk result (λ verdict.
+        IsVerdict (lines_of history.now) (verdict_at history.now.names verdict)) }
     ensures same { IfOk result (λ verdict. IsSame verdict ↔ Legal texts (lines_of history.now)) }
     // Its numbers are those of the history's names.
     ensures below { IfOk result (λ verdict. IsVerdictBelow (length history.now.names) verdict) }

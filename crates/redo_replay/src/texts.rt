@@ -1,11 +1,11 @@
-ghost use Rattle.std.specs.Prelude.{◌≡◌, ◌≢◌, ◌↔◌, ◌⊎◌, List, Some, true, false, IfSome, IfOk, IfErr, IsErrOf, IsErrAnd};
-ghost use Rattle.std.specs.Io.KnownBytes.{Keeps};
+ghost use Rattle.std.specs.Prelude.{◌≡◌, ◌≢◌, ◌↔◌, ◌⊎◌, List, true, false, IfSome, IfOk, IfErr, IsErrOf, IsErrAnd};
 ghost use Rattle.redo_model.specs.Names.{Text, texts};
 ghost use Rattle.redo_model.specs.History.{Line, Legal};
-ghost use Rattle.redo_command.specs.Watched.{is_faulted, inner_of};
+ghost use Rattle.redo_command.specs.Watched.{is_faulted};
+ghost use Rattle.redo_replay.specs.Devices.{known_in, WritesNothing};
 ghost use Rattle.redo_replay.specs.Recorded.{lines_of};
 ghost use Rattle.redo_replay.specs.Verdicts.{IsSame};
-ghost use Rattle.redo_replay.specs.Replays.{IsReadAs, HasVerdict, WritesVerdict, WritesPart, IsCause, IsDeviceFault};
+ghost use Rattle.redo_replay.specs.Replays.{IsReadAs, IsKnownAs, HasVerdict, WritesVerdict, WritesPart, IsCause, IsDeviceFault};
 
 use crate::fault::ReplayFault;
 use crate::history::History;
@@ -34,13 +34,16 @@ fn whole_fault(fault: WholeFault) -> ReplayFault
 
 /// Reads all of the input as a history.
 fn history_of<R: Read>(alloc: Global, input: &mut Watched<R>) -> Result<History, ReplayFault>
-    ensures read { IfOk result (λ history. IfSome (R.remaining (inner_of input.old)) (λ bytes. IsReadAs bytes history.names (lines_of history))) }
-    ensures only { (bytes : Text) (names : List Text) (lines : List (Line Text)) → R.remaining (inner_of input.old) ≡ Some bytes → IsReadAs bytes names lines
+    ensures read { IfOk result (λ history. IfSome (known_in R.remaining input.old)
+        (λ bytes. IsReadAs bytes history.names (lines_of history))) }
+    ensures only { (lines : List (Line Text)) → IsKnownAs (known_in R.remaining input.old) lines
         → IfErr result (λ fault. (fault ≡ ReplayFault.Memory) ⊎ IsDeviceFault fault) }
-    ensures same { (bytes : Text) (names : List Text) (lines : List (Line Text)) → R.remaining (inner_of input.old) ≡ Some bytes → IsReadAs bytes names lines
+    ensures same { (lines : List (Line Text)) → IsKnownAs (known_in R.remaining input.old) lines
         → IfOk result (λ history. lines_of history ≡ lines) }
-    ensures cause { IfErr result (IsCause (R.remaining (inner_of input.old)) (is_faulted input.new) false) }
-    ensures flag { ¬ (IsErrAnd result IsDeviceFault) → is_faulted input.new ≡ is_faulted input.old }
+    ensures cause { IfErr result
+        (IsCause (known_in R.remaining input.old) (is_faulted input.new) false) }
+    ensures flag { ¬ (IsErrAnd result IsDeviceFault)
+        → is_faulted input.new ≡ is_faulted input.old }
 {
     let bytes = match read_whole(alloc, input, INPUT_LIMIT) {
         Ok(bytes) => bytes,
@@ -54,13 +57,16 @@ fn verdict_on_input<R: Read>(
     alloc: Global,
     input: &mut Watched<R>,
 ) -> Result<(Verdict, Vec<u8>), ReplayFault>
-    ensures verdict { IfOk result (λ judged. HasVerdict (R.remaining (inner_of input.old)) judged.0 judged.1.items) }
-    ensures only { (bytes : Text) (names : List Text) (lines : List (Line Text)) → R.remaining (inner_of input.old) ≡ Some bytes → IsReadAs bytes names lines
+    ensures verdict { IfOk result (λ judged.
+        HasVerdict (known_in R.remaining input.old) judged.0 judged.1.items) }
+    ensures only { (lines : List (Line Text)) → IsKnownAs (known_in R.remaining input.old) lines
         → IfErr result (λ fault. (fault ≡ ReplayFault.Memory) ⊎ IsDeviceFault fault) }
-    ensures same { (bytes : Text) (names : List Text) (lines : List (Line Text)) → R.remaining (inner_of input.old) ≡ Some bytes → IsReadAs bytes names lines
+    ensures same { (lines : List (Line Text)) → IsKnownAs (known_in R.remaining input.old) lines
         → IfOk result (λ judged. IsSame judged.0 ↔ Legal texts lines) }
-    ensures cause { IfErr result (IsCause (R.remaining (inner_of input.old)) (is_faulted input.new) false) }
-    ensures flag { ¬ (IsErrAnd result IsDeviceFault) → is_faulted input.new ≡ is_faulted input.old }
+    ensures cause { IfErr result
+        (IsCause (known_in R.remaining input.old) (is_faulted input.new) false) }
+    ensures flag { ¬ (IsErrAnd result IsDeviceFault)
+        → is_faulted input.new ≡ is_faulted input.old }
 {
     let history = history_of(alloc, input)?;
     let verdict = replay(alloc, &history)?;
@@ -68,28 +74,37 @@ fn verdict_on_input<R: Read>(
     Ok((verdict, text))
 }
 
-/// Reads a history, does its commands again, and writes the verdict. Nothing is written before the verdict stands.
+/// Reads a history, does its commands again, and writes the verdict. Nothing is written before the
+/// verdict stands.
 pub fn replay_text<R: Read, W: Write>(
     alloc: Global,
     input: &mut Watched<R>,
     out: &mut Watched<W>,
 ) -> Result<Verdict, ReplayFault>
     // The input is a history, the verdict is the right one, and its text was written.
-    ensures verdict { IfOk result (λ verdict. WritesVerdict (R.remaining (inner_of input.old)) verdict (W.contents (inner_of out.old)) (W.contents (inner_of out.new))) }
-    // A history is refused for want of memory and by devices alone, and is the same exactly where its lines are legal.
-    ensures only { (bytes : Text) (names : List Text) (lines : List (Line Text)) → R.remaining (inner_of input.old) ≡ Some bytes → IsReadAs bytes names lines
+    ensures verdict { IfOk result (WritesVerdict (known_in R.remaining input.old)
+        (known_in W.contents out.old) (known_in W.contents out.new)) }
+
+    // A history is refused for want of memory and by devices alone, and is the same exactly where
+    // its lines are legal.
+    ensures only { (lines : List (Line Text)) → IsKnownAs (known_in R.remaining input.old) lines
         → IfErr result (λ fault. (fault ≡ ReplayFault.Memory) ⊎ IsDeviceFault fault) }
-    ensures same { (bytes : Text) (names : List Text) (lines : List (Line Text)) → R.remaining (inner_of input.old) ≡ Some bytes → IsReadAs bytes names lines
+    ensures same { (lines : List (Line Text)) → IsKnownAs (known_in R.remaining input.old) lines
         → IfOk result (λ verdict. IsSame verdict ↔ Legal texts lines) }
 
     // Each fault has its cause.
-    ensures cause { IfErr result (IsCause (R.remaining (inner_of input.old)) (is_faulted input.new) (is_faulted out.new)) }
-    ensures nothing_written { IfErr result (λ fault. fault ≢ ReplayFault.Write → Keeps (W.contents (inner_of out.old)) (W.contents (inner_of out.new))) }
-    ensures part_written { IsErrOf result ReplayFault.Write → WritesPart (R.remaining (inner_of input.old)) (W.contents (inner_of out.old)) (W.contents (inner_of out.new)) }
+    ensures cause { IfErr result (IsCause (known_in R.remaining input.old)
+        (is_faulted input.new) (is_faulted out.new)) }
+    ensures nothing_written { IfErr result (λ fault. fault ≢ ReplayFault.Write
+        → WritesNothing W.contents out.old out.new) }
+    ensures part_written { IsErrOf result ReplayFault.Write
+        → WritesPart (known_in R.remaining input.old)
+        (known_in W.contents out.old) (known_in W.contents out.new) }
 
     // A device's fault is answered exactly where a read or a write failed.
     ensures device { is_faulted input.old ≡ false → is_faulted out.old ≡ false
-        → (IsErrAnd result IsDeviceFault ↔ ((is_faulted input.new ≡ true) ⊎ (is_faulted out.new ≡ true))) }
+        → (IsErrAnd result IsDeviceFault
+        ↔ ((is_faulted input.new ≡ true) ⊎ (is_faulted out.new ≡ true))) }
 {
     let (verdict, text) = verdict_on_input(alloc, input)?;
     match write_whole(out, &text) {

@@ -11,14 +11,16 @@ use std::alloc::{AllocError, Global};
 pub enum Verdict {
     /// They are, in this number of lines.
     Same(usize),
-    /// The reply of this line, counted from 1, is the first that is wrong, and this is the right one.
+    /// The reply of this line, counted from 1, is the first that is wrong, and this is the right
+    /// one.
     Differs { line: usize, reply: Reply },
 }
 
 /// The text of a verdict: one line, with its LF.
 pub fn verdict_text(alloc: Global, verdict: &Verdict, names: &Names) -> Result<Vec<u8>, AllocError>
     requires { IsVerdictBelow (length names.now) verdict.now }
-    ensures { IfOk result (λ text. text.items ≡ verdict_text_of (verdict_at names.now verdict.now)) }
+    ensures { IfOk result (λ text. text.items
+        ≡ verdict_text_of (verdict_at names.now verdict.now)) }
 {
     let mut text = Vec::new(alloc);
     match verdict {

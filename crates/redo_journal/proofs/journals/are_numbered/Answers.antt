@@ -9,7 +9,8 @@ pub returns-then-entry-at : goal.returns-then-entry-at
 returns-then-entry-at c =
     let number : Entry → ℕ = λ e. e.line in
     let entries = c.args.entries.now in
-    let here = get_or-map number entries c.loop-at.at c.index-entries-at.result 0 c.loop-at-test.true in (
+    let here = get_or-map number entries c.loop-at.at c.index-entries-at.result 0
+    c.loop-at-test.true in (
       λ no. absurd (false≢true no),
       λ each. absurd (c.if-entry-at.true
           (ap number c.index-entries-at.is ∙ sym here ∙ each c.loop-at.at c.loop-at-test.true)),

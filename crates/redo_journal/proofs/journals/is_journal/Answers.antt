@@ -14,7 +14,8 @@ returns-then-not-is_own c =
     let s = c.args.session in (
       λ no. absurd (false≢true no),
       λ is.
-          let own = c.is_own.ensures.1 (told_own journal.session s script [] journal.entries.items is) in
+          let own = c.is_own.ensures.1 (told_own journal.session s script [] journal.entries.items
+          is) in
           absurd (false≢true (sym c.if-not-is_own.true ∙ own)),
     )
 
@@ -27,7 +28,8 @@ returns-then-entries-commands c =
     let asked = ap length c.commands.ensures.commands in (
       λ no. absurd (false≢true no),
       λ is.
-          let few = told_few journal.session c.args.session script [] journal.entries.items is (omega arith) in
+          let few = told_few journal.session c.args.session script [] journal.entries.items is
+          (omega arith) in
           absurd (omega arith),
     )
 
@@ -42,8 +44,10 @@ returns c =
     let asked = ap length c.commands.ensures.commands in
     let Numbered : List Entry → Type 0 =
     λ told. (k : ℕ) → k < length told → get_or (numbers_in told) k 0 ≡ k in (
-      λ each. is_told journal.session c.args.session script [] entries (c.is_own.ensures.0 c.if-not-is_own.false) (omega arith)
+      λ each. is_told journal.session c.args.session script [] entries
+          (c.is_own.ensures.0 c.if-not-is_own.false) (omega arith)
           (λ k within. subst Numbered same (c.are_numbered.ensures.0 each) k within ∙ omega arith),
       λ is. c.are_numbered.ensures.1 (subst Numbered (sym same)
-          (λ k within. told_numbers journal.session c.args.session script [] entries is k within ∙ omega arith)),
+          (λ k within. told_numbers journal.session c.args.session script [] entries is k within
+          ∙ omega arith)),
     )

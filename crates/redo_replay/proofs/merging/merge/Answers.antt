@@ -85,7 +85,8 @@ returns-then-is_done c =
     → length (entries_of c.args.journals.now s) ≤ get_or ns s 0)
     c.deref-2.ensures.value c.if-is_done.ensures in
     record {
-      merged = merged c.args.plan.now c.args.journals.now c.requires.journals c.merging.turns c.merging.counts
+      merged = merged c.args.plan.now c.args.journals.now c.requires.journals c.merging.turns
+          c.merging.counts
           c.merging.next.items c.merging.lines.items fit c.merging.invariant done;
     }
 
@@ -99,6 +100,7 @@ returns c =
     subst (λ (ns : List ℕ). get_or ns left.0 0 < length (entries_of c.args.journals.now left.0))
     c.deref-2.ensures.value left.2 in
     record {
-      merged = stuck_none c.args.plan.now c.args.journals.now c.requires.journals c.merging.turns c.merging.counts
+      merged = stuck_none c.args.plan.now c.args.journals.now c.requires.journals c.merging.turns
+          c.merging.counts
           c.merging.next.items c.merging.lines.items c.merging.invariant stuck left.0 more;
     }

@@ -1,8 +1,7 @@
 use Rattle.std.proofs.Common.{◌≡◌, ◌+◌, ◌<◌, length}
 use Rattle.std.specs.List.{AllByRecursion}
 use Rattle.redo_command.specs.declared.reply.Line.{Line}
-use Rattle.redo_replay.specs.declared.history.TheConstants.{MOST_SESSIONS}
-use Rattle.redo_replay.proofs.Replayed.{AreLinesBelow}
+use Rattle.redo_replay.specs.Recorded.{AreLinesBelow}
 use Rattle.redo_replay.proofs.HistorySteps.{IsReadSoFar}
 use Rattle.redo_replay.proofs.read.history_in.Given as goal
 
@@ -10,6 +9,6 @@ abbrev pub invariant-lines : goal.invariant-lines
 invariant-lines l = record {
   so_far : IsReadSoFar l.fn.input l.count l.lines.items l.names l.left;
   below : AreLinesBelow l.names l.lines.items;
-  sessions : AllByRecursion (λ (line : Line). line.session < MOST_SESSIONS) l.lines.items;
+  sessions : AllByRecursion (λ (line : Line). line.session < 64) l.lines.items;
   counted : l.number ≡ length l.lines.items + 1;
 }

@@ -5,5 +5,10 @@ use Rattle.redo_replay.proofs.read.session_of.Goals as goal
 
 pub returns-then-number-eq0 : goal.returns-then-number-eq0
 returns-then-number-eq0 c session is =
-    let same : c.in_ok-number.number ≡ session + 1 = decimal_injective c.in_ok-number.number (session + 1) (omega arith) (omega arith) (sym c.in_ok-number.ensures ∙ is.1) in
-    elim c.then-number-eq0.branch [ then-number-eq0-via-then-number-eq0 w ↦ omega arith | then-number-eq0-via-else-number-eq0+then-number w ↦ omega arith ]
+    let same : c.in_ok-number.number ≡ session + 1 =
+    decimal_injective c.in_ok-number.number (session + 1) (omega arith) (omega arith)
+    (sym c.in_ok-number.ensures ∙ is.1) in
+    elim c.then-number-eq0.branch [
+      | then-number-eq0-via-then-number-eq0 w ↦ omega arith
+      | then-number-eq0-via-else-number-eq0+then-number w ↦ omega arith
+    ]

@@ -7,16 +7,24 @@ use Rattle.redo_replay.specs.Verdicts.{IsSame, verdict_at, verdict_text_of}
 use Rattle.redo_replay.proofs.texts.verdict_on_input.Goals as goal
 
 pub returns-in_err-history-clause-only : goal.returns-in_err-history-clause-only
-returns-in_err-history-clause-only g c bytes names lines is read =
+returns-in_err-history-clause-only g c lines known =
     let p = err_from_is_err_and c.from_residual.result c.from_residual.ensures.1 in
-    rw (p.1, p.2) (c.in_err-history.ensures.only bytes names lines is read)
+    rw (p.1, p.2) (c.in_err-history.ensures.only lines known)
 
 pub returns-clause-verdict : goal.returns-clause-verdict
 returns-clause-verdict g c =
     let history = c.in_ok-history.history in
-    let text = c.in_ok-text.ensures ∙ ap (λ (names : List Text). verdict_text_of (verdict_at names c.in_ok-verdict.verdict)) c.names.ensures in
-    (history.names, lines_of history, c.in_ok-history.ensures.read, c.in_ok-verdict.ensures.verdict, text)
+    let text = c.in_ok-text.ensures
+    ∙ ap (λ (names : List Text). verdict_text_of (verdict_at names c.in_ok-verdict.verdict))
+    c.names.ensures in (
+      history.names,
+      lines_of history,
+      c.in_ok-history.ensures.read,
+      c.in_ok-verdict.ensures.verdict,
+      text,
+    )
 
 pub returns-clause-same : goal.returns-clause-same
-returns-clause-same g c bytes names lines is read =
-    subst (λ (all : List (Line Text)). IsSame c.in_ok-verdict.verdict ↔ Legal texts all) (c.in_ok-history.ensures.same bytes names lines is read) c.in_ok-verdict.ensures.same
+returns-clause-same g c lines known =
+    subst (λ (all : List (Line Text)). IsSame c.in_ok-verdict.verdict ↔ Legal texts all)
+    (c.in_ok-history.ensures.same lines known) c.in_ok-verdict.ensures.same
