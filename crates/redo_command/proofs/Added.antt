@@ -2,7 +2,6 @@
 use Rattle.std.proofs.Common.{◌≡◌, ℕ, ◌+◌, ◌<◌, ◌≤◌, Bool, true, false, cond, List, [], ◌∷◌, ◌++◌, map, length, get_or, Result, Ok, Err, refl, sym, ap, ◌∙◌, arith, eqb, length-append, append-nil, append_assoc}
 use Rattle.std.proofs.lemmas.Bool.Decides.{nat_tests}
 use Rattle.std.proofs.lemmas.List.{get_or_append_left}
-use Rattle.redo_names.specs.declared.names.TheConstants.{MOST_NAMES}
 use Rattle.redo_names.specs.Names.{has, text_at, with_name, Extends}
 use Rattle.redo_model.specs.Names.{Text}
 use Rattle.redo_model.specs.Command as commands
@@ -29,7 +28,7 @@ same_names a b e = cc
 
 -- adding a name keeps the names in front
 pub extends_added : (names : List Text) (t : Text) (after : List Text) → added names t ≡ Ok after → Extends names after
-extends_added names t after e = by (has names t) (eqb (length names) MOST_NAMES) e
+extends_added names t after e = by (has names t) (eqb (length names) 65536) e
   where
     by : (b d : Bool) → cond b (Ok names) (cond d (Err TooManyNames) (Ok (names ++ t ∷ []))) ≡ Ok after → Extends names after
     by true d h = record { more = []; is = sym (same_names names after h) ∙ sym (append-nil names) }
@@ -37,10 +36,10 @@ extends_added names t after e = by (has names t) (eqb (length names) MOST_NAMES)
     by false false h = record { more = t ∷ []; is = sym (same_names (names ++ t ∷ []) after h) }
 
 -- what adding gives are the names with this one, of which there are not too many
-pub added_is : (names : List Text) (t : Text) (after : List Text) → length names ≤ MOST_NAMES → added names t ≡ Ok after → (after ≡ with_name names t) × (length after ≤ MOST_NAMES)
-added_is names t after few e = by (has names t) (eqb (length names) MOST_NAMES) refl e
+pub added_is : (names : List Text) (t : Text) (after : List Text) → length names ≤ 65536 → added names t ≡ Ok after → (after ≡ with_name names t) × (length after ≤ 65536)
+added_is names t after few e = by (has names t) (eqb (length names) 65536) refl e
   where
-    by : (b d : Bool) → eqb (length names) MOST_NAMES ≡ d → cond b (Ok names) (cond d (Err TooManyNames) (Ok (names ++ t ∷ []))) ≡ Ok after → (after ≡ cond b names (names ++ t ∷ [])) × (length after ≤ MOST_NAMES)
+    by : (b d : Bool) → eqb (length names) 65536 ≡ d → cond b (Ok names) (cond d (Err TooManyNames) (Ok (names ++ t ∷ []))) ≡ Ok after → (after ≡ cond b names (names ++ t ∷ [])) × (length after ≤ 65536)
     by true d full h =
         let same : names ≡ after = same_names names after h in
         (sym same, omega (arith, ap length same))
@@ -51,10 +50,10 @@ added_is names t after few e = by (has names t) (eqb (length names) MOST_NAMES) 
         (sym same, grind (arith, nat_tests, len, full, few))
 
 -- where there are not too many names with this one, it is added
-pub added_fits : (names : List Text) (t : Text) (after : List Text) → after ≡ with_name names t → length after ≤ MOST_NAMES → added names t ≡ Ok after
-added_fits names t after e few = by (has names t) (eqb (length names) MOST_NAMES) refl e
+pub added_fits : (names : List Text) (t : Text) (after : List Text) → after ≡ with_name names t → length after ≤ 65536 → added names t ≡ Ok after
+added_fits names t after e few = by (has names t) (eqb (length names) 65536) refl e
   where
-    by : (b d : Bool) → eqb (length names) MOST_NAMES ≡ d → after ≡ cond b names (names ++ t ∷ []) → cond b (Ok names) (cond d (Err TooManyNames) (Ok (names ++ t ∷ []))) ≡ Ok after
+    by : (b d : Bool) → eqb (length names) 65536 ≡ d → after ≡ cond b names (names ++ t ∷ []) → cond b (Ok names) (cond d (Err TooManyNames) (Ok (names ++ t ∷ []))) ≡ Ok after
     by true d full h = ap names_read (sym h)
     by false true full h =
         let len : length after ≡ length names + 1 = ap length h ∙ length-append names (t ∷ []) in
@@ -62,7 +61,7 @@ added_fits names t after e few = by (has names t) (eqb (length names) MOST_NAMES
     by false false full h = ap names_read (sym h)
 
 -- the same of the names of a command that has one
-pub one_added : (names : List Text) (t : Text) (command : commands.Command Text) (after : List Text) → length names ≤ MOST_NAMES → commands.names_in command ≡ t ∷ [] → added names t ≡ Ok after → AddsNames names (command ∷ []) after
+pub one_added : (names : List Text) (t : Text) (command : commands.Command Text) (after : List Text) → length names ≤ 65536 → commands.names_in command ≡ t ∷ [] → added names t ≡ Ok after → AddsNames names (command ∷ []) after
 one_added names t command after few own e =
     let is = added_is names t after few e in
     (is.0 ∙ ap (λ (ts : List Text). with_names names (ts ++ [])) (sym own), is.1)

@@ -2,7 +2,6 @@
 use Rattle.std.proofs.Common.{◌≡◌, ◌≤◌, Bool, true, false, cond, List, [], ◌∷◌, ◌++◌, length, Option, Some, None, Result, Ok, refl, sym, ap, subst}
 use Rattle.std.specs.Prelude.{codes, bytes_eq, IfSome, IsTrue}
 use Rattle.std.proofs.lemmas.Slice.Eq.{bytes_eq-Decides}
-use Rattle.redo_names.specs.declared.names.TheConstants.{MOST_NAMES}
 use Rattle.redo_names.specs.Names.{is_name}
 use Rattle.redo_model.specs.Names.{Text}
 use Rattle.redo_model.specs.Command.{Command, File, Gone, Lock, Unlock, Start, IfChange, IfCreate, Always, Stamp, Done, Failed, Ood, Targets, Sources, names_in}
@@ -35,7 +34,7 @@ says_read names word args x y says e = subst (SaysRead names word args) (same_re
 
 -- what is read as a form of one name
 one_name_says : (form : Text → Command Text) (word : Text) → ((n : Text) → IsTrue (is_name n) → HasForm (form n)) → ((n : Text) → IsSpelled (spaced word (n ∷ [])) (form n)) → ((n : Text) → names_in (form n) ≡ n ∷ [])
-    → (names args : List Text) (x : Command Text × List Text) → length names ≤ MOST_NAMES → one_name_in form names args ≡ Ok x → SaysRead names word args x
+    → (names args : List Text) (x : Command Text × List Text) → length names ≤ 65536 → one_name_in form names args ≡ Ok x → SaysRead names word args x
 unfolding one_name_in
 one_name_says form word has spelled own names [] x few e = absurd cc
 one_name_says form word has spelled own names (n ∷ []) x few e =
@@ -49,7 +48,7 @@ one_name_says form word has spelled own names (n ∷ []) x few e =
     }) b.2
 one_name_says form word has spelled own names (n ∷ w ∷ ws) x few e = absurd cc
 
-file_says : (names args : List Text) (x : Command Text × List Text) → length names ≤ MOST_NAMES → file_in names args ≡ Ok x → SaysRead names (codes "file") args x
+file_says : (names args : List Text) (x : Command Text × List Text) → length names ≤ 65536 → file_in names args ≡ Ok x → SaysRead names (codes "file") args x
 unfolding file_in
 file_says names [] x few e = absurd cc
 file_says names (n ∷ []) x few e = absurd cc
@@ -87,7 +86,7 @@ file_stamp_says word stamp e = by (bytes_eq word (codes "-")) refl e
         let some : Some a.0 ≡ stamp = cc in
         subst (IsFileStampWord word) some (record { is = k.1; good = subst (λ (t : Text). is_stamp t ≡ true) k.1 k.0 })
 
-stamp_says : (names args : List Text) (x : Command Text × List Text) → length names ≤ MOST_NAMES → stamp_in names args ≡ Ok x → SaysRead names (codes "stamp") args x
+stamp_says : (names args : List Text) (x : Command Text × List Text) → length names ≤ 65536 → stamp_in names args ≡ Ok x → SaysRead names (codes "stamp") args x
 unfolding stamp_in
 stamp_says names [] x few e = absurd cc
 stamp_says names (n ∷ []) x few e = absurd cc
@@ -104,7 +103,7 @@ stamp_says names (n ∷ w ∷ []) x few e =
     }) d.2
 stamp_says names (n ∷ w ∷ v ∷ ws) x few e = absurd cc
 
-done_says : (names args : List Text) (x : Command Text × List Text) → length names ≤ MOST_NAMES → done_in names args ≡ Ok x → SaysRead names (codes "done") args x
+done_says : (names args : List Text) (x : Command Text × List Text) → length names ≤ 65536 → done_in names args ≡ Ok x → SaysRead names (codes "done") args x
 unfolding done_in
 done_says names [] x few e = absurd cc
 done_says names (n ∷ []) x few e = absurd cc
@@ -123,7 +122,7 @@ done_says names (n ∷ s ∷ w ∷ ws) x few e = absurd cc
 
 -- what is read as a form of a target and of names
 names_form_says : (form : Text → List Text → Command Text) (word : Text) → ((t : Text) (ns : List Text) → IsTrue (is_name t) → IsNameList ns → HasForm (form t ns)) → ((t : Text) (ns : List Text) → IsSpelled (spaced word (t ∷ ns)) (form t ns)) → ((t : Text) (ns : List Text) → names_in (form t ns) ≡ t ∷ ns)
-    → (names args : List Text) (x : Command Text × List Text) → length names ≤ MOST_NAMES → names_form_in form names args ≡ Ok x → SaysRead names word args x
+    → (names args : List Text) (x : Command Text × List Text) → length names ≤ 65536 → names_form_in form names args ≡ Ok x → SaysRead names word args x
 unfolding names_form_in
 names_form_says form word has spelled own names args x few e =
     let a = bind_ok (target_and_names_in args) (λ w. all_added names (w.0 ∷ w.1) >>= λ after. Ok (form w.0 w.1, after)) x e in
@@ -138,7 +137,7 @@ names_form_says form word has spelled own names args x few e =
     }) b.2
 
 -- what is read as a form without words
-no_words_says : (form : Command Text) (word : Text) → HasForm form → IsSpelled (spaced word []) form → names_in form ≡ [] → (names args : List Text) (x : Command Text × List Text) → length names ≤ MOST_NAMES → no_words_in form names args ≡ Ok x → SaysRead names word args x
+no_words_says : (form : Command Text) (word : Text) → HasForm form → IsSpelled (spaced word []) form → names_in form ≡ [] → (names args : List Text) (x : Command Text × List Text) → length names ≤ 65536 → no_words_in form names args ≡ Ok x → SaysRead names word args x
 unfolding no_words_in
 no_words_says form word has spelled own names [] x few e =
     let adds : AddsNames names (form ∷ []) names = (ap (λ (l : List Text). with_names names (l ++ [])) (sym own), few) in
@@ -146,7 +145,7 @@ no_words_says form word has spelled own names [] x few e =
 no_words_says form word has spelled own names (w ∷ ws) x few e = absurd cc
 
 -- what is read as the form of a kind
-form_says : (kind : Kind) (names args : List Text) (x : Command Text × List Text) → length names ≤ MOST_NAMES → form_in (Some kind) names args ≡ Ok x → SaysRead names (word_of kind) args x
+form_says : (kind : Kind) (names args : List Text) (x : Command Text × List Text) → length names ≤ 65536 → form_in (Some kind) names args ≡ Ok x → SaysRead names (word_of kind) args x
 unfolding form_in
 form_says kinds.File = file_says
 form_says kinds.Gone = one_name_says Gone (codes "gone") (λ n good. good) (λ n. refl) (λ n. refl)
@@ -164,7 +163,7 @@ form_says kinds.Targets = no_words_says Targets (codes "targets") tt refl refl
 form_says kinds.Sources = no_words_says Sources (codes "sources") tt refl refl
 
 -- what is read by the first word is what the words say
-pub words_say : (names : List Text) (word : Text) (args : List Text) (command : Command Text) (after : List Text) → length names ≤ MOST_NAMES → words_in names (word ∷ args) ≡ Ok (command, after) → SaysCommand names word args command after
+pub words_say : (names : List Text) (word : Text) (args : List Text) (command : Command Text) (after : List Text) → length names ≤ 65536 → words_in names (word ∷ args) ≡ Ok (command, after) → SaysCommand names word args command after
 unfolding words_in form_in
 words_say names word args command after few e = by (kind_named word) refl e
   where

@@ -2,9 +2,7 @@
 use Rattle.std.proofs.Common.{◌≡◌, ◌≤◌, List, [], ◌∷◌, length, Option, Some, None, Ok, refl, sym, ap, lit≤, arith}
 use Rattle.std.specs.Prelude.{codes, IfSome, IsTrue}
 use Rattle.std.specs.List.{AllByRecursion}
-use Rattle.redo_names.specs.declared.names.TheConstants.{MOST_NAMES}
 use Rattle.redo_names.specs.Names.{is_name}
-use Rattle.redo_command.specs.declared.name_lists.TheConstants.{MOST_LISTED_NAMES}
 use Rattle.redo_model.specs.Names.{Text}
 use Rattle.redo_model.specs.Command.{Command, File, Gone, Lock, Unlock, Start, IfChange, IfCreate, Always, Stamp, Done, Failed, Ood, Targets, Sources, names_in}
 use Rattle.redo_command.specs.Stamp.{is_stamp}
@@ -169,13 +167,13 @@ read_from_words names line Sources after form spelled adds = record {
   reads = ap (λ (l : List Text). Ok (Sources, l)) (sym adds.0);
 }
 
-few_listed : (t : Text) (ns : List Text) → IsNameList ns → length (t ∷ ns) ≤ MOST_NAMES
+few_listed : (t : Text) (ns : List Text) → IsNameList ns → length (t ∷ ns) ≤ 65536
 few_listed t ns list =
-    let few : length ns ≤ MOST_LISTED_NAMES = list.few in
+    let few : length ns ≤ 64 = list.few in
     omega arith
 
 -- a command has few names
-pub few_names : (command : Command Text) → HasForm command → length (names_in command) ≤ MOST_NAMES
+pub few_names : (command : Command Text) → HasForm command → length (names_in command) ≤ 65536
 few_names (File n stamp) form = lit≤ tt
 few_names (Gone n) form = lit≤ tt
 few_names (Lock t) form = lit≤ tt

@@ -3,11 +3,9 @@ use Rattle.std.proofs.Common.{◌≡◌, ◌≤◌, ◌+◌, ℕ, Bool, true, fa
 use Rattle.std.specs.List.{list_any}
 use Rattle.std.proofs.lemmas.Bool.{le-ltb}
 use Rattle.std.proofs.lemmas.Bool.Decides.{nat_tests}
-use Rattle.redo_names.specs.declared.names.TheConstants.{MOST_NAMES}
 use Rattle.redo_names.specs.Names.{has, with_name}
 use Rattle.redo_model.specs.Names.{Text}
 use Rattle.redo_model.specs.Command.{Command, Stamp, names_in}
-use Rattle.redo_command.specs.declared.read.TheConstants.{LONGEST_LINE}
 use Rattle.redo_command.specs.declared.fault.LineFault.TheVariants.{LineTooLong, BadByte}
 use Rattle.redo_command.specs.Texts.{spaced, content_word, command_text_of}
 use Rattle.redo_command.specs.Grammar.{IsCommandLine, IsShort, IsSpelled, HasForm, with_names, AddsNames}
@@ -23,12 +21,12 @@ abbrev is_bad : ℕ → Bool
 is_bad b = not (is_text_byte b)
 
 -- what is read is a command line, and its names are added
-pub line_found : (names : List Text) (line : Text) (command : Command Text) (after : List Text) → length names ≤ MOST_NAMES → line_in names line ≡ Ok (command, after) → IsCommandLine line command × AddsNames names (command ∷ []) after
+pub line_found : (names : List Text) (line : Text) (command : Command Text) (after : List Text) → length names ≤ 65536 → line_in names line ≡ Ok (command, after) → IsCommandLine line command × AddsNames names (command ∷ []) after
 unfolding line_in words_in
 line_found names line command after few e =
-    let a = unless_ok (ltb LONGEST_LINE (length line)) LineTooLong _ (command, after) e in
+    let a = unless_ok (ltb 8192 (length line)) LineTooLong _ (command, after) e in
     let b = unless_ok (list_any is_bad line) BadByte _ (command, after) a.1 in
-    let short : length line ≤ LONGEST_LINE = grind (arith, nat_tests, a.0) in
+    let short : length line ≤ 8192 = grind (arith, nat_tests, a.0) in
     by short (words_of line) refl b.1
   where
     by : IsShort line → (words : List Text) → words_of line ≡ words → words_in names words ≡ Ok (command, after) → IsCommandLine line command × AddsNames names (command ∷ []) after
@@ -40,7 +38,7 @@ line_found names line command after few e =
 
 -- what the words of a line are read as has no bad byte
 pub good_line : (names : List Text) (line : Text) (command : Command Text) (after : List Text)
-    → length names ≤ MOST_NAMES → words_in names (words_of line) ≡ Ok (command, after)
+    → length names ≤ 65536 → words_in names (words_of line) ≡ Ok (command, after)
     → list_any is_bad line ≡ false
 good_line names line command after few e =
     let first = some_word line in
@@ -54,22 +52,22 @@ good_line names line command after few e =
     ∙ spaced_is_text from.word from.args from.visible.0 from.visible.1
 
 pub line_read : (names : List Text) (line : Text) (command : Command Text) (after : List Text)
-    → length names ≤ MOST_NAMES → length line ≤ LONGEST_LINE
+    → length names ≤ 65536 → length line ≤ 8192
     → words_in names (words_of line) ≡ Ok (command, after)
     → line_in names line ≡ Ok (command, after)
 unfolding line_in
 line_read names line command after few le e =
-    let short : ltb LONGEST_LINE (length line) ≡ false = le-ltb _ _ le in
+    let short : ltb 8192 (length line) ≡ false = le-ltb _ _ le in
     let good : list_any is_bad line ≡ false = good_line names line command after few e in
     rw (short, good) e
 
 -- a command line whose names fit is read
-pub line_only : (names : List Text) (line : Text) (command : Command Text) (after : List Text) → length names ≤ MOST_NAMES → IsCommandLine line command → AddsNames names (command ∷ []) after → line_in names line ≡ Ok (command, after)
+pub line_only : (names : List Text) (line : Text) (command : Command Text) (after : List Text) → length names ≤ 65536 → IsCommandLine line command → AddsNames names (command ∷ []) after → line_in names line ≡ Ok (command, after)
 unfolding line_in
 line_only names line command after few is adds =
     let from = read_from_words names line command after is.0 is.2 adds in
     let text : line ≡ spaced from.word from.args = from.text in
-    let short : ltb LONGEST_LINE (length line) ≡ false = le-ltb _ _ is.1 in
+    let short : ltb 8192 (length line) ≡ false = le-ltb _ _ is.1 in
     let good : list_any is_bad line ≡ false = ap (list_any is_bad) text ∙ spaced_is_text from.word from.args from.visible.0 from.visible.1 in
     let words : words_of line ≡ from.word ∷ from.args = ap words_of text ∙ words_of-spaced from.word from.args from.visible.0 from.visible.1 in
     rw (short, good, words) from.reads

@@ -6,8 +6,6 @@ use Rattle.std.proofs.lemmas.Bool.{leb-true, le-leb, lt-leb, ltb-false, le-ltb}
 use Rattle.std.proofs.lemmas.Bool.Decides.{nat_tests}
 use Rattle.std.proofs.lemmas.List.{nil_from_length, length-map}
 use Rattle.std.proofs.Math.ListN.{get_or-map}
-use Rattle.redo_names.specs.declared.names.TheConstants.{MOST_NAMES}
-use Rattle.redo_command.specs.declared.name_lists.TheConstants.{MOST_LISTED_NAMES}
 use Rattle.redo_names.specs.Names.{is_name, with_name, has}
 use Rattle.redo_model.specs.Names.{Text}
 use Rattle.redo_model.specs.Command.{Command, names_in}
@@ -25,10 +23,10 @@ use Rattle.redo_command.proofs.Spaced.{IsVisible, name_is_visible}
 use Rattle.redo_command.proofs.Steps.{both, unless_ok}
 
 -- a name that is not added would be one too many
-full_with : (names : List Text) (t : Text) (fault : LineFault) → added names t ≡ Err fault → (fault ≡ TooManyNames) × (MOST_NAMES < length (with_name names t))
-full_with names t fault e = by (has names t) (eqb (length names) MOST_NAMES) refl e
+full_with : (names : List Text) (t : Text) (fault : LineFault) → added names t ≡ Err fault → (fault ≡ TooManyNames) × (65536 < length (with_name names t))
+full_with names t fault e = by (has names t) (eqb (length names) 65536) refl e
   where
-    by : (b d : Bool) → eqb (length names) MOST_NAMES ≡ d → cond b (Ok names) (cond d (Err TooManyNames) (Ok (names ++ t ∷ []))) ≡ Err fault → (fault ≡ TooManyNames) × (MOST_NAMES < length (cond b names (names ++ t ∷ [])))
+    by : (b d : Bool) → eqb (length names) 65536 ≡ d → cond b (Ok names) (cond d (Err TooManyNames) (Ok (names ++ t ∷ []))) ≡ Err fault → (fault ≡ TooManyNames) × (65536 < length (cond b names (names ++ t ∷ [])))
     by true d full h = absurd cc
     by false true full h = (cc, grind (arith, nat_tests, full, length-append names (t ∷ [])))
     by false false full h = absurd cc
@@ -38,44 +36,44 @@ pub all_added-none : (names : List Text) (t : Text) (ts : List Text) (fault : Li
 unfolding all_added
 all_added-none names t ts fault e =
     let full = full_with names t fault e in
-    let over : MOST_NAMES < length (with_name names t) = full.1 in
+    let over : 65536 < length (with_name names t) = full.1 in
     let longer : length (with_name names t) ≤ length (with_names (with_name names t) ts) = with_names-longer (with_name names t) ts in
-    let test : leb (length (with_names (with_name names t) ts)) MOST_NAMES ≡ false = lt-leb _ _ (omega arith) in
+    let test : leb (length (with_names (with_name names t) ts)) 65536 ≡ false = lt-leb _ _ (omega arith) in
     rw (test, full.0) refl
 
 -- where the first is added, the others are added after it
-pub with_names-next : (names : List Text) (t : Text) (ts after : List Text) → length names ≤ MOST_NAMES → added names t ≡ Ok after → with_names names (t ∷ ts) ≡ with_names after ts
+pub with_names-next : (names : List Text) (t : Text) (ts after : List Text) → length names ≤ 65536 → added names t ≡ Ok after → with_names names (t ∷ ts) ≡ with_names after ts
 with_names-next names t ts after few e = ap (λ (l : List Text). with_names l ts) (sym (added_is names t after few e).0)
 
 all_added-same : (a b ts us : List Text) → with_names a ts ≡ with_names b us → all_added a ts ≡ all_added b us
 unfolding all_added
-all_added-same a b ts us e = ap (λ (l : List Text). cond (leb (length l) MOST_NAMES) (Ok l) (Err TooManyNames)) e
+all_added-same a b ts us e = ap (λ (l : List Text). cond (leb (length l) 65536) (Ok l) (Err TooManyNames)) e
 
-pub all_added-next : (names : List Text) (t : Text) (ts after : List Text) → length names ≤ MOST_NAMES → added names t ≡ Ok after → all_added names (t ∷ ts) ≡ all_added after ts
+pub all_added-next : (names : List Text) (t : Text) (ts after : List Text) → length names ≤ 65536 → added names t ≡ Ok after → all_added names (t ∷ ts) ≡ all_added after ts
 all_added-next names t ts after few e = all_added-same names after (t ∷ ts) ts (with_names-next names t ts after few e)
 
 -- what adding gives are the names with these, of which there are not too many
-pub all_added-is : (names ts after : List Text) → all_added names ts ≡ Ok after → (after ≡ with_names names ts) × (length after ≤ MOST_NAMES)
+pub all_added-is : (names ts after : List Text) → all_added names ts ≡ Ok after → (after ≡ with_names names ts) × (length after ≤ 65536)
 unfolding all_added
-all_added-is names ts after e = by (leb (length (with_names names ts)) MOST_NAMES) refl e
+all_added-is names ts after e = by (leb (length (with_names names ts)) 65536) refl e
   where
-    by : (b : Bool) → leb (length (with_names names ts)) MOST_NAMES ≡ b → cond b (Ok (with_names names ts)) (Err TooManyNames) ≡ Ok after → (after ≡ with_names names ts) × (length after ≤ MOST_NAMES)
+    by : (b : Bool) → leb (length (with_names names ts)) 65536 ≡ b → cond b (Ok (with_names names ts)) (Err TooManyNames) ≡ Ok after → (after ≡ with_names names ts) × (length after ≤ 65536)
     by true room h =
         let is : after ≡ with_names names ts = cc in
-        (is, subst (λ (l : List Text). length l ≤ MOST_NAMES) (sym is) (leb-true _ _ room))
+        (is, subst (λ (l : List Text). length l ≤ 65536) (sym is) (leb-true _ _ room))
     by false room h = absurd cc
 
-pub all_added-fits : (names ts after : List Text) → after ≡ with_names names ts → length after ≤ MOST_NAMES → all_added names ts ≡ Ok after
+pub all_added-fits : (names ts after : List Text) → after ≡ with_names names ts → length after ≤ 65536 → all_added names ts ≡ Ok after
 unfolding all_added
 all_added-fits names ts after is few =
-    let room : leb (length (with_names names ts)) MOST_NAMES ≡ true = le-leb _ _ (subst (λ (l : List Text). length l ≤ MOST_NAMES) is few) in
+    let room : leb (length (with_names names ts)) 65536 ≡ true = le-leb _ _ (subst (λ (l : List Text). length l ≤ 65536) is few) in
     rw (room, is) refl
 
 drop_next : (ws : List Text) (i : ℕ) → i < length ws → drop i ws ≡ get_or ws i [] ∷ drop (i + 1) ws
 drop_next ws i lt = rw (add-one, drop-cons ws i []) refl
 
 -- the names with those of the words that are left: one more word is added
-pub rest_more : (names ws : List Text) (i : ℕ) (w : Text) (after total : List Text) → length names ≤ MOST_NAMES → i < length ws → get_or ws i [] ≡ w → added names w ≡ Ok after
+pub rest_more : (names ws : List Text) (i : ℕ) (w : Text) (after total : List Text) → length names ≤ 65536 → i < length ws → get_or ws i [] ≡ w → added names w ≡ Ok after
     → total ≡ with_names names (drop i ws) → total ≡ with_names after (drop (i + 1) ws)
 rest_more names ws i w after total few lt at e rest =
     rest ∙ ap (with_names names) (drop_next ws i lt ∙ ap (λ (t : Text). t ∷ drop (i + 1) ws) at) ∙ with_names-next names w (drop (i + 1) ws) after few e
@@ -86,7 +84,7 @@ rest_none start names ws i w lt at rest fault e =
     all_added-same start names ws (drop i ws) rest ∙ ap (all_added names) (drop_next ws i lt ∙ ap (λ (t : Text). t ∷ drop (i + 1) ws) at) ∙ all_added-none names w (drop (i + 1) ws) fault e
 
 -- no word is left
-pub rest_done : (start names ws : List Text) (i : ℕ) → length ws ≤ i → length names ≤ MOST_NAMES → with_names start ws ≡ with_names names (drop i ws) → all_added start ws ≡ Ok names
+pub rest_done : (start names ws : List Text) (i : ℕ) → length ws ≤ i → length names ≤ 65536 → with_names start ws ≡ with_names names (drop i ws) → all_added start ws ≡ Ok names
 rest_done start names ws i le few rest =
     let none : drop i ws ≡ [] = nil_from_length (drop i ws) (omega (arith, length-drop i ws)) in
     all_added-fits start ws names (sym (rest ∙ ap (with_names names) none)) few
@@ -104,7 +102,7 @@ form_without_target form names args t ts words fault e =
     rw (words, none) refl
 
 -- the target is added, and not all the names are
-pub form_without_names : (form : Text → List Text → Command Text) (names args : List Text) (t : Text) (ts mid : List Text) → length names ≤ MOST_NAMES → target_and_names_in args ≡ Ok (t, ts) → added names t ≡ Ok mid
+pub form_without_names : (form : Text → List Text → Command Text) (names args : List Text) (t : Text) (ts mid : List Text) → length names ≤ 65536 → target_and_names_in args ≡ Ok (t, ts) → added names t ≡ Ok mid
     → (fault : LineFault) → all_added mid ts ≡ Err fault → names_form_in form names args ≡ Err fault
 unfolding names_form_in
 form_without_names form names args t ts mid few words target fault e =
@@ -112,7 +110,7 @@ form_without_names form names args t ts mid few words target fault e =
     rw (words, none) refl
 
 -- all are added
-pub form_with_names : (form : Text → List Text → Command Text) (names args : List Text) (t : Text) (ts mid after : List Text) → length names ≤ MOST_NAMES → target_and_names_in args ≡ Ok (t, ts)
+pub form_with_names : (form : Text → List Text → Command Text) (names args : List Text) (t : Text) (ts mid after : List Text) → length names ≤ 65536 → target_and_names_in args ≡ Ok (t, ts)
     → added names t ≡ Ok mid → all_added mid ts ≡ Ok after → names_form_in form names args ≡ Ok (form t ts, after)
 unfolding names_form_in
 form_with_names form names args t ts mid after few words target e =
@@ -171,7 +169,7 @@ unfolding target_and_names_in
 target_and_names_found [] t ns e = absurd cc
 target_and_names_found (w ∷ []) t ns e = absurd cc
 target_and_names_found (w ∷ v ∷ vs) t ns e =
-    let a = unless_ok (ltb MOST_LISTED_NAMES (length (v ∷ vs))) TooManyNames _ (t, ns) e in
+    let a = unless_ok (ltb 64 (length (v ∷ vs))) TooManyNames _ (t, ns) e in
     let b = unless_ok (not (list_all is_name (w ∷ v ∷ vs))) BadName _ (t, ns) a.1 in
     let each = each_name (w ∷ v ∷ vs) (not_false (list_all is_name (w ∷ v ∷ vs)) b.0) in
     let same = same_words (w, v ∷ vs) (t, ns) b.1 in
@@ -188,7 +186,7 @@ pub target_and_names_read : (t : Text) (ns : List Text) → IsTrue (is_name t) �
 unfolding target_and_names_in
 target_and_names_read t [] good list = let some : 1 ≤ 0 = list.some in absurd (omega arith)
 target_and_names_read t (n ∷ ns) good list =
-    let few : ltb MOST_LISTED_NAMES (length (n ∷ ns)) ≡ false = le-ltb _ _ list.few in
+    let few : ltb 64 (length (n ∷ ns)) ≡ false = le-ltb _ _ list.few in
     let all : list_all is_name (t ∷ n ∷ ns) ≡ true = all_names (t ∷ n ∷ ns) (good, list.each) in
     rw (few, all) refl
 

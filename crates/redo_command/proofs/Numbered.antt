@@ -5,13 +5,11 @@ use Rattle.std.specs.List.{AllByRecursion, list_all}
 use Rattle.std.proofs.lemmas.List.{length-map}
 use Rattle.std.proofs.lemmas.Option.{get_or_from_slice_get, slice_get_within, slice_get-get_or}
 use Rattle.std.proofs.lemmas.Slice.Eq.{bytes_eq-Decides}
-use Rattle.redo_names.specs.declared.names.TheConstants.{MOST_NAMES}
 use Rattle.redo_names.specs.Names.{is_name, has, text_at, AreNames}
 use Rattle.redo_model.specs.Names.{Text}
 use Rattle.redo_model.specs.Command.{Command}
 use Rattle.redo_command.specs.declared.fault.LineFault.TheVariants.{TooManyNames}
 use Rattle.redo_model.specs.Renaming.{AllBelow}
-use Rattle.redo_command.specs.declared.name_lists.TheConstants.{MOST_LISTED_NAMES}
 use Rattle.redo_command.specs.Grammar.{with_names}
 use Rattle.redo_command.specs.Reading.{IsNumbered, added, all_added, words_of, one_name_in, names_form_in}
 use Rattle.redo_command.specs.ReplyReading.{names_in_words, with_its_names}
@@ -58,7 +56,7 @@ below_known names t n is = slice_get_within names n t is.at
 pub added_known : (names : List Text) (t : Text) (n : ℕ) → IsNumbered names t n
     → added names t ≡ Ok names
 added_known names t n is =
-    let new = cond (length names == MOST_NAMES) (Err TooManyNames) (Ok (names ++ t ∷ [])) in
+    let new = cond (length names == 65536) (Err TooManyNames) (Ok (names ++ t ∷ [])) in
     ap (λ (b : Bool). cond b (Ok names) new) (has_at names n t is.at)
 
 -- a name is one word
@@ -110,7 +108,7 @@ listed_known names args ns are below is =
 pub form_known : (form : Text → List Text → Command Text)
     → (names args : List Text) (t : ℕ) (ns : List ℕ)
     → AreNames names → AllBelow (length names) (t ∷ ns)
-    → 1 ≤ length ns → length ns ≤ MOST_LISTED_NAMES
+    → 1 ≤ length ns → length ns ≤ 64
     → args ≡ text_at names t ∷ map (text_at names) ns
     → names_form_in form names args
     ≡ Ok (form (text_at names t) (map (text_at names) ns), names)

@@ -2,7 +2,6 @@
 use Rattle.std.proofs.Common.{◌≡◌, ◌+◌, ◌≤◌, Bool, true, false, cond, List, [], ◌∷◌, ◌++◌, length, Some, Ok, Err, refl, ap, arith, eqb, leb, length-append}
 use Rattle.std.proofs.lemmas.Bool.{le-leb}
 use Rattle.std.proofs.lemmas.Bool.Decides.{nat_tests}
-use Rattle.redo_names.specs.declared.names.TheConstants.{MOST_NAMES}
 use Rattle.redo_names.specs.Names.{has}
 use Rattle.redo_model.specs.Names.{Text}
 use Rattle.redo_model.specs.Reply.{Refusal, Refused}
@@ -13,30 +12,30 @@ use Rattle.redo_command.specs.declared.reply_kind.ReplyKind.TheVariants as kinds
 use Rattle.redo_command.specs.ReplyReading.{with_its_names, refusal_in_words, reply_kind_named, reply_words_in, reply_args_in}
 use Rattle.redo_command.proofs.Steps.{bind_ok}
 
-pub none_added : (names : List Text) → length names ≤ MOST_NAMES → all_added names [] ≡ Ok names
+pub none_added : (names : List Text) → length names ≤ 65536 → all_added names [] ≡ Ok names
 unfolding all_added
 none_added names few =
-    let room : leb (length names) MOST_NAMES ≡ true = le-leb _ _ few in
+    let room : leb (length names) 65536 ≡ true = le-leb _ _ few in
     rw room refl
 
 -- one name is added as it is alone
-pub one_all_added : (names : List Text) (t : Text) → length names ≤ MOST_NAMES → all_added names (t ∷ []) ≡ added names t
+pub one_all_added : (names : List Text) (t : Text) → length names ≤ 65536 → all_added names (t ∷ []) ≡ added names t
 unfolding all_added
-one_all_added names t few = by (has names t) (eqb (length names) MOST_NAMES) refl
+one_all_added names t few = by (has names t) (eqb (length names) 65536) refl
   where
     longer : length (names ++ t ∷ []) ≡ length names + 1
     longer = length-append names (t ∷ [])
 
-    by : (b d : Bool) → eqb (length names) MOST_NAMES ≡ d
-        → cond (leb (length (cond b names (names ++ t ∷ []))) MOST_NAMES) (Ok (cond b names (names ++ t ∷ []))) (Err TooManyNames) ≡ cond b (Ok names) (cond d (Err TooManyNames) (Ok (names ++ t ∷ [])))
+    by : (b d : Bool) → eqb (length names) 65536 ≡ d
+        → cond (leb (length (cond b names (names ++ t ∷ []))) 65536) (Ok (cond b names (names ++ t ∷ []))) (Err TooManyNames) ≡ cond b (Ok names) (cond d (Err TooManyNames) (Ok (names ++ t ∷ [])))
     by true d full =
-        let room : leb (length names) MOST_NAMES ≡ true = le-leb _ _ few in
+        let room : leb (length names) 65536 ≡ true = le-leb _ _ few in
         rw room refl
     by false true full =
-        let over : leb (length (names ++ t ∷ [])) MOST_NAMES ≡ false = grind (arith, nat_tests, longer, full) in
+        let over : leb (length (names ++ t ∷ [])) 65536 ≡ false = grind (arith, nat_tests, longer, full) in
         rw over refl
     by false false full =
-        let room : leb (length (names ++ t ∷ [])) MOST_NAMES ≡ true = grind (arith, nat_tests, longer, full, few) in
+        let room : leb (length (names ++ t ∷ [])) 65536 ≡ true = grind (arith, nat_tests, longer, full, few) in
         rw room refl
 
 -- words of a refusal are read as the reply that it is

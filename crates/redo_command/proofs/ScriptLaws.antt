@@ -2,10 +2,8 @@
 use Rattle.std.proofs.Common.{◌≡◌, ℕ, ◌+◌, ◌<◌, ◌≤◌, Bool, true, false, cond, not, List, [], ◌∷◌, ◌++◌, length, Option, Some, None, Result, Ok, Err, refl, sym, ap, subst, ◌∙◌, arith, ltb, eqb, length-append, filter}
 use Rattle.std.proofs.lemmas.Bool.{ltb-false, le-ltb, eqb-false, ne_eqb}
 use Rattle.std.specs.List.{flat_map}
-use Rattle.redo_names.specs.declared.names.TheConstants.{MOST_NAMES}
 use Rattle.redo_model.specs.Names.{Text}
 use Rattle.redo_model.specs.Command.{Command, names_in}
-use Rattle.redo_command.specs.declared.read.TheConstants.{LONGEST_LINE, MOST_COMMANDS}
 use Rattle.redo_command.specs.declared.fault.LineFault.{LineFault}
 use Rattle.redo_command.specs.declared.fault.LineFault.TheVariants.{LineTooLong, TooManyLines}
 use Rattle.redo_command.specs.Grammar.{is_skipped, lines_of, AddsNames, AreCommandLines, AreScriptLines, IsScript}
@@ -48,9 +46,9 @@ read_from (Ok x) read after e =
 -- the line alone is read so, and there is room for its command
 pub record Taken (count : ℕ) (names : List Text) (line : Text) (read : Option (Command Text)) (after : List Text) : Type 0 where
   pub script : AreScriptLines names (line ∷ []) (commands_read read) after
-  pub room : count + length (commands_read read) ≤ MOST_COMMANDS
+  pub room : count + length (commands_read read) ≤ 4096
 
-none_taken : (count : ℕ) (names : List Text) (line : Text) → count ≤ MOST_COMMANDS → length names ≤ MOST_NAMES → length line ≤ LONGEST_LINE → is_skipped line ≡ true → Taken count names line None names
+none_taken : (count : ℕ) (names : List Text) (line : Text) → count ≤ 4096 → length names ≤ 65536 → length line ≤ 8192 → is_skipped line ≡ true → Taken count names line None names
 none_taken count names line room few short skipped = record {
   script = record {
     short = (short, tt);
@@ -61,7 +59,7 @@ none_taken count names line room few short skipped = record {
   room = omega arith;
 }
 
-some_taken : (count : ℕ) (names : List Text) (line : Text) (command : Command Text) (after : List Text) → count < MOST_COMMANDS → length names ≤ MOST_NAMES → length line ≤ LONGEST_LINE → is_skipped line ≡ false
+some_taken : (count : ℕ) (names : List Text) (line : Text) (command : Command Text) (after : List Text) → count < 4096 → length names ≤ 65536 → length line ≤ 8192 → is_skipped line ≡ false
     → line_in names line ≡ Ok (command, after) → Taken count names line (Some command) after
 some_taken count names line command after room few short said e =
     let found = line_found names line command after few e in
@@ -76,12 +74,12 @@ some_taken count names line command after room few short said e =
     }
 
 -- what a line of a script is read as, it says
-pub line_taken : (count : ℕ) (names : List Text) (line : Text) (read : Option (Command Text)) (after : List Text) → count ≤ MOST_COMMANDS → length names ≤ MOST_NAMES
+pub line_taken : (count : ℕ) (names : List Text) (line : Text) (read : Option (Command Text)) (after : List Text) → count ≤ 4096 → length names ≤ 65536
     → script_line_in count names line ≡ Ok (read, after) → Taken count names line read after
 unfolding script_line_in
-line_taken count names line read after room few e = by (ltb LONGEST_LINE (length line)) (is_skipped line) (eqb count MOST_COMMANDS) refl refl refl e
+line_taken count names line read after room few e = by (ltb 8192 (length line)) (is_skipped line) (eqb count 4096) refl refl refl e
   where
-    by : (long skipped full : Bool) → ltb LONGEST_LINE (length line) ≡ long → is_skipped line ≡ skipped → eqb count MOST_COMMANDS ≡ full
+    by : (long skipped full : Bool) → ltb 8192 (length line) ≡ long → is_skipped line ≡ skipped → eqb count 4096 ≡ full
         → cond long (Err LineTooLong) (cond skipped (line_read (None, names)) (cond full (Err TooManyLines) (then_some (line_in names line)))) ≡ Ok (read, after) → Taken count names line read after
     by true skipped full l s f h = absurd cc
     by false true full l s f h =
@@ -90,22 +88,22 @@ line_taken count names line read after room few e = by (ltb LONGEST_LINE (length
     by false false true l s f h = absurd cc
     by false false false l s f h =
         let from : ReadFrom (line_in names line) read after = read_from (line_in names line) read after h in
-        let differ : count ≡ MOST_COMMANDS → ⊥ = eqb-false count MOST_COMMANDS f in
-        let lt : count < MOST_COMMANDS = omega (arith, differ) in
+        let differ : count ≡ 4096 → ⊥ = eqb-false count 4096 f in
+        let lt : count < 4096 = omega (arith, differ) in
         subst (λ (r : Option (Command Text)). Taken count names line r after) (sym from.is) (some_taken count names line from.command after lt few (ltb-false _ _ l) s from.line)
 
-skipped_line : (count : ℕ) (names : List Text) (line : Text) → length line ≤ LONGEST_LINE → is_skipped line ≡ true → script_line_in count names line ≡ Ok (None, names)
+skipped_line : (count : ℕ) (names : List Text) (line : Text) → length line ≤ 8192 → is_skipped line ≡ true → script_line_in count names line ≡ Ok (None, names)
 unfolding script_line_in
 skipped_line count names line short s =
-    let l : ltb LONGEST_LINE (length line) ≡ false = le-ltb LONGEST_LINE (length line) short in
-    λ i. cond (l i) (Err LineTooLong) (cond (s i) (line_read (None, names)) (cond (eqb count MOST_COMMANDS) (Err TooManyLines) (then_some (line_in names line))))
+    let l : ltb 8192 (length line) ≡ false = le-ltb 8192 (length line) short in
+    λ i. cond (l i) (Err LineTooLong) (cond (s i) (line_read (None, names)) (cond (eqb count 4096) (Err TooManyLines) (then_some (line_in names line))))
 
-said_line : (count : ℕ) (names : List Text) (line : Text) (command : Command Text) (after : List Text) → length line ≤ LONGEST_LINE → is_skipped line ≡ false → count < MOST_COMMANDS
+said_line : (count : ℕ) (names : List Text) (line : Text) (command : Command Text) (after : List Text) → length line ≤ 8192 → is_skipped line ≡ false → count < 4096
     → line_in names line ≡ Ok (command, after) → script_line_in count names line ≡ Ok (Some command, after)
 unfolding script_line_in
 said_line count names line command after short s room e =
-    let l : ltb LONGEST_LINE (length line) ≡ false = le-ltb LONGEST_LINE (length line) short in
-    let f : eqb count MOST_COMMANDS ≡ false = ne_eqb count MOST_COMMANDS (λ (full : count ≡ MOST_COMMANDS). omega arith) in
+    let l : ltb 8192 (length line) ≡ false = le-ltb 8192 (length line) short in
+    let f : eqb count 4096 ≡ false = ne_eqb count 4096 (λ (full : count ≡ 4096). omega arith) in
     λ i. cond (l i) (Err LineTooLong) (cond (s i) (line_read (None, names)) (cond (f i) (Err TooManyLines) (then_some (e i))))
 
 -- what reading a line of a script gives, where the commands are the line's
@@ -115,17 +113,17 @@ pub record Takes (count : ℕ) (names : List Text) (text : Text) (commands : Lis
   pub whole : commands ≡ commands_read read
 
 -- what a line of a script says, it is read as
-pub line_takes : (count : ℕ) (names : List Text) (line : Text) (commands : List (Command Text)) (after : List Text) → AreScriptLines names (line ∷ []) commands after → count + length commands ≤ MOST_COMMANDS
+pub line_takes : (count : ℕ) (names : List Text) (line : Text) (commands : List (Command Text)) (after : List Text) → AreScriptLines names (line ∷ []) commands after → count + length commands ≤ 4096
     → Takes count names line commands after
 line_takes count names line commands after script room = by (is_skipped line) refl commands script.said room script.named
   where
-    by : (skipped : Bool) → is_skipped line ≡ skipped → (cs : List (Command Text)) → AreCommandLines (cond (not skipped) (line ∷ []) []) cs → count + length cs ≤ MOST_COMMANDS → AddsNames names cs after → Takes count names line cs after
+    by : (skipped : Bool) → is_skipped line ≡ skipped → (cs : List (Command Text)) → AreCommandLines (cond (not skipped) (line ∷ []) []) cs → count + length cs ≤ 4096 → AddsNames names cs after → Takes count names line cs after
     by true s [] said fits adds = record { read = None; gives = subst (λ (a : List Text). script_line_in count names line ≡ Ok (None, a)) (sym adds.0) (skipped_line count names line script.short.0 s); whole = refl }
     by true s (c ∷ cs) said fits adds = absurd said
     by false s [] said fits adds = absurd said
     by false s (c ∷ []) said fits adds =
         let longer : length names ≤ length after = subst (λ (a : List Text). length names ≤ length a) (sym adds.0) (with_names-longer names (flat_map names_in (c ∷ []))) in
-        let fit : length after ≤ MOST_NAMES = adds.1 in
+        let fit : length after ≤ 65536 = adds.1 in
         record { read = Some c; gives = said_line count names line c after script.short.0 s (omega arith) (line_only names line c after (omega arith) said.0 adds); whole = refl }
     by false s (c ∷ d ∷ cs) said fits adds = absurd said.1
 
@@ -157,7 +155,7 @@ no_fault_in_a_script names before line rest commands after fault script fails =
     let p : InParts names before (line ∷ rest) commands after = script_split names before (line ∷ rest) commands after script in
     let q : InParts p.mid (line ∷ []) rest p.second after = script_split p.mid (line ∷ []) rest p.second after p.other in
     let same = scripts_agree names before p.first p.mid fails.commands fails.after p.one fails.read in
-    let few : length p.first + (length q.first + length q.second) ≤ MOST_COMMANDS = subst (λ (n : ℕ). n ≤ MOST_COMMANDS) (ap length p.whole ∙ length-append p.first p.second ∙ ap (λ (l : List (Command Text)). length p.first + length l) q.whole ∙ ap (λ (n : ℕ). length p.first + n) (length-append q.first q.second)) script.few in
+    let few : length p.first + (length q.first + length q.second) ≤ 4096 = subst (λ (n : ℕ). n ≤ 4096) (ap length p.whole ∙ length-append p.first p.second ∙ ap (λ (l : List (Command Text)). length p.first + length l) q.whole ∙ ap (λ (n : ℕ). length p.first + n) (length-append q.first q.second)) script.few in
     let x : Takes (length p.first) p.mid line q.first q.mid = line_takes (length p.first) p.mid line q.first q.mid q.one (omega arith) in
     let failed : script_line_in (length p.first) p.mid line ≡ Err fault = (λ i. script_line_in (length (same.0 i)) (same.1 i) line) ∙ fails.fails in
     let both : line_read (x.read, q.mid) ≡ Err fault = sym x.gives ∙ failed in

@@ -3,11 +3,9 @@ use Rattle.std.proofs.Common.{◌≡◌, ◌+◌, ◌≤◌, Bool, true, false, 
 use Rattle.std.specs.List.{AllByRecursion, flat_map}
 use Rattle.std.proofs.lemmas.List.Elements.{filter-append}
 use Rattle.std.proofs.lemmas.Grind.{flat_map-append}
-use Rattle.redo_names.specs.declared.names.TheConstants.{MOST_NAMES}
 use Rattle.redo_names.specs.Names.{with_name, has}
 use Rattle.redo_model.specs.Names.{Text}
 use Rattle.redo_model.specs.Command.{Command, names_in}
-use Rattle.redo_command.specs.declared.read.TheConstants.{MOST_COMMANDS}
 use Rattle.redo_command.specs.Grammar.{IsShort, is_skipped, with_names, AreCommandLines, AreScriptLines}
 
 abbrev is_said : Text → Bool
@@ -62,7 +60,7 @@ names-append names cs ds = ap (with_names names) (flat_map-append names_in cs ds
 
 -- what is read of the lines and then of more lines is read of them all
 pub script_joined : (names : List Text) (xs ys : List Text) (cs ds : List (Command Text)) (mid after : List Text)
-    → AreScriptLines names xs cs mid → AreScriptLines mid ys ds after → length (cs ++ ds) ≤ MOST_COMMANDS → AreScriptLines names (xs ++ ys) (cs ++ ds) after
+    → AreScriptLines names xs cs mid → AreScriptLines mid ys ds after → length (cs ++ ds) ≤ 4096 → AreScriptLines names (xs ++ ys) (cs ++ ds) after
 script_joined names xs ys cs ds mid after one other few = record {
   short = all_joined IsShort xs ys one.short other.short;
   said = subst (λ (l : List Text). AreCommandLines l (cs ++ ds)) (sym (filter-append is_said xs ys)) (said_joined (filter is_said xs) (filter is_said ys) cs ds one.said other.said);
@@ -89,8 +87,8 @@ script_split names xs ys commands after all =
     all.named.0 ∙ ap (λ (l : List (Command Text)). with_names names (flat_map names_in l)) said.whole ∙ names-append names said.first said.second in
     let lengths : length commands ≡ length said.first + length said.second = ap length said.whole ∙ length-append said.first said.second in
     let longer : length mid ≤ length after = subst (λ (l : List Text). length mid ≤ length l) (sym after_is) (with_names-longer mid (flat_map names_in said.second)) in
-    let few : length commands ≤ MOST_COMMANDS = all.few in
-    let fits : length after ≤ MOST_NAMES = all.named.1 in
+    let few : length commands ≤ 4096 = all.few in
+    let fits : length after ≤ 65536 = all.named.1 in
     record {
       first = said.first;
       second = said.second;

@@ -7,7 +7,6 @@ use Rattle.redo_names.specs.Names.{Extends}
 use Rattle.redo_model.specs.Names.{Text}
 use Rattle.redo_model.specs.Command as commands
 use Rattle.redo_model.specs.Renaming.{IsBelow}
-use Rattle.redo_command.specs.declared.read.TheConstants.{MOST_COMMANDS}
 use Rattle.redo_command.specs.declared.command.Command.{Command}
 use Rattle.redo_command.specs.Meaning.{command_of, command_at}
 use Rattle.redo_command.specs.Grammar.{AreScriptLines}
@@ -50,10 +49,10 @@ pub line_more : (start before names after : List Text) (cs : List Command) (line
     → AreScriptLines start before (map (command_at names) cs) names → script_line_in (length cs) names line ≡ Ok (option_map (command_at after) read, after)
     → AreScriptLines start (before ++ line ∷ []) (map (command_at after) (pushed cs read)) after
 line_more start before names after cs line read x below script e =
-    let few : length cs ≤ MOST_COMMANDS = subst (λ (n : ℕ). n ≤ MOST_COMMANDS) (length-map cs (command_at names)) script.few in
+    let few : length cs ≤ 4096 = subst (λ (n : ℕ). n ≤ 4096) (length-map cs (command_at names)) script.few in
     let said = option_map (command_at after) read in
     let taken : Taken (length cs) names line said after = line_taken (length cs) names line said after few script.named.1 e in
-    let room : length (map (command_at names) cs ++ commands_read said) ≤ MOST_COMMANDS = omega (arith, length-append (map (command_at names) cs) (commands_read said), length-map cs (command_at names), taken.room) in
+    let room : length (map (command_at names) cs ++ commands_read said) ≤ 4096 = omega (arith, length-append (map (command_at names) cs) (commands_read said), length-map cs (command_at names), taken.room) in
     let all = script_joined start before (line ∷ []) (map (command_at names) cs) (commands_read said) names after script taken.script room in
     let kept : map (command_at after) cs ≡ map (command_at names) cs = commands_at-Extends names after cs x below in
     let whole : map (command_at after) (pushed cs read) ≡ map (command_at names) cs ++ commands_read said = commands_pushed after cs read ∙ ap (λ (l : List (commands.Command Text)). l ++ commands_read said) kept in

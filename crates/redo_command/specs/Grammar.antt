@@ -3,18 +3,15 @@ use Rattle.std.specs.Prelude.{◌≡◌, ◌≢◌, ◌<◌, ◌≤◌, ◌⊎�
 use Rattle.std.specs.List.{slice_split, flat_map, AllByRecursion}
 use Rattle.hex.specs.Hex.{decode_of}
 use Rattle.redo_names.specs.Names.{is_name, with_name}
-use Rattle.redo_names.specs.declared.names.TheConstants.{MOST_NAMES}
 use Rattle.redo_model.specs.Names.{Text}
 use Rattle.redo_model.specs.Command.{Command, File, Gone, Lock, Unlock, Start, IfChange, IfCreate, Always, Stamp, Done, Failed, Ood, Targets, Sources, names_in}
-use Rattle.redo_command.specs.declared.name_lists.TheConstants.{MOST_LISTED_NAMES}
-use Rattle.redo_command.specs.declared.read.TheConstants.{LONGEST_LINE, MOST_COMMANDS}
 use Rattle.redo_command.specs.Stamp.{is_stamp}
 use Rattle.redo_command.specs.Texts.{spaced, command_text_of}
 
 -- 1 to 64 names
 pub record IsNameList (names : List Text) : Type 0 where
   pub some : 1 ≤ length names
-  pub few : length names ≤ MOST_LISTED_NAMES
+  pub few : length names ≤ 64
   pub each : AllByRecursion (λ n. IsTrue (is_name n)) names
 
 -- what the words of a command have to be
@@ -36,7 +33,7 @@ HasForm Sources = ⊤
 
 -- a line may have 8,192 bytes, a script 4,096 commands, a run 65,536 names
 abbrev pub IsShort : Text → Type 0
-IsShort line = length line ≤ LONGEST_LINE
+IsShort line = length line ≤ 8192
 
 -- "-" stands for empty content; the digits of other content may have letters of either case
 abbrev pub IsContentWord : Text → Text → Type 0
@@ -58,7 +55,7 @@ with_names names (t ∷ ts) = with_names (with_name names t) ts
 
 -- after are the names with those of the commands, and not too many
 abbrev pub AddsNames : List Text → List (Command Text) → List Text → Type 0
-AddsNames names commands after = (after ≡ with_names names (flat_map names_in commands)) × (length after ≤ MOST_NAMES)
+AddsNames names commands after = (after ≡ with_names names (flat_map names_in commands)) × (length after ≤ 65536)
 
 -- the pieces between line feeds: what stands after a last line feed is an empty piece, which is skipped as any
 abbrev pub lines_of : Text → List Text
@@ -80,7 +77,7 @@ AreCommandLines (line ∷ lines) (command ∷ commands) = IsCommandLine line com
 pub record AreScriptLines (names : List Text) (lines : List Text) (commands : List (Command Text)) (after : List Text) : Type 0 where
   pub short : AllByRecursion IsShort lines
   pub said : AreCommandLines (filter (λ line. not (is_skipped line)) lines) commands
-  pub few : length commands ≤ MOST_COMMANDS
+  pub few : length commands ≤ 4096
   pub named : AddsNames names commands after
 
 -- the text is a script of these commands, and after are the names with its names

@@ -5,11 +5,8 @@ use Rattle.std.specs.List.{slice_split, list_any, list_all}
 use Rattle.hex.specs.Hex.{decode_of}
 use Rattle.hex.specs.declared.error.FromHexError.{FromHexError}
 use Rattle.redo_names.specs.Names.{is_name, has}
-use Rattle.redo_names.specs.declared.names.TheConstants.{MOST_NAMES}
 use Rattle.redo_model.specs.Names.{Text}
 use Rattle.redo_model.specs.Command.{Command, File, Gone, Lock, Unlock, Start, IfChange, IfCreate, Always, Stamp, Done, Failed, Ood, Targets, Sources}
-use Rattle.redo_command.specs.declared.name_lists.TheConstants.{MOST_LISTED_NAMES}
-use Rattle.redo_command.specs.declared.read.TheConstants.{LONGEST_LINE, MOST_COMMANDS}
 use Rattle.redo_command.specs.declared.kind.Kind.{Kind}
 use Rattle.redo_command.specs.declared.kind.Kind.TheVariants as kinds
 use Rattle.redo_command.specs.Stamp.{is_stamp}
@@ -49,7 +46,7 @@ content_in word = if bytes_eq word (codes "-") then Ok [] else some_content (dec
 
 -- the names with this one, where it is there or there is room
 abbrev pub added : List Text → Text → Result (List Text) LineFault
-added names text = if has names text then Ok names else (if length names == MOST_NAMES then Err TooManyNames else Ok (names ++ text ∷ []))
+added names text = if has names text then Ok names else (if length names == 65536 then Err TooManyNames else Ok (names ++ text ∷ []))
 
 -- the text is a name, and this is its number
 pub record IsNumbered (names : List Text) (text : Text) (number : ℕ) : Type 0 where
@@ -74,13 +71,13 @@ unfoldable pub target_and_names_in : List Text → Result (Text × List Text) Li
 target_and_names_in [] = Err WrongWords
 target_and_names_in (t ∷ []) = Err WrongWords
 target_and_names_in (t ∷ n ∷ ns) =
-    if nat_lt MOST_LISTED_NAMES (length (n ∷ ns)) then Err TooManyNames
+    if nat_lt 64 (length (n ∷ ns)) then Err TooManyNames
     else (if not (list_all is_name (t ∷ n ∷ ns)) then Err BadName
     else Ok (t, n ∷ ns))
 
 -- the names with all of these, where they are not too many then
 unfoldable pub all_added : List Text → List Text → Result (List Text) LineFault
-all_added names ts = if nat_le (length (with_names names ts)) MOST_NAMES then Ok (with_names names ts) else Err TooManyNames
+all_added names ts = if nat_le (length (with_names names ts)) 65536 then Ok (with_names names ts) else Err TooManyNames
 
 -- a form of a target and of names
 unfoldable pub names_form_in : (Text → List Text → Command Text) → List Text → List Text → Reading
@@ -174,16 +171,16 @@ HasBadByte line = IsTrue (list_any (λ b. not (is_text_byte b)) line)
 -- a line without its LF
 unfoldable pub line_in : List Text → Text → Reading
 line_in names line =
-    if nat_lt LONGEST_LINE (length line) then Err LineTooLong
+    if nat_lt 8192 (length line) then Err LineTooLong
     else (if list_any (λ b. not (is_text_byte b)) line then Err BadByte
     else words_in names (words_of line))
 
 -- a line of a script, after so many commands; it may be skipped
 unfoldable pub script_line_in : ℕ → List Text → Text → Result (Option (Command Text) × List Text) LineFault
 script_line_in count names line =
-    if nat_lt LONGEST_LINE (length line) then Err LineTooLong
+    if nat_lt 8192 (length line) then Err LineTooLong
     else (if is_skipped line then Ok (None, names)
-    else (if count == MOST_COMMANDS then Err TooManyLines
+    else (if count == 4096 then Err TooManyLines
     else (line_in names line >>= λ x. Ok (Some x.0, x.1))))
 
 -- what a private reader returned, seen by `view`, is what reading gives, unless memory ran out

@@ -2,7 +2,6 @@
 use Rattle.std.specs.Prelude.{◌≡◌, ◌≢◌, ℕ, ◌<◌, ◌≤◌, List, [], ◌∷◌, length, IsTrue, ⊤}
 use Rattle.std.specs.List.{AllByRecursion}
 use Rattle.redo_names.specs.Names.{is_name}
-use Rattle.redo_names.specs.declared.names.TheConstants.{MOST_NAMES}
 use Rattle.redo_model.specs.Names.{Text}
 use Rattle.redo_model.specs.Reply.{Refusal, NotLocked, Building, NotBuilding, Itself, Exists, Reply, Okay, Granted, Busy, Stale, Stamped, Ood, Targets, Sources, Refused}
 use Rattle.redo_command.specs.Texts.{reply_text_of}
@@ -63,4 +62,4 @@ names_in_reply (Refused refusal) = names_in_refusal refusal
 
 -- after are the names with those of the reply, and not too many
 abbrev pub AddsReplyNames : List Text → Reply Text → List Text → Type 0
-AddsReplyNames names reply after = (after ≡ with_names names (names_in_reply reply)) × (length after ≤ MOST_NAMES)
+AddsReplyNames names reply after = (after ≡ with_names names (names_in_reply reply)) × (length after ≤ 65536)

@@ -3,7 +3,6 @@ use Rattle.std.specs.Prelude.{◌≡◌, ℕ, ◌-◌, ◌≤◌, Bool, true, �
 use Rattle.std.proofs.Common.{ap, sym, ◌∙◌}
 use Rattle.std.specs.List.{list_all}
 use Rattle.redo_names.specs.Names.{is_visible}
-use Rattle.redo_command.specs.declared.stamp.TheConstants.{LONGEST_STAMP}
 
 -- "-" stands for no stamp, and "=>" is the arrow of a history
 abbrev pub is_placeholder : List ℕ → Bool
@@ -11,17 +10,17 @@ is_placeholder text = bytes_eq text (codes "-") || bytes_eq text (codes "=>")
 
 -- 1 to 64 visible bytes that are no placeholder
 unfoldable pub is_stamp : List ℕ → Bool
-is_stamp text = nat_le 1 (length text) && nat_le (length text) LONGEST_STAMP && list_all is_visible text && not (is_placeholder text)
+is_stamp text = nat_le 1 (length text) && nat_le (length text) 64 && list_all is_visible text && not (is_placeholder text)
 
 -- the text, and zeros up to the length of the longest stamp
 abbrev pub padded : List ℕ → List ℕ
-padded text = text ++ replicate (LONGEST_STAMP - length text) 0
+padded text = text ++ replicate (64 - length text) 0
 
 -- the first bytes are a stamp's, and zeros follow
 pub record IsPadded (len : ℕ) (bytes : List ℕ) : Type 0 where
-  pub within : len ≤ LONGEST_STAMP
+  pub within : len ≤ 64
   pub whole : length (take len bytes) ≡ len
-  pub zeros : bytes ≡ take len bytes ++ replicate (LONGEST_STAMP - len) 0
+  pub zeros : bytes ≡ take len bytes ++ replicate (64 - len) 0
   pub stamp : is_stamp (take len bytes) ≡ true
 
 -- a stamp's bytes give its fields back
@@ -29,4 +28,4 @@ pub length-taken : (len : ℕ) (bytes : List ℕ) → IsPadded len bytes → len
 length-taken len bytes is = is.whole
 
 pub padded-take : (len : ℕ) (bytes : List ℕ) → IsPadded len bytes → padded (take len bytes) ≡ bytes
-padded-take len bytes is = ap (λ (n : ℕ). take len bytes ++ replicate (LONGEST_STAMP - n) 0) is.whole ∙ sym is.zeros
+padded-take len bytes is = ap (λ (n : ℕ). take len bytes ++ replicate (64 - n) 0) is.whole ∙ sym is.zeros

@@ -53,7 +53,7 @@ pub(crate) fn known_target_and_numbers(
     ensures below { IfOk result (λ known. IfSome known
         (λ p. AllBelow (length names.now) (p.0 ∷ p.1.items))) }
     ensures count { IfOk result (λ known. IfSome known
-        (λ p. (1 ≤ length p.1.items) × (length p.1.items ≤ MOST_LISTED_NAMES))) }
+        (λ p. (1 ≤ length p.1.items) × (length p.1.items ≤ 64))) }
 {
     let Some(text) = args else {
         return Ok(None);

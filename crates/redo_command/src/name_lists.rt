@@ -56,7 +56,7 @@ pub(crate) fn numbers_of(
     names: &mut Names,
     words: &[&[u8]],
 ) -> Result<Vec<u32>, Unread>
-    requires few { length names.old ≤ MOST_NAMES }
+    requires few { length names.old ≤ 65536 }
     requires names { list_all name_test (map (λ w. w.now) words.now) ≡ true }
     ensures reads { Reads (λ _. names.new) result (all_added names.old (map (λ w. w.now) words.now)) }
     ensures numbers { IfOk result (λ numbers. map (text_at names.new) numbers.items ≡ map (λ w. w.now) words.now) }

@@ -19,7 +19,7 @@ use std::alloc::Global;
 /// The reply that a text is, without LF.
 #[tactic(auto, using(crate::proofs::Added::extends_same, crate::proofs::ReplyNames::none_added), unfolding(crate::specs::ReplyReading::reply_in, crate::specs::ReplyReading::reply_args_in))]
 fn text_read(alloc: Global, text: &[u8], names: &mut Names) -> Result<Reply, Unread>
-    requires { length names.old ≤ MOST_NAMES }
+    requires { length names.old ≤ 65536 }
     ensures reads { Reads (λ reply. (reply_at names.new reply, names.new)) result
         (reply_in names.old text.now) }
     ensures within { IfOk result (λ reply. IsReplyBelow (length names.new) (reply_of reply)) }

@@ -76,7 +76,7 @@ pub(crate) fn listed_of(
     names: &mut Names,
     args: Option<&[u8]>,
 ) -> Result<Vec<u32>, Unread>
-    requires { length names.old ≤ MOST_NAMES }
+    requires { length names.old ≤ 65536 }
     ensures reads { Reads (λ numbers. (map (text_at names.new) numbers.items, names.new)) result
         (with_its_names (λ ns. ns) names.old (names_in_words (words_after args.entry))) }
     ensures within { IfOk result (λ numbers. AllBelow (length names.new) numbers.items) }
@@ -100,7 +100,7 @@ pub(crate) fn some_listed_of(
     names: &mut Names,
     args: Option<&[u8]>,
 ) -> Result<Vec<u32>, Unread>
-    requires { length names.old ≤ MOST_NAMES }
+    requires { length names.old ≤ 65536 }
     ensures reads { Reads (λ numbers. (map (text_at names.new) numbers.items, names.new)) result
         (with_its_names (λ ns. ns) names.old (some_names_in_words (words_after args.entry))) }
     ensures within { IfOk result (λ numbers. AllBelow (length names.new) numbers.items) }
@@ -115,7 +115,7 @@ pub(crate) fn some_listed_of(
 /// The refusal that a word says alone.
 #[tactic(auto, using(crate::proofs::ReplyNames::none_added))]
 fn plain_refusal_of(word: &[u8]) -> Result<Refusal, Unread>
-    ensures reads { (names : List Text) → length names ≤ MOST_NAMES → Reads (λ refusal. (named_refusal (text_at names) (refusal_of refusal), names)) result (with_its_names names_in_refusal names (plain_refusal_in word.now)) }
+    ensures reads { (names : List Text) → length names ≤ 65536 → Reads (λ refusal. (named_refusal (text_at names) (refusal_of refusal), names)) result (with_its_names names_in_refusal names (plain_refusal_in word.now)) }
     ensures within { (n : ℕ) → IfOk result (λ refusal. IsReplyBelow n (Refused (refusal_of refusal))) }
 {
     if word == b"not-locked".as_slice() {
@@ -134,7 +134,7 @@ fn plain_refusal_of(word: &[u8]) -> Result<Refusal, Unread>
 /// The refusal that words are.
 #[tactic(auto, using(crate::proofs::Added::extends_same, crate::proofs::ReplyNames::none_added, crate::proofs::ReplyNames::one_all_added))]
 pub(crate) fn refusal_of_words(names: &mut Names, args: Option<&[u8]>) -> Result<Refusal, Unread>
-    requires { length names.old ≤ MOST_NAMES }
+    requires { length names.old ≤ 65536 }
     ensures reads { Reads
         (λ refusal. (named_refusal (text_at names.new) (refusal_of refusal), names.new))
         result

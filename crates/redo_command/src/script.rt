@@ -25,20 +25,19 @@ pub struct Script {
 impl Model for Script {
     ghost use Rattle.std.specs.Prelude.{List, ◌≤◌, length};
     ghost use Rattle.redo_command.specs.declared.command.Command.{Command};
-    ghost use Rattle.redo_command.specs.declared.read.TheConstants.{MOST_COMMANDS};
 
     ghost Value = { List Command };
 
     ghost view = { λ script. script.commands.items };
 
-    ghost invariant = { λ script. length script.commands.items ≤ MOST_COMMANDS };
+    ghost invariant = { λ script. length script.commands.items ≤ 4096 };
 }
 
 impl Script {
     /// The commands, in order.
     pub fn commands(&self) -> &[Command]
         ensures commands { result.now ≡ self.now }
-        ensures few { length self.now ≤ MOST_COMMANDS }
+        ensures few { length self.now ≤ 4096 }
     {
         &self.commands
     }

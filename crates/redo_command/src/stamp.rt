@@ -48,7 +48,7 @@ fn is_stamp(text: &[u8]) -> bool
 
 // The text, and zeros after it.
 fn padded(text: &[u8]) -> [u8; LONGEST_STAMP]
-    requires { length text.now ≤ LONGEST_STAMP }
+    requires { length text.now ≤ 64 }
     ensures { result ≡ padded_list text.now }
 {
     let mut bytes = [0; LONGEST_STAMP];

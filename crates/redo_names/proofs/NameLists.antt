@@ -4,7 +4,6 @@ use Rattle.std.specs.List.{IsDistinct, AllByRecursion}
 use Rattle.std.proofs.lemmas.Cmp.{nat_list_eq_equiv}
 use Rattle.std.proofs.lemmas.Map.Keys.{IsDistinct-push}
 use Rattle.redo_names.specs.Names.{is_name, has, with_name, Extends, AreNames}
-use Rattle.redo_names.specs.declared.names.TheConstants.{MOST_NAMES}
 
 pub Extends-same : (names : List (List ℕ)) → Extends names names
 Extends-same names = record { more = []; is = sym (append-nil names) }
@@ -34,7 +33,7 @@ each-push : (names : List (List ℕ)) (text : List ℕ) → AllByRecursion (λ t
 each-push [] text each is = (is, tt)
 each-push (_ ∷ names) text each is = (each.0, each-push names text each.1 is)
 
-pub AreNames-push : (names : List (List ℕ)) (text : List ℕ) → AreNames names → is_name text ≡ true → has names text ≡ false → length names < MOST_NAMES → AreNames (names ++ text ∷ [])
+pub AreNames-push : (names : List (List ℕ)) (text : List ℕ) → AreNames names → is_name text ≡ true → has names text ≡ false → length names < 65536 → AreNames (names ++ text ∷ [])
 AreNames-push names text are is new room = record {
   few = omega (arith, length-append names (text ∷ []));
   distinct = IsDistinct-push nat_list_eq_equiv names text are.distinct new;

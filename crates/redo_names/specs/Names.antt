@@ -1,8 +1,6 @@
 -- What a name is, and lists of distinct names.
 use Rattle.std.specs.Prelude.{◌≡◌, ℕ, ◌≤◌, Bool, true, false, ◌&&◌, ◌||◌, not, ◌==◌, nat_le, List, [], ◌∷◌, ◌++◌, length, if◌then◌else◌, bytes_eq, slice_index_or, codes}
 use Rattle.std.specs.List.{list_all, list_any, IsDistinct, AllByRecursion}
-use Rattle.redo_names.specs.declared.name.TheConstants.{LONGEST_NAME}
-use Rattle.redo_names.specs.declared.names.TheConstants.{MOST_NAMES}
 
 -- a printed byte of ASCII, and no space
 abbrev pub is_visible : ℕ → Bool
@@ -19,7 +17,7 @@ is_reserved text = bytes_eq text (codes "-") || bytes_eq text (codes "=>") || be
 
 -- 1 to 255 visible bytes that are not reserved
 unfoldable pub is_name : List ℕ → Bool
-is_name text = nat_le 1 (length text) && nat_le (length text) LONGEST_NAME && list_all is_visible text && not (is_reserved text)
+is_name text = nat_le 1 (length text) && nat_le (length text) 255 && list_all is_visible text && not (is_reserved text)
 
 -- whether the text is among the names
 abbrev pub has : List (List ℕ) → List ℕ → Bool
@@ -40,6 +38,6 @@ pub record Extends (old new : List (List ℕ)) : Type 0 where
 
 -- at most 65,536 texts, no two of them equal, and each of them a name
 pub record AreNames (names : List (List ℕ)) : Type 0 where
-  pub few : length names ≤ MOST_NAMES
+  pub few : length names ≤ 65536
   pub distinct : IsDistinct bytes_eq names
   pub each : AllByRecursion (λ text. is_name text ≡ true) names

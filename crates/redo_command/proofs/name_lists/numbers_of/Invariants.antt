@@ -1,5 +1,4 @@
 use Rattle.std.proofs.Common.{◌≡◌, ◌≤◌, map, length, take, drop}
-use Rattle.redo_names.specs.declared.names.TheConstants.{MOST_NAMES}
 use Rattle.redo_names.specs.Names.{text_at, Extends}
 use Rattle.redo_model.specs.Renaming.{AllBelow}
 use Rattle.redo_command.specs.Grammar.{with_names}
@@ -8,7 +7,7 @@ use Rattle.redo_command.proofs.name_lists.numbers_of.Given as goal
 abbrev pub invariant-loop-word : goal.invariant-loop-word
 invariant-loop-word l = record {
   rest : with_names l.fn.names (map (λ w. w.now) l.words) ≡ with_names l.names (drop l.word-index (map (λ w. w.now) l.words));
-  few : length l.names ≤ MOST_NAMES;
+  few : length l.names ≤ 65536;
   numbers : map (text_at l.names) l.numbers.items ≡ take l.word-index (map (λ w. w.now) l.words);
   within : AllBelow (length l.names) l.numbers.items;
   kept : Extends l.fn.names l.names;

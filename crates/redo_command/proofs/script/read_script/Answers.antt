@@ -1,6 +1,5 @@
 use Rattle.std.proofs.Common.{◌≡◌, ℕ, ◌<◌, ◌≤◌, ◌∷◌, [], Err, map, length, subst, arith, inl, inr}
 use Rattle.std.proofs.lemmas.List.{length-map}
-use Rattle.redo_command.specs.declared.read.TheConstants.{MOST_COMMANDS}
 use Rattle.redo_command.specs.declared.fault.LineFault.{LineFault}
 use Rattle.redo_command.specs.declared.fault.Unread.TheVariants.{Fault}
 use Rattle.redo_command.specs.Meaning.{command_at}
@@ -38,7 +37,7 @@ returns-in_default-after-clause-only c cs after script = inr (scripts_agree c.ar
 
 pub invariant_of-result : goal.invariant_of-result
 invariant_of-result c =
-    let few : length c.take_line.new.commands.items ≤ MOST_COMMANDS = subst (λ (n : ℕ). n ≤ MOST_COMMANDS) (length-map c.take_line.new.commands.items (command_at c.take_line.new.names)) (whole c).few in
+    let few : length c.take_line.new.commands.items ≤ 4096 = subst (λ (n : ℕ). n ≤ 4096) (length-map c.take_line.new.commands.items (command_at c.take_line.new.names)) (whole c).few in
     few
 
 pub lines-preserved : goal.lines-preserved

@@ -1,7 +1,6 @@
 use Rattle.std.proofs.Common.{◌≡◌, ◌∙◌, ℕ, ◌<◌, ◌≤◌, List, [], ◌∷◌, ◌++◌, length, sym, ap, subst, arith, Some, slice_get, false}
 use Rattle.std.proofs.lemmas.Option.{slice_get_within}
 use Rattle.redo_names.specs.Names.{has, AreNames}
-use Rattle.redo_names.specs.declared.names.TheConstants.{MOST_NAMES}
 use Rattle.redo_names.proofs.Keys.{texts, length-texts, texts-insert}
 use Rattle.redo_names.proofs.NameLists.{with_name-new, AreNames-push, slice_get-last}
 use Rattle.redo_names.proofs.names.Names.add.Goals as goal
@@ -26,8 +25,8 @@ names_after c =
 are_names : (c : goal.In_ok-insert) → AreNames (texts c.insert.new.self.keys)
 are_names c =
     let are : AreNames c.args.self.now = rw (← c.self.view_is) c.self.invariant in
-    let most : length c.args.self.now ≤ MOST_NAMES = are.few in
-    let room : length c.args.self.now < MOST_NAMES = omega (arith, count c) in
+    let most : length c.args.self.now ≤ 65536 = are.few in
+    let room : length c.args.self.now < 65536 = omega (arith, count c) in
     subst AreNames (sym (names_after c)) (AreNames-push c.args.self.now c.args.text.now are c.requires (is_new c) room)
 
 stored : (c : goal.In_ok-insert) → slice_get (texts c.insert.new.self.keys) c.len-number.result ≡ Some c.args.text.now
