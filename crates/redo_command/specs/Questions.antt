@@ -1,6 +1,6 @@
 -- What is wrong with a line: a list of questions about it, each with its fault. The first question that is answered by
 -- yes tells the line's fault.
-use Rattle.std.specs.Prelude.{ℕ, ◌+◌, ◌%◌, List, [], ◌∷◌, ◌++◌, map, drop, length, Option, Some, None}
+use Rattle.std.specs.Prelude.{ℕ, ◌%◌, List, [], ◌∷◌, ◌++◌, map, drop, length, Option, Some, None}
 use Rattle.std.specs.Prelude.{Bool, true, not, ◌&&◌, ◌||◌, ◌==◌, nat_lt, nat_le, if◌then◌else◌, codes, bytes_eq, find}
 use Rattle.std.specs.List.{slice_split, list_any, list_all}
 use Rattle.hex.specs.Hex.{is_hex_digit}

@@ -1,5 +1,5 @@
 -- The steps of the private readers, which no public clause cites: what each gives, or the fault where it fails.
-use Rattle.std.specs.Prelude.{◌≡◌, ℕ, ◌+◌, List, [], ◌∷◌, ◌++◌, length, Option, Some, None, Result, Ok, Err, not, nat_lt, nat_le, ◌==◌, if◌then◌else◌, codes, bytes_eq, slice_get, true}
+use Rattle.std.specs.Prelude.{◌≡◌, ℕ, List, [], ◌∷◌, ◌++◌, length, Option, Some, None, Result, Ok, Err, not, nat_lt, nat_le, ◌==◌, if◌then◌else◌, codes, bytes_eq, slice_get, true}
 use Rattle.std.specs.Borrow.{Bor}
 use Rattle.std.specs.List.{list_all}
 use Rattle.hex.specs.Hex.{decode_of}

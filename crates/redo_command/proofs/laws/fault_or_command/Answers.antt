@@ -1,4 +1,3 @@
-use Rattle.std.proofs.Common.{ap, sym, ◌∙◌}
 use Rattle.redo_command.proofs.FaultOrCommand.{no_fault_in_a_line, command_without_fault}
 use Rattle.redo_command.proofs.laws.fault_or_command.Goals as goal
 
