@@ -12,7 +12,8 @@ use Rattle.redo_command.specs.declared.kind.Kind.TheVariants as kinds
 use Rattle.redo_command.specs.Stamp.{is_stamp}
 use Rattle.redo_command.specs.Texts.{spaced, stamp_word, word_of}
 use Rattle.redo_command.specs.Grammar.{HasForm, IsNameList, IsSpelled, with_names, AddsNames}
-use Rattle.redo_command.specs.Reading.{◌>>=◌, name_in, file_stamp_in, file_stamp_or_none_in, content_in, added, one_name_in, target_and_names_in, all_added, names_form_in, file_in, stamp_in, done_in, no_words_in, kind_named, form_in, words_in}
+use Rattle.redo_command.specs.Questions.{kind_named}
+use Rattle.redo_command.specs.Reading.{◌>>=◌, name_in, file_stamp_in, file_stamp_or_none_in, content_in, added, one_name_in, target_and_names_in, all_added, names_form_in, file_in, stamp_in, done_in, no_words_in, form_in, words_in}
 use Rattle.redo_command.proofs.Fronts.{word_is}
 use Rattle.redo_command.proofs.Steps.{bind_ok, guard_ok, read, same_read}
 use Rattle.redo_command.proofs.Added.{one_added}

@@ -15,7 +15,8 @@ use Rattle.redo_command.specs.declared.kind.Kind.TheVariants as kinds
 use Rattle.redo_command.specs.declared.reply_kind.ReplyKind.{ReplyKind}
 use Rattle.redo_command.specs.declared.reply_kind.ReplyKind.TheVariants as replies
 use Rattle.redo_command.specs.Texts.{after_space, word_of}
-use Rattle.redo_command.specs.Reading.{words_of, words_after, kind_named, all_kinds, no_words_in, form_in, words_in}
+use Rattle.redo_command.specs.Questions.{words_of, kind_named, all_kinds}
+use Rattle.redo_command.specs.Reading.{words_after, no_words_in, form_in, words_in}
 use Rattle.redo_command.specs.ReplyReading.{okay_in, names_in_words, some_names_in_words, reply_word, reply_kind_named, all_reply_kinds, reply_args_in, reply_words_in}
 use Rattle.redo_command.proofs.Spaced.{line_is_spaced}
 use Rattle.redo_command.proofs.Steps.{neither, found_passes}

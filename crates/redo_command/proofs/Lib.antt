@@ -1,5 +1,7 @@
 pub mod Added
+pub mod Asked
 pub mod Contents
+pub mod FaultOrCommand
 pub mod FormsFound
 pub mod FormsRead
 pub mod Fronts

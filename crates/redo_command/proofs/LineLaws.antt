@@ -9,7 +9,8 @@ use Rattle.redo_model.specs.Command.{Command, Stamp, names_in}
 use Rattle.redo_command.specs.declared.fault.LineFault.TheVariants.{LineTooLong, BadByte}
 use Rattle.redo_command.specs.Texts.{spaced, content_word, command_text_of}
 use Rattle.redo_command.specs.Grammar.{IsCommandLine, IsShort, IsSpelled, HasForm, with_names, AddsNames}
-use Rattle.redo_command.specs.Reading.{line_in, words_in, words_of, is_text_byte}
+use Rattle.redo_command.specs.Questions.{words_of, is_text_byte}
+use Rattle.redo_command.specs.Reading.{line_in, words_in}
 use Rattle.redo_command.proofs.Steps.{unless_ok, same_read}
 use Rattle.redo_command.proofs.Spaced.{line_is_spaced, words_of-spaced, spaced_is_text}
 use Rattle.redo_command.proofs.Contents.{content_word_says}

@@ -11,7 +11,8 @@ use Rattle.redo_model.specs.Command.{Command}
 use Rattle.redo_command.specs.declared.fault.LineFault.TheVariants.{TooManyNames}
 use Rattle.redo_model.specs.Renaming.{AllBelow}
 use Rattle.redo_command.specs.Grammar.{with_names}
-use Rattle.redo_command.specs.Reading.{IsNumbered, added, all_added, words_of, one_name_in, names_form_in}
+use Rattle.redo_command.specs.Questions.{words_of}
+use Rattle.redo_command.specs.Reading.{IsNumbered, added, all_added, one_name_in, names_form_in}
 use Rattle.redo_command.specs.ReplyReading.{names_in_words, with_its_names}
 use Rattle.redo_command.proofs.NameLists.{all_added-fits, each_name, target_and_names_read}
 use Rattle.redo_command.proofs.Spaced.{name_is_visible, words_of-spaced}

@@ -12,7 +12,8 @@ use Rattle.redo_command.specs.declared.fault.LineFault.TheVariants.{WrongWords, 
 use Rattle.redo_command.specs.declared.reply_kind.ReplyKind.{ReplyKind}
 use Rattle.redo_command.specs.declared.reply_kind.ReplyKind.TheVariants as kinds
 use Rattle.redo_command.specs.Texts.{spaced, refusal_words, reply_text_of}
-use Rattle.redo_command.specs.Reading.{◌>>=◌, name_in, all_added, words_of}
+use Rattle.redo_command.specs.Questions.{words_of}
+use Rattle.redo_command.specs.Reading.{◌>>=◌, name_in, all_added}
 use Rattle.redo_command.specs.Replies.{IsGrant, IsDigest, AreAllNames, HasRefusalForm, HasReplyForm, IsReplyText, AddsReplyNames, names_in_reply}
 use Rattle.redo_command.specs.ReplyReading.{one_word_in, grant_in, digest_in, names_in_words, some_names_in_words, plain_refusal_in, refusal_in_words, okay_in, reply_word, reply_kind_named, reply_args_in, reply_words_in, reply_in}
 use Rattle.redo_command.proofs.Steps.{bind_ok, guard_ok, unless_ok}

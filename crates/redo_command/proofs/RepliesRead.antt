@@ -10,7 +10,7 @@ use Rattle.redo_command.specs.declared.fault.LineFault.{LineFault}
 use Rattle.redo_command.specs.declared.reply_kind.ReplyKind.{ReplyKind}
 use Rattle.redo_command.specs.declared.reply_kind.ReplyKind.TheVariants as kinds
 use Rattle.redo_command.specs.Texts.{spaced, refusal_words, reply_text_of}
-use Rattle.redo_command.specs.Reading.{words_of}
+use Rattle.redo_command.specs.Questions.{words_of}
 use Rattle.redo_command.specs.Replies.{AreAllNames, HasRefusalForm, HasReplyForm, IsReplyText, AddsReplyNames, names_in_reply}
 use Rattle.redo_command.specs.ReplyReading.{names_in_words, some_names_in_words, refusal_in_words, reply_word, reply_kind_named, reply_args_in, reply_words_in, reply_in}
 use Rattle.redo_command.proofs.NameLists.{all_names, names_are_visible, all_added-fits}

@@ -16,7 +16,7 @@ use Rattle.redo_model.specs.Names.{Text}
 use Rattle.redo_command.specs.declared.fault.LineFault.{LineFault}
 use Rattle.redo_command.specs.declared.fault.LineFault.TheVariants.{WrongWords, BadHex}
 use Rattle.redo_command.specs.Replies.{IsGrant, IsDigest}
-use Rattle.redo_command.specs.Reading.{words_of}
+use Rattle.redo_command.specs.Questions.{words_of}
 use Rattle.redo_command.specs.ReplyReading.{one_word_in, grant_in, digest_in, printed_digest}
 use Rattle.redo_command.proofs.Contents.{bytes_by_place, bytes_one_by_one, digits_are_visible}
 use Rattle.redo_command.proofs.Fronts.{not_none}

@@ -7,7 +7,10 @@ use Rattle.redo_model.specs.Command.{Command, names_in}
 use Rattle.redo_command.specs.declared.fault.LineFault.{LineFault}
 use Rattle.redo_command.specs.declared.fault.LineFault.TheVariants.{LineTooLong, TooManyLines}
 use Rattle.redo_command.specs.Grammar.{is_skipped, lines_of, AddsNames, AreCommandLines, AreScriptLines, IsScript}
-use Rattle.redo_command.specs.Reading.{Reading, ◌>>=◌, line_in, script_line_in, FailsAfter}
+use Rattle.redo_command.specs.Questions.{file_line_fault}
+use Rattle.redo_command.specs.Faults.{FailsAfter}
+use Rattle.redo_command.specs.Reading.{Reading, ◌>>=◌, line_in, script_line_in}
+use Rattle.redo_command.proofs.Asked.{fault_in, asked_file_line}
 use Rattle.redo_command.proofs.LineLaws.{line_found, line_only}
 use Rattle.redo_command.proofs.ScriptParts.{with_names-longer, InParts, script_split}
 
@@ -157,6 +160,9 @@ no_fault_in_a_script names before line rest commands after fault script fails =
     let same = scripts_agree names before p.first p.mid fails.commands fails.after p.one fails.read in
     let few : length p.first + (length q.first + length q.second) ≤ 4096 = subst (λ (n : ℕ). n ≤ 4096) (ap length p.whole ∙ length-append p.first p.second ∙ ap (λ (l : List (Command Text)). length p.first + length l) q.whole ∙ ap (λ (n : ℕ). length p.first + n) (length-append q.first q.second)) script.few in
     let x : Takes (length p.first) p.mid line q.first q.mid = line_takes (length p.first) p.mid line q.first q.mid q.one (omega arith) in
-    let failed : script_line_in (length p.first) p.mid line ≡ Err fault = (λ i. script_line_in (length (same.0 i)) (same.1 i) line) ∙ fails.fails in
-    let both : line_read (x.read, q.mid) ≡ Err fault = sym x.gives ∙ failed in
+    let failed : file_line_fault (length p.first) p.mid line ≡ Some fault =
+    (λ i. file_line_fault (length (same.0 i)) (same.1 i) line) ∙ fails.fails in
+    let none : file_line_fault (length p.first) p.mid line ≡ None =
+    sym (asked_file_line (length p.first) p.mid line p.one.named.1) ∙ ap fault_in x.gives in
+    let both : None ≡ Some fault = sym none ∙ failed in
     absurd cc

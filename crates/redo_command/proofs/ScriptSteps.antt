@@ -4,12 +4,14 @@ use Rattle.std.specs.Prelude.{MatchOption, Option, Some, None}
 use Rattle.redo_model.specs.Names.{Text}
 use Rattle.redo_model.specs.Command.{Command}
 use Rattle.redo_command.specs.Grammar.{lines_of, IsScript, AreScriptLines}
-use Rattle.redo_command.specs.Reading.{script_line_in, IsFirstFault, IsReadFault}
+use Rattle.redo_command.specs.Faults.{IsFirstFault, IsReadFault}
+use Rattle.redo_command.specs.Reading.{script_line_in}
 use Rattle.redo_command.specs.declared.fault.LineFault.{LineFault}
 use Rattle.redo_command.specs.declared.fault.Unread.{Unread}
 use Rattle.redo_command.specs.declared.fault.Unread.TheVariants as unread
 use Rattle.redo_command.specs.declared.fault.ReadFault.{ReadFault}
 use Rattle.redo_command.specs.declared.fault.ReadFault.TheVariants as faults
+use Rattle.redo_command.proofs.Asked.{fault_in, asked_file_line}
 use Rattle.redo_command.proofs.ScriptLaws.{no_fault_in_a_script}
 
 -- the lines before the rest are read as these commands, and the rest begins at the line of this number
@@ -46,7 +48,13 @@ line_fails names text rest line others number commands after fault so_far first 
   rest = others;
   lines = so_far.lines ∙ ap (λ (l : List Text). so_far.before ++ l) first;
   counted = so_far.counted;
-  fails = record { commands = commands; after = after; read = so_far.script; fails = fails };
+  fails = record {
+    commands = commands;
+    after = after;
+    read = so_far.script;
+    fails =
+    sym (asked_file_line (length commands) after line so_far.script.named.1) ∙ ap fault_in fails;
+  };
 }
 
 -- a script has no fault

@@ -11,7 +11,7 @@ use Rattle.redo_names.specs.Names.{is_name, is_visible, is_reserved}
 use Rattle.redo_model.specs.Names.{Text}
 use Rattle.redo_command.specs.Stamp.{is_stamp, is_placeholder}
 use Rattle.redo_command.specs.Texts.{after_space, spaced}
-use Rattle.redo_command.specs.Reading.{words_of, is_text_byte}
+use Rattle.redo_command.specs.Questions.{words_of, is_text_byte}
 use Rattle.redo_command.proofs.Steps.{both}
 
 abbrev pub IsVisible : Text → Type 0

@@ -3,6 +3,8 @@ pub mod Meaning
 pub mod Texts
 pub mod Histories
 pub mod Grammar
+pub mod Questions
+pub mod Faults
 pub mod Reading
 pub mod Replies
 pub mod ReplyReading

@@ -1,7 +1,7 @@
--- Reading a line by steps: the first step that it fails is its fault.
-use Rattle.std.specs.Prelude.{◌≡◌, ℕ, ◌+◌, List, [], ◌∷◌, ◌++◌, length, Option, Some, None, Result, Ok, Err, Bool, not, ◌&&◌, nat_lt, nat_le, ◌==◌, if◌then◌else◌, codes, bytes_eq, find, slice_get, true, IsTrue}
+-- The steps of the private readers, which no public clause cites: what each gives, or the fault where it fails.
+use Rattle.std.specs.Prelude.{◌≡◌, ℕ, List, [], ◌∷◌, ◌++◌, length, Option, Some, None, Result, Ok, Err, not, nat_lt, nat_le, ◌==◌, if◌then◌else◌, codes, bytes_eq, slice_get, true}
 use Rattle.std.specs.Borrow.{Bor}
-use Rattle.std.specs.List.{slice_split, list_any, list_all}
+use Rattle.std.specs.List.{list_all}
 use Rattle.hex.specs.Hex.{decode_of}
 use Rattle.hex.specs.declared.error.FromHexError.{FromHexError}
 use Rattle.redo_names.specs.Names.{is_name, has}
@@ -10,14 +10,12 @@ use Rattle.redo_model.specs.Command.{Command, File, Gone, Lock, Unlock, Start, I
 use Rattle.redo_command.specs.declared.kind.Kind.{Kind}
 use Rattle.redo_command.specs.declared.kind.Kind.TheVariants as kinds
 use Rattle.redo_command.specs.Stamp.{is_stamp}
-use Rattle.redo_command.specs.Texts.{word_of}
-use Rattle.redo_command.specs.Grammar.{with_names, is_skipped, lines_of, AreScriptLines}
+use Rattle.redo_command.specs.Grammar.{with_names, is_skipped}
+use Rattle.redo_command.specs.Questions.{kind_named, words_of, has_bad_byte}
 use Rattle.redo_command.specs.declared.fault.LineFault.{LineFault}
 use Rattle.redo_command.specs.declared.fault.LineFault.TheVariants.{LineTooLong, BadByte, UnknownCommand, WrongWords, BadName, BadStamp, BadHex, TooManyLines, TooManyNames}
 use Rattle.redo_command.specs.declared.fault.Unread.{Unread}
 use Rattle.redo_command.specs.declared.fault.Unread.TheVariants as unread
-use Rattle.redo_command.specs.declared.fault.ReadFault.{ReadFault}
-use Rattle.redo_command.specs.declared.fault.ReadFault.TheVariants as faults
 
 infixl 10 ◌>>=◌
 abbrev pub ◌>>=◌ : {A B : Type 0} → Result A LineFault → (A → Result B LineFault) → Result B LineFault
@@ -121,14 +119,6 @@ unfoldable pub no_words_in : Command Text → List Text → List Text → Readin
 no_words_in form names [] = Ok (form, names)
 no_words_in form names (w ∷ ws) = Err WrongWords
 
--- each kind of command
-abbrev pub all_kinds : List Kind
-all_kinds = kinds.File ∷ kinds.Gone ∷ kinds.Lock ∷ kinds.Unlock ∷ kinds.Start ∷ kinds.IfChange ∷ kinds.IfCreate ∷ kinds.Always ∷ kinds.Stamp ∷ kinds.Done ∷ kinds.Failed ∷ kinds.Ood ∷ kinds.Targets ∷ kinds.Sources ∷ []
-
--- the kind whose word this is
-abbrev pub kind_named : Text → Option Kind
-kind_named word = find (λ kind. bytes_eq word (word_of kind)) all_kinds
-
 -- the words after that of the kind, where there is one
 unfoldable pub form_in : Option Kind → List Text → List Text → Reading
 form_in None names args = Err UnknownCommand
@@ -152,27 +142,16 @@ unfoldable pub words_in : List Text → List Text → Reading
 words_in names [] = Err UnknownCommand
 words_in names (word ∷ args) = form_in (kind_named word) names args
 
--- the pieces between single spaces
-abbrev pub words_of : Text → List Text
-words_of line = slice_split (λ b. b == 32) line
-
 -- the words after a space, where there is one
 abbrev pub words_after : Option (Bor Text) → List Text
 words_after None = []
 words_after (Some text) = words_of text.now
 
-abbrev pub is_text_byte : ℕ → Bool
-is_text_byte b = nat_le 32 b && nat_le b 126
-
--- one of its bytes is no text
-abbrev pub HasBadByte : Text → Type 0
-HasBadByte line = IsTrue (list_any (λ b. not (is_text_byte b)) line)
-
 -- a line without its LF
 unfoldable pub line_in : List Text → Text → Reading
 line_in names line =
     if nat_lt 8192 (length line) then Err LineTooLong
-    else (if list_any (λ b. not (is_text_byte b)) line then Err BadByte
+    else (if has_bad_byte line then Err BadByte
     else words_in names (words_of line))
 
 -- a line of a script, after so many commands; it may be skipped
@@ -188,30 +167,3 @@ abbrev pub Reads : {X Y : Type 0} → (X → Y) → Result X Unread → Result Y
 Reads view (Ok x) reading = reading ≡ Ok (view x)
 Reads view (Err unread.Memory) reading = Unit {0}
 Reads view (Err (unread.Fault fault)) reading = reading ≡ Err fault
-
--- the same of a public reader, whose fault names line 1
-abbrev pub Gives : {X Y : Type 0} → (X → Y) → Result X ReadFault → Result Y LineFault → Type 0
-Gives view (Ok x) reading = reading ≡ Ok (view x)
-Gives view (Err faults.Memory) reading = Unit {0}
-Gives view (Err (faults.Line number fault)) reading = (number ≡ 1) × (reading ≡ Err fault)
-
--- the lines before it are read, and it fails after their commands
-pub record FailsAfter (names : List Text) (before : List Text) (line : Text) (fault : LineFault) : Type 0 where
-  pub commands : List (Command Text)
-  pub after : List Text
-  pub read : AreScriptLines names before commands after
-  pub fails : script_line_in (length commands) after line ≡ Err fault
-
--- the text's first faulty line has this number, counted from 1, and this fault
-pub record IsFirstFault (names : List Text) (text : Text) (number : ℕ) (fault : LineFault) : Type 0 where
-  pub before : List Text
-  pub line : Text
-  pub rest : List Text
-  pub lines : lines_of text ≡ before ++ line ∷ rest
-  pub counted : number ≡ length before + 1
-  pub fails : FailsAfter names before line fault
-
--- why a text is not read as a script; for want of memory nothing is said
-abbrev pub IsReadFault : List Text → Text → ReadFault → Type 0
-IsReadFault names text faults.Memory = Unit {0}
-IsReadFault names text (faults.Line number fault) = IsFirstFault names text number fault

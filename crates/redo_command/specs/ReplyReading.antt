@@ -12,7 +12,8 @@ use Rattle.redo_command.specs.declared.fault.LineFault.{LineFault}
 use Rattle.redo_command.specs.declared.fault.LineFault.TheVariants.{WrongWords, BadName, BadHex}
 use Rattle.redo_command.specs.declared.reply_kind.ReplyKind.{ReplyKind}
 use Rattle.redo_command.specs.declared.reply_kind.ReplyKind.TheVariants as kinds
-use Rattle.redo_command.specs.Reading.{◌>>=◌, name_in, all_added, words_of}
+use Rattle.redo_command.specs.Questions.{words_of}
+use Rattle.redo_command.specs.Reading.{◌>>=◌, name_in, all_added}
 use Rattle.redo_command.specs.Replies.{names_in_reply}
 
 -- what the one word of the list is read as

@@ -1,7 +1,8 @@
 ghost use Rattle.std.specs.Prelude.{◌≡◌, ◌≢◌, ◌∷◌, [], List, Bool, Some, MatchOption, IfOk, length, map, false, ◌==◌};
 ghost use Rattle.std.specs.List.{list_any};
 ghost use Rattle.redo_model.specs.Names.{Text};
-ghost use Rattle.redo_command.specs.Reading.{words_of, words_after};
+ghost use Rattle.redo_command.specs.Questions.{words_of};
+ghost use Rattle.redo_command.specs.Reading.{words_after};
 
 use crate::scan::place_of;
 use std::alloc::{AllocError, Global};

@@ -5,7 +5,8 @@ ghost use Rattle.redo_model.specs.Command as commands;
 ghost use Rattle.redo_model.specs.Reply as replies;
 ghost use Rattle.redo_model.specs.Renaming.{IsBelow};
 ghost use Rattle.redo_command.specs.Meaning.{command_of, command_at};
-ghost use Rattle.redo_command.specs.Reading.{Reads, one_name_in, names_form_in, file_in, stamp_in, done_in, no_words_in, form_in, words_in, words_of, words_after};
+ghost use Rattle.redo_command.specs.Questions.{words_of};
+ghost use Rattle.redo_command.specs.Reading.{Reads, one_name_in, names_form_in, file_in, stamp_in, done_in, no_words_in, form_in, words_in, words_after};
 ghost use Rattle.redo_command.specs.ReplyReading.{okay_in};
 
 use crate::args::{one, two};

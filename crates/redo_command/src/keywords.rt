@@ -1,7 +1,8 @@
 ghost use Rattle.std.specs.Prelude.{◌≡◌, List, Some, Err, MatchOption};
 ghost use Rattle.redo_model.specs.Names.{Text};
 ghost use Rattle.redo_command.specs.Texts.{word_of};
-ghost use Rattle.redo_command.specs.Reading.{words_in, words_of, words_after, form_in};
+ghost use Rattle.redo_command.specs.Questions.{words_of};
+ghost use Rattle.redo_command.specs.Reading.{words_in, words_after, form_in};
 ghost use Rattle.redo_command.specs.declared.fault.LineFault.TheVariants.{UnknownCommand};
 
 use crate::args::args_after;

@@ -1,11 +1,12 @@
 // What command lines, session files and the texts of replies are.
-ghost use Rattle.std.specs.Prelude.{◌≡◌, List};
+ghost use Rattle.std.specs.Prelude.{◌≡◌, List, [], ◌∷◌, None};
 ghost use Rattle.redo_model.specs.Names.{Text};
 ghost use Rattle.redo_model.specs.Command.{Command};
 ghost use Rattle.redo_model.specs.Reply.{Reply};
 ghost use Rattle.redo_command.specs.Texts.{command_text_of, reply_text_of};
-ghost use Rattle.redo_command.specs.Grammar.{HasForm, IsShort, IsCommandLine, IsScript};
-ghost use Rattle.redo_command.specs.Reading.{IsReadFault};
+ghost use Rattle.redo_command.specs.Grammar.{HasForm, IsShort, IsCommandLine, IsScript, AddsNames};
+ghost use Rattle.redo_command.specs.Questions.{line_fault};
+ghost use Rattle.redo_command.specs.Faults.{IsReadFault};
 ghost use Rattle.redo_command.specs.declared.fault.ReadFault.{ReadFault};
 ghost use Rattle.redo_command.specs.Replies.{HasReplyForm, IsReplyText};
 
@@ -41,4 +42,14 @@ pub fn no_read_fault()
     ensures { (names : List Text) (text : Text) (commands : List (Command Text))
         (after : List Text) (fault : ReadFault) → IsScript names text commands after
         → IsReadFault names text fault → fault ≡ ReadFault.Memory }
+{}
+
+/// A line is a command's whose names fit, or it has a fault, and never both.
+pub fn fault_or_command()
+    ensures command { (names : List Text) (line : Text) → line_fault names line ≡ None
+        → (command : Command Text) × (after : List Text)
+        × IsCommandLine line command × AddsNames names (command ∷ []) after }
+    ensures fault { (names : List Text) (line : Text) (command : Command Text) (after : List Text)
+        → IsCommandLine line command → AddsNames names (command ∷ []) after
+        → line_fault names line ≡ None }
 {}

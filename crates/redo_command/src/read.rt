@@ -1,4 +1,4 @@
-ghost use Rattle.std.specs.Prelude.{◌≡◌, ◌⊎◌, ◌∷◌, [], List, length, IfOk, IsOkAnd, IfSome};
+ghost use Rattle.std.specs.Prelude.{◌≡◌, ◌⊎◌, ◌∷◌, [], List, length, IfOk, IsOkAnd, IfErr, IfSome, true};
 ghost use Rattle.std.specs.Option.{option_map};
 ghost use Rattle.redo_names.specs.Names.{Extends};
 ghost use Rattle.redo_model.specs.Names.{Text};
@@ -6,7 +6,9 @@ ghost use Rattle.redo_model.specs.Command.{Command as CommandOf};
 ghost use Rattle.redo_model.specs.Renaming.{IsBelow};
 ghost use Rattle.redo_command.specs.Meaning.{command_of, command_at};
 ghost use Rattle.redo_command.specs.Grammar.{IsCommandLine, IsShort, AddsNames, is_skipped as skipped_test};
-ghost use Rattle.redo_command.specs.Reading.{Gives, Reads, HasBadByte, line_in, script_line_in};
+ghost use Rattle.redo_command.specs.Questions.{has_bad_byte as bad_byte_test};
+ghost use Rattle.redo_command.specs.Faults.{IsLineFault};
+ghost use Rattle.redo_command.specs.Reading.{Reads, line_in, script_line_in};
 
 use crate::command::Command;
 use crate::fault::{LineFault, ReadFault, Unread, at_line};
@@ -26,7 +28,7 @@ pub const MOST_COMMANDS: usize = 4096;
 fn line_of(alloc: Global, line: &[u8], names: &mut Names) -> Result<Command, Unread>
     ensures reads { Reads (λ command. (command_at names.new command, names.new)) result (line_in names.old line.now) }
     ensures too_long { ¬ (IsShort line.now) → result ≡ Err (Unread.Fault LineFault.LineTooLong) }
-    ensures bad_byte { IsShort line.now → HasBadByte line.now
+    ensures bad_byte { IsShort line.now → bad_byte_test line.now ≡ true
         → result ≡ Err (Unread.Fault LineFault.BadByte) }
     ensures within { IfOk result (λ command. IsBelow (length names.new) (command_of command)) }
     ensures kept { Extends names.old names.new }
@@ -50,12 +52,12 @@ pub fn read_command(alloc: Global, line: &[u8], names: &mut Names) -> Result<Com
     // A command line whose names fit is read, unless memory runs out.
     ensures only { (command : CommandOf Text) (after : List Text) → IsCommandLine line.now command → AddsNames names.old (command ∷ []) after
         → (result ≡ Err ReadFault.Memory) ⊎ IsOkAnd result (λ read. (command_at names.new read ≡ command) × (names.new ≡ after)) }
-    // The fault is that of the first step that the line fails.
-    ensures fault { Gives (λ read. (command_at names.new read, names.new)) result (line_in names.old line.now) }
+    // A fault is that of the first question about the line that is answered by yes.
+    ensures fault { IfErr result (IsLineFault names.old line.now) }
     // These two come before want of memory.
     ensures too_long { ¬ (IsShort line.now)
         → result ≡ Err (ReadFault.Line 1 LineFault.LineTooLong) }
-    ensures bad_byte { IsShort line.now → HasBadByte line.now
+    ensures bad_byte { IsShort line.now → bad_byte_test line.now ≡ true
         → result ≡ Err (ReadFault.Line 1 LineFault.BadByte) }
     ensures within { IfOk result (λ command. IsBelow (length names.new) (command_of command)) }
     ensures kept { Extends names.old names.new }

@@ -1,5 +1,6 @@
 ghost use Rattle.std.specs.Prelude.{◌≡◌, Some, Err, MatchOption};
-ghost use Rattle.redo_command.specs.Reading.{words_of, words_after};
+ghost use Rattle.redo_command.specs.Questions.{words_of};
+ghost use Rattle.redo_command.specs.Reading.{words_after};
 ghost use Rattle.redo_command.specs.ReplyReading.{reply_words_in, reply_args_in};
 ghost use Rattle.redo_command.specs.declared.fault.LineFault.TheVariants.{WrongWords};
 

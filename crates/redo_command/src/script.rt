@@ -6,7 +6,8 @@ ghost use Rattle.redo_model.specs.Command.{Command as CommandOf};
 ghost use Rattle.redo_model.specs.Renaming.{IsBelow};
 ghost use Rattle.redo_command.specs.Meaning.{command_of, command_at};
 ghost use Rattle.redo_command.specs.Grammar.{lines_of, IsScript, AreScriptLines};
-ghost use Rattle.redo_command.specs.Reading.{script_line_in, IsReadFault};
+ghost use Rattle.redo_command.specs.Faults.{IsReadFault};
+ghost use Rattle.redo_command.specs.Reading.{script_line_in};
 
 use crate::command::Command;
 use crate::fault::{LineFault, ReadFault, Unread, at_line};

@@ -1,8 +1,8 @@
-ghost use Rattle.std.specs.Prelude.{◌≡◌, ◌∷◌, [], not, ◌<◌, length, IfOk, IfSome, true};
-ghost use Rattle.std.specs.List.{list_any};
+ghost use Rattle.std.specs.Prelude.{◌≡◌, ◌∷◌, [], ◌<◌, length, IfOk, IfSome, true};
 ghost use Rattle.redo_names.specs.Names.{is_name as name_test, text_at, Extends};
 ghost use Rattle.redo_model.specs.Names.{Text};
-ghost use Rattle.redo_command.specs.Reading.{Reads, name_in, file_stamp_in, file_stamp_or_none_in, content_in, added, words_after, IsNumbered, is_text_byte};
+ghost use Rattle.redo_command.specs.Questions.{has_bad_byte as bad_byte_test};
+ghost use Rattle.redo_command.specs.Reading.{Reads, name_in, file_stamp_in, file_stamp_or_none_in, content_in, added, words_after, IsNumbered};
 
 use crate::fault::{LineFault, Unread};
 use crate::stamp::FileStamp;
@@ -112,7 +112,7 @@ pub(crate) fn number_of(names: &mut Names, known: Option<u32>, name: &[u8]) -> R
 
 /// Whether a byte of a line is neither visible nor a space.
 pub(crate) fn has_bad_byte(line: &[u8]) -> bool
-    ensures { result ≡ list_any (λ b. not (is_text_byte b)) line.now }
+    ensures { result ≡ bad_byte_test line.now }
 {
     line.iter().any(|b| !(*b >= 32 && *b <= 126))
 }

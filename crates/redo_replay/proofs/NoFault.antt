@@ -10,7 +10,8 @@ use Rattle.redo_command.specs.declared.fault.LineFault.{LineFault}
 use Rattle.redo_command.specs.Grammar.{IsCommandLine, AddsNames, with_names}
 use Rattle.redo_command.specs.Replies.{IsReplyText, AddsReplyNames, names_in_reply}
 use Rattle.redo_command.specs.Histories.{ended, header_of}
-use Rattle.redo_command.proofs.LineLaws.{line_only, one_command}
+use Rattle.redo_command.proofs.FaultOrCommand.{no_fault_in_a_line}
+use Rattle.redo_command.proofs.LineLaws.{one_command}
 use Rattle.redo_command.proofs.ScriptParts.{with_names-append, with_names-longer}
 use Rattle.redo_replay.specs.HistoryTexts.{IsHistory, IsHistoryLine, AreHistoryLines, names_in_line}
 use Rattle.redo_replay.specs.HistoryFaults.{IsCutAtArrow, arrow, HasBadSession, HasSession, IsNoReply, HasBadReply, HasBadCommand, IsReadUpTo, IsReadBefore, IsHistoryFault}
@@ -182,9 +183,8 @@ no_bad_command : (names : List Text) (text : Text) (fault : LineFault) → IsGoo
 no_bad_command names text fault good bad =
     let parts = parts_of names text bad.0 bad.1 bad.2 good bad.3 bad.4 in
     let said = subst (λ (t : Text). IsCommandLine t good.line.command) (sym parts.0) good.is.said in
-    let read = line_only names bad.1 good.line.command
-    (with_names names (names_in good.line.command)) good.few said
-    (command_fits names text good) in
+    let none = no_fault_in_a_line names bad.1 good.line.command
+    (with_names names (names_in good.line.command)) said (command_fits names text good) in
     let other = bad.5 in
     absurd cc
 

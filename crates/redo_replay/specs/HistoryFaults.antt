@@ -1,12 +1,12 @@
 -- Why a text is not read as a history: each fault with its cause.
-use Rattle.std.specs.Prelude.{◌≡◌, ◌≢◌, ℕ, ◌+◌, ◌≤◌, ◌<◌, ◌⊎◌, List, [], ◌∷◌, ◌++◌, length, codes, decimal, Contains, Err, ⊤}
+use Rattle.std.specs.Prelude.{◌≡◌, ◌≢◌, ℕ, ◌+◌, ◌≤◌, ◌<◌, ◌⊎◌, List, [], ◌∷◌, ◌++◌, length, codes, decimal, Contains, Some, ⊤}
 use Rattle.std.specs.List.{flat_map}
 use Rattle.redo_model.specs.Names.{Text}
 use Rattle.redo_model.specs.Command.{Command}
 use Rattle.redo_model.specs.Reply.{Reply}
 use Rattle.redo_model.specs.History.{Line}
 use Rattle.redo_command.specs.Grammar.{IsCommandLine, AddsNames}
-use Rattle.redo_command.specs.Reading.{line_in}
+use Rattle.redo_command.specs.Questions.{line_fault}
 use Rattle.redo_command.specs.Replies.{IsReplyText, AddsReplyNames}
 use Rattle.redo_command.specs.Histories.{ended, header_of}
 use Rattle.redo_command.specs.declared.fault.LineFault.{LineFault}
@@ -66,7 +66,7 @@ HasBadReply names line =
 abbrev pub HasBadCommand : List Text → Text → LineFault → Type 0
 HasBadCommand names line fault =
     (rest : Text) × (text : Text) × (reply : Text) × HasSession line rest
-    × IsCutAtArrow rest text reply × (line_in names text ≡ Err fault)
+    × IsCutAtArrow rest text reply × (line_fault names text ≡ Some fault)
 
 -- the cause of the fault of the line of this number, where the lines before have these names
 abbrev pub IsLineCause : List Text → ℕ → Text → HistoryFault → Type 0

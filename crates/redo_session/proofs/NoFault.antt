@@ -6,7 +6,7 @@ use Rattle.redo_model.specs.Names.{Text}
 use Rattle.redo_model.specs.Command.{Command, names_in}
 use Rattle.redo_command.specs.declared.fault.LineFault.{LineFault}
 use Rattle.redo_command.specs.Grammar.{AreCommandLines, IsScript, with_names}
-use Rattle.redo_command.specs.Reading.{IsFirstFault}
+use Rattle.redo_command.specs.Faults.{IsFirstFault}
 use Rattle.redo_command.proofs.LineLaws.{one_command}
 use Rattle.redo_command.proofs.ScriptSteps.{no_first_fault}
 use Rattle.redo_session.specs.declared.fault.TextFault.{TextFault}

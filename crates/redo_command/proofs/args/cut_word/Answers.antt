@@ -1,6 +1,6 @@
 use Rattle.std.proofs.Common.{◌≡◌, ◌+◌, ◌-◌, ◌∷◌, ◌==◌, List, ℕ, length, take, drop, length-drop, sym, ap, ◌∙◌, arith}
 use Rattle.std.proofs.lemmas.List.{take_all}
-use Rattle.redo_command.specs.Reading.{words_of}
+use Rattle.redo_command.specs.Questions.{words_of}
 use Rattle.redo_command.proofs.Lines.{cut_some, cut_none}
 use Rattle.redo_command.proofs.args.cut_word.Goals as goal
 

@@ -2,7 +2,7 @@ use Rattle.std.proofs.Common.{◌≢◌, ◌∷◌, List}
 use Rattle.redo_model.specs.Names.{Text}
 use Rattle.redo_command.specs.declared.kind.Kind.TheVariants as kinds
 use Rattle.redo_command.specs.Texts.{word_of}
-use Rattle.redo_command.specs.Reading.{words_of}
+use Rattle.redo_command.specs.Questions.{words_of}
 use Rattle.redo_command.proofs.Fronts.{unsaid}
 use Rattle.redo_command.proofs.keywords.cut_kind.Goals as goal
 

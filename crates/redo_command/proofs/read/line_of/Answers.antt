@@ -1,4 +1,4 @@
-use Rattle.std.proofs.Common.{◌≡◌, arith, sym, ◌∙◌}
+use Rattle.std.proofs.Common.{arith, sym, ◌∙◌}
 use Rattle.std.proofs.lemmas.Bool.{false≢true}
 use Rattle.redo_command.proofs.LineLaws.{good_line, line_read}
 use Rattle.redo_command.proofs.read.line_of.Goals as goal

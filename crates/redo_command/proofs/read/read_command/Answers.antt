@@ -9,6 +9,7 @@ use Rattle.redo_command.specs.declared.fault.ReadFault.TheVariants as faults
 use Rattle.redo_command.specs.Meaning.{command_at}
 use Rattle.redo_command.specs.Reading.{Reading, Reads, line_in}
 use Rattle.redo_command.proofs.Steps.{same_read}
+use Rattle.redo_command.proofs.FaultOrCommand.{unread_fault}
 use Rattle.redo_command.proofs.LineLaws.{line_found, line_only}
 use Rattle.redo_command.proofs.read.read_command.Goals as goal
 
@@ -32,3 +33,9 @@ returns-in-Err-clause-only c command after is adds =
     let reads : line_in c.args.names.now c.args.line.now ≡ Ok (command, after) = line_only c.args.names.now c.args.line.now command after c.len.ensures.names.few is adds in
     let memory = memory_alone c.line_of.new.names c.in-Err.unread c.at_line.result (line_in c.args.names.now c.args.line.now) (command, after) c.in-Err.ensures.reads reads c.at_line.ensures.memory in
     inl (λ i. Err (memory i))
+
+pub returns-in-Err-clause-fault : goal.returns-in-Err-clause-fault
+returns-in-Err-clause-fault c =
+    unread_fault (λ (read : numbered.Command). (command_at c.line_of.new.names read, c.line_of.new.names))
+    c.args.names.now c.args.line.now c.in-Err.unread c.at_line.result c.len.ensures.names.few
+    c.in-Err.ensures.reads c.at_line.ensures.memory.1 c.at_line.ensures.fault

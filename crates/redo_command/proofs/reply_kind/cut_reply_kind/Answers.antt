@@ -2,7 +2,7 @@ use Rattle.std.proofs.Common.{◌≢◌, ◌∷◌, List, sym, ap, ◌∙◌}
 use Rattle.redo_model.specs.Names.{Text}
 use Rattle.redo_command.specs.declared.reply_kind.ReplyKind.TheVariants as kinds
 use Rattle.redo_command.specs.ReplyReading.{reply_word}
-use Rattle.redo_command.specs.Reading.{words_of}
+use Rattle.redo_command.specs.Questions.{words_of}
 use Rattle.redo_command.proofs.Fronts.{unanswered}
 use Rattle.redo_command.proofs.reply_kind.cut_reply_kind.Goals as goal
 

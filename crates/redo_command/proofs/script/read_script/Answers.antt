@@ -4,7 +4,8 @@ use Rattle.redo_command.specs.declared.fault.LineFault.{LineFault}
 use Rattle.redo_command.specs.declared.fault.Unread.TheVariants.{Fault}
 use Rattle.redo_command.specs.Meaning.{command_at}
 use Rattle.redo_command.specs.Grammar.{lines_of, IsScript}
-use Rattle.redo_command.specs.Reading.{script_line_in, IsFirstFault}
+use Rattle.redo_command.specs.Faults.{IsFirstFault}
+use Rattle.redo_command.specs.Reading.{script_line_in}
 use Rattle.redo_command.proofs.Added.{extends_then}
 use Rattle.redo_command.proofs.ScriptLaws.{scripts_agree}
 use Rattle.redo_command.proofs.ScriptSteps.{line_read, last_read, line_fails, read_fault, only_memory, first_is}
