@@ -45,9 +45,17 @@ impl Plain {
         }
     }
 
-    pub(crate) fn is_target(&self, n: u32) -> bool {
+    pub fn is_target(&self, n: u32) -> bool {
         match self.known(n) {
             Some(known) => known.is_target(),
+            None => false,
+        }
+    }
+
+    /// Whether it has a change row on the other name.
+    pub fn needs(&self, t: u32, n: u32) -> bool {
+        match self.known(t) {
+            Some(known) => known.needs(n),
             None => false,
         }
     }
@@ -78,7 +86,7 @@ impl Plain {
     }
 
     /// Whether it has a reason of its own to be built again.
-    pub(crate) fn has_reason(&self, t: u32) -> bool {
+    pub fn has_reason(&self, t: u32) -> bool {
         match self.known(t) {
             None => false,
             Some(known) => match known.state {

@@ -2,7 +2,7 @@ use redo_command::FileStamp;
 use std::alloc::{AllocError, Global};
 
 /// How far a name has come. It is a target from its first start on.
-#[derive(Clone, Copy, Debug, PartialEq, Eq)]
+#[derive(Clone, Copy, PartialEq, Eq)]
 pub(crate) enum State {
     Idle,
     /// This session is building it.
@@ -12,7 +12,7 @@ pub(crate) enum State {
 }
 
 /// What a change row records of a name.
-#[derive(Clone, Copy, Debug, PartialEq, Eq)]
+#[derive(Clone, Copy, PartialEq, Eq)]
 pub(crate) enum Mark {
     Digest([u8; 20]),
     Builds(u32),
@@ -87,9 +87,14 @@ impl Known {
         }
     }
 
+    /// Whether it has a change row on this name.
+    pub(crate) fn needs(&self, n: u32) -> bool {
+        self.changes.iter().any(|row| row.0 == n)
+    }
+
     /// Whether it has a row on this name.
     pub(crate) fn has_row_on(&self, n: u32) -> bool {
-        self.changes.iter().any(|row| row.0 == n) || self.created.contains(&n)
+        self.needs(n) || self.created.contains(&n)
     }
 
     /// Records a change row, in place of an earlier one on that name.

@@ -1,99 +1,94 @@
-//! The database beside the slower forms of it, which have to give the same replies.
+//! The database beside the plain form of it, which has to give the same replies.
 ghost use Rattle.std.specs.Prelude.{◌≡◌, length, IfOk};
 ghost use Rattle.redo_store.specs.Tables.{count_of};
-ghost use Rattle.redo_model.specs.Renaming.{IsBelow, IsReplyBelow};
-ghost use Rattle.redo_command.specs.Meaning.{command_of, reply_of};
+ghost use Rattle.redo_model.specs.Renaming.{IsBelow};
+ghost use Rattle.redo_command.specs.Meaning.{command_of};
 ghost use Rattle.redo_tests_store.specs.declared.random.TheConstants.{NAMES};
 
-use crate::answers::{TEXTS, names_of};
 use crate::random::NAMES;
-use crate::told::Told;
-use redo_command::{Command, Reply};
-use redo_names::Names;
+use crate::sorts::{Sort, sort_of};
+use redo_command::Command;
+use redo_names::{Names, is_name};
 use redo_plain::Plain;
 use redo_store::Redo;
-use std::alloc::Global;
+use std::alloc::{AllocError, Global};
 use std::process::Abort;
 use std::test::Fail;
+
+/// Names whose order by bytes is another than that of their numbers.
+const TEXTS: [&str; 12] = [
+    "lib.o", "b", "lib", "a.o", "B", "a", "a.c", "lib.c", "y", "all", "T", "top",
+];
 
 /// The names, numbered as their texts stand.
 pub(crate) fn all_names(rt: &impl Abort, alloc: Global) -> Result<Names, Fail>
     ensures { IfOk result (λ names. length names ≡ NAMES) }
 {
-    let names = names_of(rt, alloc, &TEXTS)?;
-    assert_eq!(rt; names.len(), NAMES);
+    let mut names = Names::new(alloc);
+    for text in TEXTS {
+        assert!(rt; is_name(text.as_bytes()));
+        names.add(text.as_bytes())?;
+    }
+    assert!(rt; names.len() == NAMES);
     Ok(names)
 }
 
-/// A database, and slower forms of it.
+/// A database, and the plain form of it.
 #[derive(Drop)]
 pub(crate) struct Compared {
     redo: Redo,
-    plain: Plain,
-    pub(crate) told: Told,
+    pub(crate) plain: Plain,
     ghost count: { count_of redo ≡ NAMES },
 }
 
 impl Compared {
     /// The databases of which nothing was asked so far.
-    pub(crate) fn new(alloc: Global, names: &Names) -> Result<Compared, Fail>
+    pub(crate) fn new(alloc: Global, names: &Names) -> Result<Compared, AllocError>
         requires { length names.now ≡ NAMES }
     {
-        Ok(Compared {
-            redo: Redo::new(alloc, names)?,
-            plain: Plain::new(alloc, names)?,
-            told: Told::new(alloc)?,
-        })
+        let redo = Redo::new(alloc, names)?;
+        let plain = Plain::new(alloc, names)?;
+        Ok(Compared { redo, plain })
     }
 
-    /// The reply of the database, which is that of the slower forms.
+    /// The reply of the database is that of the plain form, and so is what is out of date after it. Answers its sort.
     pub(crate) fn call(
         &mut self,
         rt: &impl Abort,
         alloc: Global,
         session: u8,
         command: &Command,
-    ) -> Result<Reply, Fail>
+    ) -> Result<Sort, AllocError>
         requires { IsBelow NAMES (command_of command.now) }
-        ensures { IfOk result (λ reply. IsReplyBelow NAMES (reply_of reply)) }
+    {
+        let sort = self.ask(rt, alloc, session, command)?;
+        self.ask(rt, alloc, 0, &Command::Ood)?;
+        Ok(sort)
+    }
+
+    fn ask(
+        &mut self,
+        rt: &impl Abort,
+        alloc: Global,
+        session: u8,
+        command: &Command,
+    ) -> Result<Sort, AllocError>
+        requires { IsBelow NAMES (command_of command.now) }
     {
         assert!(rt; self.redo.calls() < 10_000);
         let reply = self.redo.call(alloc, session, command)?;
         let want = self.plain.call(alloc, session, command)?;
-        assert!(rt;
-            reply.is_same(&want),
-            "{session} {command:?} gives {reply:?}, not {want:?}"
-        );
-        if !matches!(reply, Reply::Refused(_)) {
-            self.check_found(rt, alloc, command, &reply)?;
-            self.told.hear(rt, alloc, session, command)?;
-        }
-        self.check_out_of_date(rt, alloc)?;
-        self.told.check_memo(rt, &self.told.memo(rt, alloc)?);
-        Ok(reply)
+        assert!(rt; reply.is_same(&want), "{session} {command:?}");
+        Ok(sort_of(&reply))
     }
 
-    /// The search gives the same reply, where it gives one.
-    fn check_found(
-        &self,
-        rt: &impl Abort,
-        alloc: Global,
-        command: &Command,
-        reply: &Reply,
-    ) -> Result<(), Fail> {
-        if let Some(want) = self.told.reply(rt, alloc, command)? {
-            assert!(rt;
-                reply.is_same(&want),
-                "{command:?} gives {reply:?}, but the search {want:?}"
-            );
+    /// For each name, whether it is a target that is out of date.
+    pub(crate) fn out_of_date(&self, alloc: Global) -> Result<[bool; 12], AllocError> {
+        let targets = self.plain.out_of_date(alloc)?;
+        let mut out = [false; 12];
+        for n in 0..NAMES {
+            out[n as usize] = targets.contains(&n);
         }
-        Ok(())
-    }
-
-    /// The targets that are out of date now are those that the search finds.
-    fn check_out_of_date(&mut self, rt: &impl Abort, alloc: Global) -> Result<(), Fail> {
-        assert!(rt; self.redo.calls() < 10_000);
-        let reply = self.redo.call(alloc, 0, &Command::Ood)?;
-        self.check_found(rt, alloc, &Command::Ood, &reply)
+        Ok(out)
     }
 }

@@ -1,12 +1,12 @@
-//! The database against its slower forms, over builds of targets on one another.
+//! The database against its plain form, over builds of targets on one another.
 ghost use Rattle.std.specs.Prelude.{◌≡◌, ◌<◌, length};
 
 use crate::builds::{STEPS, TARGETS, step_command};
 use crate::compared::{Compared, all_names};
 use crate::random::{NAMES, Random, owner};
-use crate::shapes::Shape;
-use crate::told::Told;
+use crate::shapes::shapes_in;
 use redo_names::Names;
+use redo_plain::Plain;
 use std::alloc::{AllocError, Global};
 use std::process::Abort;
 use std::test::Fail;
@@ -16,79 +16,98 @@ const LISTS: u32 = 40;
 
 const BUILDS: u32 = 75;
 
-/// What a build left, or a command did.
-#[derive(Clone, Copy, Debug, PartialEq, Eq)]
-enum Met {
-    Shape(Shape),
+/// How often a build left each shape, and a command did this.
+#[derive(Drop)]
+struct Met {
+    cycle: u32,
+    diamond: u32,
+    chain: u32,
+    popular: u32,
     /// At least three targets became out of date at once.
-    Spread,
+    spread: u32,
     /// At least three targets became up to date at once.
-    Settled,
-    /// A ring, with no target out of date.
-    FreshCycle,
+    settled: u32,
+    /// A cycle, with no target out of date.
+    fresh_cycle: u32,
+}
+
+fn count_if(is_met: bool, count: &mut u32) {
+    if is_met {
+        *count = count.saturating_add(1);
+    }
 }
 
 /// The target to build next: for the most part, one that was never built or has to be built again.
-fn next_target(random: &mut Random, told: &Told) -> u32
+fn next_target(random: &mut Random, plain: &Plain) -> u32
     ensures { result < NAMES }
 {
     for _ in 0..3 {
         let t = random.below(TARGETS);
-        if told.is_due(t) {
+        if !plain.is_target(t) || plain.has_reason(t) {
             return t;
         }
     }
     random.below(TARGETS)
 }
 
-/// How many names are out of date by the first list, and not by the second.
-fn count_lost(first: &[bool], second: &[bool]) -> usize {
-    let pairs = first.iter().zip(second);
-    pairs.filter(|(one, other)| **one && !**other).count()
+/// Whether three names or more are in the first list, and not in the second.
+fn are_many_lost(first: &[bool; 12], second: &[bool; 12]) -> bool {
+    let mut lost = 0u32;
+    for n in 0..12 {
+        if first[n] && !second[n] {
+            lost = lost.saturating_add(1);
+        }
+    }
+    lost >= 3
 }
 
-/// Adds what a command did, where these were out of date before it and those after it.
-fn note_turns(before: &[bool], after: &[bool], met: &mut Vec<Met>) -> Result<(), AllocError> {
-    if count_lost(after, before) >= 3 {
-        met.push(Met::Spread)?;
-    }
-    if count_lost(before, after) >= 3 {
-        met.push(Met::Settled)?;
-    }
+/// Counts what a build left.
+fn note_shapes(alloc: Global, compared: &Compared, met: &mut Met) -> Result<(), AllocError> {
+    let shapes = shapes_in(&compared.plain);
+    let is_fresh = compared.plain.out_of_date(alloc)?.is_empty();
+    count_if(shapes.cycle, &mut met.cycle);
+    count_if(shapes.diamond, &mut met.diamond);
+    count_if(shapes.chain, &mut met.chain);
+    count_if(shapes.popular, &mut met.popular);
+    count_if(shapes.cycle && is_fresh, &mut met.fresh_cycle);
     Ok(())
 }
 
-/// Adds what a build left.
-fn note_shapes(alloc: Global, told: &Told, met: &mut Vec<Met>) -> Result<(), AllocError> {
-    let shapes = told.shapes(alloc)?;
-    if shapes.contains(&Shape::Cycle) && !told.found().contains(&true) {
-        met.push(Met::FreshCycle)?;
-    }
-    for shape in &shapes {
-        met.push(Met::Shape(*shape))?;
-    }
+/// A step of a build of the target has the same reply by both databases.
+fn obey(
+    rt: &impl Abort,
+    alloc: Global,
+    compared: &mut Compared,
+    random: &mut Random,
+    t: u32,
+    step: u32,
+) -> Result<(), AllocError>
+    requires { t < NAMES }
+{
+    let command = step_command(random, alloc, t, step)?;
+    compared.call(rt, alloc, owner(t), &command)?;
     Ok(())
 }
 
-/// The commands of one build of the target: each has the same reply by all databases.
+/// A build of the target.
 fn build(
     rt: &impl Abort,
     alloc: Global,
     compared: &mut Compared,
     random: &mut Random,
     t: u32,
-    met: &mut Vec<Met>,
-) -> Result<(), Fail>
+    met: &mut Met,
+) -> Result<(), AllocError>
     requires { t < NAMES }
 {
-    'steps: for step in 0..STEPS {
-        let command = step_command(random, alloc, t, step)?;
-        let before = Vec::from_slice(alloc, compared.told.found())?;
-        compared.call(rt, alloc, owner(t), &command)?;
-        note_turns(&before, compared.told.found(), met)?;
+    for step in 0..STEPS {
+        let before = compared.out_of_date(alloc)?;
+        obey(rt, alloc, compared, random, t, step)?;
+        let after = compared.out_of_date(alloc)?;
+        count_if(are_many_lost(&after, &before), &mut met.spread);
+        count_if(are_many_lost(&before, &after), &mut met.settled);
     }
-    note_shapes(alloc, &compared.told, met)?;
-    Ok(())
+    note_shapes(alloc, compared, met)
 }
 
 /// The builds of one list.
@@ -97,43 +116,37 @@ fn compare(
     alloc: Global,
     names: &Names,
     seed: u32,
-    met: &mut Vec<Met>,
-) -> Result<(), Fail>
+    met: &mut Met,
+) -> Result<(), AllocError>
     requires { length names.now ≡ NAMES }
 {
     let mut compared = Compared::new(alloc, names)?;
     let mut random = Random::new(u64::from(seed));
-    'builds: for _ in 0..BUILDS {
-        let t = next_target(&mut random, &compared.told);
+    for _ in 0..BUILDS {
+        let t = next_target(&mut random, &compared.plain);
         build(rt, alloc, &mut compared, &mut random, t, met)?;
     }
     Ok(())
-}
-
-/// Each of these was met, and often.
-fn check_all_met(rt: &impl Abort, met: &[Met]) {
-    for (want, least) in [
-        (Met::Shape(Shape::Cycle), 1_000),
-        (Met::Shape(Shape::Diamond), 500),
-        (Met::Shape(Shape::Chain), 1_000),
-        (Met::Shape(Shape::Popular), 500),
-        (Met::Spread, 500),
-        (Met::Settled, 500),
-        (Met::FreshCycle, 50),
-    ] {
-        let count = met.iter().filter(|one| **one == want).count();
-        assert!(rt; count >= least, "{want:?} {count}");
-    }
 }
 
 #[test]
 fn same_on_dense_graphs(rt: HostRuntime) -> Result<(), Fail> {
     let alloc = rt.alloc();
     let names = all_names(&rt, alloc)?;
-    let mut met = Vec::new(alloc);
+    let mut met = Met {
+        cycle: 0,
+        diamond: 0,
+        chain: 0,
+        popular: 0,
+        spread: 0,
+        settled: 0,
+        fresh_cycle: 0,
+    };
     for seed in 0..LISTS {
         compare(&rt, alloc, &names, seed, &mut met)?;
     }
-    check_all_met(&rt, &met);
+    assert!(rt; met.cycle >= 1_000 && met.diamond >= 500);
+    assert!(rt; met.chain >= 1_000 && met.popular >= 500);
+    assert!(rt; met.spread >= 500 && met.settled >= 500 && met.fresh_cycle >= 50);
     Ok(())
 }

@@ -1,11 +1,12 @@
-//! The database against its slower forms, over commands drawn at random.
-ghost use Rattle.std.specs.Prelude.{◌≡◌, length};
+//! The database against its plain form, over commands drawn at random.
+ghost use Rattle.std.specs.Prelude.{◌≡◌, ◌<◌, ◌≤◌, length};
 
 use crate::compared::{Compared, all_names};
 use crate::random::{NAMES, Random};
-use redo_command::{Command, Kind, Refusal, Reply};
+use crate::sorts::Sort;
+use redo_command::Kind;
 use redo_names::Names;
-use std::alloc::Global;
+use std::alloc::{AllocError, Global};
 use std::process::Abort;
 use std::test::Fail;
 
@@ -14,92 +15,86 @@ const LISTS: u32 = 100;
 
 const COMMANDS: u32 = 500;
 
-/// The sorts of replies.
-#[derive(Clone, Copy, Debug, PartialEq, Eq)]
-enum Sort {
-    Okay,
-    Granted,
-    Busy,
-    Stale,
-    Stamped,
-    NoName,
-    OneName,
-    ManyNames,
-    NotLocked,
-    Building,
-    NotBuilding,
-    Itself,
-    Exists,
-    /// No target is out of date, and some have a file.
-    UpToDate,
+/// How many kinds of commands there are, and sorts of replies.
+const KINDS: usize = 14;
+
+const SORTS: usize = 13;
+
+/// How often each kind of command had each sort of reply, kind by kind.
+#[derive(Drop)]
+struct Tally {
+    counts: Vec<u32>,
 }
 
-fn sort_of(reply: &Reply) -> Sort {
-    match reply {
-        Reply::Okay => Sort::Okay,
-        Reply::Granted(_) => Sort::Granted,
-        Reply::Busy(_) => Sort::Busy,
-        Reply::Stale(_) => Sort::Stale,
-        Reply::Stamped(_) => Sort::Stamped,
-        Reply::Ood(names) | Reply::Targets(names) | Reply::Sources(names) => match names.len() {
-            0 => Sort::NoName,
-            1 => Sort::OneName,
-            _ => Sort::ManyNames,
-        },
-        Reply::Refused(Refusal::NotLocked) => Sort::NotLocked,
-        Reply::Refused(Refusal::Building) => Sort::Building,
-        Reply::Refused(Refusal::NotBuilding) => Sort::NotBuilding,
-        Reply::Refused(Refusal::Itself) => Sort::Itself,
-        Reply::Refused(Refusal::Exists(_)) => Sort::Exists,
+fn place_of(kind: Kind, sort: Sort) -> usize {
+    (kind as usize)
+        .saturating_mul(SORTS)
+        .saturating_add(sort as usize)
+}
+
+impl Tally {
+    fn note(&mut self, kind: Kind, sort: Sort) {
+        if let Some(count) = self.counts.get_mut(place_of(kind, sort)) {
+            *count = count.saturating_add(1);
+        }
+    }
+
+    fn is_often(&self, kind: Kind, sort: Sort) -> bool {
+        match self.counts.get(place_of(kind, sort)) {
+            Some(count) => *count >= 200,
+            None => false,
+        }
     }
 }
 
-/// The sort of a reply to a command; that to `ood` goes by the targets.
-fn sort_seen(
+/// Draws a command, on one of so many targets, and demands the same reply of both databases.
+fn draw(
     rt: &impl Abort,
     alloc: Global,
     compared: &mut Compared,
-    reply: &Reply,
-) -> Result<Sort, Fail> {
-    let sort = sort_of(reply);
-    if sort != Sort::NoName || !matches!(reply, Reply::Ood(_)) {
-        return Ok(sort);
-    }
-    let targets = compared.call(rt, alloc, 0, &Command::Targets)?;
-    Ok(if sort_of(&targets) == Sort::NoName {
-        Sort::NoName
-    } else {
-        Sort::UpToDate
-    })
+    random: &mut Random,
+    targets: u32,
+    tally: &mut Tally,
+) -> Result<(), AllocError>
+    requires some { 0 < targets }
+    requires few { targets ≤ NAMES }
+{
+    let t = random.target(targets);
+    let session = random.session(t);
+    let command = random.command(alloc, t)?;
+    let sort = compared.call(rt, alloc, session, &command)?;
+    tally.note(command.kind(), sort);
+    Ok(())
 }
 
-/// Draws commands, and demands the same replies of all databases. Adds each command's kind with its reply's sort.
+/// The commands of one list.
 fn compare(
     rt: &impl Abort,
     alloc: Global,
     names: &Names,
     seed: u32,
-    seen: &mut Vec<(Kind, Sort)>,
-) -> Result<(), Fail>
+    tally: &mut Tally,
+) -> Result<(), AllocError>
     requires { length names.now ≡ NAMES }
 {
     let mut compared = Compared::new(alloc, names)?;
     let mut random = Random::new(u64::from(seed));
-    let targets = 1 + seed % NAMES;
-    'draws: for _ in 0..COMMANDS {
-        let t = random.target(targets);
-        let session = random.session(t);
-        let command = random.command(alloc, t)?;
-        let reply = compared.call(rt, alloc, session, &command)?;
-        let sort = sort_seen(rt, alloc, &mut compared, &reply)?;
-        seen.push((command.kind(), sort))?;
+    for _ in 0..COMMANDS {
+        draw(
+            rt,
+            alloc,
+            &mut compared,
+            &mut random,
+            1 + seed % NAMES,
+            tally,
+        )?;
     }
     Ok(())
 }
 
 /// Each of these kinds had each of these sorts of replies, and often.
-fn check_all_seen(rt: &impl Abort, seen: &[(Kind, Sort)]) {
-    for want in [
+fn check_all_seen(rt: &impl Abort, tally: &Tally) {
+    for (kind, sort) in [
         (Kind::File, Sort::Okay),
         (Kind::Gone, Sort::Okay),
         (Kind::Lock, Sort::Granted),
@@ -123,15 +118,13 @@ fn check_all_seen(rt: &impl Abort, seen: &[(Kind, Sort)]) {
         (Kind::Done, Sort::Okay),
         (Kind::Failed, Sort::Okay),
         (Kind::Ood, Sort::NoName),
-        (Kind::Ood, Sort::UpToDate),
         (Kind::Ood, Sort::OneName),
         (Kind::Ood, Sort::ManyNames),
         (Kind::Targets, Sort::ManyNames),
         (Kind::Sources, Sort::OneName),
         (Kind::Sources, Sort::ManyNames),
     ] {
-        let count = seen.iter().filter(|one| **one == want).count();
-        assert!(rt; count >= 200, "{want:?} {count}");
+        assert!(rt; tally.is_often(kind, sort), "{kind:?}");
     }
 }
 
@@ -139,10 +132,11 @@ fn check_all_seen(rt: &impl Abort, seen: &[(Kind, Sort)]) {
 fn same_as_the_plain_form(rt: HostRuntime) -> Result<(), Fail> {
     let alloc = rt.alloc();
     let names = all_names(&rt, alloc)?;
-    let mut seen = Vec::new(alloc);
+    let counts = Vec::from_elem(alloc, 0, KINDS * SORTS)?;
+    let mut tally = Tally { counts };
     for seed in 0..LISTS {
-        compare(&rt, alloc, &names, seed, &mut seen)?;
+        compare(&rt, alloc, &names, seed, &mut tally)?;
     }
-    check_all_seen(&rt, &seen);
+    check_all_seen(&rt, &tally);
     Ok(())
 }

@@ -1,139 +1,172 @@
 //! How many names the region of a change has.
-ghost use Rattle.std.specs.Prelude.{◌≡◌, ◌<◌, IfOk};
-ghost use Rattle.redo_ood.specs.Memo.{count_of as memo_count};
+ghost use Rattle.std.specs.Prelude.{◌≡◌, ◌<◌, length, IfOk};
+ghost use Rattle.redo_model.specs.State.{is_building};
+ghost use Rattle.redo_records.specs.Cells.{cell_at};
+ghost use Rattle.redo_rows.specs.Rows.{count_of, records_of};
+ghost use Rattle.redo_ood.specs.Memo.{count_of as memo_count, IsRight};
 
-use crate::compared::all_names;
-use crate::random::NAMES;
-use crate::told::Told;
-use redo_command::{FileStamp, read_command};
-use redo_names::Names;
+use redo_command::FileStamp;
 use redo_ood::Ood;
-use std::alloc::Global;
+use redo_records::{Records, State, digest_of};
+use redo_rows::DepRows;
+use std::alloc::{AllocError, Global};
 use std::process::Abort;
-use std::test::Fail;
 
-/// A chain through a target without a file.
-const CHAIN: [&str; 10] = [
-    "file a.c 1",
-    "start a.o",
-    "ifchange a.o a.c",
-    "done a.o 1",
-    "start all",
-    "ifchange all a.o",
-    "done all -",
-    "start top",
-    "ifchange top all",
-    "done top 1",
-];
+const NAMES: u32 = 4;
 
-/// A target that needs a name not to have a file.
-const APPEARANCE: [&str; 3] = ["start T", "ifcreate T y", "done T 5"];
+/// The records and the rows of four names.
+#[derive(Drop)]
+struct Graph {
+    records: Records,
+    rows: DepRows,
+    ghost records_count: { length records ≡ NAMES },
+    ghost rows_count: { count_of rows ≡ NAMES },
+}
 
-/// Two targets that need each other.
-const CYCLE: [&str; 11] = [
-    "start a",
-    "stamp a 616263",
-    "done a 1",
-    "start b",
-    "stamp b -",
-    "ifchange b a",
-    "done b 1",
-    "start a",
-    "ifchange a b",
-    "stamp a 616263",
-    "done a 2",
-];
-
-/// What is told by these lines.
-fn told_by(
-    rt: &impl Abort,
-    alloc: Global,
-    names: &mut Names,
-    lines: &[&str],
-) -> Result<Told, Fail> {
-    let mut told = Told::new(alloc)?;
-    for line in lines {
-        let command = read_command(alloc, line.as_bytes(), names)?;
-        assert_eq!(rt; names.len(), NAMES);
-        told.hear(rt, alloc, 0, &command)?;
+impl Graph {
+    fn new(alloc: Global) -> Result<Graph, AllocError> {
+        Ok(Graph {
+            records: Records::new(alloc, NAMES)?,
+            rows: DepRows::new(alloc, NAMES)?,
+        })
     }
-    Ok(told)
+
+    fn is_building(&self, t: u32) -> bool
+        requires { t < NAMES }
+        ensures { result ≡ is_building (cell_at self.now.records t).state }
+    {
+        matches!(self.records.state(t), State::Building(_))
+    }
+
+    fn start(&mut self, rt: &impl Abort, t: u32)
+        requires { t < NAMES }
+    {
+        assert!(rt; !self.is_building(t));
+        self.records.start(0, t);
+        self.rows.clear(t);
+    }
+
+    /// Puts a change row of the target on the name.
+    fn need(&mut self, rt: &impl Abort, t: u32, n: u32) -> Result<(), AllocError>
+        requires target { t < NAMES }
+        requires name { n < NAMES }
+    {
+        self.rows.reserve(t, &[n])?;
+        assert!(rt; self.rows.has_room(t, n));
+        self.rows.put_change(t, n, self.records.mark(n));
+        Ok(())
+    }
+
+    /// The build of the target ends, always with the same content.
+    fn finish(&mut self, rt: &impl Abort, t: u32, file: Option<FileStamp>)
+        requires { t < NAMES }
+    {
+        assert!(rt; self.is_building(t) && self.records.builds(t) < 9);
+        self.records.stamp(t, digest_of(b"abc"));
+        assert!(rt; self.is_building(t) && self.records.builds(t) < 9);
+        self.records.done(t, file);
+    }
+
+    /// A build of the target, which needs the name.
+    fn build(
+        &mut self,
+        rt: &impl Abort,
+        t: u32,
+        n: u32,
+        file: Option<FileStamp>,
+    ) -> Result<(), AllocError>
+        requires target { t < NAMES }
+        requires name { n < NAMES }
+    {
+        self.start(rt, t);
+        self.need(rt, t, n)?;
+        self.finish(rt, t, file);
+        Ok(())
+    }
+
+    /// The memo for all of this.
+    fn memo(&self, alloc: Global) -> Result<Ood, AllocError>
+        ensures count { IfOk result (λ ood. memo_count ood ≡ NAMES) }
+        ensures right { IfOk result (λ ood. IsRight ood (records_of self.now.records self.now.rows)) }
+    {
+        let mut ood = Ood::new(alloc, NAMES)?;
+        ood.refresh(&self.records, &self.rows, &[0, 1, 2, 3]);
+        Ok(ood)
+    }
+
+    /// No target is out of date. The name's file changes, and then these are; the region has so many names.
+    fn change_file(
+        &mut self,
+        rt: &impl Abort,
+        alloc: Global,
+        n: u32,
+        region: u32,
+        out: &[u32],
+    ) -> Result<(), AllocError>
+        requires { n < NAMES }
+    {
+        let mut ood = self.memo(alloc)?;
+        assert!(rt; ood.list(alloc)?.is_empty());
+        self.records.set_file(n, FileStamp::new(b"2"));
+        assert!(rt; ood.refresh(&self.records, &self.rows, &[n]) == region);
+        assert!(rt; ood.list(alloc)?.as_slice() == out);
+        Ok(())
+    }
+
+    /// No target is out of date. A build of the target begins, and then these are; the region has so many names.
+    fn begin(
+        &mut self,
+        rt: &impl Abort,
+        alloc: Global,
+        t: u32,
+        region: u32,
+        out: &[u32],
+    ) -> Result<(), AllocError>
+        requires { t < NAMES }
+    {
+        let mut ood = self.memo(alloc)?;
+        assert!(rt; ood.list(alloc)?.is_empty());
+        assert!(rt; !self.is_building(t));
+        self.records.start(0, t);
+        self.rows.clear(t);
+        assert!(rt; ood.refresh(&self.records, &self.rows, &[t]) == region);
+        assert!(rt; ood.list(alloc)?.as_slice() == out);
+        Ok(())
+    }
 }
 
-fn number_of(rt: &impl Abort, names: &Names, text: &str) -> Result<u32, Fail>
-    ensures { IfOk result (λ n. n < NAMES) }
-{
-    let n = names.number_of(text.as_bytes()).ok_or("a name")?;
-    assert!(rt; n < NAMES);
-    Ok(n)
-}
-
-/// The memo has what the search finds, and that many targets.
-fn check_memo(
-    rt: &impl Abort,
-    alloc: Global,
-    told: &mut Told,
-    ood: &Ood,
-    want: usize,
-) -> Result<(), Fail>
-    requires { memo_count ood.now ≡ NAMES }
-    ensures records { told.new.records ≡ told.old.records }
-    ensures rows { told.new.rows ≡ told.old.rows }
-{
-    assert_eq!(rt; ood.list(alloc)?.len(), want);
-    told.search(alloc)?;
-    told.check_memo(rt, ood);
-    Ok(())
-}
-
-/// The file of a name changes after these lines, which leaves as many targets out of date. How many names the region
-/// of the change has.
-fn region_of_file(
-    rt: &impl Abort,
-    alloc: Global,
-    lines: &[&str],
-    name: &str,
-    stamp: &[u8],
-    out_of_date: usize,
-) -> Result<u32, Fail> {
-    let mut names = all_names(rt, alloc)?;
-    let mut told = told_by(rt, alloc, &mut names, lines)?;
-    let mut ood = told.memo(rt, alloc)?;
-    check_memo(rt, alloc, &mut told, &ood, 0)?;
-    let n = number_of(rt, &names, name)?;
-    let stamp = FileStamp::new(stamp);
-    let region = told.change_file(&mut ood, n, stamp);
-    check_memo(rt, alloc, &mut told, &ood, out_of_date)?;
-    Ok(region)
-}
-
-/// A target is built again after these lines, which leaves as many targets out of date. How many names the region of
-/// the change has.
-fn region_of_start(
-    rt: &impl Abort,
-    alloc: Global,
-    lines: &[&str],
-    name: &str,
-    out_of_date: usize,
-) -> Result<u32, Fail> {
-    let mut names = all_names(rt, alloc)?;
-    let mut told = told_by(rt, alloc, &mut names, lines)?;
-    let mut ood = told.memo(rt, alloc)?;
-    check_memo(rt, alloc, &mut told, &ood, 0)?;
-    let t = number_of(rt, &names, name)?;
-    let region = told.begin(rt, &mut ood, t);
-    check_memo(rt, alloc, &mut told, &ood, out_of_date)?;
-    Ok(region)
-}
-
+/// 3 needs 2, which needs 1, which needs 0; and 2 has no file.
 #[test]
-fn regions(rt: HostRuntime) -> Result<(), Fail> {
-    let alloc = rt.alloc();
-    // a.c, a.o, all and top
-    assert_eq!(rt; region_of_file(&rt, alloc, &CHAIN, "a.c", b"2", 3)?, 4);
-    // y and T
-    assert_eq!(rt; region_of_file(&rt, alloc, &APPEARANCE, "y", b"1", 1)?, 2);
-    // a and b
-    assert_eq!(rt; region_of_start(&rt, alloc, &CYCLE, "a", 2)?, 2);
-    Ok(())
+fn chain(rt: HostRuntime) -> Result<(), AllocError> {
+    let mut graph = Graph::new(rt.alloc())?;
+    let stamp = FileStamp::new(b"1");
+    graph.records.set_file(0, stamp);
+    graph.build(&rt, 1, 0, stamp)?;
+    graph.build(&rt, 2, 1, None)?;
+    graph.build(&rt, 3, 2, stamp)?;
+    graph.change_file(&rt, rt.alloc(), 0, 4, &[1, 2, 3])
+}
+
+/// 1 needs 0 not to have a file.
+#[test]
+fn appearance(rt: HostRuntime) -> Result<(), AllocError> {
+    let mut graph = Graph::new(rt.alloc())?;
+    graph.start(&rt, 1);
+    graph.rows.reserve(1, &[0])?;
+    assert!(rt; graph.rows.has_room(1, 0));
+    graph.rows.put_created(1, 0);
+    graph.finish(&rt, 1, FileStamp::new(b"1"));
+    graph.change_file(&rt, rt.alloc(), 0, 2, &[1])
+}
+
+/// 0 and 1 need each other.
+#[test]
+fn cycle(rt: HostRuntime) -> Result<(), AllocError> {
+    let mut graph = Graph::new(rt.alloc())?;
+    let stamp = FileStamp::new(b"1");
+    graph.start(&rt, 0);
+    graph.finish(&rt, 0, stamp);
+    graph.build(&rt, 1, 0, stamp)?;
+    graph.build(&rt, 0, 1, stamp)?;
+    graph.begin(&rt, rt.alloc(), 0, 2, &[0, 1])
 }

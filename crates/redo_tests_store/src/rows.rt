@@ -3,12 +3,10 @@ ghost use Rattle.std.specs.Prelude.{◌≡◌, ◌<◌, IfOk};
 ghost use Rattle.redo_model.specs.Renaming.{AllBelow};
 ghost use Rattle.redo_rows.specs.Rows.{count_of};
 
-use redo_command::FileStamp;
 use redo_records::Mark;
 use redo_rows::DepRows;
 use std::alloc::{AllocError, Global};
 use std::process::Abort;
-use std::test::Fail;
 
 const NAMES: u32 = 4;
 
@@ -45,7 +43,7 @@ fn put_change(rt: &impl Abort, rows: &mut DepRows, t: u32, n: u32, mark: Mark)
 }
 
 /// Room for some rows, and those rows.
-fn put_rows(rt: &impl Abort, rows: &mut DepRows) -> Result<(), Fail>
+fn put_rows(rt: &impl Abort, rows: &mut DepRows) -> Result<(), AllocError>
     requires { count_of rows.old ≡ NAMES }
     ensures { count_of rows.new ≡ NAMES }
 {
@@ -63,11 +61,11 @@ fn put_rows(rt: &impl Abort, rows: &mut DepRows) -> Result<(), Fail>
 fn check_rows(rt: &impl Abort, rows: &DepRows)
     requires { count_of rows.now ≡ NAMES }
 {
-    assert_eq!(rt; rows.needed_by(1), [0, 3].as_slice());
-    assert_eq!(rt; rows.awaited_by(2), [0].as_slice());
-    assert_eq!(rt; rows.of(0), [1, 2].as_slice());
-    assert_eq!(rt; rows.change_of(0, 1), Some(Mark::Absent));
-    assert_eq!(rt; rows.change_of(0, 2), None);
+    assert!(rt; rows.needed_by(1) == [0, 3].as_slice());
+    assert!(rt; rows.awaited_by(2) == [0].as_slice());
+    assert!(rt; rows.of(0) == [1, 2].as_slice());
+    assert!(rt; rows.change_of(0, 1) == Some(Mark::Absent));
+    assert!(rt; rows.change_of(0, 2).is_none());
     assert!(rt; rows.created(0, 2) && !rows.created(0, 1));
     assert!(rt; rows.always(0) && !rows.always(3));
     assert!(rt; !rows.has_room(3, 2));
@@ -77,16 +75,16 @@ fn check_rows(rt: &impl Abort, rows: &DepRows)
 fn check_rest(rt: &impl Abort, rows: &DepRows)
     requires { count_of rows.now ≡ NAMES }
 {
-    assert_eq!(rt; rows.needed_by(1), [3].as_slice());
+    assert!(rt; rows.needed_by(1) == [3].as_slice());
     assert!(rt; rows.awaited_by(2).is_empty());
     assert!(rt; rows.of(0).is_empty());
-    assert_eq!(rt; rows.change_of(3, 1), Some(Mark::Pending));
+    assert!(rt; rows.change_of(3, 1) == Some(Mark::Pending));
     assert!(rt; !rows.always(0));
     assert!(rt; !rows.has_room(0, 1) && rows.has_room(3, 1));
 }
 
 /// Room for more rows. Where it is refused, all rows and all room are as they were, and the next try succeeds.
-fn more_room(rt: &impl Abort, rows: &mut DepRows) -> Result<(), Fail>
+fn more_room(rt: &impl Abort, rows: &mut DepRows) -> Result<(), AllocError>
     requires { count_of rows.old ≡ NAMES }
     ensures { count_of rows.new ≡ NAMES }
 {
@@ -101,7 +99,7 @@ fn more_room(rt: &impl Abort, rows: &mut DepRows) -> Result<(), Fail>
 
 /// Passes with each request for memory refused in turn, too.
 #[test]
-fn refused_room(rt: HostRuntime) -> Result<(), Fail> {
+fn inverse_rows(rt: HostRuntime) -> Result<(), AllocError> {
     let mut rows = no_rows(rt.alloc())?;
     put_rows(&rt, &mut rows)?;
     check_rows(&rt, &rows);
@@ -109,41 +107,5 @@ fn refused_room(rt: HostRuntime) -> Result<(), Fail> {
     rows.clear(0);
     check_rest(&rt, &rows);
     assert!(rt; rows.has_room(3, 0) && rows.has_room(3, 2));
-    Ok(())
-}
-
-#[test]
-fn inverse_rows(rt: HostRuntime) -> Result<(), Fail> {
-    let mut rows = no_rows(rt.alloc())?;
-    put_rows(&rt, &mut rows)?;
-    check_rows(&rt, &rows);
-    rows.clear(0);
-    check_rest(&rt, &rows);
-    Ok(())
-}
-
-/// A change row of 0 on 1 gives back the mark that was put.
-fn check_mark(rt: &impl Abort, rows: &mut DepRows, mark: &Mark)
-    requires { count_of rows.old ≡ NAMES }
-    ensures { count_of rows.new ≡ NAMES }
-{
-    put_change(rt, rows, 0, 1, *mark);
-    let kept = rows.change_of(0, 1);
-    assert_eq!(rt; kept.as_ref(), Some(mark));
-}
-
-#[test]
-fn marks_of_rows(rt: HostRuntime) -> Result<(), Fail> {
-    let mut rows = no_rows(rt.alloc())?;
-    reserve(&mut rows, 0, &[1])?;
-    check_mark(&rt, &mut rows, &Mark::Digest([0xa9; 20]));
-    check_mark(&rt, &mut rows, &Mark::Builds(0x0102_0304));
-    check_mark(&rt, &mut rows, &Mark::Builds(u32::MAX));
-    check_mark(&rt, &mut rows, &Mark::Pending);
-    check_mark(&rt, &mut rows, &Mark::Absent);
-    assert_eq!(rt; FileStamp::new(&[b'x'; 65]), None);
-    let stamp = FileStamp::new(&[b'x'; 64]).expect(&rt, "a stamp");
-    assert_eq!(rt; stamp.bytes(), [b'x'; 64].as_slice());
-    check_mark(&rt, &mut rows, &Mark::File(stamp));
     Ok(())
 }

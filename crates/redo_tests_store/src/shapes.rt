@@ -1,79 +1,57 @@
 //! Shapes in the graph of the change rows.
-ghost use Rattle.std.specs.Prelude.{◌≡◌, ◌+◌, ◌<◌, ◌≤◌, length, IfOk};
-ghost use Rattle.redo_rows.specs.Rows.{count_of};
+ghost use Rattle.std.specs.Prelude.{◌<◌};
 
 use crate::random::NAMES;
-use redo_rows::DepRows;
-use std::alloc::{AllocError, Global};
+use redo_plain::Plain;
 
-#[derive(Clone, Copy, Debug, PartialEq, Eq)]
-pub(crate) enum Shape {
+/// Which shapes there are.
+#[derive(Clone, Copy)]
+pub(crate) struct Shapes {
     /// A target needs itself, through others.
-    Cycle,
+    pub(crate) cycle: bool,
     /// A target needs two that need one name.
-    Diamond,
+    pub(crate) diamond: bool,
     /// A target needs a name through three others, and through no fewer.
-    Chain,
+    pub(crate) chain: bool,
     /// Four targets need one name.
-    Popular,
-}
-
-fn needs(rows: &DepRows, t: u32, n: u32) -> bool
-    requires { t < count_of rows.now }
-{
-    rows.change_of(t, n).is_some()
+    pub(crate) popular: bool,
 }
 
 /// Gives each name that the target needs this length, unless it has one.
-fn lengthen(rows: &DepRows, t: u32, chain: u32, lengths: &mut Vec<u32>)
-    requires rows { count_of rows.now ≡ NAMES }
-    requires target { t < NAMES }
-    requires lengths { length lengths.old.items ≡ NAMES }
-    ensures { length lengths.new.items ≡ NAMES }
-{
-    for &n in rows.of(t) {
-        if needs(rows, t, n) && lengths[n as usize] == 0 {
+fn lengthen(plain: &Plain, t: u32, chain: u32, lengths: &mut [u32; 12]) {
+    for n in 0..NAMES {
+        if plain.needs(t, n) && lengths[n as usize] == 0 {
             lengths[n as usize] = chain;
         }
     }
 }
 
 /// Gives each name that one of this length needs the next length, unless it has one.
-fn lengthen_all(rows: &DepRows, chain: u32, lengths: &mut Vec<u32>)
-    requires rows { count_of rows.now ≡ NAMES }
-    requires chain { chain < NAMES }
-    requires lengths { length lengths.old.items ≡ NAMES }
-    ensures { length lengths.new.items ≡ NAMES }
+fn lengthen_all(plain: &Plain, chain: u32, lengths: &mut [u32; 12])
+    requires { chain < NAMES }
 {
     for t in 0..NAMES {
         if lengths[t as usize] == chain {
-            lengthen(rows, t, chain + 1, lengths);
+            lengthen(plain, t, chain + 1, lengths);
         }
     }
 }
 
 /// For each name, of how many rows the shortest chain is that leads there from the target; 0 where none does.
-fn lengths_from(alloc: Global, rows: &DepRows, t: u32) -> Result<Vec<u32>, AllocError>
-    requires rows { count_of rows.now ≡ NAMES }
-    requires target { t < NAMES }
-    ensures { IfOk result (λ lengths. length lengths.items ≡ NAMES) }
-{
-    let mut lengths = vec![in alloc; 0; NAMES as usize]?;
-    lengthen(rows, t, 1, &mut lengths);
+fn lengths_from(plain: &Plain, t: u32) -> [u32; 12] {
+    let mut lengths = [0; 12];
+    lengthen(plain, t, 1, &mut lengths);
     for chain in 1..NAMES {
-        lengthen_all(rows, chain, &mut lengths);
+        lengthen_all(plain, chain, &mut lengths);
     }
-    Ok(lengths)
+    lengths
 }
 
 /// Whether the target needs two that need the name.
-fn needs_twice(rows: &DepRows, t: u32, n: u32) -> bool
-    requires rows { count_of rows.now ≡ NAMES }
-    requires target { t < NAMES }
-{
+fn needs_twice(plain: &Plain, t: u32, n: u32) -> bool {
     let mut once = false;
-    for &between in rows.of(t) {
-        if needs(rows, t, between) && needs(rows, between, n) {
+    for between in 0..NAMES {
+        if plain.needs(t, between) && plain.needs(between, n) {
             if once {
                 return true;
             }
@@ -83,52 +61,43 @@ fn needs_twice(rows: &DepRows, t: u32, n: u32) -> bool
     false
 }
 
-/// Whether the target needs two that need one name.
-fn is_diamond(rows: &DepRows, t: u32) -> bool
-    requires rows { count_of rows.now ≡ NAMES }
-    requires target { t < NAMES }
-{
-    for n in 0..NAMES {
-        if needs_twice(rows, t, n) {
-            return true;
+/// Whether four targets need the name.
+fn is_popular(plain: &Plain, n: u32) -> bool {
+    let mut count = 0u32;
+    for t in 0..NAMES {
+        if plain.needs(t, n) {
+            count = count.saturating_add(1);
         }
     }
-    false
+    count >= 4
 }
 
-/// Adds the shape, if it is there and isn't among them.
-fn note(shapes: &mut Vec<Shape>, shape: Shape, is_there: bool) -> Result<(), AllocError> {
-    if is_there && !shapes.contains(&shape) {
-        shapes.push(shape)?;
+/// Adds the shapes in which the target needs this name, over chains of these lengths.
+fn note(shapes: &mut Shapes, plain: &Plain, t: u32, n: u32, length: u32) {
+    shapes.cycle |= n == t && length > 0;
+    shapes.chain |= length >= 4;
+    shapes.diamond |= needs_twice(plain, t, n);
+}
+
+/// Adds the shapes in which the target needs some name, or four targets need it.
+fn note_all(shapes: &mut Shapes, plain: &Plain, t: u32) {
+    let lengths = lengths_from(plain, t);
+    for n in 0..NAMES {
+        note(shapes, plain, t, n, lengths[n as usize]);
     }
-    Ok(())
+    shapes.popular |= is_popular(plain, t);
 }
 
-/// Adds the shapes that the name has a part in, as the target that needs or as the name that is needed.
-fn note_shapes(
-    alloc: Global,
-    rows: &DepRows,
-    t: u32,
-    shapes: &mut Vec<Shape>,
-) -> Result<(), AllocError>
-    requires rows { count_of rows.now ≡ NAMES }
-    requires target { t < NAMES }
-{
-    let lengths = lengths_from(alloc, rows, t)?;
-    let is_far = lengths.iter().any(|chain| *chain >= 4);
-    note(shapes, Shape::Cycle, lengths[t as usize] > 0)?;
-    note(shapes, Shape::Chain, is_far)?;
-    note(shapes, Shape::Diamond, is_diamond(rows, t))?;
-    note(shapes, Shape::Popular, rows.needed_by(t).len() >= 4)
-}
-
-/// The shapes that there are, each once.
-pub(crate) fn shapes_in(alloc: Global, rows: &DepRows) -> Result<Vec<Shape>, AllocError>
-    requires { count_of rows.now ≡ NAMES }
-{
-    let mut shapes = Vec::new(alloc);
+/// The shapes that there are.
+pub(crate) fn shapes_in(plain: &Plain) -> Shapes {
+    let mut shapes = Shapes {
+        cycle: false,
+        diamond: false,
+        chain: false,
+        popular: false,
+    };
     for t in 0..NAMES {
-        note_shapes(alloc, rows, t, &mut shapes)?;
+        note_all(&mut shapes, plain, t);
     }
-    Ok(shapes)
+    shapes
 }
