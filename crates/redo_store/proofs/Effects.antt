@@ -1,13 +1,15 @@
 -- Rows that are written one by one, and what a command makes of the records by them.
-use Rattle.std.proofs.Common.{◌≡◌, ℕ, ◌+◌, ◌<◌, ◌==◌, Bool, true, false, cond, ◌||◌, List, Option, Some, None, length, get_or, take, refl, sym, ap, ◌∙◌, inl, inr}
+use Rattle.std.proofs.Common.{◌≡◌, ℕ, ◌+◌, ◌<◌, ◌≤◌, ◌==◌, Bool, true, false, cond, ◌||◌, List, Option, Some, None, length, get_or, take, refl, sym, ap, ◌∙◌, subst, inl, inr}
 use Rattle.std.proofs.Math.Path.{fun_ext}
 use Rattle.std.proofs.lemmas.Bool.{cases_eq, eq-eqb, ne_eqb}
+use Rattle.std.proofs.lemmas.List.{take_all}
 use Rattle.std.proofs.lemmas.List.Folds.{list_any_more}
 use Rattle.redo_model.specs.Command as commands
 use Rattle.redo_model.specs.State.{Cell, Mark, Records, Rows, Building, idle, mark_of}
 use Rattle.redo_model.specs.Step.{effect_of, is_among}
 use Rattle.redo_records.specs.Cells.{cell_at, with_cell_at}
-use Rattle.redo_rows.specs.Rows.{TargetRows, by_number, rows_of, with_change, with_created, with_always, without_rows}
+use Rattle.redo_rows.specs.Rows.{TargetRows, by_number, rows_of, with_change, with_created, with_always, without_rows, records_of as with_rows}
+use Rattle.redo_store.specs.Changes.{AreRowsAfter}
 use Rattle.redo_store.specs.Stored.{Stored, records_of, naming_of}
 use Rattle.redo_store.proofs.Kept.{set_is_put}
 
@@ -47,13 +49,13 @@ true_more n k a b = elim (cases_eq n k) [
       ∙ ap (λ c. (a || c) || b) (sym (ne_eqb n k ne))
 ]
 
-module _ (r : Records ℕ) (t : ℕ) (ns : List ℕ) (i : ℕ) (below : i < length ns)
+module _ (r : Records ℕ) (s : ℕ) (t : ℕ) (ns : List ℕ) (i : ℕ) (below : i < length ns)
     (before now : Rows ℕ) where
   -- one change row more than on the names before
-  pub change_more : (mark : Mark)
-      → record r { rows = before } ≡ effect_of by_number r 0 (commands.IfChange t (take i ns))
+  change_more : (mark : Mark)
+      → record r { rows = before } ≡ effect_of by_number r s (commands.IfChange t (take i ns))
       → now ≡ with_change before t (get_or ns i 0) mark → mark ≡ mark_of r (get_or ns i 0)
-      → record r { rows = now } ≡ effect_of by_number r 0 (commands.IfChange t (take (i + 1) ns))
+      → record r { rows = now } ≡ effect_of by_number r s (commands.IfChange t (take (i + 1) ns))
   change_more mark so_far written marked =
       let n : ℕ = get_or ns i 0 in
       let among : ℕ → Bool = is_among by_number (take i ns) in
@@ -67,7 +69,7 @@ module _ (r : Records ℕ) (t : ℕ) (ns : List ℕ) (i : ℕ) (below : i < leng
       (λ e. ap Some (marked ∙ ap (mark_of r) e)) ∙ ap (λ b. cond b (Some (mark_of r k))
       (old.change t k)) (sym (list_any_more (λ (m : ℕ). m == k) ns i 0 below)))
       in
-      let change : (with_change (effect_of by_number r 0 (commands.IfChange t (take i ns))).rows t n
+      let change : (with_change (effect_of by_number r s (commands.IfChange t (take i ns))).rows t n
       mark).change ≡ (λ (u : ℕ). cond (t == u) put_now (old.change u)) =
       fun_ext (λ u.
       put_again (t == u) (λ (k : ℕ). cond (n == k) (Some mark)
@@ -81,10 +83,10 @@ module _ (r : Records ℕ) (t : ℕ) (ns : List ℕ) (i : ℕ) (below : i < leng
       ∙ (λ j. record r { rows = record old { change = change j } })
 
   -- one created row more than on the names before
-  pub created_more : record r { rows = before }
-      ≡ effect_of by_number r 0 (commands.IfCreate t (take i ns))
+  created_more : record r { rows = before }
+      ≡ effect_of by_number r s (commands.IfCreate t (take i ns))
       → now ≡ with_created before t (get_or ns i 0)
-      → record r { rows = now } ≡ effect_of by_number r 0 (commands.IfCreate t (take (i + 1) ns))
+      → record r { rows = now } ≡ effect_of by_number r s (commands.IfCreate t (take (i + 1) ns))
   created_more so_far written =
       let n : ℕ = get_or ns i 0 in
       let among : ℕ → Bool = is_among by_number (take i ns) in
@@ -95,7 +97,7 @@ module _ (r : Records ℕ) (t : ℕ) (ns : List ℕ) (i : ℕ) (below : i < leng
       fun_ext (λ k. true_more n k (among k) (old.created t k)
       ∙ ap (λ b. b || old.created t k) (sym (list_any_more (λ (m : ℕ). m == k) ns i 0 below)))
       in
-      let created : (with_created (effect_of by_number r 0 (commands.IfCreate t (take i ns))).rows t
+      let created : (with_created (effect_of by_number r s (commands.IfCreate t (take i ns))).rows t
       n).created ≡ (λ (u : ℕ). cond (t == u) put_now (old.created u)) =
       fun_ext (λ u.
       put_again (t == u) (λ (k : ℕ). cond (n == k) true
@@ -107,6 +109,42 @@ module _ (r : Records ℕ) (t : ℕ) (ns : List ℕ) (i : ℕ) (below : i < leng
       ap (λ (rows : Rows ℕ). record r { rows = rows })
       (written ∙ ap (λ (x : Records ℕ). with_created x.rows t n) so_far)
       ∙ (λ j. record r { rows = record old { created = created j } })
+
+-- the rows over these cells, written name by name
+module _ {cells : List Cell} {from before now : List TargetRows} {t : ℕ} (ns : List ℕ) (i : ℕ)
+    (below : i < length ns) where
+  pub changed_more : {mark : Mark}
+      → AreRowsAfter cells from before (commands.IfChange t (take i ns))
+      → rows_of now ≡ with_change (rows_of before) t (get_or ns i 0) mark
+      → mark ≡ mark_of (with_rows cells from) (get_or ns i 0)
+      → AreRowsAfter cells from now (commands.IfChange t (take (i + 1) ns))
+  changed_more {mark} so_far written marked = record {
+    effect = λ s. change_more (with_rows cells from) s t ns i below (rows_of before) (rows_of now)
+        mark (so_far.effect s) written marked;
+  }
+
+  pub made_more : AreRowsAfter cells from before (commands.IfCreate t (take i ns))
+      → rows_of now ≡ with_created (rows_of before) t (get_or ns i 0)
+      → AreRowsAfter cells from now (commands.IfCreate t (take (i + 1) ns))
+  made_more so_far written = record {
+    effect = λ s. created_more (with_rows cells from) s t ns i below (rows_of before)
+        (rows_of now) (so_far.effect s) written;
+  }
+
+-- so they are the rows after the command, once all names are done
+module _ {cells : List Cell} {from now : List TargetRows} {t : ℕ} (ns : List ℕ) (i : ℕ)
+    (all : length ns ≤ i) where
+  pub changed_all : AreRowsAfter cells from now (commands.IfChange t (take i ns))
+      → AreRowsAfter cells from now (commands.IfChange t ns)
+  changed_all =
+      subst (λ (names : List ℕ). AreRowsAfter cells from now (commands.IfChange t names))
+      (take_all i ns all)
+
+  pub made_all : AreRowsAfter cells from now (commands.IfCreate t (take i ns))
+      → AreRowsAfter cells from now (commands.IfCreate t ns)
+  made_all =
+      subst (λ (names : List ℕ). AreRowsAfter cells from now (commands.IfCreate t names))
+      (take_all i ns all)
 
 -- what is written to the store by a start and an always
 module _ (t : Stored) (n : ℕ) (to : List TargetRows) where
@@ -124,7 +162,7 @@ module _ (t : Stored) (n : ℕ) (to : List TargetRows) where
       fun_ext (set_is_put t.cells n cell idle below) in
       λ i. record { cell = cells i; rows = cleared i }
 
-  pub put_for_always : rows_of to ≡ with_always (rows_of t.rows) n
+  pub put_for_always : (s : ℕ) → rows_of to ≡ with_always (rows_of t.rows) n
       → records_of (record t { rows = to })
-      ≡ effect_of (naming_of t) (records_of t) 0 (commands.Always n)
-  put_for_always written = λ i. record { cell = cell_at t.cells; rows = written i }
+      ≡ effect_of (naming_of t) (records_of t) s (commands.Always n)
+  put_for_always s written = λ i. record { cell = cell_at t.cells; rows = written i }

@@ -1,6 +1,6 @@
 -- What a command changes of the records and rows is at one name, so the memo was right but for
 -- that.
-use Rattle.std.proofs.Common.{◌≡◌, ◌∙◌, ℕ, Bool, true, false, cond, List, [], ◌∷◌, Option, None, refl, sym, ap, subst}
+use Rattle.std.proofs.Common.{◌≡◌, ◌∙◌, ◌≤◌, ℕ, length, Bool, true, false, cond, List, [], ◌∷◌, Option, None, refl, sym, ap, subst}
 use Rattle.std.specs.List.{Contains}
 use Rattle.std.proofs.Math.ListN.{replicate}
 use Rattle.std.proofs.Math.Path.{fun_ext}
@@ -9,13 +9,17 @@ use Rattle.std.proofs.lemmas.List.{get_or-set_other}
 use Rattle.redo_model.specs.Command as commands
 use Rattle.redo_model.specs.Names.{put}
 use Rattle.redo_model.specs.OutOfDate.{DifferAt}
-use Rattle.redo_model.specs.State.{Cell, Mark, Records, empty, idle, no_rows}
-use Rattle.redo_model.specs.Step.{effect_of}
+use Rattle.redo_model.specs.State.{Cell, Mark, empty, idle, no_rows}
 use Rattle.redo_model.proofs.Members.{contains_first}
 use Rattle.redo_ood.proofs.Marking.{same_everywhere}
-use Rattle.redo_ood.specs.Memo.{IsRight, WasRight}
+use Rattle.redo_ood.specs.Memo.{IsRight, WasRight, count_of as memo_count}
 use Rattle.redo_records.specs.Cells.{cell_at, with_cell_at}
-use Rattle.redo_rows.specs.Rows.{TargetRows, by_number, rows_of, with_always, without_rows, records_of as with_rows}
+use Rattle.redo_rows.specs.Rows.{TargetRows, by_number, rows_of, with_always, without_rows, count_of as rows_count, records_of as with_rows}
+use Rattle.redo_store.specs.Changes.{AreRowsAfter}
+use Rattle.redo_store.specs.KeptStore.{KeepsStored, stored_of}
+use Rattle.redo_store.specs.Stored.{IsStored}
+use Rattle.redo_store.specs.declared.store.Store.TheInside.{Inside}
+use Rattle.redo_store.proofs.Kept.{IsStored-set_cell, IsStored-set_rows}
 
 other_name : (n m : ℕ) → (Contains (n ∷ []) m → ⊥) → m ≡ n → ⊥
 other_name n m far e = far (subst (Contains (n ∷ [])) (sym e) (contains_first n []))
@@ -81,12 +85,12 @@ module _ (memo : List Bool) (cells : List Cell) (targets : List TargetRows) (n :
           right,
         )
 
-    pub was_right_by_changes : (names : List ℕ) (new : Records ℕ)
-        → new ≡ effect_of by_number (with_rows cells targets) 0 (commands.IfChange n names)
-        → WasRight (n ∷ []) memo new
-    was_right_by_changes names new changed = (
+    pub was_right_by_changes : {names : List ℕ} {to : List TargetRows}
+        → AreRowsAfter cells targets to (commands.IfChange n names)
+        → WasRight (n ∷ []) memo (with_rows cells to)
+    was_right_by_changes {names} {to} changed = (
       with_rows cells targets,
-      subst (DifferAt (n ∷ []) (with_rows cells targets)) (sym changed) (record {
+      subst (DifferAt (n ∷ []) (with_rows cells targets)) (sym (changed.effect 0)) (record {
         cell = λ m far. refl;
         change = λ t m far.
             ap (λ (f : ℕ → Option Mark). f m) (put_far n t _ (rows_of targets).change far);
@@ -96,12 +100,12 @@ module _ (memo : List Bool) (cells : List Cell) (targets : List TargetRows) (n :
       right,
     )
 
-    pub was_right_by_created : (names : List ℕ) (new : Records ℕ)
-        → new ≡ effect_of by_number (with_rows cells targets) 0 (commands.IfCreate n names)
-        → WasRight (n ∷ []) memo new
-    was_right_by_created names new changed = (
+    pub was_right_by_created : {names : List ℕ} {to : List TargetRows}
+        → AreRowsAfter cells targets to (commands.IfCreate n names)
+        → WasRight (n ∷ []) memo (with_rows cells to)
+    was_right_by_created {names} {to} changed = (
       with_rows cells targets,
-      subst (DifferAt (n ∷ []) (with_rows cells targets)) (sym changed) (record {
+      subst (DifferAt (n ∷ []) (with_rows cells targets)) (sym (changed.effect 0)) (record {
         cell = λ m far. refl;
         change = λ t m far. refl;
         created = λ t m far.
@@ -110,6 +114,46 @@ module _ (memo : List Bool) (cells : List Cell) (targets : List TargetRows) (n :
       }),
       right,
     )
+
+-- what all changes of the store have in common: its cells and rows are those of a store, and its
+-- memo was made right for them
+pub refreshed : {inside : Inside} (cells : List Cell) (targets : List TargetRows) {memo : List Bool}
+    → KeepsStored inside → IsStored (record (stored_of inside) { cells = cells; rows = targets })
+    → memo_count memo ≡ length cells → IsRight memo (with_rows cells targets)
+    → KeepsStored (record inside { records = cells; rows = targets; memo = memo })
+refreshed cells targets kept stored for_each right = record {
+  stored = stored;
+  ranked = kept.ranked;
+  memo_for_each = for_each;
+  memo_right = right;
+}
+
+module _ {inside : Inside} (kept : KeepsStored inside) (n : ℕ) where
+  -- a cell was written: the memo was right but for the name
+  pub due_by_cell : (c : Cell) {cells : List Cell} → cells ≡ with_cell_at inside.records n c
+      → WasRight (n ∷ []) inside.memo (with_rows cells inside.rows)
+  due_by_cell c written =
+      subst (λ (cs : List Cell). WasRight (n ∷ []) inside.memo (with_rows cs inside.rows))
+      (sym written) (was_right_by_cell inside.memo inside.records inside.rows n kept.memo_right c)
+
+  -- and the store is kept, where the cell has no more builds than commands were applied
+  pub cell_refreshed : (c : Cell) {cells : List Cell} {memo : List Bool}
+      → cells ≡ with_cell_at inside.records n c → c.builds ≤ inside.applied
+      → memo_count memo ≡ length cells → IsRight memo (with_rows cells inside.rows)
+      → KeepsStored (record inside { records = cells; memo = memo })
+  cell_refreshed c {cells} written few =
+      refreshed cells inside.rows kept
+      (subst (λ (cs : List Cell). IsStored (record (stored_of inside) { cells = cs })) (sym written)
+      (IsStored-set_cell (stored_of inside) n c kept.stored few))
+
+-- rows of as many targets were written
+pub rows_refreshed : {inside : Inside} (targets : List TargetRows) {memo : List Bool}
+    → KeepsStored inside → rows_count targets ≡ rows_count inside.rows
+    → memo_count memo ≡ length inside.records → IsRight memo (with_rows inside.records targets)
+    → KeepsStored (record inside { rows = targets; memo = memo })
+rows_refreshed {inside} targets kept same =
+    refreshed inside.records targets kept
+    (IsStored-set_rows (stored_of inside) targets kept.stored same)
 
 -- what stands in the records in the empty state
 pub empty_records : (count : ℕ) (cells : List Cell) (targets : List TargetRows)

@@ -1,5 +1,6 @@
 pub mod Orders
 pub mod Stored
+pub mod Changes
 pub mod KeptStore
 pub mod Tables
 pub mod Kept

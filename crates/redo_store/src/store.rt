@@ -3,7 +3,7 @@ ghost use Rattle.redo_model.specs.Names.{texts};
 ghost use Rattle.redo_model.specs.State.{empty, is_building, target_state};
 ghost use Rattle.redo_model.specs.Command as commands;
 ghost use Rattle.redo_model.specs.Command.{asked_lock};
-ghost use Rattle.redo_model.specs.Step.{Replies, Tells, records_after, verdict_of, effect_of, with_cell};
+ghost use Rattle.redo_model.specs.Step.{Replies, Tells, records_after, verdict_of};
 ghost use Rattle.redo_model.specs.Renaming.{OrdersAlike, numbering, IsBelow, IsReplyBelow};
 ghost use Rattle.redo_command.specs.Meaning.{command_of, reply_of, refusal_of};
 
@@ -50,6 +50,7 @@ impl Model for Store {
 }
 
 impl Store {
+    ghost use Rattle.redo_store.specs.Changes.{HasEffect};
     ghost use Rattle.redo_store.specs.Stored.{records_of, order_of, naming_of, count_of, applied_of, HasBuildsLeft, KeepsNames, IsSameButRoom, has_room_for, lists_names};
 
     /// The empty store: each name is idle, and without a file.
@@ -173,8 +174,7 @@ impl Store {
             (command_of command.now) ≡ None }
         requires builds { HasBuildsLeft self.old }
         requires room { has_room_for self.old (command_of command.now) ≡ true }
-        ensures after { records_of self.new ≡ effect_of (naming_of self.old) (records_of self.old)
-            s (command_of command.now) }
+        ensures after { HasEffect self.old self.new s (command_of command.now) }
         ensures kept { KeepsNames self.old self.new }
     {
         cases!(effects self s command)

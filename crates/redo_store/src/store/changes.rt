@@ -2,11 +2,11 @@ ghost use Rattle.std.specs.Prelude.{◌≡◌, ◌<◌, List, [], ◌∷◌, IsT
 ghost use Rattle.std.specs.List.{list_all};
 ghost use Rattle.redo_model.specs.State.{Cell, is_building, target_state};
 ghost use Rattle.redo_model.specs.Command as commands;
-ghost use Rattle.redo_model.specs.Step.{effect_of, with_cell};
 ghost use Rattle.redo_model.specs.Renaming.{AllBelow};
 ghost use Rattle.redo_ood.specs.Memo.{IsRight, WasRight, count_of as memo_count};
-ghost use Rattle.redo_rows.specs.Rows.{by_number, room_of, count_of as rows_count, records_of as with_rows};
-ghost use Rattle.redo_store.specs.Stored.{records_of, naming_of, count_of, HasBuildsLeft, KeepsNames, has_room_for};
+ghost use Rattle.redo_rows.specs.Rows.{room_of, count_of as rows_count, records_of as with_rows};
+ghost use Rattle.redo_store.specs.Changes.{HasEffect, HasEffectOfAny, AreRowsAfter, records_with_file};
+ghost use Rattle.redo_store.specs.Stored.{records_of, count_of, HasBuildsLeft, KeepsNames, has_room_for};
 
 use crate::store::Store;
 use redo_command::FileStamp;
@@ -20,8 +20,7 @@ fn change_each(rows: &mut DepRows, records: &Records, t: u32, names: &[u32])
     requires number { t < length records.now }
     requires numbers { AllBelow (length records.now) names.now }
     requires room { list_all (room_of rows.old t) names.now ≡ true }
-    ensures after { with_rows records.now rows.new
-        ≡ effect_of by_number (with_rows records.now rows.old) 0 (commands.IfChange t names.now) }
+    ensures after { AreRowsAfter records.now rows.old rows.new (commands.IfChange t names.now) }
     ensures count { rows_count rows.new ≡ rows_count rows.old }
 {
     for &n in names {
@@ -34,8 +33,8 @@ fn create_each(rows: &mut DepRows, t: u32, names: &[u32])
     requires number { t < rows_count rows.old }
     requires numbers { AllBelow (rows_count rows.old) names.now }
     requires room { list_all (room_of rows.old t) names.now ≡ true }
-    ensures after { (cells : List Cell) → with_rows cells rows.new
-        ≡ effect_of by_number (with_rows cells rows.old) 0 (commands.IfCreate t names.now) }
+    ensures after { (cells : List Cell)
+        → AreRowsAfter cells rows.old rows.new (commands.IfCreate t names.now) }
     ensures count { rows_count rows.new ≡ rows_count rows.old }
 {
     for &n in names {
@@ -58,8 +57,7 @@ fn refresh(memo: &mut Ood, records: &Records, rows: &DepRows, n: u32)
 impl Store {
     pub(crate) fn set_file(&mut self, n: u32, file: Option<FileStamp>)
         requires { n < count_of self.old }
-        ensures after { records_of self.new ≡ with_cell (naming_of self.old) (records_of self.old) n
-            (record ((records_of self.old).cell n) { file = file }) }
+        ensures after { records_of self.new ≡ records_with_file self.old n file }
         ensures kept { KeepsNames self.old self.new }
     {
         self.records.set_file(n, file);
@@ -69,8 +67,7 @@ impl Store {
     pub(crate) fn start(&mut self, s: u8, t: u32)
         requires number { t < count_of self.old }
         requires free { IsFalse (is_building (target_state (records_of self.old) t)) }
-        ensures after { records_of self.new
-            ≡ effect_of (naming_of self.old) (records_of self.old) s (commands.Start t) }
+        ensures after { HasEffect self.old self.new s (commands.Start t) }
         ensures kept { KeepsNames self.old self.new }
     {
         self.records.start(s, t);
@@ -81,8 +78,7 @@ impl Store {
     pub(crate) fn stamp(&mut self, t: u32, content: &[u8])
         requires number { t < count_of self.old }
         requires building { IsTrue (is_building (target_state (records_of self.old) t)) }
-        ensures after { records_of self.new ≡ effect_of (naming_of self.old) (records_of self.old) 0
-            (commands.Stamp t content.now) }
+        ensures after { HasEffectOfAny self.old self.new (commands.Stamp t content.now) }
         ensures kept { KeepsNames self.old self.new }
     {
         self.records.stamp(t, digest_of(content));
@@ -93,8 +89,7 @@ impl Store {
         requires number { t < count_of self.old }
         requires building { IsTrue (is_building (target_state (records_of self.old) t)) }
         requires builds { HasBuildsLeft self.old }
-        ensures after { records_of self.new
-            ≡ effect_of (naming_of self.old) (records_of self.old) 0 (commands.Done t stamp) }
+        ensures after { HasEffectOfAny self.old self.new (commands.Done t stamp) }
         ensures kept { KeepsNames self.old self.new }
     {
         self.records.done(t, stamp);
@@ -104,8 +99,7 @@ impl Store {
     pub(crate) fn fail(&mut self, t: u32)
         requires number { t < count_of self.old }
         requires building { IsTrue (is_building (target_state (records_of self.old) t)) }
-        ensures after { records_of self.new
-            ≡ effect_of (naming_of self.old) (records_of self.old) 0 (commands.Failed t) }
+        ensures after { HasEffectOfAny self.old self.new (commands.Failed t) }
         ensures kept { KeepsNames self.old self.new }
     {
         self.records.failed(t);
@@ -117,8 +111,7 @@ impl Store {
         requires number { t < count_of self.old }
         requires numbers { AllBelow (count_of self.old) names.now }
         requires room { has_room_for self.old (commands.IfChange t names.now) ≡ true }
-        ensures after { records_of self.new ≡ effect_of (naming_of self.old) (records_of self.old) 0
-            (commands.IfChange t names.now) }
+        ensures after { HasEffectOfAny self.old self.new (commands.IfChange t names.now) }
         ensures kept { KeepsNames self.old self.new }
     {
         change_each(&mut self.rows, &self.records, t, names);
@@ -130,8 +123,7 @@ impl Store {
         requires number { t < count_of self.old }
         requires numbers { AllBelow (count_of self.old) names.now }
         requires room { has_room_for self.old (commands.IfCreate t names.now) ≡ true }
-        ensures after { records_of self.new ≡ effect_of (naming_of self.old) (records_of self.old) 0
-            (commands.IfCreate t names.now) }
+        ensures after { HasEffectOfAny self.old self.new (commands.IfCreate t names.now) }
         ensures kept { KeepsNames self.old self.new }
     {
         create_each(&mut self.rows, t, names);
@@ -141,8 +133,7 @@ impl Store {
     /// An always row of the target.
     pub(crate) fn put_always(&mut self, t: u32)
         requires { t < count_of self.old }
-        ensures after { records_of self.new
-            ≡ effect_of (naming_of self.old) (records_of self.old) 0 (commands.Always t) }
+        ensures after { HasEffectOfAny self.old self.new (commands.Always t) }
         ensures kept { KeepsNames self.old self.new }
     {
         self.rows.put_always(t);

@@ -1,7 +1,6 @@
 use Rattle.redo_store.specs.KeptStore.{stored_of}
 use Rattle.redo_store.proofs.Effects.{put_for_always}
-use Rattle.redo_store.proofs.Kept.{IsStored-set_rows}
-use Rattle.redo_store.proofs.Refreshing.{was_right_by_always}
+use Rattle.redo_store.proofs.Refreshing.{rows_refreshed, was_right_by_always}
 use Rattle.redo_store.proofs.store.Store.put_always.Goals as goal
 
 pub refresh-requires-clause-right : goal.refresh-requires-clause-right
@@ -12,17 +11,11 @@ refresh-requires-clause-right c =
 
 pub invariant_of-self : goal.invariant_of-self
 invariant_of-self c =
-    let rows = c.put_always in
-    let stored = stored_of c.self.inside in
-    record {
-      stored = IsStored-set_rows stored rows.new.self c.self.invariant.stored rows.ensures.count;
-      ranked = c.self.invariant.ranked;
-      memo_for_each = c.refresh.ensures.count;
-      memo_right = c.refresh.ensures.right;
-    }
+    rows_refreshed c.put_always.new.self c.self.invariant c.put_always.ensures.count
+    c.refresh.ensures.count c.refresh.ensures.right
 
 pub returns-clause-after : goal.returns-clause-after
-returns-clause-after c =
+returns-clause-after c s =
     rw (← c.self.view_is)
-    (put_for_always (stored_of c.self.inside) c.args.t c.put_always.new.self
+    (put_for_always (stored_of c.self.inside) c.args.t c.put_always.new.self s
     c.put_always.ensures.rows)

@@ -1,23 +1,11 @@
-use Rattle.redo_store.specs.KeptStore.{stored_of}
-use Rattle.redo_store.proofs.Kept.{IsStored-set_cell}
-use Rattle.redo_store.proofs.Refreshing.{was_right_by_cell}
+use Rattle.redo_store.proofs.Refreshing.{cell_refreshed, due_by_cell}
 use Rattle.redo_store.proofs.store.Store.set_file.Goals as goal
 
 pub refresh-requires-clause-right : goal.refresh-requires-clause-right
 refresh-requires-clause-right c =
-    let inside = c.self.inside in
-    rw c.set_file.ensures
-    (was_right_by_cell inside.memo inside.records inside.rows c.args.n
-    c.self.invariant.memo_right _)
+    due_by_cell c.self.invariant c.args.n _ c.set_file.ensures
 
 pub invariant_of-self : goal.invariant_of-self
 invariant_of-self c =
-    let kept = c.self.invariant.stored in
-    let stored = stored_of c.self.inside in
-    record {
-      stored = rw c.set_file.ensures
-          (IsStored-set_cell stored c.args.n _ kept (kept.few_builds c.args.n));
-      ranked = c.self.invariant.ranked;
-      memo_for_each = c.refresh.ensures.count;
-      memo_right = c.refresh.ensures.right;
-    }
+    cell_refreshed c.self.invariant c.args.n _ c.set_file.ensures
+    (c.self.invariant.stored.few_builds c.args.n) c.refresh.ensures.count c.refresh.ensures.right

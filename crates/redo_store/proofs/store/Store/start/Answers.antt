@@ -3,7 +3,7 @@ use Rattle.redo_store.specs.Stored.{Stored}
 use Rattle.redo_store.specs.KeptStore.{stored_of}
 use Rattle.redo_store.proofs.Effects.{started}
 use Rattle.redo_store.proofs.Kept.{IsStored-set_cell, IsStored-set_rows}
-use Rattle.redo_store.proofs.Refreshing.{was_right_by_start}
+use Rattle.redo_store.proofs.Refreshing.{refreshed, was_right_by_start}
 use Rattle.redo_store.proofs.store.Store.start.Goals as goal
 
 pub refresh-requires-clause-right : goal.refresh-requires-clause-right
@@ -17,15 +17,11 @@ pub invariant_of-self : goal.invariant_of-self
 invariant_of-self c =
     let kept = c.self.invariant.stored in
     let stored = stored_of c.self.inside in
-    record {
-      stored = rw c.start.ensures
-          (IsStored-set_rows _ c.clear.new.self
-          (IsStored-set_cell stored c.args.t _ kept (kept.few_builds c.args.t))
-          c.clear.ensures.count);
-      ranked = c.self.invariant.ranked;
-      memo_for_each = c.refresh.ensures.count;
-      memo_right = c.refresh.ensures.right;
-    }
+    refreshed c.start.new.self c.clear.new.self c.self.invariant
+    (rw c.start.ensures
+    (IsStored-set_rows _ c.clear.new.self
+    (IsStored-set_cell stored c.args.t _ kept (kept.few_builds c.args.t)) c.clear.ensures.count))
+    c.refresh.ensures.count c.refresh.ensures.right
 
 pub returns-clause-after : goal.returns-clause-after
 returns-clause-after c =

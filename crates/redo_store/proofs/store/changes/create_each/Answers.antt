@@ -1,15 +1,10 @@
-use Rattle.std.proofs.Common.{◌≡◌, ◌∙◌, take, ap, arith}
-use Rattle.std.proofs.lemmas.List.{take_all}
-use Rattle.redo_model.specs.Command as commands
-use Rattle.redo_model.specs.Step.{effect_of}
-use Rattle.redo_rows.specs.Rows.{by_number, rows_of, records_of as with_rows}
-use Rattle.redo_store.proofs.Effects.{created_more}
+use Rattle.std.proofs.Common.{◌∙◌, arith}
+use Rattle.redo_store.proofs.Effects.{made_all, made_more}
 use Rattle.redo_store.proofs.store.changes.create_each.Goals as goal
 
 pub loop-n-preserved : goal.loop-n-preserved
 loop-n-preserved c = record {
-  so_far = λ cells. created_more (with_rows cells c.args.rows.now) c.args.t c.args.names.now
-      c.loop-n.n-index c.loop-n-test.true (rows_of c.loop-n.rows) (rows_of c.put_created.new.self)
+  so_far = λ cells. made_more c.args.names.now c.loop-n.n-index c.loop-n-test.true
       (c.loop-n.invariant.so_far cells) c.put_created.ensures.rows;
   room = λ k. c.put_created.ensures.room c.args.t k ∙ c.loop-n.invariant.room k;
   count = c.put_created.ensures.count ∙ c.loop-n.invariant.count;
@@ -17,7 +12,4 @@ loop-n-preserved c = record {
 
 pub returns-clause-after : goal.returns-clause-after
 returns-clause-after c cells =
-    let whole : take c.loop-n.n-index c.args.names.now ≡ c.args.names.now =
-    take_all c.loop-n.n-index c.args.names.now (omega arith) in
-    c.loop-n.invariant.so_far cells ∙ ap (λ ns. effect_of by_number
-    (with_rows cells c.args.rows.now) 0 (commands.IfCreate c.args.t ns)) whole
+    made_all c.args.names.now c.loop-n.n-index (omega arith) (c.loop-n.invariant.so_far cells)
