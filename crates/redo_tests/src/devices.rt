@@ -37,8 +37,8 @@ impl Read for FailingReader {
     }
 }
 
-/// Takes `room` bytes. The next write fails, or takes none where `fails` is false, and later ones take all.
-/// The first flush fails.
+/// Takes `room` bytes. The next write fails, or takes none where `fails` is false, and later ones
+/// take all. The first flush fails.
 #[derive(Drop)]
 pub(crate) struct FailingWriter {
     pub taken: Vec<u8>,

@@ -1,4 +1,5 @@
-//! Readers and writers that fail once and then work: what is answered, what is noted, and that nothing is tried again.
+//! Readers and writers that fail once and then work: what is answered, what is noted, and that
+//! nothing is tried again.
 use crate::devices::{FailingReader, FailingWriter};
 use redo_command::{Watched, WholeFault, WriteFault, read_whole, write_whole};
 use redo_replay::{ReplayFault, replay_text};
@@ -19,7 +20,8 @@ fn whole_reads(rt: HostRuntime) -> Result<(), Fail> {
     Ok(())
 }
 
-/// The third read fails, and no fourth one is tried. What comes later is read, and the failure stays noted.
+/// The third read fails, and no fourth one is tried. What comes later is read, and the failure stays
+/// noted.
 #[test]
 fn failing_read(rt: HostRuntime) -> Result<(), Fail> {
     let alloc = rt.alloc();
@@ -36,7 +38,8 @@ fn failing_read(rt: HostRuntime) -> Result<(), Fail> {
     Ok(())
 }
 
-/// A write that fails or takes no byte is the last one. Later ones go out, and the failure stays noted.
+/// A write that fails or takes no byte is the last one. Later ones go out, and the failure stays
+/// noted.
 #[test]
 fn failing_write(rt: HostRuntime) -> Result<(), Fail> {
     let alloc = rt.alloc();
@@ -84,7 +87,8 @@ fn failing_flush(rt: HostRuntime) -> Result<(), Fail> {
     Ok(())
 }
 
-/// The front of two files' run text that there is room for is written, and nothing after the failure.
+/// The front of two files' run text that there is room for is written, and nothing after the
+/// failure.
 #[test]
 fn runs_by_a_failing_writer(rt: HostRuntime) -> Result<(), Fail> {
     let alloc = rt.alloc();
@@ -113,7 +117,8 @@ fn runs_by_a_failing_writer(rt: HostRuntime) -> Result<(), Fail> {
     Ok(())
 }
 
-/// The second of three files fails at its second read. The files after it are not read, and nothing is written.
+/// The second of three files fails at its second read. The file after it is not read, and nothing is
+/// written.
 #[test]
 fn runs_by_a_failing_reader(rt: HostRuntime) -> Result<(), Fail> {
     let alloc = rt.alloc();

@@ -73,27 +73,3 @@ fn runs_replay(rt: HostRuntime) -> Result<(), Fail> {
     )?;
     says(&rt, out.as_slice(), "same 15\n")
 }
-
-/// Two sessions, with each refusal where it comes first.
-#[test]
-fn order_of_refusals(rt: HostRuntime) -> Result<(), Fail> {
-    let history = b"history 17\n\
-        1 start T => refused not-locked\n\
-        1 lock T => granted 1\n\
-        2 start T => refused not-locked\n\
-        1 start T => ok\n\
-        1 start T => refused building\n\
-        1 unlock T => refused building\n\
-        2 unlock T => refused not-locked\n\
-        1 ifchange T T => refused self\n\
-        1 file x 1 => ok\n\
-        1 ifcreate T x T => refused self\n\
-        2 done T 5 => refused not-building\n\
-        2 lock T => busy 1\n\
-        1 done T 5 => ok\n\
-        1 ifchange T T => refused not-building\n\
-        1 unlock T => ok\n\
-        1 unlock T => refused not-locked\n\
-        2 lock T => granted 2\n";
-    says(&rt, history.as_slice(), "same 17\n")
-}
