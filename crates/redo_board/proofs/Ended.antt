@@ -15,6 +15,8 @@ use Rattle.redo_journal.specs.Plans.{PlanOf, IsPlan, script_of}
 use Rattle.redo_model.specs.Seen.{HasSeen}
 use Rattle.redo_joint.specs.ByRows.{records_left}
 use Rattle.redo_joint.specs.Replayed.{IsLegalOfPlan}
+use Rattle.redo_joint.proofs.Exchange.{cond_same, cond_other}
+use Rattle.redo_joint.proofs.Own.{part_of-other}
 use Rattle.redo_joint.proofs.Standing.{seen_stands}
 use Rattle.redo_joint.proofs.Replayed as joint
 use Rattle.redo_board.specs.Rows.{naming_of}
@@ -27,8 +29,6 @@ use Rattle.redo_board.specs.Plays.{Ends}
 use Rattle.redo_board.proofs.Orders.{by_text_is_naming}
 use Rattle.redo_board.proofs.Bridge.{legal_from, below_told, placed_told, of_plan_told}
 use Rattle.redo_board.proofs.Sound.{start-sound}
-use Rattle.redo_board.proofs.Parts.{part-later}
-use Rattle.redo_board.proofs.Words.{cond_same, cond_other}
 use Rattle.redo_board.proofs.WordsTold.{words-told}
 
 map_map : {X Y Z : Type 0} (f : X → Y) (g : Y → Z) (xs : List X)
@@ -100,7 +100,7 @@ none_past : (p : PlanOf) (c : Core) (log : List Line) (s : ℕ) → IsLegal p c 
     → length p.scripts ≤ s → part_of s log ≡ []
 none_past p c [] s h past = refl
 none_past p c (l ∷ ls) s h past =
-    part-later s l ls (λ e. let a = h.0.session in omega arith)
+    part_of-other s l ls (λ e. let a = h.0.session in omega arith)
     ∙ none_past p (done p c l) ls s h.1 past
 
 -- a history that all lines of a view fit is a joint order of them, where the view has all sessions

@@ -13,7 +13,8 @@ use Rattle.redo_board.specs.Rows.{rows_of}
 use Rattle.redo_board.specs.Core.{Line, Core, start, after_all, row_words, Begins}
 use Rattle.redo_board.specs.Views.{ViewOf}
 use Rattle.redo_board.specs.Rule.{HasPart, Fits, Apart, AllFit, Orderly, longer}
-use Rattle.redo_board.proofs.Parts.{after-push, part-other, grows}
+use Rattle.redo_joint.proofs.Own.{push_other}
+use Rattle.redo_board.proofs.Parts.{after-push, grows}
 use Rattle.redo_board.proofs.Sound.{sound}
 
 abbrev pub St : Type 0
@@ -69,7 +70,7 @@ fits_other p log l v f lacks = record {
       λ t j h.
       dite (ℕ_discrete t l.session)
       (λ eq. absurd (lacks j (subst (λ u. HasPart v.parts u j) eq h)))
-      (λ ne. part-other t log l (λ q. ne (sym q)) ∙ f.own t j h);
+      (λ ne. push_other t log l (λ q. ne (sym q)) ∙ f.own t j h);
   seen = begins_done p log l v.seen f.seen;
   also = begins_done p log l v.also f.also;
 }

@@ -14,10 +14,10 @@ use Rattle.redo_board.specs.Plays.{by_number, built_name, own, own_build, own_wa
 use Rattle.redo_board.specs.Own.{Says, Notes, holds_name, builds_name, has, way_by, turn_held}
 use Rattle.redo_board.specs.declared.worker.own.Hold.{Hold}
 use Rattle.redo_board.specs.declared.worker.own.Own.{Own}
-use Rattle.redo_board.proofs.Bridge.{count-push, placed_told}
+use Rattle.redo_joint.proofs.Counts.{grants_push, releases_push}
+use Rattle.redo_board.proofs.Bridge.{stood_told, placed_told}
 use Rattle.redo_board.proofs.Counts.{bit-small}
 use Rattle.redo_board.proofs.Told.{built-push}
-use Rattle.redo_board.proofs.WordsTold.{own-told}
 
 -- each target is granted and released in turn
 pub record InTurn (lines : List Line) : Type 0 where
@@ -54,7 +54,7 @@ in_turn p log s plan h = record { least = λ t. least t; most = λ t. most t }
     least : (t : ℕ) → releases_in by_number lines t ≤ grants_in by_number lines t
     least t =
         let held = is_held_by s ((after_all p start log).state.locks.holder t) in
-        let a = (own-told p log plan h).holds s t in
+        let a = (stood_told p log plan h).tied.own s t in
         let b = bit-small held in
         let c = grants_same p lines t in
         let d = releases_same p lines t in
@@ -63,7 +63,7 @@ in_turn p log s plan h = record { least = λ t. least t; most = λ t. most t }
     most : (t : ℕ) → grants_in by_number lines t ≤ releases_in by_number lines t + 1
     most t =
         let held = is_held_by s ((after_all p start log).state.locks.holder t) in
-        let a = (own-told p log plan h).holds s t in
+        let a = (stood_told p log plan h).tied.own s t in
         let b = bit-small held in
         let c = grants_same p lines t in
         let d = releases_same p lines t in
@@ -86,14 +86,14 @@ module _ (ls : List Line) (l : Line) (t : ℕ) (before : InTurn ls) (after : InT
         → grants_in by_number (ls ++ l ∷ []) t
         ≡ grants_in by_number ls t + bit (is_grant by_number t place)
     grants place is =
-        count-push (λ (x : Line). is_grant by_number t x.place) ls l
+        grants_push by_number ls l t
         ∙ ap (λ z. grants_in by_number ls t + bit (is_grant by_number t z)) is
 
     releases : (place : Place ℕ) → l.place ≡ place
         → releases_in by_number (ls ++ l ∷ []) t
         ≡ releases_in by_number ls t + bit (is_release by_number t place)
     releases place is =
-        count-push (λ (x : Line). is_release by_number t x.place) ls l
+        releases_push by_number ls l t
         ∙ ap (λ z. releases_in by_number ls t + bit (is_release by_number t z)) is
 
     -- no count of the target's changes

@@ -13,9 +13,11 @@ use Rattle.redo_model.specs.Step.{after, Answers, Replies, locks_after, locks_gr
 use Rattle.redo_journal.specs.Plans.{PlanOf}
 use Rattle.redo_board.specs.Rows.{naming_of}
 use Rattle.redo_board.specs.Core.{Core, start, word, Way, row, claim, free, rows_then, claim_place, place_at, has, way_at, done, Line, IsNext, IsLegal, after_all, turn_build, is_okay, built, Begins}
-use Rattle.redo_board.proofs.Builds.{cond_both, own_builds, other_builds}
+use Rattle.redo_joint.proofs.Own.{builds_kept, part_of-own, part_of-other}
+use Rattle.redo_board.proofs.Builds.{cond_both, own_builds}
+use Rattle.redo_board.proofs.Orders.{by_text_is_naming}
 use Rattle.redo_board.proofs.Ways.{Goes}
-use Rattle.redo_board.proofs.Words.{cond_same, cond_other, set-same, set-other}
+use Rattle.redo_board.proofs.Words.{set-same, set-other}
 
 -- one line more
 pub after-push : (p : PlanOf) (c : Core) (ls : List Line) (l : Line)
@@ -28,29 +30,6 @@ pub legal-push : (p : PlanOf) (c : Core) (ls : List Line) (l : Line) → IsLegal
 legal-push p c [] l h n = (n, tt)
 legal-push p c (x ∷ ls) l h n = (h.0, legal-push p (done p c x) ls l h.1 n)
 
-pub part-own : (s : ℕ) (ls : List Line) (l : Line) → l.session ≡ s
-    → part_of s (ls ++ l ∷ []) ≡ part_of s ls ++ l ∷ []
-part-own s ls l e =
-    filter-append (λ (x : Line). eqb x.session s) ls (l ∷ [])
-    ∙ ap (λ xs. part_of s ls ++ xs) (cond_same l.session s (l ∷ []) [] e)
-
-pub part-other : (s : ℕ) (ls : List Line) (l : Line) → l.session ≢ s
-    → part_of s (ls ++ l ∷ []) ≡ part_of s ls
-part-other s ls l ne =
-    filter-append (λ (x : Line). eqb x.session s) ls (l ∷ [])
-    ∙ ap (λ xs. part_of s ls ++ xs) (cond_other l.session s (l ∷ []) [] ne)
-    ∙ append-nil (part_of s ls)
-
--- a session's line at the front, and another's
-pub part-first : (s : ℕ) (l : Line) (ls : List Line) → s ≡ l.session
-    → part_of s (l ∷ ls) ≡ l ∷ part_of s ls
-part-first s l ls e = cond_same l.session s (l ∷ part_of s ls) (part_of s ls) (sym e)
-
-pub part-later : (s : ℕ) (l : Line) (ls : List Line) → s ≢ l.session
-    → part_of s (l ∷ ls) ≡ part_of s ls
-part-later s l ls ne =
-    cond_other l.session s (l ∷ part_of s ls) (part_of s ls) (λ q. ne (sym q))
-
 -- the core has each session's part
 own_from : (p : PlanOf) (c : Core) (ls : List Line) (s : ℕ)
     → (after_all p c ls).own s ≡ c.own s ++ part_of s ls
@@ -62,10 +41,10 @@ own_from p c (x ∷ ls) s =
     (set-same c.own x.session (c.own x.session ++ x ∷ []) s e
     ∙ ap (λ u. c.own u ++ x ∷ []) (sym e))
     ∙ append_assoc (c.own s) (x ∷ []) (part_of s ls)
-    ∙ ap (λ xs. c.own s ++ xs) (sym (part-first s x ls e)))
+    ∙ ap (λ xs. c.own s ++ xs) (sym (part_of-own s x ls (sym e))))
     (λ ne. ap (λ xs. xs ++ part_of s ls)
     (set-other c.own x.session (c.own x.session ++ x ∷ []) s ne)
-    ∙ ap (λ xs. c.own s ++ xs) (sym (part-later s x ls ne)))
+    ∙ ap (λ xs. c.own s ++ xs) (sym (part_of-other s x ls (λ q. ne (sym q)))))
 
 pub own-part : (p : PlanOf) (ls : List Line) (s : ℕ)
     → (after_all p start ls).own s ≡ part_of s ls
@@ -82,14 +61,7 @@ grows p c l =
     grows_way c.rows (word l.session l.number (has c l.session l.command))
     (way_at c l.session l.command)
 
--- whether a session that held the target or not holds it after a line at this place
-abbrev pub turn : Place ℕ → ℕ → Bool → Bool
-turn (Row r) t b = b
-turn (Granted u g) t b = cond (eqb u t) true b
-turn (Busy u g) t b = b
-turn (Released u g) t b = cond (eqb u t) false b
-
--- the locks after a step, and what their changes are to one session
+-- the locks after a step
 module _ (p : PlanOf) (c : Core) (s : ℕ) where
   abbrev verdict : Command ℕ → Option (Rattle.redo_model.specs.Reply.Refusal ℕ)
   verdict y = verdict_of (naming_of p) c.state.records s (holds_target c.state.locks s y) y
@@ -112,76 +84,6 @@ module _ (p : PlanOf) (c : Core) (s : ℕ) where
   free-locks y t g =
       ap locks' g.0
       ∙ ap (λ v. unless_refused v c.state.locks (locks_freed (naming_of p) c.state.locks t)) g.1
-
-  -- a grant, for the session and for another
-  own_grant : (t u : ℕ) (a : Option ℕ)
-      → turn (claim_place a (c.state.locks.grants t) t) u (is_held_by s (c.state.locks.holder u))
-      ≡ is_held_by s ((locks_granted (naming_of p) a c.state.locks s t).holder u)
-  own_grant t u None = elim (cases_Bool (eqb t u)) [
-    | inl e ↦ ap (λ b. cond b true (is_held_by s (c.state.locks.holder u))) e
-        ∙ sym
-        (ap (λ b. is_held_by s (cond b (Some s) (c.state.locks.holder u))) e ∙ eq-eqb s s refl)
-    | inr e ↦ ap (λ b. cond b true (is_held_by s (c.state.locks.holder u))) e
-        ∙ sym (ap (λ b. is_held_by s (cond b (Some s) (c.state.locks.holder u))) e)
-  ]
-  own_grant t u (Some k) = refl
-
-  other_grant : (t u v : ℕ) (a : Option ℕ) → c.state.locks.holder t ≡ a → u ≢ s
-      → is_held_by u (c.state.locks.holder v)
-      ≡ is_held_by u ((locks_granted (naming_of p) a c.state.locks s t).holder v)
-  other_grant t u v None is ne = elim (cases_Bool (eqb t v)) [
-    | inl e
-        ↦ ap (λ n. is_held_by u (c.state.locks.holder n))
-        (sym (Rattle.std.proofs.Common.eqb-true t v e))
-        ∙ ap (is_held_by u) is
-        ∙ sym
-        (ap (λ b. is_held_by u (cond b (Some s) (c.state.locks.holder v))) e
-        ∙ ne_eqb s u (λ q. ne (sym q)))
-    | inr e ↦ sym (ap (λ b. is_held_by u (cond b (Some s) (c.state.locks.holder v))) e)
-  ]
-  other_grant t u v (Some k) is ne = refl
-
-  own_free : (t u : ℕ)
-      → turn (Released t (c.state.locks.grants t)) u (is_held_by s (c.state.locks.holder u))
-      ≡ is_held_by s ((locks_freed (naming_of p) c.state.locks t).holder u)
-  own_free t u = elim (cases_Bool (eqb t u)) [
-    | inl e ↦ ap (λ b. cond b false (is_held_by s (c.state.locks.holder u))) e
-        ∙ sym (ap (λ b. is_held_by s (cond b None (c.state.locks.holder u))) e)
-    | inr e ↦ ap (λ b. cond b false (is_held_by s (c.state.locks.holder u))) e
-        ∙ sym (ap (λ b. is_held_by s (cond b None (c.state.locks.holder u))) e)
-  ]
-
-  other_free : (t u v : ℕ) → c.state.locks.holder t ≡ Some s → u ≢ s
-      → is_held_by u (c.state.locks.holder v)
-      ≡ is_held_by u ((locks_freed (naming_of p) c.state.locks t).holder v)
-  other_free t u v is ne = elim (cases_Bool (eqb t v)) [
-    | inl e
-        ↦ ap (λ n. is_held_by u (c.state.locks.holder n))
-        (sym (Rattle.std.proofs.Common.eqb-true t v e))
-        ∙ ap (is_held_by u) is ∙ ne_eqb s u (λ q. ne (sym q))
-        ∙ sym (ap (λ b. is_held_by u (cond b None (c.state.locks.holder v))) e)
-    | inr e ↦ sym (ap (λ b. is_held_by u (cond b None (c.state.locks.holder v))) e)
-  ]
-
-  pub own_way : (y : Command ℕ) (u : ℕ) (w : Way) → Goes order c.state s y w
-      → turn (place_at c w) u (is_held_by s (c.state.locks.holder u))
-      ≡ is_held_by s ((locks' y).holder u)
-  own_way y u row g = ap (λ (l : Locks ℕ). is_held_by s (l.holder u)) (sym (row-locks y g))
-  own_way y u (claim t) g =
-      own_grant t u (c.state.locks.holder t)
-      ∙ ap (λ (l : Locks ℕ). is_held_by s (l.holder u)) (sym (claim-locks y t g))
-  own_way y u (free t) g =
-      own_free t u ∙ ap (λ (l : Locks ℕ). is_held_by s (l.holder u)) (sym (free-locks y t g))
-
-  pub other_way : (y : Command ℕ) (u v : ℕ) (w : Way) → u ≢ s → Goes order c.state s y w
-      → is_held_by u (c.state.locks.holder v) ≡ is_held_by u ((locks' y).holder v)
-  other_way y u v row ne g = ap (λ (l : Locks ℕ). is_held_by u (l.holder v)) (sym (row-locks y g))
-  other_way y u v (claim t) ne g =
-      other_grant t u v (c.state.locks.holder t) refl ne
-      ∙ ap (λ (l : Locks ℕ). is_held_by u (l.holder v)) (sym (claim-locks y t g))
-  other_way y u v (free t) ne g =
-      other_free t u v g.2 ne
-      ∙ ap (λ (l : Locks ℕ). is_held_by u (l.holder v)) (sym (free-locks y t g))
 
 -- what a session builds is told by its own lines, by their commands and replies
 answered : (p : PlanOf) (c : Core) (s t : ℕ) (reply : Reply ℕ) (x : Command ℕ)
@@ -220,17 +122,17 @@ built_from p c (l ∷ ls) s t h =
     let u : ℕ = l.session in
     let rest = built_from p (done p c l) ls s t h.1 in
     dite (ℕ_discrete s u)
-    (λ e. ap (built t (is_built_by s (target_state c.state.records t))) (part-first s l ls e)
+    (λ e. ap (built t (is_built_by s (target_state c.state.records t))) (part_of-own s l ls (sym e))
     ∙ ap (λ b. built t b (part_of s ls))
     (subst
     (λ z. turn_build l.command l.reply t (is_built_by z (target_state c.state.records t))
     ≡ is_built_by z (target_state (done p c l).state.records t))
     (sym e) (sym (answered p c u t l.reply l.command h.0.answer)))
     ∙ rest)
-    (λ ne. ap (built t (is_built_by s (target_state c.state.records t))) (part-later s l ls ne)
+    (λ ne. ap (built t (is_built_by s (target_state c.state.records t))) (part_of-other s l ls (λ q. ne (sym q)))
     ∙ ap (λ b. built t b (part_of s ls))
     (sym
-    (other_builds (naming_of p).order c.state.records s u t (has c u l.command) l.command
+    (builds_kept (by_text_is_naming p.names) c.state.records u s (has c u l.command) l.command t
     (λ q. ne (sym q))))
     ∙ rest)
 

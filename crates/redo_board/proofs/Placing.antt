@@ -15,8 +15,10 @@ use Rattle.redo_board.specs.Core.{Line, Core, start, way, place_at, has, way_at,
 use Rattle.redo_board.specs.Views.{Part, ViewOf, view}
 use Rattle.redo_board.specs.Rule.{Fits, Orderly}
 use Rattle.redo_board.specs.Plays.{by_number, built_name, next, made, own, own_build, own_way, Goes}
-use Rattle.redo_board.proofs.Parts.{after-push, legal-push, part-own, own-part, built-part}
-use Rattle.redo_board.proofs.WordsTold.{holds_now, own-told}
+use Rattle.redo_joint.proofs.Own.{push_own}
+use Rattle.redo_joint.proofs.Tied.{flag}
+use Rattle.redo_board.proofs.Bridge.{stood_told}
+use Rattle.redo_board.proofs.Parts.{after-push, legal-push, own-part, built-part}
 use Rattle.redo_board.proofs.Sound.{Sound, sound}
 use Rattle.redo_board.proofs.Kept.{St, board, fits_other, fits_set, apart_set, begins_done}
 
@@ -62,7 +64,7 @@ module _ (p : PlanOf) (s : St) (o : Orderly p s) (id t : ℕ) (j : List Line) (s
   holds_so : (a : Option ℕ)
       → holds_name core.state.locks t a ≡ holds_by by_number (part_of t o.log) a
   holds_so a =
-      sym (holds_now p core o.log t (own-told p o.log o.plan o.legal) a)
+      sym (flag (naming_of p) core.state o.log t a (stood_told p o.log o.plan o.legal).tied)
       ∙ plain p (part_of t o.log) a
 
   builds_so : (a : Option ℕ)
@@ -114,7 +116,7 @@ module _ (p : PlanOf) (s : St) (o : Orderly p s) (id t : ℕ) (j : List Line) (s
             λ u h has.
             ⊎_elim
             (λ (q : (t ≡ u) × (j ++ it ∷ [] ≡ h)). subst (λ x. part_of x log' ≡ h) q.0
-            (part-own t o.log it refl ∙ ap (λ l. l ++ it ∷ []) journal ∙ q.1))
+            (push_own t o.log it refl ∙ ap (λ l. l ++ it ∷ []) journal ∙ q.1))
             (λ none. absurd none) has;
         seen = subst (λ r. Begins r seen') (sym (ap (λ (c : Core). c.rows) core')) b;
         also = begins_done p o.log it also mine.also;

@@ -1,5 +1,5 @@
 -- The running rule, in the words of the definitions.
-use Rattle.std.proofs.Common.{◌≡◌, ℕ, ◌+◌, ◌*◌, ◌<◌, eqb, cond, List, length, get_or, Bool, true, false, Option, Some, None, sym, ap, ◌∙◌, arith, eq-eqb, ne_eqb}
+use Rattle.std.proofs.Common.{◌≡◌, ℕ, ◌+◌, ◌*◌, ◌<◌, eqb, cond, List, length, get_or, Bool, true, false, Option, Some, None, is_some, sym, ap, ◌∙◌, arith, eq-eqb, ne_eqb}
 use Rattle.atomic_table.specs.Table.{State}
 use Rattle.redo_model.specs.Placed.{grants_in, releases_in}
 use Rattle.redo_model.specs.Words.{claim_word_of}
@@ -9,11 +9,12 @@ use Rattle.redo_board.specs.Core.{Line, Core, start, after_all, claim_word, clai
 use Rattle.redo_board.specs.Histories.{Runs, words_of}
 use Rattle.redo_board.specs.Views.{ViewOf}
 use Rattle.redo_board.specs.Rule.{Orderly}
-use Rattle.redo_board.proofs.Bridge.{stood_told, Stood, held_count}
+use Rattle.redo_joint.proofs.Counts.{one_if}
+use Rattle.redo_board.proofs.Bridge.{stood_told, Stood}
 use Rattle.redo_board.proofs.Ended.{history-of, seen-of}
 use Rattle.redo_board.proofs.WordsTold.{words-told}
 
-claim-at : (g r : ℕ) (a : Option ℕ) (x : ℕ) → g ≡ x → r + held_count a ≡ x
+claim-at : (g r : ℕ) (a : Option ℕ) (x : ℕ) → x ≡ g → g ≡ r + one_if (is_some a)
     → claim_word a x ≡ 2 * r + cond (eqb g r) 0 1
 claim-at g r None x e f = let b : eqb g r ≡ true = eq-eqb g r (omega arith) in
     let z = ap (λ (q : Bool). cond {A = ℕ} q 0 1) b in
@@ -27,7 +28,7 @@ pub claims-told : (p : PlanOf) (c : Core) (lines : List Line) → Stood p c line
     → claim_of c.state.locks t ≡ claim_word_of (naming_of p) lines t
 claims-told p c lines so t =
     claim-at (grants_in (naming_of p) lines t) (releases_in (naming_of p) lines t)
-    (c.state.locks.holder t) (c.state.locks.grants t) (so.grants t) (so.releases t)
+    (c.state.locks.holder t) (c.state.locks.grants t) (so.tied.grants t) (so.tied.held t)
 
 module _ (p : PlanOf) (s : State (Unit {0}) ViewOf) (o : Orderly p s) where
   pub row-at : (r : ℕ) → r < rows_of p

@@ -3,6 +3,7 @@ use Rattle.std.proofs.Common.{◌≡◌, ◌≢◌, ℕ, ◌-◌, ◌%◌, ◌<�
 use Rattle.redo_model.specs.Command.{Command, asked_lock}
 use Rattle.redo_model.specs.State.{Records}
 use Rattle.redo_model.specs.Step.{records_after}
+use Rattle.redo_joint.proofs.Exchange.{cond_same, cond_other}
 use Rattle.redo_journal.specs.Plans.{PlanOf, script_of}
 use Rattle.redo_board.specs.Rows.{naming_of, command}
 use Rattle.redo_board.specs.Core.{word, session_of, number_of, holds_of, IsWord, replay_from, replay_one, set_at}
@@ -48,12 +49,6 @@ replay-word p r ws s k h x small is =
     (word-holds s k h i)
     (command p (word-session s k h small i) (word-number s k h small i)))
     ∙ ap (records_after (naming_of p) (replay_from p r ws) s h) (sym is)
-
-pub cond_same : {A : Type 0} (a b : ℕ) (x y : A) → a ≡ b → cond (eqb a b) x y ≡ x
-cond_same a b x y e = ap (λ t. cond t x y) (eq-eqb a b e)
-
-pub cond_other : {A : Type 0} (a b : ℕ) (x y : A) → a ≢ b → cond (eqb a b) x y ≡ y
-cond_other a b x y n = ap (λ t. cond t x y) (ne_eqb a b n)
 
 pub set-same : {A : Type 0} (f : ℕ → A) (s : ℕ) (x : A) (t : ℕ) → t ≡ s → set_at f s x t ≡ x
 set-same f s x t e = cond_same t s x (f t) e
