@@ -1,18 +1,16 @@
 -- A history's end, and the lines of one session in it.
-use Rattle.std.proofs.Common.{◌≡◌, ◌≢◌, ℕ, ◌+◌, ◌<◌, eqb, cond, List, [], ◌∷◌, ◌++◌, length, get_or, Bool, true, false, Option, Some, None, refl, sym, ap, ◌∙◌, subst, inl, inr, arith, append_assoc, eq-eqb, ne_eqb}
-use Rattle.std.proofs.lemmas.Bool.{cases_Bool}
+use Rattle.std.proofs.Common.{◌≡◌, ℕ, ◌+◌, cond, List, [], ◌∷◌, ◌++◌, false, Option, Some, None, refl, sym, ap, ◌∙◌, subst, arith, append_assoc}
 use Rattle.std.proofs.lemmas.List.{append-nil}
-use Rattle.std.proofs.lemmas.List.Elements.{filter-append}
 use mathlib.Core.Logic.{dite}
 use native.Mathlib.Decide.{ℕ_discrete}
 use Rattle.redo_model.specs.State.{Locks, target_state}
 use Rattle.redo_model.specs.Command.{Command, Lock, asked_lock}
-use Rattle.redo_model.specs.Reply.{Reply, Okay}
-use Rattle.redo_model.specs.Placed.{Place, Row, Granted, Busy, Released, part_of}
-use Rattle.redo_model.specs.Step.{after, Answers, Replies, locks_after, locks_granted, locks_freed, verdict_of, unless_refused, holds_target, is_held_by, is_built_by, lock_reply}
+use Rattle.redo_model.specs.Reply.{Reply}
+use Rattle.redo_model.specs.Placed.{part_of}
+use Rattle.redo_model.specs.Step.{after, Answers, Replies, locks_after, locks_granted, locks_freed, verdict_of, unless_refused, holds_target, is_built_by, lock_reply}
 use Rattle.redo_journal.specs.Plans.{PlanOf}
 use Rattle.redo_board.specs.Rows.{naming_of}
-use Rattle.redo_board.specs.Core.{Core, start, word, Way, row, claim, free, rows_then, claim_place, place_at, has, way_at, done, Line, IsNext, IsLegal, after_all, turn_build, is_okay, built, Begins}
+use Rattle.redo_board.specs.Core.{Core, start, word, Way, row, claim, free, rows_then, has, way_at, done, Line, IsNext, IsLegal, after_all, turn_build, is_okay, built, Begins}
 use Rattle.redo_joint.proofs.Own.{builds_kept, part_of-own, part_of-other}
 use Rattle.redo_board.proofs.Builds.{cond_both, own_builds}
 use Rattle.redo_board.proofs.Orders.{by_text_is_naming}

@@ -3,7 +3,7 @@ use Rattle.std.proofs.Common.{◌≡◌, ℕ, Bool, true, false, cond, not, ◌&
 use Rattle.std.specs.Prelude.{MatchOption}
 use Rattle.std.specs.declared.cmp.Ordering.{Ordering}
 use Rattle.redo_model.specs.Names.{numbers}
-use Rattle.redo_model.specs.State.{State, Locks, TargetState, Idle, Building, Built, target_state, is_building}
+use Rattle.redo_model.specs.State.{State, TargetState, Idle, Building, Built, target_state, is_building}
 use Rattle.redo_model.specs.State as states
 use Rattle.redo_model.specs.Command.{Command, File, Gone, Lock, Unlock, Start, IfChange, IfCreate, Always, Stamp, Done, Failed, Ood, Targets, Sources, asked_lock}
 use Rattle.redo_model.specs.Reply.{Refusal, NotLocked, Reply, Okay, Refused}

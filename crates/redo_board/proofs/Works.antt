@@ -168,7 +168,7 @@ module _ (p : PlanOf) (b : Board) (w w' : Worker) (n : Numbered ℕ) (reply : Re
     spent' : w'.tries ≡ rows_up_to 0 (journal_of p w')
     spent' = spent ∙ sym (rows-push 0 (journal_of p w) l₀) ∙ ap (rows_up_to 0) (sym grown)
 
-    pub works_on : WorksAt p b w'
+    works_on : WorksAt p b w'
     works_on = record {
       table = table ∙ k.table;
       works = record {
@@ -189,7 +189,7 @@ module _ (p : PlanOf) (b : Board) (w w' : Worker) (n : Numbered ℕ) (reply : Re
       };
     }
 
-    pub made_on : Begins seen (seen_by w) → Made p w w'
+    made_on : Begins seen (seen_by w) → Made p w w'
     made_on begins =
         let parts : (view_of w').parts ≡ (w.session, journal_of p w') ∷ [] =
         ap (λ (v : ViewOf). v.parts) keeps.is in
@@ -208,6 +208,9 @@ module _ (p : PlanOf) (b : Board) (w w' : Worker) (n : Numbered ℕ) (reply : Re
           begins = subst (λ xs. Begins xs (seen_by w)) (sym keeps.saw) begins;
           tries = spent';
         }
+
+    pub both_on : Begins seen (seen_by w) → WorksAt p b w' × Made p w w'
+    both_on begins = (works_on, made_on begins)
 
 -- after a step on a claim word
 module _ (p : PlanOf) (b : Board) (w w' : Worker) (n : Numbered ℕ) (reply : Reply ℕ)
@@ -232,18 +235,12 @@ module _ (p : PlanOf) (b : Board) (w w' : Worker) (n : Numbered ℕ) (reply : Re
       subst (λ (x : Stored × Option ℕ). Lags p x.0 x.1 (seen_by w))
       (λ i. (sym store i, sym pending i)) k.works.lags
 
-  pub works_claimed : WorksAt p b w'
-  works_claimed =
-      works_on p b w w' n reply place (seen_by w) k is-next goes e items line said at notes
-      session table slots capacity (tries ∙ k.works.tries) spent₁ lags₁
-
-  pub made_claimed : Made p w w'
-  made_claimed =
-      made_on p b w w' n reply place (seen_by w) k is-next goes e items line said at notes
+  pub claimed : WorksAt p b w' × Made p w w'
+  claimed =
+      both_on p b w w' n reply place (seen_by w) k is-next goes e items line said at notes
       session table slots capacity (tries ∙ k.works.tries) spent₁ lags₁ (
         [],
-        sym (append-nil
-            (seen_by w)),
+        sym (append-nil (seen_by w)),
       )
 
 -- after a row was lost

@@ -11,8 +11,9 @@ use Rattle.redo_board.specs.Kept.{WorksAt, view_of}
 use Rattle.redo_board.specs.Outcomes.{Made}
 use Rattle.redo_board.specs.declared.worker.Worker.{Worker}
 use Rattle.redo_board.proofs.Steps.{locks_as, lone}
-use Rattle.redo_board.proofs.Works.{few_words, target_low, entered, works_claimed, made_claimed}
+use Rattle.redo_board.proofs.Works.{few_words, target_low, entered, claimed}
 use Rattle.redo_board.proofs.worker.Worker.lock.Goals as goal
+use Rattle.redo_board.proofs.worker.Worker.lock.Goals.{After-enter}
 
 pub overflow_add-word : goal.overflow_add-word
 overflow_add-word c = let a = few_words c.args.plan.now c.args.board.now c.requires.belongs.0 in
@@ -50,8 +51,11 @@ fetch_or-found-requires c =
           (ap (λ m. m + 1 + u) b.rows) low refl,
     )
 
-pub returns-clause-works : goal.returns-clause-works
-returns-clause-works c =
+-- what the worker is after its entry
+done : (c : After-enter)
+    → WorksAt c.args.plan.now c.args.board.now c.enter.new.self
+    × Made c.args.plan.now c.args.self.now c.enter.new.self
+done c =
     let p = c.args.plan.now in
     let w = c.args.self.now in
     let k = c.requires.belongs.1 in
@@ -75,41 +79,16 @@ returns-clause-works c =
     (ap (λ (v : ViewOf). next v.plan w.session (journal_of p w)) k.works.view
     ∙ c.requires.command.next)
     word-at in
-    entered w₁ c.enter.new.self (Lock u) _ cap (λ v. WorksAt p c.args.board.now v)
-    (works_claimed p c.args.board.now w w' n (lock_said found) (lock_place u found) k
+    entered w₁ c.enter.new.self (Lock u) _ cap
+    (λ v. WorksAt p c.args.board.now v × Made p w v)
+    (claimed p c.args.board.now w w' n (lock_said found) (lock_place u found) k
     c.requires.command.next goes
     _ cap.items c.claim_entry.ensures.line c.claim_entry.ensures.said c.claim_entry.ensures.at
     cap.notes refl e.0 e.2.2
     (let m = cap.capacity in omega arith) refl refl refl (no-row u) (still u found))
 
+pub returns-clause-works : goal.returns-clause-works
+returns-clause-works c = (done (goal.at.returns-clause-works c).After-enter).0
+
 pub returns-clause-made : goal.returns-clause-made
-returns-clause-made c =
-    let p = c.args.plan.now in
-    let w = c.args.self.now in
-    let k = c.requires.belongs.1 in
-    let u : ℕ = c.args.target in
-    let n : Numbered ℕ = record { number = c.args.number; command = Lock u } in
-    let e = c.fetch_or-found.ensures in
-    let found : ℕ = c.fetch_or-found.result in
-    let cap = c.enter.ensures in
-    let w₁ : Worker = record w { seat = c.fetch_or-found.new.seat } in
-    let w' : Worker =
-    record w₁ { entries = c.enter.new.self.entries; own = c.enter.new.self.own } in
-    let word-at : c.args.board.now.rows + 1 + u ≡ rows_of (view_of w).plan + 1 + u =
-    ap (λ x. x + 1 + u)
-    (c.requires.belongs.0.rows
-    ∙ ap rows_of (sym (ap (λ (v : ViewOf). v.plan) k.works.view))) in
-    let goes : Goes (view_of w) w.session (journal_of p w) (lock_line w.session n u found) (seen_by
-    w)
-    (view_of w') =
-    e.2.0 w.session u (journal_of p w) n
-    (lone p w.session (journal_of p w) (view_of w) k.works.view)
-    (ap (λ (v : ViewOf). next v.plan w.session (journal_of p w)) k.works.view
-    ∙ c.requires.command.next)
-    word-at in
-    entered w₁ c.enter.new.self (Lock u) _ cap (λ v. Made p w v)
-    (made_claimed p c.args.board.now w w' n (lock_said found) (lock_place u found) k
-    c.requires.command.next goes
-    _ cap.items c.claim_entry.ensures.line c.claim_entry.ensures.said c.claim_entry.ensures.at
-    cap.notes refl e.0 e.2.2
-    (let m = cap.capacity in omega arith) refl refl refl (no-row u) (still u found))
+returns-clause-made c = (done (goal.at.returns-clause-made c).After-enter).1

@@ -21,8 +21,9 @@ use Rattle.redo_board.proofs.Steps.{tries_as, won_goes, room}
 use Rattle.redo_board.proofs.Stores.{says, lags_few, lags_won}
 use Rattle.redo_board.proofs.Told.{way-row}
 use Rattle.redo_board.proofs.Briefs.{ready_said}
-use Rattle.redo_board.proofs.Works.{few_words, plan_is, named_next, next_below, own_below, own_has, entered, works_on, made_on, works_lost, waits_lost}
+use Rattle.redo_board.proofs.Works.{few_words, plan_is, named_next, next_below, own_below, own_has, entered, both_on, works_lost, waits_lost}
 use Rattle.redo_board.proofs.worker.Worker.try_row.Goals as goal
+use Rattle.redo_board.proofs.worker.Worker.try_row.Goals.{After-enter}
 
 -- there is a row for the command
 there : (p : PlanOf) (w : Worker) (n : Numbered ℕ) → Works p w → next_by p w ≡ Some n
@@ -154,8 +155,11 @@ returns-then-found-ne0-clause-result c =
     } in
     waits_lost p c.args.board.now w w' found k (e.2.1 c.if-found-ne0.true) refl refl refl e.2.2
 
-pub returns-clause-works : goal.returns-clause-works
-returns-clause-works c =
+-- what the worker is after its entry
+done : (c : After-enter)
+    → WorksAt c.args.plan.now c.args.board.now c.enter.new.self
+    × Made c.args.plan.now c.args.self.now c.enter.new.self
+done c =
     let p = c.args.plan.now in
     let w = c.args.self.now in
     let k = c.requires.belongs.1 in
@@ -202,66 +206,19 @@ returns-clause-works c =
     let a = k.works.tries in
     let b = length_push (seen_by w) (word w.session c.args.number h) in
     omega arith in
-    entered w₁ c.enter.new.self x _ cap (λ v. WorksAt p c.args.board.now v)
-    (works_on p c.args.board.now w w' n reply (Row (length (seen_by w))) seen k is-next goes
-    _ cap.items refl refl (ap Row k.works.tries) cap.notes refl e.0 e.2.2
-    (let m = cap.capacity in omega arith) tried (ap (λ m. m + 1) k.works.tries)
-    (subst (λ o. Lags p c.apply.new.self o seen) (sym c.requires.none) won))
-
-pub returns-clause-result : goal.returns-clause-result
-returns-clause-result c =
-    let p = c.args.plan.now in
-    let w = c.args.self.now in
-    let k = c.requires.belongs.1 in
-    let e = c.compare_exchange-found.ensures in
-    let cap = c.enter.ensures in
-    let r = c.reply_to-reply.ensures in
-    let x = command_of c.args.command.now in
-    let n : Numbered ℕ = record { number = c.args.number; command = x } in
-    let is-next = c.requires.command.next in
-    let named = named_next p w n is-next in
-    let h : Bool = own (journal_of p w) x in
-    let lags = lags_now p w k.works c.requires.none in
-    let reply = reply_of c.reply_to-reply.result in
-    let seen : List ℕ = seen_by w ++ word w.session c.args.number h ∷ [] in
-    let w₁ : Worker =
-    record w {
-      seat = c.compare_exchange-found.new.seat;
-      store = c.apply.new.self;
-      tries = w.tries + 1;
-    } in
-    let w' : Worker =
-    record w₁ { entries = c.enter.new.self.entries; own = c.enter.new.self.own } in
-    let holds : c.has-holds.result ≡ h = c.has-holds.ensures ∙ own_has p w n k.works is-next in
-    let said : SaysRow (view p ((w.session, journal_of p w) ∷ []) (seen_by w) (view_of w).also)
-    w.session (journal_of p w) x reply =
-    says p w.store (seen_by w) w.session (has w.own x) h x reply lags
-    (own_has p w n k.works is-next) r.replies r.below in
-    let goes : Goes (view_of w) w.session (journal_of p w) (row_line (view_of w) w.session n reply)
-    seen (view_of w') =
-    won_goes p w.session (journal_of p w) (view_of w) (view_of w') n reply k.works.view
-    (e.2.0 c.if-found-ne0.false) is-next said in
-    let small : c.args.number < 4096 =
-    let a = (plan_is p w k.works).short w.session in
-    let b = c.requires.command.within in
-    omega arith in
-    let won : Lags p c.apply.new.self None seen =
-    lags_won p w.store c.apply.new.self (seen_by w) c.apply.ensures.count c.apply.ensures.order
-    c.in-Ok.ensures.applied w.session c.args.number h x small lags named.command
-    (c.in-Ok.ensures.after
-    ∙ ap
-    (λ z. records_after (naming_of w.store) (records_of w.store) w.session z x)
-    holds) in
-    let tried : w.tries + 1 ≡ length seen =
-    let a = k.works.tries in
-    let b = length_push (seen_by w) (word w.session c.args.number h) in
-    omega arith in
-    entered w₁ c.enter.new.self x _ cap (λ v. Made p w v)
-    (made_on p c.args.board.now w w' n reply (Row (length (seen_by w))) seen k is-next goes
+    entered w₁ c.enter.new.self x _ cap
+    (λ v. WorksAt p c.args.board.now v × Made p w v)
+    (both_on p c.args.board.now w w' n reply (Row (length (seen_by w))) seen k is-next goes
     _ cap.items refl refl (ap Row k.works.tries) cap.notes refl e.0 e.2.2
     (let m = cap.capacity in omega arith) tried (ap (λ m. m + 1) k.works.tries)
     (subst (λ o. Lags p c.apply.new.self o seen) (sym c.requires.none) won)
     (word w.session c.args.number h ∷ [], refl))
+
+pub returns-clause-works : goal.returns-clause-works
+returns-clause-works c = (done (goal.at.returns-clause-works c).After-enter).0
+
+pub returns-clause-result : goal.returns-clause-result
+returns-clause-result c = (done (goal.at.returns-clause-result c).After-enter).1
 
 pub has-holds-requires : goal.has-holds-requires
 has-holds-requires c =
