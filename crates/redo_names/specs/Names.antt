@@ -17,7 +17,9 @@ is_reserved text = bytes_eq text (codes "-") || bytes_eq text (codes "=>") || be
 
 -- 1 to 255 visible bytes that are not reserved
 unfoldable pub is_name : List ℕ → Bool
-is_name text = nat_le 1 (length text) && nat_le (length text) 255 && list_all is_visible text && not (is_reserved text)
+is_name text =
+    nat_le 1 (length text) && nat_le (length text) 255 && list_all is_visible text
+    && not (is_reserved text)
 
 -- whether the text is among the names
 abbrev pub has : List (List ℕ) → List ℕ → Bool
