@@ -6,7 +6,7 @@ use Rattle.std.proofs.lemmas.Bool.{leb-true, le-leb, lt-leb, ltb-false, le-ltb}
 use Rattle.std.proofs.lemmas.Bool.Decides.{nat_tests}
 use Rattle.std.proofs.lemmas.List.{nil_from_length, length-map}
 use Rattle.std.proofs.Math.ListN.{get_or-map}
-use Rattle.redo_names.specs.Names.{is_name, with_name, has}
+use Rattle.redo_names.specs.Names.{is_name, with_name, has, AreAllNames}
 use Rattle.redo_model.specs.Names.{Text}
 use Rattle.redo_model.specs.Command.{Command, names_in}
 use Rattle.redo_model.specs.Renaming.{AllBelow}
@@ -184,13 +184,13 @@ not_false true e = refl
 not_false false e = absurd cc
 
 pub each_name : (ns : List Text) → list_all is_name ns ≡ true
-    → AllByRecursion (λ n. IsTrue (is_name n)) ns
+    → AreAllNames ns
 each_name [] all = tt
 each_name (n ∷ ns) all =
     let k = both (is_name n) (list_all is_name ns) all in
     (k.0, each_name ns k.1)
 
-pub all_names : (ns : List Text) → AllByRecursion (λ n. IsTrue (is_name n)) ns
+pub all_names : (ns : List Text) → AreAllNames ns
     → list_all is_name ns ≡ true
 all_names [] each = refl
 all_names (n ∷ ns) each =
@@ -228,7 +228,7 @@ target_and_names_read t (n ∷ ns) good list =
     let all : list_all is_name (t ∷ n ∷ ns) ≡ true = all_names (t ∷ n ∷ ns) (good, list.each) in
     rw (few, all) refl
 
-pub names_are_visible : (ns : List Text) → AllByRecursion (λ n. IsTrue (is_name n)) ns
+pub names_are_visible : (ns : List Text) → AreAllNames ns
     → AllByRecursion IsVisible ns
 names_are_visible [] each = tt
 names_are_visible (n ∷ ns) each = (name_is_visible n each.0, names_are_visible ns each.1)

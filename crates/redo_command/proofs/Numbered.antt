@@ -1,11 +1,11 @@
 -- Names that are known by their numbers.
 use Rattle.std.proofs.Common.{◌≡◌, ℕ, zero, suc, ◌<◌, Bool, true, false, cond, ◌||◌, ◌==◌, List, [], ◌∷◌, ◌++◌, ◌≤◌, ◌&&◌, length, map, arith, Some, slice_get, Ok, Err, refl, sym, ap, subst, ◌∙◌, append-nil}
 use Rattle.std.specs.Prelude.{bytes_eq}
-use Rattle.std.specs.List.{AllByRecursion, list_all}
+use Rattle.std.specs.List.{list_all}
 use Rattle.std.proofs.lemmas.List.{length-map}
 use Rattle.std.proofs.lemmas.Option.{get_or_from_slice_get, slice_get_within, slice_get-get_or}
 use Rattle.std.proofs.lemmas.Slice.Eq.{bytes_eq-Decides}
-use Rattle.redo_names.specs.Names.{is_name, has, text_at, AreNames}
+use Rattle.redo_names.specs.Names.{is_name, has, text_at, AreAllNames, AreNames}
 use Rattle.redo_model.specs.Names.{Text}
 use Rattle.redo_model.specs.Command.{Command}
 use Rattle.redo_command.specs.declared.fault.LineFault.TheVariants.{TooManyNames}
@@ -31,7 +31,7 @@ has_at (x ∷ xs) (suc n) t e = or_true (bytes_eq t x) (has xs t) (has_at xs n t
     or_true true b h = refl
     or_true false b h = h
 
-each_at : (names : List Text) (n : ℕ) (t : Text) → AllByRecursion (λ x. is_name x ≡ true) names
+each_at : (names : List Text) (n : ℕ) (t : Text) → AreAllNames names
     → slice_get names n ≡ Some t → is_name t ≡ true
 each_at [] n t each e = absurd cc
 each_at (x ∷ xs) zero t each e = subst (λ (w : Text). is_name w ≡ true) (same_found x t e) each.0

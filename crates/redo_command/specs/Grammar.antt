@@ -2,7 +2,7 @@
 use Rattle.std.specs.Prelude.{◌≡◌, ◌≢◌, ◌<◌, ◌≤◌, ◌⊎◌, Bool, true, not, List, [], ◌∷◌, length, filter, IsTrue, IfSome, Ok, codes, ◌==◌, ⊤}
 use Rattle.std.specs.List.{slice_split, flat_map, AllByRecursion}
 use Rattle.hex.specs.Hex.{decode_of}
-use Rattle.redo_names.specs.Names.{is_name, with_name}
+use Rattle.redo_names.specs.Names.{is_name, with_name, AreAllNames}
 use Rattle.redo_model.specs.Names.{Text}
 use Rattle.redo_model.specs.Command.{Command, File, Gone, Lock, Unlock, Start, IfChange, IfCreate, Always, Stamp, Done, Failed, Ood, Targets, Sources, names_in}
 use Rattle.redo_command.specs.Stamp.{is_stamp}
@@ -12,7 +12,7 @@ use Rattle.redo_command.specs.Texts.{spaced, command_text_of}
 pub record IsNameList (names : List Text) : Type 0 where
   pub some : 1 ≤ length names
   pub few : length names ≤ 64
-  pub each : AllByRecursion (λ n. IsTrue (is_name n)) names
+  pub each : AreAllNames names
 
 -- what the words of a command have to be
 abbrev pub HasForm : Command Text → Type 0

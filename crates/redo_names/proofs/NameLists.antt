@@ -1,9 +1,9 @@
 -- Lists of names that grow.
 use Rattle.std.proofs.Common.{◌≡◌, ℕ, ◌<◌, Bool, true, false, cond, List, [], ◌∷◌, ◌++◌, length, Some, slice_get, refl, sym, ap, ◌∙◌, arith, length-append, append-nil, append_assoc}
-use Rattle.std.specs.List.{IsDistinct, AllByRecursion}
+use Rattle.std.specs.List.{IsDistinct}
 use Rattle.std.proofs.lemmas.Cmp.{nat_list_eq_equiv}
 use Rattle.std.proofs.lemmas.Map.Keys.{IsDistinct-push}
-use Rattle.redo_names.specs.Names.{is_name, has, with_name, Extends, AreNames}
+use Rattle.redo_names.specs.Names.{is_name, has, with_name, Extends, AreAllNames, AreNames}
 
 pub Extends-same : (names : List (List ℕ)) → Extends names names
 Extends-same names = record { more = []; is = sym (append-nil names) }
@@ -30,8 +30,8 @@ pub AreNames-none : AreNames []
 unfolding IsDistinct
 AreNames-none = record { few = omega arith; distinct = tt; each = tt }
 
-each-push : (names : List (List ℕ)) (text : List ℕ) → AllByRecursion (λ t. is_name t ≡ true) names
-    → is_name text ≡ true → AllByRecursion (λ t. is_name t ≡ true) (names ++ text ∷ [])
+each-push : (names : List (List ℕ)) (text : List ℕ) → AreAllNames names → is_name text ≡ true
+    → AreAllNames (names ++ text ∷ [])
 each-push [] text each is = (is, tt)
 each-push (_ ∷ names) text each is = (each.0, each-push names text each.1 is)
 

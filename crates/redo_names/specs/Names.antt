@@ -38,8 +38,12 @@ pub record Extends (old new : List (List ℕ)) : Type 0 where
   pub more : List (List ℕ)
   pub is : new ≡ old ++ more
 
+-- each text is a name
+abbrev pub AreAllNames : List (List ℕ) → Type 0
+AreAllNames texts = AllByRecursion (λ text. is_name text ≡ true) texts
+
 -- at most 65,536 texts, no two of them equal, and each of them a name
 pub record AreNames (names : List (List ℕ)) : Type 0 where
   pub few : length names ≤ 65536
   pub distinct : IsDistinct bytes_eq names
-  pub each : AllByRecursion (λ text. is_name text ≡ true) names
+  pub each : AreAllNames names
