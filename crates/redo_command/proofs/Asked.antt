@@ -202,7 +202,8 @@ asked_stamp names (n ∷ c ∷ []) few = by (is_name n)
         >>= λ content. added names name >>= λ after. read (Stamp name content, after))
         ≡ first_yes ((not b, BadName) ∷ (wrong, BadHex) ∷ last)
     by true =
-        fault_then (content_in c) (λ content. added names n >>= λ after. read (Stamp n content, after))
+        fault_then (content_in c)
+        (λ content. added names n >>= λ after. read (Stamp n content, after))
         (first_yes last)
         (λ content. added_last (added names n) (Stamp n content)
         ∙ asked_one names n few)
@@ -256,7 +257,8 @@ asked_list form names (t ∷ n ∷ ns) few =
     ++ full (names_among (all_names_wanted all) all))))) (sym count)
   where
     by : (many good : Bool)
-        → fault_in (cond many (Err TooManyNames) (cond (not good) (Err BadName) (words_read (t, n ∷ ns)))
+        → fault_in
+        (cond many (Err TooManyNames) (cond (not good) (Err BadName) (words_read (t, n ∷ ns)))
         >>= λ x. all_added names (x.0 ∷ x.1) >>= λ after. read (form x.0 x.1, after))
         ≡ cond many (Some TooManyNames) (cond (not good) (Some BadName)
         (first_yes ((is_full names (t ∷ n ∷ ns), TooManyNames) ∷ [])))
@@ -271,7 +273,8 @@ asked_alone : (form : Command Text) (names args : List Text) → length names �
     ≡ first_yes (form_questions names (Some kinds.Ood) args)
 unfolding no_words_in
 asked_alone form names [] few = sym (ap fault_in (none_added names few)) ∙ asked_full names []
-asked_alone form names (w ∷ ws) few = another names kinds.Ood (w ∷ ws) (λ e. absurd (omega (arith, e)))
+asked_alone form names (w ∷ ws) few =
+    another names kinds.Ood (w ∷ ws) (λ e. absurd (omega (arith, e)))
 
 asked_form : (kind : Option Kind) (names args : List Text) → length names ≤ 65536
     → fault_in (form_in kind names args) ≡ first_yes (form_questions names kind args)
@@ -343,19 +346,6 @@ asked_file_line count names line few =
         some_last (line_in names line) ∙ asked_line names line few
         ∙ ap (λ (b : Bool). cond b (Some LineTooLong) (first_yes asked)) short
 
-abbrev given : LineFault → Option LineFault
-given fault = Some fault
-
-some_fault : (a b : LineFault) → given a ≡ given b → a ≡ b
-some_fault a b same = cc
-
-pub fails_with : {A : Type 0} (r : Result A LineFault) (fault : LineFault)
-    → fault_in r ≡ Some fault → r ≡ Err fault
-fails_with (Ok x) fault e = absurd cc
-fails_with {A} (Err other) fault e =
-    let failed : LineFault → Result A LineFault = λ f. Err f in
-    ap failed (some_fault other fault e)
-
 pub succeeds : {A : Type 0} (r : Result A LineFault) → fault_in r ≡ None → (x : A) × (r ≡ Ok x)
 succeeds (Ok x) e = (x, refl)
 succeeds (Err fault) e = absurd cc
@@ -386,11 +376,13 @@ few_before names line e =
     of_kind None words h = absurd cc
     of_kind (Some kind) words h =
         let own = names_among (wanted kind words) words in
-        let count : Question = (not (eqb (length words) (length (wanted kind words))), WrongWords) in
+        let count : Question =
+        (not (eqb (length words) (length (wanted kind words))), WrongWords) in
         let many : Question = (ltb 64 (length (drop 1 words)), TooManyNames) in
         let rest : List Question =
         word_questions (wanted kind words) words ++ (is_full names own, TooManyNames) ∷ [] in
-        let room = last_no (word_questions (wanted kind words) words) (is_full names own) TooManyNames
+        let room =
+        last_no (word_questions (wanted kind words) words) (is_full names own) TooManyNames
         (later many rest (later count (many ∷ rest) h)) in
         omega (arith, ltb-false _ _ room, with_names-longer names own)
 

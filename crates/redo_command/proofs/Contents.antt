@@ -15,6 +15,7 @@ use Rattle.redo_command.specs.Texts.{content_word}
 use Rattle.redo_command.specs.Grammar.{IsContentWord}
 use Rattle.redo_command.specs.Reading.{some_content, content_in}
 use Rattle.redo_command.proofs.Spaced.{IsVisible}
+use Rattle.redo_command.proofs.Steps.{same_given}
 
 abbrev AreBytes : Text → Type 0
 AreBytes content = AllByRecursion (λ b. b < 256) content
@@ -36,13 +37,11 @@ pub record IsContent (word content : Text) : Type 0 where
 abbrev content_read_as : Text → Result Text LineFault
 content_read_as content = Ok content
 
-same_content : (a b : Text) → content_read_as a ≡ content_read_as b → a ≡ b
-same_content a b e = cc
-
-some_read : (r : Result Text FromHexError) (content : Text) → some_content r ≡ Ok content → (content ≢ []) × (r ≡ Ok content)
+some_read : (r : Result Text FromHexError) (content : Text) → some_content r ≡ Ok content
+    → (content ≢ []) × (r ≡ Ok content)
 some_read (Ok []) content e = absurd cc
 some_read (Ok (b ∷ bs)) content e =
-    let same = same_content (b ∷ bs) content e in
+    let same = same_given (b ∷ bs) content e in
     (subst (λ (t : Text). t ≢ []) same (λ h. cc), λ i. Ok (same i))
 some_read (Err fault) content e = absurd cc
 
@@ -50,20 +49,30 @@ some_read (Err fault) content e = absurd cc
 pub content_says : (word content : Text) → content_in word ≡ Ok content → IsContent word content
 content_says word content e = by (bytes_eq word (codes "-")) refl e
   where
-    by : (b : Bool) → bytes_eq word (codes "-") ≡ b → cond b (Ok []) (some_content (decode_of word)) ≡ Ok content → IsContent word content
+    by : (b : Bool) → bytes_eq word (codes "-") ≡ b
+        → cond b (Ok []) (some_content (decode_of word)) ≡ Ok content → IsContent word content
     by true dash h =
-        let same = same_content [] content h in
-        record { word_is = inl ((bytes_eq-Decides word (codes "-")).0 dash, sym same); bytes = subst AreBytes same tt }
+        let same = same_given [] content h in
+        record {
+          word_is = inl ((bytes_eq-Decides word (codes "-")).0 dash, sym same);
+          bytes = subst AreBytes same tt;
+        }
     by false dash h =
         let some = some_read (decode_of word) content h in
-        record { word_is = inr some; bytes = bytes_one_by_one content (decode_of-ok word content some.1).3 }
+        record {
+          word_is = inr some;
+          bytes = bytes_one_by_one content (decode_of-ok word content some.1).3;
+        }
 
-dash_decodes_to_nothing : (word content : Text) → decode_of word ≡ Ok content → bytes_eq word (codes "-") ≡ false
+dash_decodes_to_nothing : (word content : Text) → decode_of word ≡ Ok content
+    → bytes_eq word (codes "-") ≡ false
 dash_decodes_to_nothing word content e = by (bytes_eq word (codes "-")) refl
   where
     by : (b : Bool) → bytes_eq word (codes "-") ≡ b → b ≡ false
     by true dash =
-        let decoded : decode_of (codes "-") ≡ Ok content = subst (λ (w : Text). decode_of w ≡ Ok content) ((bytes_eq-Decides word (codes "-")).0 dash) e in
+        let decoded : decode_of (codes "-") ≡ Ok content =
+        subst (λ (w : Text). decode_of w ≡ Ok content)
+        ((bytes_eq-Decides word (codes "-")).0 dash) e in
         absurd cc
     by false dash = refl
 
@@ -83,7 +92,8 @@ content_read word content is = elim is [
 digit_is_visible : (c : ℕ) → is_hex_digit c ≡ true → is_visible c ≡ true
 digit_is_visible c h = grind (arith, nat_tests)
 
-pub digits_are_visible : (word : Text) → AllByRecursion (λ c. is_hex_digit c ≡ true) word → IsVisible word
+pub digits_are_visible : (word : Text) → AllByRecursion (λ c. is_hex_digit c ≡ true) word
+    → IsVisible word
 digits_are_visible [] all = refl
 digits_are_visible (c ∷ cs) all =
     let first = digit_is_visible c all.0 in
@@ -93,13 +103,16 @@ digits_are_visible (c ∷ cs) all =
 pub content_is_visible : (word content : Text) → IsContentWord word content → IsVisible word
 content_is_visible word content is = elim is [
   | inl h ↦ subst IsVisible (sym h.0) refl
-  | inr h ↦ digits_are_visible word (recursion_from_All (λ c. is_hex_digit c ≡ true) word (decode_of-ok word content h.1).1)
+  | inr h ↦ digits_are_visible word
+      (recursion_from_All (λ c. is_hex_digit c ≡ true) word (decode_of-ok word content h.1).1)
 ]
 
 -- the word that is printed stands for the content
-pub content_word_says : (content : Text) → AllByRecursion (λ b. b < 256) content → IsContentWord (content_word content) content
+pub content_word_says : (content : Text) → AllByRecursion (λ b. b < 256) content
+    → IsContentWord (content_word content) content
 content_word_says [] bytes = inl (refl, refl)
-content_word_says (b ∷ bs) bytes = inr (λ e. cc, decode_of-encode_lower (b ∷ bs) (bytes_by_place (b ∷ bs) bytes))
+content_word_says (b ∷ bs) bytes =
+    inr (λ e. cc, decode_of-encode_lower (b ∷ bs) (bytes_by_place (b ∷ bs) bytes))
 
 -- the arrow of a history stands for no content
 pub arrow_is_no_content : (content : Text) → IsContentWord (codes "=>") content → ⊥

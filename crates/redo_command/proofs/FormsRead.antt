@@ -15,58 +15,75 @@ use Rattle.redo_command.proofs.NameLists.{target_and_names_read, names_are_visib
 use Rattle.redo_command.proofs.Spaced.{IsVisible, name_is_visible, stamp_is_visible, stamp_is_no_dash}
 
 -- the words of a line, the first of them apart, and that they are read as the command
-pub record IsReadFrom (names : List Text) (line : Text) (command : Command Text) (after : List Text) : Type 0 where
+pub record IsReadFrom (names : List Text) (line : Text) (command : Command Text)
+    (after : List Text) : Type 0 where
   pub word : Text
   pub args : List Text
   pub text : line ≡ spaced word args
   pub visible : IsVisible word × AllByRecursion IsVisible args
   pub reads : words_in names (word ∷ args) ≡ Ok (command, after)
 
-one_name_read : (form : Text → Command Text) (names : List Text) (n : Text) (after : List Text) → names_in (form n) ≡ n ∷ [] → IsTrue (is_name n) → AddsNames names (form n ∷ []) after → one_name_in form names (n ∷ []) ≡ Ok (form n, after)
+one_name_read : (form : Text → Command Text) (names : List Text) (n : Text) (after : List Text)
+    → names_in (form n) ≡ n ∷ [] → IsTrue (is_name n) → AddsNames names (form n ∷ []) after
+    → one_name_in form names (n ∷ []) ≡ Ok (form n, after)
 unfolding one_name_in
 one_name_read form names n after own good adds =
     let fits = one_fits names n (form n) after own adds in
     rw (good, fits) refl
 
-names_form_read : (form : Text → List Text → Command Text) (names : List Text) (t : Text) (ns after : List Text) → names_in (form t ns) ≡ t ∷ ns → IsTrue (is_name t) → IsNameList ns → AddsNames names (form t ns ∷ []) after → names_form_in form names (t ∷ ns) ≡ Ok (form t ns, after)
+names_form_read : (form : Text → List Text
+    → Command Text) (names : List Text) (t : Text) (ns after : List Text) → names_in (form t ns)
+    ≡ t ∷ ns → IsTrue (is_name t) → IsNameList ns → AddsNames names (form t ns ∷ []) after
+    → names_form_in form names (t ∷ ns) ≡ Ok (form t ns, after)
 unfolding names_form_in
 names_form_read form names t ns after own good list adds =
     let words = target_and_names_read t ns good list in
     let fit = all_fit names (t ∷ ns) (form t ns) after own adds in
     rw (words, fit) refl
 
-file_read : (names : List Text) (n stamp : Text) (after : List Text) → IsTrue (is_name n) → IsTrue (is_stamp stamp) → AddsNames names (File n stamp ∷ []) after → file_in names (n ∷ stamp ∷ []) ≡ Ok (File n stamp, after)
+file_read : (names : List Text) (n stamp : Text) (after : List Text) → IsTrue (is_name n)
+    → IsTrue (is_stamp stamp) → AddsNames names (File n stamp ∷ []) after
+    → file_in names (n ∷ stamp ∷ []) ≡ Ok (File n stamp, after)
 unfolding file_in
 file_read names n stamp after good known adds =
     let fits = one_fits names n (File n stamp) after refl adds in
     rw (good, known, fits) refl
 
-file_stamp_read : (stamp : Option Text) → IfSome stamp (λ s. IsTrue (is_stamp s)) → file_stamp_or_none_in (stamp_word stamp) ≡ Ok stamp
+file_stamp_read : (stamp : Option Text) → IfSome stamp (λ s. IsTrue (is_stamp s))
+    → file_stamp_or_none_in (stamp_word stamp) ≡ Ok stamp
 file_stamp_read None known = refl
 file_stamp_read (Some s) known =
     let dash = stamp_is_no_dash s known in
     rw (dash, known) refl
 
-stamp_read : (names : List Text) (t word content : Text) (after : List Text) → IsTrue (is_name t) → IsContentWord word content → AddsNames names (Stamp t content ∷ []) after → stamp_in names (t ∷ word ∷ []) ≡ Ok (Stamp t content, after)
+stamp_read : (names : List Text) (t word content : Text) (after : List Text) → IsTrue (is_name t)
+    → IsContentWord word content → AddsNames names (Stamp t content ∷ []) after
+    → stamp_in names (t ∷ word ∷ []) ≡ Ok (Stamp t content, after)
 unfolding stamp_in
 stamp_read names t word content after good is adds =
     let fits = one_fits names t (Stamp t content) after refl adds in
     let given = content_read word content is in
     rw (good, given, fits) refl
 
-done_read : (names : List Text) (t : Text) (stamp : Option Text) (after : List Text) → IsTrue (is_name t) → IfSome stamp (λ s. IsTrue (is_stamp s)) → AddsNames names (Done t stamp ∷ []) after → done_in names (t ∷ stamp_word stamp ∷ []) ≡ Ok (Done t stamp, after)
+done_read : (names : List Text) (t : Text) (stamp : Option Text) (after : List Text)
+    → IsTrue (is_name t) → IfSome stamp (λ s. IsTrue (is_stamp s))
+    → AddsNames names (Done t stamp ∷ []) after
+    → done_in names (t ∷ stamp_word stamp ∷ []) ≡ Ok (Done t stamp, after)
 unfolding done_in
 done_read names t stamp after good known adds =
     let fits = one_fits names t (Done t stamp) after refl adds in
     let word = file_stamp_read stamp known in
     rw (good, word, fits) refl
 
-stamp_word_is_visible : (stamp : Option Text) → IfSome stamp (λ s. IsTrue (is_stamp s)) → IsVisible (stamp_word stamp)
+stamp_word_is_visible : (stamp : Option Text) → IfSome stamp (λ s. IsTrue (is_stamp s))
+    → IsVisible (stamp_word stamp)
 stamp_word_is_visible None known = refl
 stamp_word_is_visible (Some s) known = stamp_is_visible s known
 
 -- each command is read from a line of it
-pub read_from_words : (names : List Text) (line : Text) (command : Command Text) (after : List Text) → HasForm command → IsSpelled line command → AddsNames names (command ∷ []) after → IsReadFrom names line command after
+pub read_from_words : (names : List Text) (line : Text) (command : Command Text) (after : List Text)
+    → HasForm command → IsSpelled line command → AddsNames names (command ∷ []) after
+    → IsReadFrom names line command after
 unfolding words_in form_in no_words_in
 read_from_words names line (File n stamp) after form spelled adds = record {
   word = codes "file";
@@ -128,7 +145,8 @@ read_from_words names line (Stamp t content) after form spelled adds = record {
   word = codes "stamp";
   args = t ∷ spelled.0 ∷ [];
   text = spelled.1;
-  visible = (refl, (name_is_visible t form.0, (content_is_visible spelled.0 content spelled.2, tt)));
+  visible =
+      (refl, (name_is_visible t form.0, (content_is_visible spelled.0 content spelled.2, tt)));
   reads = stamp_read names t spelled.0 content after form.0 spelled.2 adds;
 }
 read_from_words names line (Done t stamp) after form spelled adds = record {

@@ -11,7 +11,7 @@ use Rattle.redo_command.specs.Texts.{spaced, content_word, command_text_of}
 use Rattle.redo_command.specs.Grammar.{IsCommandLine, IsShort, IsSpelled, HasForm, with_names, AddsNames}
 use Rattle.redo_command.specs.Questions.{words_of, is_text_byte}
 use Rattle.redo_command.specs.Reading.{line_in, words_in}
-use Rattle.redo_command.proofs.Steps.{unless_ok, same_read}
+use Rattle.redo_command.proofs.Steps.{unless_ok, same_given}
 use Rattle.redo_command.proofs.Spaced.{line_is_spaced, words_of-spaced, spaced_is_text}
 use Rattle.redo_command.proofs.Contents.{content_word_says}
 use Rattle.redo_command.proofs.FormsFound.{words_say}
@@ -22,7 +22,9 @@ abbrev is_bad : ℕ → Bool
 is_bad b = not (is_text_byte b)
 
 -- what is read is a command line, and its names are added
-pub line_found : (names : List Text) (line : Text) (command : Command Text) (after : List Text) → length names ≤ 65536 → line_in names line ≡ Ok (command, after) → IsCommandLine line command × AddsNames names (command ∷ []) after
+pub line_found : (names : List Text) (line : Text) (command : Command Text) (after : List Text)
+    → length names ≤ 65536 → line_in names line ≡ Ok (command, after)
+    → IsCommandLine line command × AddsNames names (command ∷ []) after
 unfolding line_in words_in
 line_found names line command after few e =
     let a = unless_ok (ltb 8192 (length line)) LineTooLong _ (command, after) e in
@@ -30,11 +32,14 @@ line_found names line command after few e =
     let short : length line ≤ 8192 = grind (arith, nat_tests, a.0) in
     by short (words_of line) refl b.1
   where
-    by : IsShort line → (words : List Text) → words_of line ≡ words → words_in names words ≡ Ok (command, after) → IsCommandLine line command × AddsNames names (command ∷ []) after
+    by : IsShort line → (words : List Text) → words_of line ≡ words → words_in names words
+        ≡ Ok (command, after) → IsCommandLine line command × AddsNames names (command ∷ []) after
     by short [] split h = absurd cc
     by short (word ∷ args) split h =
         let says = words_say names word args command after few h in
-        let spelled = subst (λ (l : Text). IsSpelled l command) (sym (line_is_spaced line word args split)) says.spelled in
+        let spelled =
+        subst (λ (l : Text). IsSpelled l command)
+        (sym (line_is_spaced line word args split)) says.spelled in
         ((says.form, short, spelled), says.adds)
 
 -- what the words of a line are read as has no bad byte
@@ -63,14 +68,18 @@ line_read names line command after few le e =
     rw (short, good) e
 
 -- a command line whose names fit is read
-pub line_only : (names : List Text) (line : Text) (command : Command Text) (after : List Text) → length names ≤ 65536 → IsCommandLine line command → AddsNames names (command ∷ []) after → line_in names line ≡ Ok (command, after)
+pub line_only : (names : List Text) (line : Text) (command : Command Text) (after : List Text)
+    → length names ≤ 65536 → IsCommandLine line command → AddsNames names (command ∷ []) after
+    → line_in names line ≡ Ok (command, after)
 unfolding line_in
 line_only names line command after few is adds =
     let from = read_from_words names line command after is.0 is.2 adds in
     let text : line ≡ spaced from.word from.args = from.text in
     let short : ltb 8192 (length line) ≡ false = le-ltb _ _ is.1 in
-    let good : list_any is_bad line ≡ false = ap (list_any is_bad) text ∙ spaced_is_text from.word from.args from.visible.0 from.visible.1 in
-    let words : words_of line ≡ from.word ∷ from.args = ap words_of text ∙ words_of-spaced from.word from.args from.visible.0 from.visible.1 in
+    let good : list_any is_bad line ≡ false =
+    ap (list_any is_bad) text ∙ spaced_is_text from.word from.args from.visible.0 from.visible.1 in
+    let words : words_of line ≡ from.word ∷ from.args =
+    ap words_of text ∙ words_of-spaced from.word from.args from.visible.0 from.visible.1 in
     rw (short, good, words) from.reads
 
 length-with_name : (names : List Text) (t : Text) → length (with_name names t) ≤ length names + 1
@@ -82,20 +91,35 @@ length-with_name names t = by (has names t)
 
 length-with_names : (names ts : List Text) → length (with_names names ts) ≤ length names + length ts
 length-with_names names [] = omega arith
-length-with_names names (t ∷ ts) = omega (arith, length-with_names (with_name names t) ts, length-with_name names t)
+length-with_names names (t ∷ ts) =
+    omega (arith, length-with_names (with_name names t) ts, length-with_name names t)
 
 -- a command's names alone fit
-fits_alone : (command : Command Text) → HasForm command → AddsNames [] (command ∷ []) (with_names [] (names_in command ++ []))
-fits_alone command form = (refl, omega (arith, length-with_names [] (names_in command ++ []), ap length (append-nil (names_in command)), few_names command form))
+fits_alone : (command : Command Text) → HasForm command
+    → AddsNames [] (command ∷ []) (with_names [] (names_in command ++ []))
+fits_alone command form = (
+  refl,
+  omega (
+    arith,
+    length-with_names [] (names_in command ++ []),
+    ap length (append-nil (names_in command)),
+    few_names command form,
+  ),
+)
 
 -- the text of a command is one of its spellings
-pub text_is_spelled : (command : Command Text) → HasForm command → IsSpelled (command_text_of command) command
-text_is_spelled (Stamp t content) form = (content_word content, refl, content_word_says content form.1)
+pub text_is_spelled : (command : Command Text) → HasForm command
+    → IsSpelled (command_text_of command) command
+text_is_spelled (Stamp t content) form =
+    (content_word content, refl, content_word_says content form.1)
 text_is_spelled command form = refl
 
 -- a line is the line of at most one command
-pub one_command : (line : Text) (a b : Command Text) → IsCommandLine line a → IsCommandLine line b → a ≡ b
+pub one_command : (line : Text) (a b : Command Text) → IsCommandLine line a → IsCommandLine line b
+    → a ≡ b
 one_command line a b is_a is_b =
-    let first = line_only [] line a (with_names [] (names_in a ++ [])) (lit≤ tt) is_a (fits_alone a is_a.0) in
-    let second = line_only [] line b (with_names [] (names_in b ++ [])) (lit≤ tt) is_b (fits_alone b is_b.0) in
-    ap (λ (x : Command Text × List Text). x.0) (same_read _ _ (sym first ∙ second))
+    let first =
+    line_only [] line a (with_names [] (names_in a ++ [])) (lit≤ tt) is_a (fits_alone a is_a.0) in
+    let second =
+    line_only [] line b (with_names [] (names_in b ++ [])) (lit≤ tt) is_b (fits_alone b is_b.0) in
+    ap (λ (x : Command Text × List Text). x.0) (same_given _ _ (sym first ∙ second))

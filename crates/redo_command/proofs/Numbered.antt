@@ -1,11 +1,11 @@
 -- Names that are known by their numbers.
-use Rattle.std.proofs.Common.{◌≡◌, ℕ, zero, suc, ◌<◌, Bool, true, false, cond, ◌||◌, ◌==◌, List, [], ◌∷◌, ◌++◌, ◌≤◌, ◌&&◌, length, map, arith, Option, Some, slice_get, Ok, Err, refl, sym, ap, subst, ◌∙◌, append-nil}
+use Rattle.std.proofs.Common.{◌≡◌, ℕ, zero, suc, ◌<◌, Bool, true, false, cond, ◌||◌, ◌==◌, List, [], ◌∷◌, ◌++◌, ◌≤◌, ◌&&◌, length, map, arith, Some, slice_get, Ok, Err, refl, sym, ap, subst, ◌∙◌, append-nil}
 use Rattle.std.specs.Prelude.{bytes_eq}
-use Rattle.std.specs.List.{AllByRecursion, list_all}
+use Rattle.std.specs.List.{list_all}
 use Rattle.std.proofs.lemmas.List.{length-map}
 use Rattle.std.proofs.lemmas.Option.{get_or_from_slice_get, slice_get_within, slice_get-get_or}
 use Rattle.std.proofs.lemmas.Slice.Eq.{bytes_eq-Decides}
-use Rattle.redo_names.specs.Names.{is_name, has, text_at, AreNames}
+use Rattle.redo_names.specs.Names.{is_name, has, text_at, AreAllNames, AreNames}
 use Rattle.redo_model.specs.Names.{Text}
 use Rattle.redo_model.specs.Command.{Command}
 use Rattle.redo_command.specs.declared.fault.LineFault.TheVariants.{TooManyNames}
@@ -16,19 +16,14 @@ use Rattle.redo_command.specs.Reading.{IsNumbered, added, all_added, one_name_in
 use Rattle.redo_command.specs.ReplyReading.{names_in_words, with_its_names}
 use Rattle.redo_command.proofs.NameLists.{all_added-fits, each_name, target_and_names_read}
 use Rattle.redo_command.proofs.Spaced.{name_is_visible, words_of-spaced}
-
-abbrev some_name : Text → Option Text
-some_name t = Some t
-
-same_name : (x t : Text) → some_name x ≡ some_name t → x ≡ t
-same_name x t e = cc
+use Rattle.redo_command.proofs.Steps.{same_found}
 
 -- a name that has a number is among the names
 pub has_at : (names : List Text) (n : ℕ) (t : Text) → slice_get names n ≡ Some t
     → has names t ≡ true
 has_at [] n t e = absurd cc
 has_at (x ∷ xs) zero t e =
-    let is : bytes_eq t x ≡ true = (bytes_eq-Decides t x).1 (sym (same_name x t e)) in
+    let is : bytes_eq t x ≡ true = (bytes_eq-Decides t x).1 (sym (same_found x t e)) in
     ap (λ (b : Bool). b || has xs t) is
 has_at (x ∷ xs) (suc n) t e = or_true (bytes_eq t x) (has xs t) (has_at xs n t e)
   where
@@ -36,10 +31,10 @@ has_at (x ∷ xs) (suc n) t e = or_true (bytes_eq t x) (has xs t) (has_at xs n t
     or_true true b h = refl
     or_true false b h = h
 
-each_at : (names : List Text) (n : ℕ) (t : Text) → AllByRecursion (λ x. is_name x ≡ true) names
+each_at : (names : List Text) (n : ℕ) (t : Text) → AreAllNames names
     → slice_get names n ≡ Some t → is_name t ≡ true
 each_at [] n t each e = absurd cc
-each_at (x ∷ xs) zero t each e = subst (λ (w : Text). is_name w ≡ true) (same_name x t e) each.0
+each_at (x ∷ xs) zero t each e = subst (λ (w : Text). is_name w ≡ true) (same_found x t e) each.0
 each_at (x ∷ xs) (suc n) t each e = each_at xs n t each.1 e
 
 pub numbered : (names : List Text) (t : Text) (n : ℕ) → AreNames names → slice_get names n ≡ Some t

@@ -1,5 +1,5 @@
 -- Numbers that are read digit by digit.
-use Rattle.std.proofs.Common.{◌≡◌, ◌≢◌, ℕ, zero, suc, ◌+◌, ◌-◌, ◌*◌, ◌<◌, ◌≤◌, ◌^◌, Bool, true, false, ◌&&◌, [], ◌∷◌, length, get_or, drop, sym, ap, ◌∙◌, arith, drop-cons, add-one, Option, Some, None}
+use Rattle.std.proofs.Common.{◌≡◌, ◌≢◌, ℕ, zero, suc, ◌+◌, ◌-◌, ◌*◌, ◌<◌, ◌≤◌, ◌^◌, true, [], ◌∷◌, length, get_or, drop, sym, ap, ◌∙◌, arith, drop-cons, add-one, Option, Some, None}
 use Rattle.std.specs.Prelude.{decimal, MatchOption}
 use Rattle.std.specs.Char.{is_ascii_digit, digit_value}
 use Rattle.std.specs.Str.{all_ascii_digits}
@@ -29,20 +29,6 @@ value_more word i v lt digit =
     ∙ (λ k. digits_value_after 10 (v * 10 + digit_is (get_or word i 0) digit k) (drop (suc i) word))
     ∙ ap (λ (n : ℕ). digits_value_after 10 (v * 10 + (get_or word i 0 - 48)) (drop n word))
     (sym (add-one i))
-
-pub digits_more : (word : Text) (i : ℕ) → i < length word → is_ascii_digit (get_or word i 0) ≡ true
-    → all_ascii_digits (drop i word) ≡ all_ascii_digits (drop (i + 1) word)
-digits_more word i lt digit =
-    ap all_ascii_digits (drop-cons word i 0 lt)
-    ∙ ap (λ (b : Bool). b && all_ascii_digits (drop (suc i) word)) digit
-    ∙ ap (λ (n : ℕ). all_ascii_digits (drop n word)) (sym (add-one i))
-
--- a byte that is no digit
-pub digits_end : (word : Text) (i : ℕ) → i < length word → is_ascii_digit (get_or word i 0) ≡ false
-    → all_ascii_digits (drop i word) ≡ false
-digits_end word i lt none =
-    ap all_ascii_digits (drop-cons word i 0 lt)
-    ∙ ap (λ (b : Bool). b && all_ascii_digits (drop (suc i) word)) none
 
 small : (n : ℕ) → n ≤ 4294967295 → n < 2 ^ 64
 small n le = omega arith

@@ -32,14 +32,16 @@ some_names_read : (ns : List Text) → ns ≢ [] → AreAllNames ns → some_nam
 some_names_read [] some each = absurd (some refl)
 some_names_read (n ∷ ns) some each = names_read (n ∷ ns) each
 
-refusal_read : (refusal : Refusal Text) → HasRefusalForm refusal → refusal_in_words (refusal_words refusal) ≡ Ok refusal
+refusal_read : (refusal : Refusal Text) → HasRefusalForm refusal
+    → refusal_in_words (refusal_words refusal) ≡ Ok refusal
 refusal_read NotLocked form = refl
 refusal_read Building form = refl
 refusal_read NotBuilding form = refl
 refusal_read Itself form = refl
 refusal_read (Exists n) form = rw form refl
 
-refusal_is_visible : (refusal : Refusal Text) → HasRefusalForm refusal → AllByRecursion IsVisible (refusal_words refusal)
+refusal_is_visible : (refusal : Refusal Text) → HasRefusalForm refusal
+    → AllByRecursion IsVisible (refusal_words refusal)
 refusal_is_visible NotLocked form = (refl, tt)
 refusal_is_visible Building form = (refl, tt)
 refusal_is_visible NotBuilding form = (refl, tt)
@@ -72,14 +74,30 @@ args_of (Refused refusal) = refusal_words refusal
 said : (reply : Reply Text) → HasReplyForm reply → IsSaidBy (kind_of reply) (args_of reply) reply
 unfolding reply_args_in
 said Okay form = record { text = refl; visible = tt; reads = refl }
-said (Granted g) form = let e = grant_read g form in record { text = refl; visible = (grant_is_visible g form, tt); reads = rw e refl }
-said (Busy g) form = let e = grant_read g form in record { text = refl; visible = (grant_is_visible g form, tt); reads = rw e refl }
-said (Stale ns) form = let e = some_names_read ns form.0 form.1 in record { text = refl; visible = names_are_visible ns form.1; reads = rw e refl }
-said (Stamped digest) form = let e = digest_read digest form in record { text = refl; visible = (digest_is_visible digest form, tt); reads = rw e refl }
-said (Ood ns) form = let e = names_read ns form in record { text = refl; visible = names_are_visible ns form; reads = rw e refl }
-said (Targets ns) form = let e = names_read ns form in record { text = refl; visible = names_are_visible ns form; reads = rw e refl }
-said (Sources ns) form = let e = names_read ns form in record { text = refl; visible = names_are_visible ns form; reads = rw e refl }
-said (Refused refusal) form = let e = refusal_read refusal form in record { text = refl; visible = refusal_is_visible refusal form; reads = rw e refl }
+said (Granted g) form =
+    let e = grant_read g form in
+    record { text = refl; visible = (grant_is_visible g form, tt); reads = rw e refl }
+said (Busy g) form =
+    let e = grant_read g form in
+    record { text = refl; visible = (grant_is_visible g form, tt); reads = rw e refl }
+said (Stale ns) form =
+    let e = some_names_read ns form.0 form.1 in
+    record { text = refl; visible = names_are_visible ns form.1; reads = rw e refl }
+said (Stamped digest) form =
+    let e = digest_read digest form in
+    record { text = refl; visible = (digest_is_visible digest form, tt); reads = rw e refl }
+said (Ood ns) form =
+    let e = names_read ns form in
+    record { text = refl; visible = names_are_visible ns form; reads = rw e refl }
+said (Targets ns) form =
+    let e = names_read ns form in
+    record { text = refl; visible = names_are_visible ns form; reads = rw e refl }
+said (Sources ns) form =
+    let e = names_read ns form in
+    record { text = refl; visible = names_are_visible ns form; reads = rw e refl }
+said (Refused refusal) form =
+    let e = refusal_read refusal form in
+    record { text = refl; visible = refusal_is_visible refusal form; reads = rw e refl }
 
 word_is_visible : (kind : ReplyKind) → IsVisible (reply_word kind)
 word_is_visible kinds.Okay = refl
@@ -105,24 +123,31 @@ kind_is_named kinds.Sources = refl
 kind_is_named kinds.Refused = refl
 
 -- the words of a reply's text are read as the reply
-words_read : (text : Text) (reply : Reply Text) → IsReplyText text reply → reply_words_in (words_of text) ≡ Ok reply
+words_read : (text : Text) (reply : Reply Text) → IsReplyText text reply
+    → reply_words_in (words_of text) ≡ Ok reply
 unfolding reply_words_in
 words_read text reply is =
     let from = said reply is.0 in
     let word = reply_word (kind_of reply) in
-    let words : words_of text ≡ word ∷ args_of reply = ap words_of (is.1 ∙ from.text) ∙ words_of-spaced word (args_of reply) (word_is_visible (kind_of reply)) from.visible in
+    let words : words_of text ≡ word ∷ args_of reply =
+    ap words_of (is.1 ∙ from.text)
+    ∙ words_of-spaced word (args_of reply) (word_is_visible (kind_of reply)) from.visible in
     let named = kind_is_named (kind_of reply) in
     rw (words, named) from.reads
 
 -- a reply's text whose names fit is read
-pub reply_only : (names : List Text) (text : Text) (reply : Reply Text) (after : List Text) → IsReplyText text reply → AddsReplyNames names reply after → reply_in names text ≡ Ok (reply, after)
+pub reply_only : (names : List Text) (text : Text) (reply : Reply Text) (after : List Text)
+    → IsReplyText text reply → AddsReplyNames names reply after
+    → reply_in names text ≡ Ok (reply, after)
 unfolding reply_in
 reply_only names text reply after is adds =
     let words = words_read text reply is in
     let fit = all_added-fits names (names_in_reply reply) after adds.0 adds.1 in
     rw (words, fit) refl
 
-pub reply_has_no_fault : (names : List Text) (text : Text) (reply : Reply Text) (after : List Text) (fault : LineFault) → IsReplyText text reply → AddsReplyNames names reply after → reply_in names text ≡ Err fault → ⊥
+pub reply_has_no_fault : (names : List Text) (text : Text) (reply : Reply Text) (after : List Text)
+    (fault : LineFault) → IsReplyText text reply → AddsReplyNames names reply after
+    → reply_in names text ≡ Err fault → ⊥
 reply_has_no_fault names text reply after fault is adds e =
     let reads = reply_only names text reply after is adds in
     absurd cc

@@ -13,7 +13,6 @@ use Rattle.hex.specs.declared.error.FromHexError.{FromHexError}
 use Rattle.hex.proofs.HexLemmas.{decode_of-ok, decode_of-encode_lower, decode_sized-ok, decode_sized-twice, decode_sized-encode_lower}
 use Rattle.redo_names.specs.Names.{is_visible}
 use Rattle.redo_model.specs.Names.{Text}
-use Rattle.redo_command.specs.declared.fault.LineFault.{LineFault}
 use Rattle.redo_command.specs.declared.fault.LineFault.TheVariants.{WrongWords, BadHex}
 use Rattle.redo_command.specs.Replies.{IsGrant, IsDigest}
 use Rattle.redo_command.specs.Questions.{words_of}
@@ -113,25 +112,24 @@ one_grant text = by (words_of text) refl
             let both : w ∷ v ∷ vs ≡ decimal g ∷ [] = sym e ∙ one in
             absurd cc
 
-abbrev digest_read_as : Text → Result Text LineFault
-digest_read_as digest = Ok digest
-
-same_digest : (a b : Text) → digest_read_as a ≡ digest_read_as b → a ≡ b
-same_digest a b e = cc
-
 -- what is read as a digest are 20 bytes as they are printed
-pub digest_says : (word digest : Text) → digest_in word ≡ Ok digest → IsDigest digest × (word ≡ encode_lower digest)
+pub digest_says : (word digest : Text) → digest_in word ≡ Ok digest
+    → IsDigest digest × (word ≡ encode_lower digest)
 unfolding digest_in
 digest_says word digest e = by (decode_sized word 20) refl e
   where
-    by : (r : Result Text FromHexError) → decode_sized word 20 ≡ r → printed_digest word r ≡ Ok digest → IsDigest digest × (word ≡ encode_lower digest)
+    by : (r : Result Text FromHexError) → decode_sized word 20 ≡ r
+        → printed_digest word r ≡ Ok digest → IsDigest digest × (word ≡ encode_lower digest)
     by (Ok bytes) decoded h =
         let g = guard_ok (bytes_eq (encode_lower bytes) word) BadHex bytes digest h in
         let twice : length word ≡ 2 * 20 = decode_sized-ok word 20 bytes decoded in
         let ok = decode_of-ok word bytes (sym (decode_sized-twice word 20 twice) ∙ decoded) in
         let long : length bytes ≡ 20 = omega (arith, ok.2, twice) in
         let is : IsDigest bytes = (long, bytes_one_by_one bytes ok.3) in
-        subst (λ (d : Text). IsDigest d × (word ≡ encode_lower d)) g.1 (is, sym ((bytes_eq-Decides (encode_lower bytes) word).0 g.0))
+        subst (λ (d : Text). IsDigest d × (word ≡ encode_lower d)) g.1 (
+          is,
+          sym ((bytes_eq-Decides (encode_lower bytes) word).0 g.0),
+        )
     by (Err fault) decoded h = absurd cc
 
 -- and printed bytes are read
@@ -139,10 +137,14 @@ pub digest_read : (digest : Text) → IsDigest digest → digest_in (encode_lowe
 unfolding digest_in
 digest_read digest is =
     let decoded = decode_sized-encode_lower digest 20 is.0 (bytes_by_place digest is.1) in
-    let same : bytes_eq (encode_lower digest) (encode_lower digest) ≡ true = (bytes_eq-Decides (encode_lower digest) (encode_lower digest)).1 refl in
+    let same : bytes_eq (encode_lower digest) (encode_lower digest) ≡ true =
+    (bytes_eq-Decides (encode_lower digest) (encode_lower digest)).1 refl in
     rw (decoded, same) refl
 
 pub digest_is_visible : (digest : Text) → IsDigest digest → IsVisible (encode_lower digest)
 digest_is_visible digest is =
-    let digits = (decode_of-ok (encode_lower digest) digest (decode_of-encode_lower digest (bytes_by_place digest is.1))).1 in
-    digits_are_visible (encode_lower digest) (recursion_from_All (λ c. is_hex_digit c ≡ true) (encode_lower digest) digits)
+    let digits =
+    (decode_of-ok (encode_lower digest) digest
+    (decode_of-encode_lower digest (bytes_by_place digest is.1))).1 in
+    digits_are_visible (encode_lower digest)
+    (recursion_from_All (λ c. is_hex_digit c ≡ true) (encode_lower digest) digits)

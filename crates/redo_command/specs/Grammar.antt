@@ -2,7 +2,7 @@
 use Rattle.std.specs.Prelude.{◌≡◌, ◌≢◌, ◌<◌, ◌≤◌, ◌⊎◌, Bool, true, not, List, [], ◌∷◌, length, filter, IsTrue, IfSome, Ok, codes, ◌==◌, ⊤}
 use Rattle.std.specs.List.{slice_split, flat_map, AllByRecursion}
 use Rattle.hex.specs.Hex.{decode_of}
-use Rattle.redo_names.specs.Names.{is_name, with_name}
+use Rattle.redo_names.specs.Names.{is_name, with_name, AreAllNames}
 use Rattle.redo_model.specs.Names.{Text}
 use Rattle.redo_model.specs.Command.{Command, File, Gone, Lock, Unlock, Start, IfChange, IfCreate, Always, Stamp, Done, Failed, Ood, Targets, Sources, names_in}
 use Rattle.redo_command.specs.Stamp.{is_stamp}
@@ -12,7 +12,7 @@ use Rattle.redo_command.specs.Texts.{spaced, command_text_of}
 pub record IsNameList (names : List Text) : Type 0 where
   pub some : 1 ≤ length names
   pub few : length names ≤ 64
-  pub each : AllByRecursion (λ n. IsTrue (is_name n)) names
+  pub each : AreAllNames names
 
 -- what the words of a command have to be
 abbrev pub HasForm : Command Text → Type 0
@@ -37,11 +37,14 @@ IsShort line = length line ≤ 8192
 
 -- "-" stands for empty content; the digits of other content may have letters of either case
 abbrev pub IsContentWord : Text → Text → Type 0
-IsContentWord word content = ((word ≡ codes "-") × (content ≡ [])) ⊎ ((content ≢ []) × (decode_of word ≡ Ok content))
+IsContentWord word content =
+    ((word ≡ codes "-") × (content ≡ [])) ⊎ ((content ≢ []) × (decode_of word ≡ Ok content))
 
--- the line is the command's text, without its LF; of a stamp the content may be spelled in other ways
+-- the line is the command's text, without its LF; of a stamp the content may be spelled in other
+-- ways
 abbrev pub IsSpelled : Text → Command Text → Type 0
-IsSpelled line (Stamp t content) = (word : Text) × (line ≡ spaced (codes "stamp") (t ∷ word ∷ [])) × IsContentWord word content
+IsSpelled line (Stamp t content) =
+    (word : Text) × (line ≡ spaced (codes "stamp") (t ∷ word ∷ [])) × IsContentWord word content
 IsSpelled line command = line ≡ command_text_of command
 
 -- the line says the command
@@ -55,9 +58,11 @@ with_names names (t ∷ ts) = with_names (with_name names t) ts
 
 -- after are the names with those of the commands, and not too many
 abbrev pub AddsNames : List Text → List (Command Text) → List Text → Type 0
-AddsNames names commands after = (after ≡ with_names names (flat_map names_in commands)) × (length after ≤ 65536)
+AddsNames names commands after =
+    (after ≡ with_names names (flat_map names_in commands)) × (length after ≤ 65536)
 
--- the pieces between line feeds: what stands after a last line feed is an empty piece, which is skipped as any
+-- the pieces between line feeds: what stands after a last line feed is an empty piece, which is
+-- skipped as any
 abbrev pub lines_of : Text → List Text
 lines_of text = slice_split (λ b. b == 10) text
 
@@ -71,10 +76,12 @@ abbrev pub AreCommandLines : List Text → List (Command Text) → Type 0
 AreCommandLines [] [] = ⊤
 AreCommandLines [] (command ∷ commands) = ⊥
 AreCommandLines (line ∷ lines) [] = ⊥
-AreCommandLines (line ∷ lines) (command ∷ commands) = IsCommandLine line command × AreCommandLines lines commands
+AreCommandLines (line ∷ lines) (command ∷ commands) =
+    IsCommandLine line command × AreCommandLines lines commands
 
 -- the lines that are not skipped are these commands, one by one
-pub record AreScriptLines (names : List Text) (lines : List Text) (commands : List (Command Text)) (after : List Text) : Type 0 where
+pub record AreScriptLines (names : List Text) (lines : List Text) (commands : List (Command Text))
+    (after : List Text) : Type 0 where
   pub short : AllByRecursion IsShort lines
   pub said : AreCommandLines (filter (λ line. not (is_skipped line)) lines) commands
   pub few : length commands ≤ 4096

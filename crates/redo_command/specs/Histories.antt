@@ -26,11 +26,14 @@ history_text_of lines = header_of (length lines) ++ flat_map line_text_of lines
 
 -- a session's header, and its lines
 abbrev pub session_text_of : ℕ → List (Line Text) → Text
-session_text_of s part = ended (codes "session " ++ decimal (s + 1) ++ codes " " ++ decimal (length part)) ++ flat_map (λ line. ended (answer_text_of line)) part
+session_text_of s part =
+    ended (codes "session " ++ decimal (s + 1) ++ codes " " ++ decimal (length part))
+    ++ flat_map (λ line. ended (answer_text_of line)) part
 
 -- the history, and then each session's own lines
 abbrev pub run_text_of : List ℕ → List (Line Text) → Text
-run_text_of sessions lines = history_text_of lines ++ flat_map (λ s. session_text_of s (part_of s lines)) sessions
+run_text_of sessions lines =
+    history_text_of lines ++ flat_map (λ s. session_text_of s (part_of s lines)) sessions
 
 -- the sessions 0 to n - 1
 abbrev pub sessions_below : ℕ → List ℕ

@@ -67,7 +67,11 @@ reply_of (coded.Sources names) = replies.Sources names.items
 reply_of (coded.Refused refusal) = replies.Refused (refusal_of refusal)
 
 abbrev pub line_of : Line → histories.Line ℕ
-line_of line = record { session = line.session; command = command_of line.command; reply = reply_of line.reply }
+line_of line = record {
+  session = line.session;
+  command = command_of line.command;
+  reply = reply_of line.reply;
+}
 
 -- under the names that the numbers stand for
 abbrev pub command_at : List Text → Command → commands.Command Text

@@ -1,5 +1,5 @@
--- What is wrong with a line: a list of questions about it, each with its fault. The first question that is answered by
--- yes tells the line's fault.
+-- What is wrong with a line: a list of questions about it, each with its fault. The first question
+-- that is answered by yes tells the line's fault.
 use Rattle.std.specs.Prelude.{ℕ, ◌%◌, List, [], ◌∷◌, ◌++◌, map, drop, length, Option, Some, None}
 use Rattle.std.specs.Prelude.{Bool, true, not, ◌&&◌, ◌||◌, ◌==◌, nat_lt, nat_le, if◌then◌else◌, codes, bytes_eq, find}
 use Rattle.std.specs.List.{slice_split, list_any, list_all}
@@ -93,8 +93,8 @@ kind_named word = find (λ kind. bytes_eq word (word_of kind)) all_kinds
 abbrev pub is_full : List Text → List Text → Bool
 is_full names own = nat_lt 65536 (length (with_names names own))
 
--- Is the first word no command? Is the number of words another? Are there more than 64 names after the target? Word
--- by word, is it not what is wanted? Would there be too many names?
+-- Is the first word no command? Is the number of words another? Are there more than 64 names after
+-- the target? Word by word, is it not what is wanted? Would there be too many names?
 abbrev pub form_questions : List Text → Option Kind → List Text → List Question
 form_questions names None words = (true, UnknownCommand) ∷ []
 form_questions names (Some kind) words =

@@ -1,4 +1,5 @@
--- The steps of the private readers, which no public clause cites: what each gives, or the fault where it fails.
+-- The steps of the private readers, which no public clause cites: what each gives, or the fault
+-- where it fails.
 use Rattle.std.specs.Prelude.{◌≡◌, ℕ, List, [], ◌∷◌, ◌++◌, length, Option, Some, None, Result, Ok, Err, not, nat_lt, nat_le, ◌==◌, if◌then◌else◌, codes, bytes_eq, slice_get, true}
 use Rattle.std.specs.Borrow.{Bor}
 use Rattle.std.specs.List.{list_all}
@@ -18,7 +19,8 @@ use Rattle.redo_command.specs.declared.fault.Unread.{Unread}
 use Rattle.redo_command.specs.declared.fault.Unread.TheVariants as unread
 
 infixl 10 ◌>>=◌
-abbrev pub ◌>>=◌ : {A B : Type 0} → Result A LineFault → (A → Result B LineFault) → Result B LineFault
+abbrev pub ◌>>=◌ : {A B : Type 0} → Result A LineFault → (A → Result B LineFault)
+    → Result B LineFault
 (Ok x) >>= f = f x
 (Err e) >>= f = Err e
 
@@ -30,7 +32,8 @@ file_stamp_in word = if is_stamp word then Ok word else Err BadStamp
 
 -- "-" is no stamp
 abbrev pub file_stamp_or_none_in : Text → Result (Option Text) LineFault
-file_stamp_or_none_in word = if bytes_eq word (codes "-") then Ok None else (file_stamp_in word >>= λ s. Ok (Some s))
+file_stamp_or_none_in word =
+    if bytes_eq word (codes "-") then Ok None else (file_stamp_in word >>= λ s. Ok (Some s))
 
 -- decoded bytes, of which there have to be some
 abbrev pub some_content : Result Text FromHexError → Result Text LineFault
@@ -44,7 +47,9 @@ content_in word = if bytes_eq word (codes "-") then Ok [] else some_content (dec
 
 -- the names with this one, where it is there or there is room
 abbrev pub added : List Text → Text → Result (List Text) LineFault
-added names text = if has names text then Ok names else (if length names == 65536 then Err TooManyNames else Ok (names ++ text ∷ []))
+added names text =
+    if has names text then Ok names
+    else (if length names == 65536 then Err TooManyNames else Ok (names ++ text ∷ []))
 
 -- the text is a name, and this is its number
 pub record IsNumbered (names : List Text) (text : Text) (number : ℕ) : Type 0 where
@@ -75,7 +80,9 @@ target_and_names_in (t ∷ n ∷ ns) =
 
 -- the names with all of these, where they are not too many then
 unfoldable pub all_added : List Text → List Text → Result (List Text) LineFault
-all_added names ts = if nat_le (length (with_names names ts)) 65536 then Ok (with_names names ts) else Err TooManyNames
+all_added names ts =
+    if nat_le (length (with_names names ts)) 65536 then Ok (with_names names ts)
+    else Err TooManyNames
 
 -- a form of a target and of names
 unfoldable pub names_form_in : (Text → List Text → Command Text) → List Text → List Text → Reading
@@ -155,7 +162,8 @@ line_in names line =
     else words_in names (words_of line))
 
 -- a line of a script, after so many commands; it may be skipped
-unfoldable pub script_line_in : ℕ → List Text → Text → Result (Option (Command Text) × List Text) LineFault
+unfoldable pub script_line_in : ℕ → List Text → Text
+    → Result (Option (Command Text) × List Text) LineFault
 script_line_in count names line =
     if nat_lt 8192 (length line) then Err LineTooLong
     else (if is_skipped line then Ok (None, names)

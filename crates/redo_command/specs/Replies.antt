@@ -2,6 +2,7 @@
 use Rattle.std.specs.Prelude.{◌≡◌, ◌≢◌, ℕ, ◌<◌, ◌≤◌, List, [], ◌∷◌, length, IsTrue, ⊤}
 use Rattle.std.specs.List.{AllByRecursion}
 use Rattle.redo_names.specs.Names.{is_name}
+pub use Rattle.redo_names.specs.Names.{AreAllNames}
 use Rattle.redo_model.specs.Names.{Text}
 use Rattle.redo_model.specs.Reply.{Refusal, NotLocked, Building, NotBuilding, Itself, Exists, Reply, Okay, Granted, Busy, Stale, Stamped, Ood, Targets, Sources, Refused}
 use Rattle.redo_command.specs.Texts.{reply_text_of}
@@ -10,9 +11,6 @@ use Rattle.redo_command.specs.Grammar.{with_names}
 -- grants are counted from 1
 abbrev pub IsGrant : ℕ → Type 0
 IsGrant g = (1 ≤ g) × (g ≤ 4294967295)
-
-abbrev pub AreAllNames : List Text → Type 0
-AreAllNames names = AllByRecursion (λ n. IsTrue (is_name n)) names
 
 -- 20 bytes
 abbrev pub IsDigest : Text → Type 0
@@ -62,4 +60,5 @@ names_in_reply (Refused refusal) = names_in_refusal refusal
 
 -- after are the names with those of the reply, and not too many
 abbrev pub AddsReplyNames : List Text → Reply Text → List Text → Type 0
-AddsReplyNames names reply after = (after ≡ with_names names (names_in_reply reply)) × (length after ≤ 65536)
+AddsReplyNames names reply after =
+    (after ≡ with_names names (names_in_reply reply)) × (length after ≤ 65536)

@@ -1,4 +1,5 @@
--- Reading a reply by steps: the first step that its text fails is its fault, and its names are added last.
+-- Reading a reply by steps: the first step that its text fails is its fault, and its names are
+-- added last.
 use Rattle.std.specs.Prelude.{ℕ, List, [], ◌∷◌, Option, Some, None, Result, Ok, Err, not, ◌&&◌, nat_lt, nat_le, if◌then◌else◌, slice_index, codes, bytes_eq, find}
 use Rattle.std.specs.List.{list_all}
 use Rattle.std.specs.Str.{all_ascii_digits}
@@ -25,12 +26,15 @@ one_word_in reader (w ∷ v ∷ vs) = Err WrongWords
 -- the number from 1 to 4,294,967,295 whose digits these are, without a sign or a zero in front
 unfoldable pub grant_in : Text → Result ℕ LineFault
 grant_in word =
-    if nat_lt 48 (slice_index word 0) && all_ascii_digits word && nat_le (digits_value 10 word) 4294967295 then Ok (digits_value 10 word)
+    if nat_lt 48 (slice_index word 0) && all_ascii_digits word
+    && nat_le (digits_value 10 word) 4294967295
+    then Ok (digits_value 10 word)
     else Err WrongWords
 
 -- decoded bytes, where the word is how they are printed
 abbrev pub printed_digest : Text → Result Text FromHexError → Result Text LineFault
-printed_digest word (Ok digest) = if bytes_eq (encode_lower digest) word then Ok digest else Err BadHex
+printed_digest word (Ok digest) =
+    if bytes_eq (encode_lower digest) word then Ok digest else Err BadHex
 printed_digest word (Err e) = Err BadHex
 
 -- the 20 bytes whose digits these are
@@ -55,7 +59,8 @@ plain_refusal_in word =
 abbrev pub refusal_in_words : List Text → Result (Refusal Text) LineFault
 refusal_in_words [] = Err WrongWords
 refusal_in_words (w ∷ []) = plain_refusal_in w
-refusal_in_words (w ∷ n ∷ []) = if bytes_eq w (codes "exists") then (name_in n >>= λ name. Ok (Exists name)) else Err WrongWords
+refusal_in_words (w ∷ n ∷ []) =
+    if bytes_eq w (codes "exists") then (name_in n >>= λ name. Ok (Exists name)) else Err WrongWords
 refusal_in_words (w ∷ n ∷ v ∷ vs) = Err WrongWords
 
 -- the word that a reply of the kind begins with
@@ -71,7 +76,9 @@ reply_word kinds.Sources = codes "sources"
 reply_word kinds.Refused = codes "refused"
 
 abbrev pub all_reply_kinds : List ReplyKind
-all_reply_kinds = kinds.Okay ∷ kinds.Granted ∷ kinds.Busy ∷ kinds.Stale ∷ kinds.Stamped ∷ kinds.Ood ∷ kinds.Targets ∷ kinds.Sources ∷ kinds.Refused ∷ []
+all_reply_kinds =
+    kinds.Okay ∷ kinds.Granted ∷ kinds.Busy ∷ kinds.Stale ∷ kinds.Stamped ∷ kinds.Ood
+    ∷ kinds.Targets ∷ kinds.Sources ∷ kinds.Refused ∷ []
 
 -- the kind whose word this is
 abbrev pub reply_kind_named : Text → Option ReplyKind
@@ -88,7 +95,8 @@ reply_args_in (Some kinds.Okay) args = okay_in args
 reply_args_in (Some kinds.Granted) args = one_word_in grant_in args >>= λ g. Ok (Granted g)
 reply_args_in (Some kinds.Busy) args = one_word_in grant_in args >>= λ g. Ok (Busy g)
 reply_args_in (Some kinds.Stale) args = some_names_in_words args >>= λ ns. Ok (Stale ns)
-reply_args_in (Some kinds.Stamped) args = one_word_in digest_in args >>= λ digest. Ok (Stamped digest)
+reply_args_in (Some kinds.Stamped) args =
+    one_word_in digest_in args >>= λ digest. Ok (Stamped digest)
 reply_args_in (Some kinds.Ood) args = names_in_words args >>= λ ns. Ok (Ood ns)
 reply_args_in (Some kinds.Targets) args = names_in_words args >>= λ ns. Ok (Targets ns)
 reply_args_in (Some kinds.Sources) args = names_in_words args >>= λ ns. Ok (Sources ns)
@@ -100,7 +108,8 @@ reply_words_in [] = Err WrongWords
 reply_words_in (word ∷ args) = reply_args_in (reply_kind_named word) args
 
 -- what was read, and the names with its names
-abbrev pub with_its_names : {X : Type 0} → (X → List Text) → List Text → Result X LineFault → Result (X × List Text) LineFault
+abbrev pub with_its_names : {X : Type 0} → (X → List Text) → List Text → Result X LineFault
+    → Result (X × List Text) LineFault
 with_its_names own names reading = do
   x ← reading
   after ← all_added names (own x)

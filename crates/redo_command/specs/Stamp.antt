@@ -10,7 +10,9 @@ is_placeholder text = bytes_eq text (codes "-") || bytes_eq text (codes "=>")
 
 -- 1 to 64 visible bytes that are no placeholder
 unfoldable pub is_stamp : List ℕ → Bool
-is_stamp text = nat_le 1 (length text) && nat_le (length text) 64 && list_all is_visible text && not (is_placeholder text)
+is_stamp text =
+    nat_le 1 (length text) && nat_le (length text) 64 && list_all is_visible text
+    && not (is_placeholder text)
 
 -- the text, and zeros up to the length of the longest stamp
 abbrev pub padded : List ℕ → List ℕ
@@ -28,4 +30,5 @@ pub length-taken : (len : ℕ) (bytes : List ℕ) → IsPadded len bytes → len
 length-taken len bytes is = is.whole
 
 pub padded-take : (len : ℕ) (bytes : List ℕ) → IsPadded len bytes → padded (take len bytes) ≡ bytes
-padded-take len bytes is = ap (λ (n : ℕ). take len bytes ++ replicate (64 - n) 0) is.whole ∙ sym is.zeros
+padded-take len bytes is =
+    ap (λ (n : ℕ). take len bytes ++ replicate (64 - n) 0) is.whole ∙ sym is.zeros

@@ -1,4 +1,4 @@
-ghost use Rattle.std.specs.Prelude.{◌≡◌, ◌≢◌, ◌∷◌, [], List, Bool, Some, MatchOption, IfOk, length, map, false, ◌==◌};
+ghost use Rattle.std.specs.Prelude.{◌≡◌, ◌≢◌, ◌∷◌, [], List, Some, MatchOption, IfOk, length, map, false, ◌==◌};
 ghost use Rattle.std.specs.List.{list_any};
 ghost use Rattle.redo_model.specs.Names.{Text};
 ghost use Rattle.redo_command.specs.Questions.{words_of};

@@ -1,4 +1,4 @@
-ghost use Rattle.std.specs.Prelude.{◌≡◌, ◌<◌, List, map, length, MatchOption, IfOk, Err};
+ghost use Rattle.std.specs.Prelude.{◌<◌, List, length, IfOk, Err};
 ghost use Rattle.redo_names.specs.Names.{text_at, Extends};
 ghost use Rattle.redo_model.specs.Names.{Text};
 ghost use Rattle.redo_model.specs.Command as commands;
@@ -6,7 +6,7 @@ ghost use Rattle.redo_model.specs.Reply as replies;
 ghost use Rattle.redo_model.specs.Renaming.{IsBelow};
 ghost use Rattle.redo_command.specs.Meaning.{command_of, command_at};
 ghost use Rattle.redo_command.specs.Questions.{words_of};
-ghost use Rattle.redo_command.specs.Reading.{Reads, one_name_in, names_form_in, file_in, stamp_in, done_in, no_words_in, form_in, words_in, words_after};
+ghost use Rattle.redo_command.specs.Reading.{Reads, one_name_in, file_in, stamp_in, done_in, no_words_in, form_in, words_in, words_after};
 ghost use Rattle.redo_command.specs.ReplyReading.{okay_in};
 
 use crate::args::{one, two};
@@ -56,80 +56,6 @@ fn file_of(names: &mut Names, args: Option<&[u8]>) -> Result<Command, Unread>
     Ok(Command::File(number, stamp))
 }
 
-fn gone_of(names: &mut Names, args: Option<&[u8]>) -> Result<Command, Unread>
-    ensures reads { Reads (λ command. (command_at names.new command, names.new)) result
-        (one_name_in commands.Gone names.old (words_after args.entry)) }
-    ensures within { IfOk result (λ command. IsBelow (length names.new) (command_of command)) }
-    ensures kept { Extends names.old names.new }
-{
-    Ok(Command::Gone(one_name_of(names, args)?))
-}
-
-fn lock_of(names: &mut Names, args: Option<&[u8]>) -> Result<Command, Unread>
-    ensures reads { Reads (λ command. (command_at names.new command, names.new)) result
-        (one_name_in commands.Lock names.old (words_after args.entry)) }
-    ensures within { IfOk result (λ command. IsBelow (length names.new) (command_of command)) }
-    ensures kept { Extends names.old names.new }
-{
-    Ok(Command::Lock(one_name_of(names, args)?))
-}
-
-fn unlock_of(names: &mut Names, args: Option<&[u8]>) -> Result<Command, Unread>
-    ensures reads { Reads (λ command. (command_at names.new command, names.new)) result
-        (one_name_in commands.Unlock names.old (words_after args.entry)) }
-    ensures within { IfOk result (λ command. IsBelow (length names.new) (command_of command)) }
-    ensures kept { Extends names.old names.new }
-{
-    Ok(Command::Unlock(one_name_of(names, args)?))
-}
-
-fn start_of(names: &mut Names, args: Option<&[u8]>) -> Result<Command, Unread>
-    ensures reads { Reads (λ command. (command_at names.new command, names.new)) result
-        (one_name_in commands.Start names.old (words_after args.entry)) }
-    ensures within { IfOk result (λ command. IsBelow (length names.new) (command_of command)) }
-    ensures kept { Extends names.old names.new }
-{
-    Ok(Command::Start(one_name_of(names, args)?))
-}
-
-fn failed_of(names: &mut Names, args: Option<&[u8]>) -> Result<Command, Unread>
-    ensures reads { Reads (λ command. (command_at names.new command, names.new)) result
-        (one_name_in commands.Failed names.old (words_after args.entry)) }
-    ensures within { IfOk result (λ command. IsBelow (length names.new) (command_of command)) }
-    ensures kept { Extends names.old names.new }
-{
-    Ok(Command::Failed(one_name_of(names, args)?))
-}
-
-fn ifchange_of(alloc: Global, names: &mut Names, args: Option<&[u8]>) -> Result<Command, Unread>
-    ensures reads { Reads (λ command. (command_at names.new command, names.new)) result
-        (names_form_in commands.IfChange names.old (words_after args.entry)) }
-    ensures within { IfOk result (λ command. IsBelow (length names.new) (command_of command)) }
-    ensures kept { Extends names.old names.new }
-{
-    let (target, numbers) = target_and_numbers_of(alloc, names, args)?;
-    Ok(Command::IfChange(target, numbers))
-}
-
-fn ifcreate_of(alloc: Global, names: &mut Names, args: Option<&[u8]>) -> Result<Command, Unread>
-    ensures reads { Reads (λ command. (command_at names.new command, names.new)) result
-        (names_form_in commands.IfCreate names.old (words_after args.entry)) }
-    ensures within { IfOk result (λ command. IsBelow (length names.new) (command_of command)) }
-    ensures kept { Extends names.old names.new }
-{
-    let (target, numbers) = target_and_numbers_of(alloc, names, args)?;
-    Ok(Command::IfCreate(target, numbers))
-}
-
-fn always_of(names: &mut Names, args: Option<&[u8]>) -> Result<Command, Unread>
-    ensures reads { Reads (λ command. (command_at names.new command, names.new)) result
-        (one_name_in commands.Always names.old (words_after args.entry)) }
-    ensures within { IfOk result (λ command. IsBelow (length names.new) (command_of command)) }
-    ensures kept { Extends names.old names.new }
-{
-    Ok(Command::Always(one_name_of(names, args)?))
-}
-
 #[tactic(auto, using(crate::proofs::Added::extends_same), unfolding(crate::specs::Reading::stamp_in))]
 fn stamp_of(alloc: Global, names: &mut Names, args: Option<&[u8]>) -> Result<Command, Unread>
     ensures reads { Reads (λ command. (command_at names.new command, names.new)) result
@@ -175,39 +101,6 @@ pub(crate) fn check_no_words(args: Option<&[u8]>) -> Result<(), Unread>
     }
 }
 
-#[tactic(auto, using(crate::proofs::Added::extends_same))]
-fn ood_of(names: &mut Names, args: Option<&[u8]>) -> Result<Command, Unread>
-    ensures reads { Reads (λ command. (command_at names.new command, names.new)) result
-        (no_words_in commands.Ood names.old (words_after args.entry)) }
-    ensures within { IfOk result (λ command. IsBelow (length names.new) (command_of command)) }
-    ensures kept { Extends names.old names.new }
-{
-    check_no_words(args)?;
-    Ok(Command::Ood)
-}
-
-#[tactic(auto, using(crate::proofs::Added::extends_same))]
-fn targets_of(names: &mut Names, args: Option<&[u8]>) -> Result<Command, Unread>
-    ensures reads { Reads (λ command. (command_at names.new command, names.new)) result
-        (no_words_in commands.Targets names.old (words_after args.entry)) }
-    ensures within { IfOk result (λ command. IsBelow (length names.new) (command_of command)) }
-    ensures kept { Extends names.old names.new }
-{
-    check_no_words(args)?;
-    Ok(Command::Targets)
-}
-
-#[tactic(auto, using(crate::proofs::Added::extends_same))]
-fn sources_of(names: &mut Names, args: Option<&[u8]>) -> Result<Command, Unread>
-    ensures reads { Reads (λ command. (command_at names.new command, names.new)) result
-        (no_words_in commands.Sources names.old (words_after args.entry)) }
-    ensures within { IfOk result (λ command. IsBelow (length names.new) (command_of command)) }
-    ensures kept { Extends names.old names.new }
-{
-    check_no_words(args)?;
-    Ok(Command::Sources)
-}
-
 /// The command that a text is, by its first word.
 #[tactic(auto, using(crate::proofs::Added::extends_same), unfolding(crate::specs::Reading::form_in))]
 pub(crate) fn form_of(alloc: Global, names: &mut Names, text: &[u8]) -> Result<Command, Unread>
@@ -221,18 +114,33 @@ pub(crate) fn form_of(alloc: Global, names: &mut Names, text: &[u8]) -> Result<C
     };
     match kind {
         Kind::File => file_of(names, args),
-        Kind::Gone => gone_of(names, args),
-        Kind::Lock => lock_of(names, args),
-        Kind::Unlock => unlock_of(names, args),
-        Kind::Start => start_of(names, args),
-        Kind::IfChange => ifchange_of(alloc, names, args),
-        Kind::IfCreate => ifcreate_of(alloc, names, args),
-        Kind::Always => always_of(names, args),
+        Kind::Gone => Ok(Command::Gone(one_name_of(names, args)?)),
+        Kind::Lock => Ok(Command::Lock(one_name_of(names, args)?)),
+        Kind::Unlock => Ok(Command::Unlock(one_name_of(names, args)?)),
+        Kind::Start => Ok(Command::Start(one_name_of(names, args)?)),
+        Kind::IfChange => {
+            let (target, others) = target_and_numbers_of(alloc, names, args)?;
+            Ok(Command::IfChange(target, others))
+        }
+        Kind::IfCreate => {
+            let (target, others) = target_and_numbers_of(alloc, names, args)?;
+            Ok(Command::IfCreate(target, others))
+        }
+        Kind::Always => Ok(Command::Always(one_name_of(names, args)?)),
         Kind::Stamp => stamp_of(alloc, names, args),
         Kind::Done => done_of(names, args),
-        Kind::Failed => failed_of(names, args),
-        Kind::Ood => ood_of(names, args),
-        Kind::Targets => targets_of(names, args),
-        Kind::Sources => sources_of(names, args),
+        Kind::Failed => Ok(Command::Failed(one_name_of(names, args)?)),
+        Kind::Ood => {
+            check_no_words(args)?;
+            Ok(Command::Ood)
+        }
+        Kind::Targets => {
+            check_no_words(args)?;
+            Ok(Command::Targets)
+        }
+        Kind::Sources => {
+            check_no_words(args)?;
+            Ok(Command::Sources)
+        }
     }
 }

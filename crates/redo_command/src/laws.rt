@@ -12,12 +12,14 @@ ghost use Rattle.redo_command.specs.Replies.{HasReplyForm, IsReplyText};
 
 /// The text of a command is a line of that command, where it is not too long.
 pub fn command_reads_back()
-    ensures { (command : Command Text) → HasForm command → IsShort (command_text_of command) → IsCommandLine (command_text_of command) command }
+    ensures { (command : Command Text) → HasForm command → IsShort (command_text_of command)
+        → IsCommandLine (command_text_of command) command }
 {}
 
 /// A line is the line of at most one command.
 pub fn one_command_a_line()
-    ensures { (line : Text) (a b : Command Text) → IsCommandLine line a → IsCommandLine line b → a ≡ b }
+    ensures { (line : Text) (a b : Command Text) → IsCommandLine line a → IsCommandLine line b
+        → a ≡ b }
 {}
 
 /// The text of a reply is that reply's.

@@ -31,7 +31,8 @@ pub(crate) fn are_names(words: &[&[u8]]) -> bool
 /// The word of the target and those of the names after it, of which there are 1 to 64.
 #[tactic(auto, unfolding(crate::specs::Reading::target_and_names_in))]
 fn target_and_names<'a, 'b>(args: &'b [&'a [u8]]) -> Result<(&'a [u8], &'b [&'a [u8]]), Unread>
-    ensures reads { Reads (λ p. (p.0.now, map (λ w. w.now) p.1.now)) result (target_and_names_in (map (λ w. w.now) args.now)) }
+    ensures reads { Reads (λ p. (p.0.now, map (λ w. w.now) p.1.now)) result
+        (target_and_names_in (map (λ w. w.now) args.now)) }
     ensures target { IfOk result (λ p. name_test p.0.now ≡ true) }
     ensures names { IfOk result (λ p. list_all name_test (map (λ w. w.now) p.1.now) ≡ true) }
 {
@@ -58,8 +59,10 @@ pub(crate) fn numbers_of(
 ) -> Result<Vec<u32>, Unread>
     requires few { length names.old ≤ 65536 }
     requires names { list_all name_test (map (λ w. w.now) words.now) ≡ true }
-    ensures reads { Reads (λ _. names.new) result (all_added names.old (map (λ w. w.now) words.now)) }
-    ensures numbers { IfOk result (λ numbers. map (text_at names.new) numbers.items ≡ map (λ w. w.now) words.now) }
+    ensures reads { Reads (λ _. names.new) result
+        (all_added names.old (map (λ w. w.now) words.now)) }
+    ensures numbers { IfOk result
+        (λ numbers. map (text_at names.new) numbers.items ≡ map (λ w. w.now) words.now) }
     ensures within { IfOk result (λ numbers. AllBelow (length names.new) numbers.items) }
     ensures kept { Extends names.old names.new }
 {

@@ -26,7 +26,8 @@ pub const MOST_COMMANDS: usize = 4096;
 /// The command that a line is, without its LF.
 #[tactic(auto, using(crate::proofs::Added::extends_same), unfolding(crate::specs::Reading::line_in))]
 fn line_of(alloc: Global, line: &[u8], names: &mut Names) -> Result<Command, Unread>
-    ensures reads { Reads (λ command. (command_at names.new command, names.new)) result (line_in names.old line.now) }
+    ensures reads { Reads (λ command. (command_at names.new command, names.new)) result
+        (line_in names.old line.now) }
     ensures too_long { ¬ (IsShort line.now) → result ≡ Err (Unread.Fault LineFault.LineTooLong) }
     ensures bad_byte { IsShort line.now → bad_byte_test line.now ≡ true
         → result ≡ Err (Unread.Fault LineFault.BadByte) }
@@ -48,10 +49,13 @@ fn line_of(alloc: Global, line: &[u8], names: &mut Names) -> Result<Command, Unr
 /// Reads the command that a line is, without its LF. Faults have line 1. After a fault the old names are a front of the names.
 pub fn read_command(alloc: Global, line: &[u8], names: &mut Names) -> Result<Command, ReadFault>
     // What is read is a command line, and its names are added.
-    ensures read { IfOk result (λ command. IsCommandLine line.now (command_at names.new command) × AddsNames names.old (command_at names.new command ∷ []) names.new) }
+    ensures read { IfOk result (λ command. IsCommandLine line.now (command_at names.new command)
+        × AddsNames names.old (command_at names.new command ∷ []) names.new) }
     // A command line whose names fit is read, unless memory runs out.
-    ensures only { (command : CommandOf Text) (after : List Text) → IsCommandLine line.now command → AddsNames names.old (command ∷ []) after
-        → (result ≡ Err ReadFault.Memory) ⊎ IsOkAnd result (λ read. (command_at names.new read ≡ command) × (names.new ≡ after)) }
+    ensures only { (command : CommandOf Text) (after : List Text) → IsCommandLine line.now command
+        → AddsNames names.old (command ∷ []) after
+        → (result ≡ Err ReadFault.Memory)
+        ⊎ IsOkAnd result (λ read. (command_at names.new read ≡ command) × (names.new ≡ after)) }
     // A fault is that of the first question about the line that is answered by yes.
     ensures fault { IfErr result (IsLineFault names.old line.now) }
     // These two come before want of memory.
@@ -86,8 +90,10 @@ pub(crate) fn read_script_line(
     count: usize,
     names: &mut Names,
 ) -> Result<Option<Command>, Unread>
-    ensures reads { Reads (λ read. (option_map (command_at names.new) read, names.new)) result (script_line_in count names.old line.now) }
-    ensures within { IfOk result (λ read. IfSome read (λ command. IsBelow (length names.new) (command_of command))) }
+    ensures reads { Reads (λ read. (option_map (command_at names.new) read, names.new)) result
+        (script_line_in count names.old line.now) }
+    ensures within { IfOk result
+        (λ read. IfSome read (λ command. IsBelow (length names.new) (command_of command))) }
     ensures kept { Extends names.old names.new }
 {
     if line.len() > LONGEST_LINE {

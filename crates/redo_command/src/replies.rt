@@ -1,12 +1,12 @@
-ghost use Rattle.std.specs.Prelude.{◌≡◌, ◌⊎◌, ◌≤◌, List, map, length, IfOk, IsOkAnd};
+ghost use Rattle.std.specs.Prelude.{◌≡◌, ◌⊎◌, ◌≤◌, List, length, IfOk, IsOkAnd};
 ghost use Rattle.redo_names.specs.Names.{Extends};
 ghost use Rattle.redo_model.specs.Names.{Text};
 ghost use Rattle.redo_model.specs.Reply.{Reply as ReplyOf};
 ghost use Rattle.redo_model.specs.Renaming.{IsReplyBelow};
 ghost use Rattle.redo_command.specs.Meaning.{reply_of, reply_at};
 ghost use Rattle.redo_command.specs.Reading.{Reads};
-ghost use Rattle.redo_command.specs.Replies.{IsReplyText, AddsReplyNames, names_in_reply};
-ghost use Rattle.redo_command.specs.ReplyReading.{reply_words_in, with_its_names, reply_in};
+ghost use Rattle.redo_command.specs.Replies.{IsReplyText, AddsReplyNames};
+ghost use Rattle.redo_command.specs.ReplyReading.{reply_in};
 
 use crate::fault::{LineFault, ReplyFault, Unread};
 use crate::forms::check_no_words;
@@ -47,10 +47,13 @@ fn text_read(alloc: Global, text: &[u8], names: &mut Names) -> Result<Reply, Unr
 /// Reads the reply that a text is, without LF. After a fault the old names are a front of the names.
 pub fn read_reply(alloc: Global, text: &[u8], names: &mut Names) -> Result<Reply, ReplyFault>
     // What is read is a reply's text, and its names are added.
-    ensures read { IfOk result (λ reply. IsReplyText text.now (reply_at names.new reply) × AddsReplyNames names.old (reply_at names.new reply) names.new) }
+    ensures read { IfOk result (λ reply. IsReplyText text.now (reply_at names.new reply)
+        × AddsReplyNames names.old (reply_at names.new reply) names.new) }
     // A reply's text whose names fit is read, unless memory runs out.
-    ensures only { (reply : ReplyOf Text) (after : List Text) → IsReplyText text.now reply → AddsReplyNames names.old reply after
-        → (result ≡ Err ReplyFault.Memory) ⊎ IsOkAnd result (λ read. (reply_at names.new read ≡ reply) × (names.new ≡ after)) }
+    ensures only { (reply : ReplyOf Text) (after : List Text) → IsReplyText text.now reply
+        → AddsReplyNames names.old reply after
+        → (result ≡ Err ReplyFault.Memory)
+        ⊎ IsOkAnd result (λ read. (reply_at names.new read ≡ reply) × (names.new ≡ after)) }
     ensures within { IfOk result (λ reply. IsReplyBelow (length names.new) (reply_of reply)) }
     ensures kept { Extends names.old names.new }
 {

@@ -1,4 +1,4 @@
-ghost use Rattle.std.specs.Prelude.{◌≡◌, ◌≤◌, List, ℕ, map, length, IfOk};
+ghost use Rattle.std.specs.Prelude.{◌≤◌, List, ℕ, map, length, IfOk};
 ghost use Rattle.redo_names.specs.Names.{text_at, Extends};
 ghost use Rattle.redo_model.specs.Names.{Text};
 ghost use Rattle.redo_model.specs.Reply.{Refused};
@@ -115,8 +115,11 @@ pub(crate) fn some_listed_of(
 /// The refusal that a word says alone.
 #[tactic(auto, using(crate::proofs::ReplyNames::none_added))]
 fn plain_refusal_of(word: &[u8]) -> Result<Refusal, Unread>
-    ensures reads { (names : List Text) → length names ≤ 65536 → Reads (λ refusal. (named_refusal (text_at names) (refusal_of refusal), names)) result (with_its_names names_in_refusal names (plain_refusal_in word.now)) }
-    ensures within { (n : ℕ) → IfOk result (λ refusal. IsReplyBelow n (Refused (refusal_of refusal))) }
+    ensures reads { (names : List Text) → length names ≤ 65536
+        → Reads (λ refusal. (named_refusal (text_at names) (refusal_of refusal), names)) result
+        (with_its_names names_in_refusal names (plain_refusal_in word.now)) }
+    ensures within { (n : ℕ)
+        → IfOk result (λ refusal. IsReplyBelow n (Refused (refusal_of refusal))) }
 {
     if word == b"not-locked".as_slice() {
         Ok(Refusal::NotLocked)
@@ -139,7 +142,8 @@ pub(crate) fn refusal_of_words(names: &mut Names, args: Option<&[u8]>) -> Result
         (λ refusal. (named_refusal (text_at names.new) (refusal_of refusal), names.new))
         result
         (with_its_names names_in_refusal names.old (refusal_in_words (words_after args.entry))) }
-    ensures within { IfOk result (λ refusal. IsReplyBelow (length names.new) (Refused (refusal_of refusal))) }
+    ensures within { IfOk result
+        (λ refusal. IsReplyBelow (length names.new) (Refused (refusal_of refusal))) }
     ensures kept { Extends names.old names.new }
 {
     if let Some(word) = one(args) {

@@ -52,7 +52,9 @@ fn line_end(text: &[u8]) -> Option<usize>
 
 /// The first line, and what stands after its LF, if it has one.
 fn cut(text: &[u8]) -> (&[u8], Option<&[u8]>)
-    ensures { MatchOption result.1 (lines_of text.now ≡ result.0.now ∷ []) (λ rest. (lines_of text.now ≡ result.0.now ∷ lines_of rest.now) × (length rest.now < length text.now)) }
+    ensures { MatchOption result.1 (lines_of text.now ≡ result.0.now ∷ [])
+        (λ rest. (lines_of text.now ≡ result.0.now ∷ lines_of rest.now)
+        × (length rest.now < length text.now)) }
 {
     match line_end(text) {
         Some(end) => (&text[..end], Some(&text[end + 1..])),
@@ -67,12 +69,17 @@ fn take_line(
     commands: &mut Vec<Command>,
     names: &mut Names,
 ) -> Result<(), Unread>
-    requires { AllByRecursion (λ command. IsBelow (length names.old) (command_of command)) commands.old.items }
+    requires { AllByRecursion
+        (λ command. IsBelow (length names.old) (command_of command)) commands.old.items }
     // The lines before, read so far, are read with this line.
-    ensures taken { (start before : List Text) → AreScriptLines start before (map (command_at names.old) commands.old.items) names.old
-        → OnOk result (AreScriptLines start (before ++ line.now ∷ []) (map (command_at names.new) commands.new.items) names.new) }
-    ensures fault { (fault : LineFault) → result ≡ Err (Unread.Fault fault) → script_line_in (length commands.old.items) names.old line.now ≡ Err fault }
-    ensures within { OnOk result (AllByRecursion (λ command. IsBelow (length names.new) (command_of command)) commands.new.items) }
+    ensures taken { (start before : List Text)
+        → AreScriptLines start before (map (command_at names.old) commands.old.items) names.old
+        → OnOk result (AreScriptLines start (before ++ line.now ∷ [])
+        (map (command_at names.new) commands.new.items) names.new) }
+    ensures fault { (fault : LineFault) → result ≡ Err (Unread.Fault fault)
+        → script_line_in (length commands.old.items) names.old line.now ≡ Err fault }
+    ensures within { OnOk result (AllByRecursion
+        (λ command. IsBelow (length names.new) (command_of command)) commands.new.items) }
     ensures kept { Extends names.old names.new }
 {
     // The check only knows how to move a command where the types within it are met.
@@ -86,13 +93,17 @@ fn take_line(
 /// Reads the commands of a session file. After a fault the old names are a front of the names.
 pub fn read_script(alloc: Global, text: &[u8], names: &mut Names) -> Result<Script, ReadFault>
     // What is read is a script, and its names are added.
-    ensures read { IfOk result (λ script. IsScript names.old text.now (map (command_at names.new) script) names.new) }
+    ensures read { IfOk result
+        (λ script. IsScript names.old text.now (map (command_at names.new) script) names.new) }
     // A script is read, unless memory runs out.
-    ensures only { (commands : List (CommandOf Text)) (after : List Text) → IsScript names.old text.now commands after
-        → (result ≡ Err ReadFault.Memory) ⊎ IsOkAnd result (λ script. (map (command_at names.new) script ≡ commands) × (names.new ≡ after)) }
+    ensures only { (commands : List (CommandOf Text)) (after : List Text)
+        → IsScript names.old text.now commands after
+        → (result ≡ Err ReadFault.Memory) ⊎ IsOkAnd result
+        (λ script. (map (command_at names.new) script ≡ commands) × (names.new ≡ after)) }
     // A fault is that of the first faulty line.
     ensures fault { IfErr result (IsReadFault names.old text.now) }
-    ensures within { IfOk result (λ script. AllByRecursion (λ command. IsBelow (length names.new) (command_of command)) script) }
+    ensures within { IfOk result (λ script. AllByRecursion
+        (λ command. IsBelow (length names.new) (command_of command)) script) }
     ensures kept { Extends names.old names.new }
 {
     prove!(names.len() as usize <= MOST_NAMES);

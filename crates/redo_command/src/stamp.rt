@@ -24,7 +24,10 @@ impl Model for FileStamp {
 
     ghost inverse = { λ text. record { bytes = padded_list text; len = length text } };
 
-    ghost inverse_ok = { λ stamp is i. record { bytes = padded-take stamp.len stamp.bytes is i; len = length-taken stamp.len stamp.bytes is i } };
+    ghost inverse_ok = { λ stamp is i. record {
+      bytes = padded-take stamp.len stamp.bytes is i;
+      len = length-taken stamp.len stamp.bytes is i;
+    } };
 }
 
 fn is_placeholder(text: &[u8]) -> bool

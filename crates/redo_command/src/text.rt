@@ -1,4 +1,4 @@
-ghost use Rattle.std.specs.Prelude.{◌≡◌, ◌<◌, ◌++◌, List, map, length, decimal, IfOk, OnOk};
+ghost use Rattle.std.specs.Prelude.{◌≡◌, ◌<◌, ◌++◌, map, length, decimal, IfOk, OnOk};
 ghost use Rattle.std.specs.List.{flat_map};
 ghost use Rattle.hex.specs.Hex.{encode_lower};
 ghost use Rattle.redo_names.specs.Names.{text_at};
@@ -27,7 +27,8 @@ fn put_word(out: &mut Vec<u8>, word: &[u8]) -> Result<(), AllocError>
 /// Writes the names of these numbers.
 fn put_names(out: &mut Vec<u8>, names: &Names, numbers: &[u32]) -> Result<(), AllocError>
     requires { AllBelow (length names.now) numbers.now }
-    ensures { OnOk result (out.new.items ≡ out.old.items ++ flat_map after_space (map (text_at names.now) numbers.now)) }
+    ensures { OnOk result (out.new.items
+        ≡ out.old.items ++ flat_map after_space (map (text_at names.now) numbers.now)) }
 {
     for number in numbers {
         put_word(out, names.text(*number))?;
@@ -54,7 +55,8 @@ fn put_hex(alloc: Global, out: &mut Vec<u8>, bytes: &[u8]) -> Result<(), AllocEr
 
 /// Writes content, or `-` for none.
 fn put_content(alloc: Global, out: &mut Vec<u8>, content: &[u8]) -> Result<(), AllocError>
-    ensures { OnOk result (out.new.items ≡ out.old.items ++ after_space (content_word content.now)) }
+    ensures { OnOk result
+        (out.new.items ≡ out.old.items ++ after_space (content_word content.now)) }
 {
     match content {
         [] => put_word(out, b"-"),
@@ -103,7 +105,8 @@ fn put_form(
 /// The text of a command: its words with single spaces, without LF.
 pub fn command_text(alloc: Global, command: &Command, names: &Names) -> Result<Vec<u8>, AllocError>
     requires { IsBelow (length names.now) (command_of command.now) }
-    ensures { IfOk result (λ text. text.items ≡ command_text_of (command_at names.now command.now)) }
+    ensures { IfOk result
+        (λ text. text.items ≡ command_text_of (command_at names.now command.now)) }
 {
     let mut out = Vec::new(alloc);
     out.extend_from_slice(keyword(command.kind()))?;
@@ -118,7 +121,8 @@ fn put_numbered(
     word: &[u8],
     number: u32,
 ) -> Result<(), AllocError>
-    ensures { OnOk result (out.new.items ≡ out.old.items ++ word.now ++ after_space (decimal number)) }
+    ensures { OnOk result
+        (out.new.items ≡ out.old.items ++ word.now ++ after_space (decimal number)) }
 {
     out.extend_from_slice(word)?;
     put_word(out, number.to_string(alloc)?.as_bytes())
@@ -127,7 +131,8 @@ fn put_numbered(
 /// Writes the words for a refusal.
 fn put_refusal(out: &mut Vec<u8>, refusal: Refusal, names: &Names) -> Result<(), AllocError>
     requires { IsReplyBelow (length names.now) (Refused (refusal_of refusal)) }
-    ensures { OnOk result (out.new.items ≡ out.old.items ++ flat_map after_space (refusal_words (named_refusal (text_at names.now) (refusal_of refusal)))) }
+    ensures { OnOk result (out.new.items ≡ out.old.items ++ flat_map after_space
+        (refusal_words (named_refusal (text_at names.now) (refusal_of refusal)))) }
 {
     match refusal {
         Refusal::NotLocked => put_word(out, b"not-locked"),

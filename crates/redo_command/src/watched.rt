@@ -38,8 +38,10 @@ impl<R: Read> Watched<R> {
     /// How many bytes one read gave, where it did not fail.
     pub(crate) fn read(&mut self, buf: &mut [u8]) -> Option<usize>
         ensures within { IfSome result (λ n. n ≤ length buf.new) }
-        ensures given { IfSome result (λ n. Consumes (R.remaining (inner_of self.old)) (R.remaining (inner_of self.new)) (take n buf.new)) }
-        ensures end { IfSome result (λ n. n ≡ 0 → 0 < length buf.new → IsAtEnd (R.remaining (inner_of self.new))) }
+        ensures given { IfSome result (λ n. Consumes (R.remaining (inner_of self.old))
+            (R.remaining (inner_of self.new)) (take n buf.new)) }
+        ensures end { IfSome result
+            (λ n. n ≡ 0 → 0 < length buf.new → IsAtEnd (R.remaining (inner_of self.new))) }
         ensures flag { fault_of self.new ≡ (fault_of self.old || is_none result) }
     {
         let given = self.inner.read(buf).ok();
@@ -53,8 +55,10 @@ impl<W: Write> Watched<W> {
     pub(crate) fn write(&mut self, bytes: &[u8]) -> Option<usize>
         requires { 0 < length bytes.now }
         ensures within { IfSome result (λ n. (0 < n) × (n ≤ length bytes.now)) }
-        ensures sent { MatchOption result (Appends (W.contents (inner_of self.old)) (W.contents (inner_of self.new)) [])
-            (λ n. Appends (W.contents (inner_of self.old)) (W.contents (inner_of self.new)) (take n bytes.now)) }
+        ensures sent { MatchOption result
+            (Appends (W.contents (inner_of self.old)) (W.contents (inner_of self.new)) [])
+            (λ n. Appends (W.contents (inner_of self.old)) (W.contents (inner_of self.new))
+            (take n bytes.now)) }
         ensures flag { fault_of self.new ≡ (fault_of self.old || is_none result) }
     {
         let taken = self.inner.write(bytes).ok().filter(|n| *n > 0);

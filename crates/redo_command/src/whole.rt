@@ -48,13 +48,16 @@ pub fn read_whole<R: Read>(
     reader: &mut Watched<R>,
     limit: usize,
 ) -> Result<Vec<u8>, WholeFault>
-    ensures whole { IfOk result (λ whole. IfSome (R.remaining (inner_of reader.old)) (λ bytes. whole.items ≡ bytes)) }
+    ensures whole { IfOk result
+        (λ whole. IfSome (R.remaining (inner_of reader.old)) (λ bytes. whole.items ≡ bytes)) }
     ensures end { OnOk result (IsAtEnd (R.remaining (inner_of reader.new))) }
     ensures few { IfOk result (λ whole. length whole.items ≤ limit) }
-    ensures too_long { IsErrOf result WholeFault.TooLong → IfSome (R.remaining (inner_of reader.old)) (λ bytes. limit < length bytes) }
+    ensures too_long { IsErrOf result WholeFault.TooLong
+        → IfSome (R.remaining (inner_of reader.old)) (λ bytes. limit < length bytes) }
 
     ensures device { IsErrOf result WholeFault.Device → is_faulted reader.new ≡ true }
-    ensures others { ¬ (IsErrOf result WholeFault.Device) → is_faulted reader.new ≡ is_faulted reader.old }
+    ensures others { ¬ (IsErrOf result WholeFault.Device)
+        → is_faulted reader.new ≡ is_faulted reader.old }
 {
     let mut whole = Vec::new(alloc);
     let mut buf = [0u8; READ_BYTES];
@@ -76,9 +79,12 @@ pub fn read_whole<R: Read>(
 ///
 /// After an error no write is tried again, and a front of the bytes went out.
 pub fn write_whole<W: Write>(writer: &mut Watched<W>, bytes: &[u8]) -> Result<(), WriteFault>
-    ensures whole { OnOk result (Appends (W.contents (inner_of writer.old)) (W.contents (inner_of writer.new)) bytes.now) }
-    ensures front { OnErr result (AppendsFront (W.contents (inner_of writer.old)) (W.contents (inner_of writer.new)) bytes.now) }
-    ensures write { is_faulted writer.old ≡ false → (IsErrOf result WriteFault.Write ↔ (is_faulted writer.new ≡ true)) }
+    ensures whole { OnOk result
+        (Appends (W.contents (inner_of writer.old)) (W.contents (inner_of writer.new)) bytes.now) }
+    ensures front { OnErr result (AppendsFront (W.contents (inner_of writer.old))
+        (W.contents (inner_of writer.new)) bytes.now) }
+    ensures write { is_faulted writer.old ≡ false
+        → (IsErrOf result WriteFault.Write ↔ (is_faulted writer.new ≡ true)) }
     ensures flag { is_faulted writer.new ≡ (is_faulted writer.old || is_err result) }
 {
     let mut at = 0;

@@ -17,11 +17,14 @@ pub length-texts : (keys : List (Vec ℕ)) → length (texts keys) ≡ length ke
 length-texts keys = length-map keys (λ (key : Vec ℕ). key.items)
 
 -- the set's own test says whether a name is there
-pub has-texts : (text : List ℕ) (keys : List (Vec ℕ)) → list_any (λ key. bytes_eq text key.items) keys ≡ has (texts keys) text
+pub has-texts : (text : List ℕ) (keys : List (Vec ℕ))
+    → list_any (λ key. bytes_eq text key.items) keys ≡ has (texts keys) text
 has-texts text [] = refl
-has-texts text (key ∷ keys) = ap (λ (later : Bool). bytes_eq text key.items || later) (has-texts text keys)
+has-texts text (key ∷ keys) =
+    ap (λ (later : Bool). bytes_eq text key.items || later) (has-texts text keys)
 
-cond-Some : {K : Type 0} (b : Bool) (x k : K) (rest : Option K) → cond b (Some x) rest ≡ Some k → ((b ≡ true) × (x ≡ k)) ⊎ (rest ≡ Some k)
+cond-Some : {K : Type 0} (b : Bool) (x k : K) (rest : Option K) → cond b (Some x) rest ≡ Some k
+    → ((b ≡ true) × (x ≡ k)) ⊎ (rest ≡ Some k)
 cond-Some true x k rest e = inl (refl, cc)
 cond-Some false x k rest e = inr e
 
@@ -35,16 +38,24 @@ find-Some p (x ∷ keys) k e =
     ]
 
 -- a key's place among the keys is its name's number
-pub slice_get-texts : (text : List ℕ) (keys : List (Vec ℕ)) (number : ℕ) (key : Vec ℕ) → slice_get keys number ≡ Some key → find (λ k. bytes_eq text k.items) keys ≡ Some key → slice_get (texts keys) number ≡ Some text
+pub slice_get-texts : (text : List ℕ) (keys : List (Vec ℕ)) (number : ℕ) (key : Vec ℕ)
+    → slice_get keys number ≡ Some key → find (λ k. bytes_eq text k.items) keys ≡ Some key
+    → slice_get (texts keys) number ≡ Some text
 slice_get-texts text keys number key stored found =
-    let same : text ≡ key.items = (bytes_eq-Decides text key.items).0 (find-Some (λ (k : Vec ℕ). bytes_eq text k.items) keys key found) in
-    slice_get-map (λ (k : Vec ℕ). k.items) keys number ∙ ap (option_map (λ (k : Vec ℕ). k.items)) stored ∙ ap Some (sym same)
+    let same : text ≡ key.items =
+    (bytes_eq-Decides text key.items).0
+    (find-Some (λ (k : Vec ℕ). bytes_eq text k.items) keys key found) in
+    slice_get-map (λ (k : Vec ℕ). k.items) keys number
+    ∙ ap (option_map (λ (k : Vec ℕ). k.items)) stored ∙ ap Some (sym same)
 
 -- a new key goes last
-pub texts-insert : (keys : List (Vec ℕ)) (key : Vec ℕ) (text : List ℕ) → key.items ≡ text → has (texts keys) text ≡ false
-    → texts (if list_any (λ k. bytes_eq key.items k.items) keys then keys else keys ++ key ∷ []) ≡ texts keys ++ text ∷ []
+pub texts-insert : (keys : List (Vec ℕ)) (key : Vec ℕ) (text : List ℕ) → key.items ≡ text
+    → has (texts keys) text ≡ false
+    → texts (if list_any (λ k. bytes_eq key.items k.items) keys then keys else keys ++ key ∷ [])
+    ≡ texts keys ++ text ∷ []
 texts-insert keys key text same new =
-    let absent : list_any (λ k. bytes_eq key.items k.items) keys ≡ false = has-texts key.items keys ∙ ap (has (texts keys)) same ∙ new in
+    let absent : list_any (λ k. bytes_eq key.items k.items) keys ≡ false =
+    has-texts key.items keys ∙ ap (has (texts keys)) same ∙ new in
     ap (λ (there : Bool). texts (cond there keys (keys ++ key ∷ []))) absent
     ∙ map-append (λ (k : Vec ℕ). k.items) keys (key ∷ [])
     ∙ ap (λ (t : List ℕ). texts keys ++ t ∷ []) same

@@ -1,27 +1,28 @@
 -- Lists of names that grow.
 use Rattle.std.proofs.Common.{◌≡◌, ℕ, ◌<◌, Bool, true, false, cond, List, [], ◌∷◌, ◌++◌, length, Some, slice_get, refl, sym, ap, ◌∙◌, arith, length-append, append-nil, append_assoc}
-use Rattle.std.specs.List.{IsDistinct, AllByRecursion}
+use Rattle.std.specs.List.{IsDistinct}
 use Rattle.std.proofs.lemmas.Cmp.{nat_list_eq_equiv}
 use Rattle.std.proofs.lemmas.Map.Keys.{IsDistinct-push}
-use Rattle.redo_names.specs.Names.{is_name, has, with_name, Extends, AreNames}
+use Rattle.redo_names.specs.Names.{is_name, has, with_name, Extends, AreAllNames, AreNames}
 
 pub Extends-same : (names : List (List ℕ)) → Extends names names
 Extends-same names = record { more = []; is = sym (append-nil names) }
 
-pub Extends-trans : (first second third : List (List ℕ)) → Extends first second → Extends second third → Extends first third
-Extends-trans first second third a b = record {
+pub Extends-then : (first second third : List (List ℕ)) → Extends first second
+    → Extends second third → Extends first third
+Extends-then first second third a b = record {
   more = a.more ++ b.more;
-  is = b.is ∙ ap (λ (names : List (List ℕ)). names ++ b.more) a.is ∙ append_assoc first a.more b.more;
+  is = b.is ∙ ap (λ (names : List (List ℕ)). names ++ b.more) a.is
+      ∙ append_assoc first a.more b.more;
 }
 
-pub with_name-new : (names : List (List ℕ)) (text : List ℕ) → has names text ≡ false → with_name names text ≡ names ++ text ∷ []
+pub with_name-new : (names : List (List ℕ)) (text : List ℕ) → has names text ≡ false
+    → with_name names text ≡ names ++ text ∷ []
 with_name-new names text new = ap (λ (there : Bool). cond there names (names ++ text ∷ [])) new
 
-pub with_name-there : (names : List (List ℕ)) (text : List ℕ) → has names text ≡ true → with_name names text ≡ names
-with_name-there names text there = ap (λ (there : Bool). cond there names (names ++ text ∷ [])) there
-
 -- a new name's number is the count of those before it
-pub slice_get-last : (names : List (List ℕ)) (text : List ℕ) → slice_get (names ++ text ∷ []) (length names) ≡ Some text
+pub slice_get-last : (names : List (List ℕ)) (text : List ℕ)
+    → slice_get (names ++ text ∷ []) (length names) ≡ Some text
 slice_get-last [] text = refl
 slice_get-last (_ ∷ names) text = slice_get-last names text
 
@@ -29,11 +30,13 @@ pub AreNames-none : AreNames []
 unfolding IsDistinct
 AreNames-none = record { few = omega arith; distinct = tt; each = tt }
 
-each-push : (names : List (List ℕ)) (text : List ℕ) → AllByRecursion (λ t. is_name t ≡ true) names → is_name text ≡ true → AllByRecursion (λ t. is_name t ≡ true) (names ++ text ∷ [])
+each-push : (names : List (List ℕ)) (text : List ℕ) → AreAllNames names → is_name text ≡ true
+    → AreAllNames (names ++ text ∷ [])
 each-push [] text each is = (is, tt)
 each-push (_ ∷ names) text each is = (each.0, each-push names text each.1 is)
 
-pub AreNames-push : (names : List (List ℕ)) (text : List ℕ) → AreNames names → is_name text ≡ true → has names text ≡ false → length names < 65536 → AreNames (names ++ text ∷ [])
+pub AreNames-push : (names : List (List ℕ)) (text : List ℕ) → AreNames names → is_name text ≡ true
+    → has names text ≡ false → length names < 65536 → AreNames (names ++ text ∷ [])
 AreNames-push names text are is new room = record {
   few = omega (arith, length-append names (text ∷ []));
   distinct = IsDistinct-push nat_list_eq_equiv names text are.distinct new;

@@ -17,7 +17,9 @@ is_reserved text = bytes_eq text (codes "-") || bytes_eq text (codes "=>") || be
 
 -- 1 to 255 visible bytes that are not reserved
 unfoldable pub is_name : List ℕ → Bool
-is_name text = nat_le 1 (length text) && nat_le (length text) 255 && list_all is_visible text && not (is_reserved text)
+is_name text =
+    nat_le 1 (length text) && nat_le (length text) 255 && list_all is_visible text
+    && not (is_reserved text)
 
 -- whether the text is among the names
 abbrev pub has : List (List ℕ) → List ℕ → Bool
@@ -36,8 +38,12 @@ pub record Extends (old new : List (List ℕ)) : Type 0 where
   pub more : List (List ℕ)
   pub is : new ≡ old ++ more
 
+-- each text is a name
+abbrev pub AreAllNames : List (List ℕ) → Type 0
+AreAllNames texts = AllByRecursion (λ text. is_name text ≡ true) texts
+
 -- at most 65,536 texts, no two of them equal, and each of them a name
 pub record AreNames (names : List (List ℕ)) : Type 0 where
   pub few : length names ≤ 65536
   pub distinct : IsDistinct bytes_eq names
-  pub each : AllByRecursion (λ text. is_name text ≡ true) names
+  pub each : AreAllNames names

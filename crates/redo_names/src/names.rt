@@ -108,7 +108,8 @@ impl Names {
         ensures number { IfOk result (λ number. slice_get self.new number ≡ Some text.now) }
         ensures within { IfOk result (λ number. number < length self.new) }
 
-        ensures full { IsErrOf result NamesFault.Full ↔ ((length self.old ≡ 65536) × (has self.old text.now ≡ false)) }
+        ensures full { IsErrOf result NamesFault.Full
+            ↔ ((length self.old ≡ 65536) × (has self.old text.now ≡ false)) }
         ensures there { has self.old text.now ≡ true → IsOk result }
         ensures err { OnErr result (self.new ≡ self.old) }
 

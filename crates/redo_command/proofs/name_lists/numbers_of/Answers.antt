@@ -12,7 +12,8 @@ number_of-requires-clause-name c =
     let words = c.args.words.now in
     let i = c.loop-word.word-index in
     let lt : i < length (texts_of words) = omega (arith, length-texts words) in
-    subst (λ (w : List ℕ). is_name w ≡ true) (text_of words i _ refl) (all_at is_name (texts_of words) i [] c.requires.names lt)
+    subst (λ (w : List ℕ). is_name w ≡ true) (text_of words i _ refl)
+    (all_at is_name (texts_of words) i [] c.requires.names lt)
 
 pub returns-in_err-number-clause-reads : goal.returns-in_err-number-clause-reads
 returns-in_err-number-clause-reads c =
@@ -20,8 +21,11 @@ returns-in_err-number-clause-reads c =
     let i = c.loop-word.word-index in
     let lt : i < length (texts_of words) = omega (arith, length-texts words) in
     let p = err_from_is_err_and c.from_residual.result c.from_residual.ensures.1 in
-    let none = rest_none c.args.names.now c.loop-word.names (texts_of words) i _ lt (text_of words i _ refl) c.loop-word.invariant.rest in
-    rw (p.1, p.2) (fails_alike {X = ℕ} {Y = Vec ℕ Global} (λ n. c.number_of.new.names) (λ numbers. c.number_of.new.names) c.in_err-number.field-0.0 _ _ none c.in_err-number.ensures.reads)
+    let none =
+    rest_none c.args.names.now c.loop-word.names (texts_of words) i _ lt
+    (text_of words i _ refl) c.loop-word.invariant.rest in
+    rw (p.1, p.2) (fails_alike {X = ℕ} {Y = Vec ℕ Global} (λ n. c.number_of.new.names) (λ numbers.
+    c.number_of.new.names) c.in_err-number.field-0.0 _ _ none c.in_err-number.ensures.reads)
 
 pub loop-word-preserved : goal.loop-word-preserved
 loop-word-preserved c =
@@ -33,13 +37,18 @@ loop-word-preserved c =
     let before = c.loop-word.numbers.items in
     let n = c.in_ok-number.number in
     let so_far = c.loop-word.invariant in
-    let kept : map (text_at new) before ≡ take i (texts_of words) = texts-Extends old new before c.in_ok-number.ensures.kept so_far.within ∙ so_far.numbers in
-    let word : text_at new n ≡ get_or (texts_of words) i [] = c.in_ok-number.ensures.number ∙ sym (text_of words i _ refl) in
+    let kept : map (text_at new) before ≡ take i (texts_of words) =
+    texts-Extends old new before c.in_ok-number.ensures.kept so_far.within ∙ so_far.numbers in
+    let word : text_at new n ≡ get_or (texts_of words) i [] =
+    c.in_ok-number.ensures.number ∙ sym (text_of words i _ refl) in
     record {
-      rest = rest_more old (texts_of words) i _ new _ so_far.few lt (text_of words i _ refl) c.in_ok-number.ensures.reads so_far.rest;
+      rest = rest_more old (texts_of words) i _ new _ so_far.few lt
+          (text_of words i _ refl) c.in_ok-number.ensures.reads so_far.rest;
       few = (added_is old _ new so_far.few c.in_ok-number.ensures.reads).1;
-      numbers = rw c.in_ok-push.ensures.items (map_push (text_at new) before n ∙ (λ j. kept j ++ word j ∷ []) ∙ sym (take_more (texts_of words) i [] lt));
-      within = rw c.in_ok-push.ensures.items (AllBelow-push (length new) before n (all_below-Extends old new before c.in_ok-number.ensures.kept so_far.within) c.in_ok-number.ensures.within);
+      numbers = rw c.in_ok-push.ensures.items (map_push (text_at new) before n
+          ∙ (λ j. kept j ++ word j ∷ []) ∙ sym (take_more (texts_of words) i [] lt));
+      within = rw c.in_ok-push.ensures.items (AllBelow-push (length new) before n (all_below-Extends
+          old new before c.in_ok-number.ensures.kept so_far.within) c.in_ok-number.ensures.within);
       kept = extends_then c.args.names.now old new so_far.kept c.in_ok-number.ensures.kept;
     }
 
@@ -47,4 +56,5 @@ pub returns-clause-reads : goal.returns-clause-reads
 returns-clause-reads c =
     let words = c.args.words.now in
     let le : length (texts_of words) ≤ c.loop-word.word-index = omega (arith, length-texts words) in
-    rest_done c.args.names.now c.loop-word.names (texts_of words) c.loop-word.word-index le c.loop-word.invariant.few c.loop-word.invariant.rest
+    rest_done c.args.names.now c.loop-word.names
+    (texts_of words) c.loop-word.word-index le c.loop-word.invariant.few c.loop-word.invariant.rest

@@ -7,7 +7,8 @@ use Rattle.redo_command.proofs.script.read_script.Given as goal
 
 abbrev pub invariant-lines : goal.invariant-lines
 invariant-lines l = record {
-  so_far : IsReadSoFar l.fn.names l.fn.text l.rest l.number (map (command_at l.names) l.commands.items) l.names;
+  so_far : IsReadSoFar l.fn.names l.fn.text l.rest l.number
+      (map (command_at l.names) l.commands.items) l.names;
   within : AreBelow (length l.names) l.commands.items;
   kept : Extends l.fn.names l.names;
   fits : l.number + length l.rest ≤ length l.fn.text + 1;

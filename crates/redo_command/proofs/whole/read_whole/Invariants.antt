@@ -5,7 +5,8 @@ use Rattle.redo_command.proofs.whole.read_whole.Given as goal
 
 abbrev pub invariant-loop-n : goal.invariant-loop-n
 invariant-loop-n g l = record {
-  so_far : Consumes (g.R.Read.remaining (inner_of l.initial.reader)) (g.R.Read.remaining (inner_of l.reader)) l.whole.items;
+  so_far : Consumes (g.R.Read.remaining (inner_of l.initial.reader))
+      (g.R.Read.remaining (inner_of l.reader)) l.whole.items;
   few : length l.whole.items ≤ l.limit;
   flag : is_faulted l.reader ≡ is_faulted l.initial.reader;
 }

@@ -18,8 +18,13 @@ returns-in_default-clause-front g c =
     (take at bytes)
     []
     c.loop-at.invariant.so_far
-    c.in_default.ensures.sent in
-    (take at bytes ++ [], drop at bytes, sym (ap (λ (front : List ℕ). front ++ drop at bytes) (append-nil (take at bytes)) ∙ take-append-drop at bytes), sent)
+    c.in_default.ensures.sent in (
+      take at bytes ++ [],
+      drop at bytes,
+      sym (ap (λ (front : List ℕ). front ++ drop at bytes)
+          (append-nil (take at bytes)) ∙ take-append-drop at bytes),
+      sent,
+    )
 
 pub loop-at-preserved : goal.loop-at-preserved
 loop-at-preserved g c =
@@ -27,7 +32,8 @@ loop-at-preserved g c =
     let bytes = c.args.bytes.now in
     let n = c.in-Some.n in
     let left = length bytes - at in
-    let rest : take left (drop at bytes) ≡ drop at bytes = take_all left (drop at bytes) (omega (arith, length-drop at bytes)) in
+    let rest : take left (drop at bytes) ≡ drop at bytes =
+    take_all left (drop at bytes) (omega (arith, length-drop at bytes)) in
     let sent = Appends-trans
     (g.W.Write.contents (inner_of c.args.writer.now))
     (g.W.Write.contents (inner_of c.loop-at.writer))
@@ -39,7 +45,8 @@ loop-at-preserved g c =
     let joined : take at bytes ++ take n (take left (drop at bytes)) ≡ take (at + n) bytes =
     ap (λ (more : List ℕ). take at bytes ++ take n more) rest ∙ sym (take-add at n bytes) in
     record {
-      so_far = subst (λ (front : List ℕ). Appends (g.W.Write.contents (inner_of c.args.writer.now)) (g.W.Write.contents (inner_of c.write.new.self)) front) joined sent;
+      so_far = subst (λ (front : List ℕ). Appends (g.W.Write.contents (inner_of c.args.writer.now))
+          (g.W.Write.contents (inner_of c.write.new.self)) front) joined sent;
       within = search rules;
       flag = grind (arith, common_steps);
     }

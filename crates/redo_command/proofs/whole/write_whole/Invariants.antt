@@ -5,7 +5,8 @@ use Rattle.redo_command.proofs.whole.write_whole.Given as goal
 
 abbrev pub invariant-loop-at : goal.invariant-loop-at
 invariant-loop-at g l = record {
-  so_far : Appends (g.W.Write.contents (inner_of l.initial.writer)) (g.W.Write.contents (inner_of l.writer)) (take l.at l.bytes);
+  so_far : Appends (g.W.Write.contents (inner_of l.initial.writer))
+      (g.W.Write.contents (inner_of l.writer)) (take l.at l.bytes);
   within : l.at ≤ length l.bytes;
   flag : is_faulted l.writer ≡ is_faulted l.initial.writer;
 }

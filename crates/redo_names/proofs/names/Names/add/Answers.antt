@@ -10,10 +10,12 @@ is_new c = sym c.in_default.ensures.there
 
 -- the count of the set's keys is the count of the names
 count : (c : goal.In_ok-insert) → length c.args.self.now ≡ c.len-number.result
-count c = rw (← c.self.view_is) (length-texts c.self.inside.texts.keys ∙ sym c.len-number.ensures.len)
+count c =
+    rw (← c.self.view_is) (length-texts c.self.inside.texts.keys ∙ sym c.len-number.ensures.len)
 
 -- the names that the set holds after the insertion
-names_after : (c : goal.In_ok-insert) → texts c.insert.new.self.keys ≡ c.args.self.now ++ c.args.text.now ∷ []
+names_after : (c : goal.In_ok-insert)
+    → texts c.insert.new.self.keys ≡ c.args.self.now ++ c.args.text.now ∷ []
 names_after c =
     let keys = c.self.inside.texts.keys in
     let view : texts keys ≡ c.args.self.now = c.self.view_is in
@@ -27,22 +29,26 @@ are_names c =
     let are : AreNames c.args.self.now = rw (← c.self.view_is) c.self.invariant in
     let most : length c.args.self.now ≤ 65536 = are.few in
     let room : length c.args.self.now < 65536 = omega (arith, count c) in
-    subst AreNames (sym (names_after c)) (AreNames-push c.args.self.now c.args.text.now are c.requires (is_new c) room)
+    subst AreNames (sym (names_after c))
+    (AreNames-push c.args.self.now c.args.text.now are c.requires (is_new c) room)
 
-stored : (c : goal.In_ok-insert) → slice_get (texts c.insert.new.self.keys) c.len-number.result ≡ Some c.args.text.now
+stored : (c : goal.In_ok-insert) → slice_get (texts c.insert.new.self.keys) c.len-number.result
+    ≡ Some c.args.text.now
 stored c = rw (names_after c, ← count c) (slice_get-last c.args.self.now c.args.text.now)
 
 pub invariant_of-self-2 : goal.invariant_of-self-2
 invariant_of-self-2 c = are_names c
 
 pub returns-clause-added : goal.returns-clause-added
-returns-clause-added c = names_after c ∙ sym (with_name-new c.args.self.now c.args.text.now (is_new c))
+returns-clause-added c =
+    names_after c ∙ sym (with_name-new c.args.self.now c.args.text.now (is_new c))
 
 pub returns-clause-number : goal.returns-clause-number
 returns-clause-number c = stored c
 
 pub returns-clause-within : goal.returns-clause-within
-returns-clause-within c = slice_get_within (texts c.insert.new.self.keys) c.len-number.result c.args.text.now (stored c)
+returns-clause-within c =
+    slice_get_within (texts c.insert.new.self.keys) c.len-number.result c.args.text.now (stored c)
 
 pub returns-clause-names : goal.returns-clause-names
 returns-clause-names c = are_names c

@@ -6,4 +6,6 @@ use Rattle.redo_names.proofs.NameLists.{AreNames-none}
 use Rattle.redo_names.proofs.names.Names.new.Goals as goal
 
 pub invariant_of-result : goal.invariant_of-result
-invariant_of-result c = subst (λ (keys : List (Vec ℕ)). AreNames (texts keys)) (sym c.new-texts.ensures.empty) AreNames-none
+invariant_of-result c =
+    subst (λ (keys : List (Vec ℕ)). AreNames (texts keys))
+    (sym c.new-texts.ensures.empty) AreNames-none
