@@ -15,7 +15,7 @@ use Rattle.redo_joint.proofs.Exchange.{In}
 use Rattle.redo_joint.proofs.Own.{all_by_parts}
 use Rattle.redo_joint.proofs.ByName.{all_push, part_map, fits_kept, follows_by_name, joint_by_name}
 
-in_map : {A B : Type 0} (f : A → B) (y : B) (xs : List A) → In y (map f xs)
+pub in_map : {A B : Type 0} (f : A → B) (y : B) (xs : List A) → In y (map f xs)
     → (x : A) × In x xs × (f x ≡ y)
 in_map f y [] h = absurd h
 in_map f y (x ∷ xs) (inl e) = (x, inl refl, e)

@@ -13,10 +13,10 @@ pub const MOST_SESSIONS: usize = 64;
 /// Why there is no plan.
 #[derive(Clone, Copy, Debug, PartialEq, Eq, Error)]
 pub enum PlanFault {
-    /// Fault 1: there is no script.
+    /// There is no script.
     #[error("no session")]
     NoSession,
-    /// Fault 2: there are more than 64 scripts.
+    /// There are more than 64 scripts.
     #[error("too many sessions")]
     TooManySessions,
 }

@@ -1,13 +1,11 @@
 -- Counts of busy answers.
-use Rattle.std.proofs.Common.{◌≡◌, ℕ, zero, suc, ◌+◌, ◌-◌, ◌*◌, ◌<◌, ◌≤◌, ◌&&◌, eqb, List, refl, ap, ◌∙◌, inl, inr, arith, length, take, get_or, Bool, true, false, cond, eq-eqb, eqb-true, add-one, Option, Some, None, IsSome}
+use Rattle.std.proofs.Common.{◌≡◌, ℕ, zero, suc, ◌+◌, ◌-◌, ◌*◌, ◌<◌, ◌≤◌, ◌&&◌, eqb, List, refl, ap, ◌∙◌, inl, inr, arith, length, Bool, true, false, cond, eq-eqb, eqb-true, add-one, Option, Some, None, IsSome}
 use Rattle.std.proofs.lemmas.Bool.{cases_Bool}
-use Rattle.std.proofs.lemmas.List.Sums.{sum_by_more, count_by-le-length}
+use Rattle.std.proofs.lemmas.List.Sums.{count_by-le-length}
+use Rattle.redo_joint.proofs.Counts.{one_if}
 use Rattle.redo_journal.specs.declared.entry.Place.TheVariants.{Busy}
 use Rattle.redo_journal.specs.declared.entry.Entry.{Entry}
 use Rattle.redo_replay.specs.Merging.{is_busy, busy_one, busy_in, busy_below}
-
-abbrev pub one_if : Bool → ℕ
-one_if b = cond b 1 0
 
 pub and_true : (a b : Bool) → (a && b) ≡ true → (a ≡ true) × (b ≡ true)
 and_true true b e = (refl, e)
@@ -42,10 +40,6 @@ took_at old new u h t g n some same e = elim (cases_Bool (eqb u t && eqb h g)) [
 
 pub own_one : (u h : ℕ) → busy_one u h (Busy u h) ≡ 1
 own_one u h = λ i. one_if (eq-eqb u u refl i && eq-eqb h h refl i)
-
-pub busy_in-more : (t g : ℕ) (xs : List Entry) (i : ℕ) (d : Entry) → i < length xs
-    → busy_in t g (take (i + 1) xs) ≡ busy_in t g (take i xs) + busy_one t g (get_or xs i d).place
-busy_in-more t g xs i d h = sum_by_more (λ (e : Entry). one_if (is_busy t g e.place)) xs i d h
 
 pub busy_in-le : (t g : ℕ) (xs : List Entry) → busy_in t g xs ≤ length xs
 busy_in-le t g xs = count_by-le-length (λ (e : Entry). is_busy t g e.place) xs

@@ -23,6 +23,7 @@ use Rattle.redo_command.proofs.Steps.{both}
 use Rattle.redo_command.proofs.Spaced.{IsVisible, name_is_visible, stamp_is_visible}
 use Rattle.redo_command.proofs.Contents.{content_is_visible, content_word_says, arrow_is_no_content}
 use Rattle.redo_command.proofs.NameLists.{names_are_visible}
+use Rattle.redo_command.proofs.ReplyWords.{grant_is_visible}
 use Rattle.redo_replay.proofs.CutOnce.{Without, without_append, IsFreeWord}
 
 -- bytes that are not visible are not in a visible word
@@ -224,9 +225,6 @@ command_is_one_line line command is =
           words.first.0;
       others = are_visible words.args words.others;
     })
-
-grant_is_visible : (g : ℕ) → IsGrant g → IsVisible (decimal g)
-grant_is_visible g grant = decimal_is_visible g (omega arith)
 
 refusal_is_visible : (text : Text) (refusal : Refusal Text) → HasReplyForm (Refused refusal)
     → text ≡ spaced (codes "refused") (refusal_words refusal) → IsWords IsVisible text

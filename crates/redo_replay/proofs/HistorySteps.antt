@@ -57,15 +57,6 @@ each_more (first ∷ texts) [] text line each is = absurd each
 each_more (first ∷ texts) (other ∷ lines) text line each is =
     (each.0, each_more texts lines text line each.1 is)
 
--- no line is read yet
-pub none_read : (input rest : Text) (count : ℕ) → input ≡ header_of count ++ rest
-    → IsReadSoFar input count [] [] rest
-none_read input rest count e = record {
-  texts = [];
-  read = record { each = tt; named = (refl, omega arith) };
-  parts = e ∙ ap (λ (header : Text). header ++ rest) (sym (append-nil (header_of count)));
-}
-
 ended_cut : (left text after : Text) → left ≡ text ++ 10 ∷ after → left ≡ ended text ++ after
 ended_cut left text after cut = cut ∙ sym (append_assoc text (10 ∷ []) after)
 

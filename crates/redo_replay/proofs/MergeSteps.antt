@@ -17,6 +17,7 @@ use Rattle.redo_model.specs.Placed as placed
 use Rattle.redo_joint.proofs.Exchange.{In}
 use Rattle.redo_joint.proofs.Greedy.{Can, Half, half_start, half_step, half_done, half_none}
 use Rattle.redo_joint.proofs.Counts.{counters}
+use Rattle.redo_joint.proofs.FromName.{in_map}
 use Rattle.redo_joint.proofs.Orders.{first_from_tickets, joint_by_tickets, none_with_misfit}
 use Rattle.redo_journal.specs.declared.entry.Place.{Place}
 use Rattle.redo_journal.specs.declared.entry.Place.TheVariants.{Row, Granted, Busy, Released}
@@ -28,7 +29,7 @@ use Rattle.redo_journal.specs.Journals.{place_of, command_told, journals_of, Are
 use Rattle.redo_replay.specs.Merges.{by_number, AreMerged, HaveNoOrder}
 use Rattle.redo_replay.specs.Merging.{entries_of, tally, busy_one, busy_below, none, Turned, Tells, AllFit, OneMisfits, IsWithin, AreWithin, IsLeast, MayTake, AreOfScript, NoneMayCome}
 use Rattle.redo_replay.proofs.Unmerged.{entries_at, entries_past, left, left_less, told_is, lines_of, session_is, script_at}
-use Rattle.redo_replay.proofs.TurnsShown.{numbers_are_names, ticketed, shown, told_at, rests, left_entries, shown_after, may_here, can_back, takes_here, counts_step, no_rest, some_rest, below_same, in_map, map_in}
+use Rattle.redo_replay.proofs.TurnsShown.{numbers_are_names, ticketed, shown, told_at, rests, left_entries, shown_after, may_here, can_back, takes_here, counts_step, no_rest, some_rest, below_same, map_in}
 
 -- how far the merge has come
 pub record Merging {S : Type 0} (plan : PlanOf) (js : List Journal) (turns : Turns)

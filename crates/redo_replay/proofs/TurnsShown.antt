@@ -14,6 +14,8 @@ use Rattle.redo_model.specs.Placed as placed
 use Rattle.redo_joint.proofs.Exchange.{In, Tickets, after, Comes, Free}
 use Rattle.redo_joint.proofs.Greedy.{May, Can, Takes}
 use Rattle.redo_joint.proofs.Moved.{tickets, ticket_of, same_counter}
+use Rattle.redo_joint.proofs.Counts.{one_if, no_step}
+use Rattle.redo_joint.proofs.FromName.{in_map}
 use Rattle.redo_journal.specs.declared.entry.Place.{Place}
 use Rattle.redo_journal.specs.declared.entry.Place.TheVariants.{Row, Granted, Busy, Released}
 use Rattle.redo_journal.specs.declared.entry.Entry.{Entry}
@@ -24,7 +26,7 @@ use Rattle.redo_journal.specs.Journals.{place_of, line_told}
 use Rattle.redo_replay.specs.Merging.{entries_of, is_busy, busy_one, busy_in, busy_below, none, tally, IsFree, Turned, rows_after, claim_after, MayCome, SessionMayCome}
 use Rattle.redo_replay.specs.Merging as merging
 use Rattle.redo_replay.proofs.Unmerged.{entries_past}
-use Rattle.redo_replay.proofs.BusyCounts.{one_if, and_true}
+use Rattle.redo_replay.proofs.BusyCounts.{and_true}
 
 pub numbers_are_names : IsNaming (numbers nat_cmp)
 numbers_are_names = record {
@@ -40,12 +42,6 @@ ticketed = tickets numbers_are_names
 abbrev pub shown : Turns → Option ℕ → ℕ
 shown turns None = turns.rows
 shown turns (Some t) = get_or turns.claims.items t 0 + 2
-
-pub in_map : {A B : Type 0} (f : A → B) (y : B) (xs : List A) → In y (map f xs)
-    → (x : A) × In x xs × (f x ≡ y)
-in_map f y [] h = absurd h
-in_map f y (x ∷ xs) (inl e) = (x, inl refl, e)
-in_map f y (x ∷ xs) (inr i) = let r = in_map f y xs i in (r.0, inr r.1, r.2)
 
 pub map_in : {A B : Type 0} (f : A → B) (x : A) (xs : List A) → In x xs → In (f x) (map f xs)
 map_in f x [] h = absurd h
@@ -80,10 +76,6 @@ shown_at old new (Busy t g) l None h = let a = h.rows in omega arith
 shown_at old new (Busy t g) l (Some u) h = let a = h.claims u in
     let z = no_step (same_counter (numbers nat_cmp) (Some u) (Some t)) in
     omega arith
-  where
-    no_step : (b : Bool) → ◌≡◌ {A = ℕ} (cond b 0 0) 0
-    no_step true = refl
-    no_step false = refl
 shown_at old new (Released t g) l None h = let a = h.rows in omega arith
 shown_at old new (Released t g) l (Some u) h = let a = h.claims u in omega arith
 

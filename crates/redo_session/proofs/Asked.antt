@@ -1,10 +1,8 @@
 -- The commands that accepted files ask.
 use Rattle.std.proofs.Common.{ℕ, zero, suc, ◌<◌, ◌≤◌, Some, List, [], ◌∷◌, ◌++◌, length, map, get_or, sym, ap, subst, arith}
 use Rattle.std.specs.List.{AllByRecursion, flat_map}
-use Rattle.redo_names.specs.declared.names.TheConstants.{MOST_NAMES}
 use Rattle.redo_model.specs.Names.{Text}
 use Rattle.redo_model.specs.Command.{Command, names_in}
-use Rattle.redo_command.specs.declared.read.TheConstants.{MOST_COMMANDS}
 use Rattle.redo_command.specs.Grammar.{IsScript}
 use Rattle.redo_session.specs.Runs.{AreAccepted}
 use Rattle.redo_session.proofs.CommandsSaid.{IsSaid, commands_said}
@@ -18,7 +16,7 @@ pub record IsAsked (names : List Text) (command : Command Text) : Type 0 where
 -- so is each of a script, which isn't too long
 pub record AreAsked (names : List Text) (script : List (Command Text)) : Type 0 where
   pub each : AllByRecursion (IsAsked names) script
-  pub few : length script ≤ MOST_COMMANDS
+  pub few : length script ≤ 4096
 
 known_front : (names ts us : List Text) → AreKnown names (ts ++ us) → AreKnown names ts
 known_front names [] us known = tt
@@ -94,7 +92,7 @@ all_asked names (t ∷ texts) (s ∷ scripts) after (middle, is, are) =
 
 pub few_names : (names : List Text) (texts : List Text) (scripts : List (List (Command Text)))
     (after : List Text) → AreAccepted names (map Some texts) scripts after
-    → length names ≤ MOST_NAMES → length after ≤ MOST_NAMES
+    → length names ≤ 65536 → length after ≤ 65536
 few_names names [] [] after same few = omega (arith, few, ap length same)
 few_names names [] (s ∷ scripts) after are few = absurd are
 few_names names (t ∷ texts) [] after are few = absurd are

@@ -21,7 +21,9 @@ word_bytes word = (omega arith, (omega arith, (omega arith, (omega arith, tt))))
 digest_bytes_are_bytes : (hash : List ℕ) (n : ℕ) → AreBytes (digest_bytes hash n)
 unfolding digest_bytes
 digest_bytes_are_bytes hash zero = tt
-digest_bytes_are_bytes hash (suc n) = bytes_then (digest_bytes hash n) (to_be_bytes w32 (slice_index hash n)) (digest_bytes_are_bytes hash n) (word_bytes (slice_index hash n))
+digest_bytes_are_bytes hash (suc n) =
+    bytes_then (digest_bytes hash n) (to_be_bytes w32 (slice_index hash n))
+    (digest_bytes_are_bytes hash n) (word_bytes (slice_index hash n))
 
 length-digest_bytes : (hash : List ℕ) → length (digest_bytes hash 5) ≡ 20
 unfolding digest_bytes

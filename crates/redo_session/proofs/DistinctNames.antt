@@ -26,7 +26,8 @@ with_one names front t q among known = by (has front t)
     by : (b : Bool) → IsKnown (cond b front (front ++ t ∷ [])) q → IsKnown names q
     by true h = among h
     by false h =
-        elim (either (has front q) (has (t ∷ []) q) (sym (list_any-append (bytes_eq q) front (t ∷ [])) ∙ h)) [
+        elim (either (has front q) (has (t ∷ []) q)
+        (sym (list_any-append (bytes_eq q) front (t ∷ [])) ∙ h)) [
           | inl k ↦ among k
           | inr k ↦ elim (either (bytes_eq q t) false k) [
             | inl e ↦ subst (IsKnown names) (sym ((bytes_eq-Decides q t).0 e)) known

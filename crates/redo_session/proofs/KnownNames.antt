@@ -27,10 +27,13 @@ true_right true c e = refl
 true_right false c e = e
 
 known_in_front : (names more : List Text) (n : Text) → IsKnown names n → IsKnown (names ++ more) n
-known_in_front names more n known = list_any-append (bytes_eq n) names more ∙ true_left (has names n) (has more n) known
+known_in_front names more n known = list_any-append (bytes_eq n) names more
+    ∙ true_left (has names n) (has more n) known
 
 known_last : (names : List Text) (n : Text) → IsKnown (names ++ n ∷ []) n
-known_last names n = list_any-append (bytes_eq n) names (n ∷ []) ∙ true_right (has names n) (has (n ∷ []) n) (true_left (bytes_eq n n) false ((bytes_eq-Decides n n).1 refl))
+known_last names n = list_any-append (bytes_eq n) names (n ∷ [])
+    ∙ true_right (has names n) (has (n ∷ []) n)
+    (true_left (bytes_eq n n) false ((bytes_eq-Decides n n).1 refl))
 
 known-with_name : (names : List Text) (t n : Text) → IsKnown names n → IsKnown (with_name names t) n
 known-with_name names t n known = by (has names t)
@@ -47,14 +50,19 @@ itself-with_name names t = by (has names t) refl
     by false e = known_last names t
 
 -- what was known stays so
-pub known-with_names : (names ts : List Text) (n : Text) → IsKnown names n → IsKnown (with_names names ts) n
+pub known-with_names : (names ts : List Text) (n : Text) → IsKnown names n
+    → IsKnown (with_names names ts) n
 known-with_names names [] n known = known
-known-with_names names (t ∷ ts) n known = known-with_names (with_name names t) ts n (known-with_name names t n known)
+known-with_names names (t ∷ ts) n known =
+    known-with_names (with_name names t) ts n (known-with_name names t n known)
 
 -- and what is added is known
 pub added_are_known : (names ts : List Text) → AreKnown (with_names names ts) ts
 added_are_known names [] = tt
-added_are_known names (t ∷ ts) = (known-with_names (with_name names t) ts t (itself-with_name names t), added_are_known (with_name names t) ts)
+added_are_known names (t ∷ ts) = (
+  known-with_names (with_name names t) ts t (itself-with_name names t),
+  added_are_known (with_name names t) ts,
+)
 
 -- to add what is known changes nothing
 pub with_names-known : (names ts : List Text) → AreKnown names ts → with_names names ts ≡ names
@@ -63,15 +71,18 @@ with_names-known names (t ∷ ts) known =
     let same : with_name names t ≡ names = ap (λ b. cond b names (names ++ t ∷ [])) known.0 in
     ap (λ front. with_names front ts) same ∙ with_names-known names ts known.1
 
-pub with_names-append : (names ts us : List Text) → with_names names (ts ++ us) ≡ with_names (with_names names ts) us
+pub with_names-append : (names ts us : List Text)
+    → with_names names (ts ++ us) ≡ with_names (with_names names ts) us
 with_names-append names [] us = refl
 with_names-append names (t ∷ ts) us = with_names-append (with_name names t) ts us
 
-one_more_name : (names : List Text) (t : Text) → AreAllNames names → IsTrue (is_name t) → AreAllNames (names ++ t ∷ [])
+one_more_name : (names : List Text) (t : Text) → AreAllNames names → IsTrue (is_name t)
+    → AreAllNames (names ++ t ∷ [])
 one_more_name [] t each is = (is, tt)
 one_more_name (n ∷ names) t each is = (each.0, one_more_name names t each.1 is)
 
-each-with_name : (names : List Text) (t : Text) → AreAllNames names → IsTrue (is_name t) → AreAllNames (with_name names t)
+each-with_name : (names : List Text) (t : Text) → AreAllNames names → IsTrue (is_name t)
+    → AreAllNames (with_name names t)
 each-with_name names t each is = by (has names t)
   where
     by : (b : Bool) → AreAllNames (cond b names (names ++ t ∷ []))
@@ -79,29 +90,40 @@ each-with_name names t each is = by (has names t)
     by false = one_more_name names t each is
 
 -- each of them is a name, with the new ones too
-pub each-with_names : (names ts : List Text) → AreAllNames names → AreAllNames ts → AreAllNames (with_names names ts)
+pub each-with_names : (names ts : List Text) → AreAllNames names → AreAllNames ts
+    → AreAllNames (with_names names ts)
 each-with_names names [] each are = each
-each-with_names names (t ∷ ts) each are = each-with_names (with_name names t) ts (each-with_name names t each are.0) are.1
+each-with_names names (t ∷ ts) each are =
+    each-with_names (with_name names t) ts (each-with_name names t each are.0) are.1
 
-first_or_later : (names : List Text) (m n : Text) (b : Bool) → bytes_eq n m ≡ b → IsTrue (is_name m) → (IsKnown names n → IsTrue (is_name n)) → (b || has names n) ≡ true → IsTrue (is_name n)
-first_or_later names m n true e first later known = subst (λ (t : Text). IsTrue (is_name t)) (sym ((bytes_eq-Decides n m).0 e)) first
+first_or_later : (names : List Text) (m n : Text) (b : Bool) → bytes_eq n m ≡ b → IsTrue (is_name m)
+    → (IsKnown names n → IsTrue (is_name n)) → (b || has names n) ≡ true → IsTrue (is_name n)
+first_or_later names m n true e first later known =
+    subst (λ (t : Text). IsTrue (is_name t)) (sym ((bytes_eq-Decides n m).0 e)) first
 first_or_later names m n false e first later known = later known
 
-known_is_name : (names : List Text) (n : Text) → AreAllNames names → IsKnown names n → IsTrue (is_name n)
+known_is_name : (names : List Text) (n : Text) → AreAllNames names → IsKnown names n
+    → IsTrue (is_name n)
 known_is_name [] n each known = absurd (false≢true known)
-known_is_name (m ∷ names) n each known = first_or_later names m n (bytes_eq n m) refl each.0 (known_is_name names n each.1) known
+known_is_name (m ∷ names) n each known = first_or_later names m n (bytes_eq n m) refl each.0
+    (known_is_name names n each.1) known
 
 -- what is among names is a name
-pub known_are_names : (names ns : List Text) → AreAllNames names → AreKnown names ns → AreAllNames ns
+pub known_are_names : (names ns : List Text) → AreAllNames names → AreKnown names ns
+    → AreAllNames ns
 known_are_names names [] each known = tt
-known_are_names names (n ∷ ns) each known = (known_is_name names n each known.0, known_are_names names ns each known.1)
+known_are_names names (n ∷ ns) each known =
+    (known_is_name names n each known.0, known_are_names names ns each known.1)
 
 -- what holds of each member, one by one
-pub all_members : {X : Type 0} (P : X → Type 0) (xs : List X) → ((x : X) → Contains xs x → P x) → AllByRecursion P xs
+pub all_members : {X : Type 0} (P : X → Type 0) (xs : List X) → ((x : X) → Contains xs x → P x)
+    → AllByRecursion P xs
 all_members P [] of = tt
-all_members P (x ∷ xs) of = (of x (contains_first x xs), all_members P xs (λ y h. of y (contains_later x xs y h)))
+all_members P (x ∷ xs) of =
+    (of x (contains_first x xs), all_members P xs (λ y h. of y (contains_later x xs y h)))
 
-pub member_of_all : {X : Type 0} (P : X → Type 0) (xs : List X) (y : X) → AllByRecursion P xs → Contains xs y → P y
+pub member_of_all : {X : Type 0} (P : X → Type 0) (xs : List X) (y : X) → AllByRecursion P xs
+    → Contains xs y → P y
 member_of_all P [] y all h = absurd (contains_none y h)
 member_of_all P (x ∷ xs) y all h = elim (contains_cases x xs y h) [
   | inl e ↦ subst P e all.0

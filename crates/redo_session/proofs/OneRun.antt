@@ -15,20 +15,28 @@ use Rattle.redo_session.specs.Runs.{IsRun, AreAccepted, RunsAs}
 use Rattle.redo_session.proofs.Parts.{whole_part}
 
 -- below 1 there is session 0 alone
-pub alone : {N : Type 0} (lines : List (Line N)) → AllByRecursion (λ line. line.session < 1) lines → AllByRecursion (λ line. line.session ≡ 0) lines
+pub alone : {N : Type 0} (lines : List (Line N)) → AllByRecursion (λ line. line.session < 1) lines
+    → AllByRecursion (λ line. line.session ≡ 0) lines
 alone [] h = tt
 alone (line ∷ lines) h = (omega (arith, h.0), alone lines h.1)
 
 module _ {N : Type 0} {naming : Naming N} (law : IsNaming naming) where
   -- one state gives one reply to what is the same
-  one_line : (st : State N) (a b : Line N) → a.session ≡ b.session → a.command ≡ b.command → Answers naming st a.session a.command a.reply → Answers naming st b.session b.command b.reply → a ≡ b
+  one_line : (st : State N) (a b : Line N) → a.session ≡ b.session → a.command ≡ b.command
+      → Answers naming st a.session a.command a.reply
+      → Answers naming st b.session b.command b.reply → a ≡ b
   one_line st a b sessions commands p q =
-      let q_at_a : Answers naming st a.session a.command b.reply = subst (λ (at : ℕ × Command N). Answers naming st at.0 at.1 b.reply) (λ i. (sym sessions i, sym commands i)) q in
+      let q_at_a : Answers naming st a.session a.command b.reply =
+      subst (λ (at : ℕ × Command N). Answers naming st at.0 at.1 b.reply)
+      (λ i. (sym sessions i, sym commands i)) q in
       let replies = one_answer law st a.session a.command a.reply b.reply p q_at_a in
       λ i. record { session = sessions i; command = commands i; reply = replies i }
 
   -- where the commands are the same, so are the lines
-  one_history : (st : State N) (lines more : List (Line N)) → AllByRecursion (λ line. line.session ≡ 0) lines → AllByRecursion (λ line. line.session ≡ 0) more → map (λ line. line.command) lines ≡ map (λ line. line.command) more →
+  one_history : (st : State N) (lines more : List (Line N))
+      → AllByRecursion (λ line. line.session ≡ 0) lines
+      → AllByRecursion (λ line. line.session ≡ 0) more
+      → map (λ line. line.command) lines ≡ map (λ line. line.command) more →
       LegalFrom naming st lines → LegalFrom naming st more → lines ≡ more
   one_history st [] [] s t e p q = refl
   one_history st [] (b ∷ more) s t e p q = cc
@@ -36,20 +44,28 @@ module _ {N : Type 0} {naming : Naming N} (law : IsNaming naming) where
   one_history st (a ∷ lines) (b ∷ more) s t e p q =
       let sessions : a.session ≡ b.session = s.0 ∙ sym t.0 in
       let commands : a.command ≡ b.command = cc in
-      let others : map (λ (line : Line N). line.command) lines ≡ map (λ (line : Line N). line.command) more = cc in
-      let legal : LegalFrom naming (after naming st a.session a.command) more = subst (λ next. LegalFrom naming next more) (λ i. after naming st (sym sessions i) (sym commands i)) q.1 in
-      let rest = one_history (after naming st a.session a.command) lines more s.1 t.1 others p.1 legal in
+      let others : map (λ (line : Line N). line.command) lines
+      ≡ map (λ (line : Line N). line.command) more = cc in
+      let legal : LegalFrom naming (after naming st a.session a.command) more =
+      subst (λ next. LegalFrom naming next more)
+      (λ i. after naming st (sym sessions i) (sym commands i)) q.1 in
+      let rest = one_history (after naming st a.session a.command) lines more s.1 t.1 others p.1
+      legal in
       let first = one_line st a b sessions commands p.0 q.0 in
       λ i. first i ∷ rest i
 
 -- the lines of one session's run say its commands
-pub one_said : (commands : List (Command Text)) (lines : List (Line Text)) → IsRun (commands ∷ []) lines → map (λ line. line.command) lines ≡ commands
-one_said commands lines run = ap (map (λ (line : Line Text). line.command)) (sym (whole_part lines (alone lines run.sessions))) ∙ run.parts 0 (lit< tt)
+pub one_said : (commands : List (Command Text)) (lines : List (Line Text))
+    → IsRun (commands ∷ []) lines → map (λ line. line.command) lines ≡ commands
+one_said commands lines run = ap (map (λ (line : Line Text). line.command))
+    (sym (whole_part lines (alone lines run.sessions))) ∙ run.parts 0 (lit< tt)
 
 -- one run for the commands of one session
-pub one_run : (commands : List (Command Text)) (a b : List (Line Text)) → IsRun (commands ∷ []) a → IsRun (commands ∷ []) b → a ≡ b
+pub one_run : (commands : List (Command Text)) (a b : List (Line Text)) → IsRun (commands ∷ []) a
+    → IsRun (commands ∷ []) b → a ≡ b
 one_run commands a b p q =
-    one_history texts_are_names empty a b (alone a p.sessions) (alone b q.sessions) (one_said commands a p ∙ sym (one_said commands b q)) p.legal q.legal
+    one_history texts_are_names empty a b (alone a p.sessions) (alone b q.sessions)
+    (one_said commands a p ∙ sym (one_said commands b q)) p.legal q.legal
 
 -- the commands of one file
 record IsOnly (file : Text) (scripts : List (List (Command Text))) : Type 0 where
@@ -58,18 +74,30 @@ record IsOnly (file : Text) (scripts : List (List (Command Text))) : Type 0 wher
   whole : scripts ≡ script ∷ []
   is : IsScript [] file script names
 
-only_script : (file : Text) (scripts : List (List (Command Text))) (names : List Text) → AreAccepted [] (Some file ∷ []) scripts names → IsOnly file scripts
+only_script : (file : Text) (scripts : List (List (Command Text))) (names : List Text)
+    → AreAccepted [] (Some file ∷ []) scripts names → IsOnly file scripts
 only_script file [] names are = absurd are
-only_script file (script ∷ []) names are = record { script = script; names = are.0; whole = refl; is = are.1.1 }
+only_script file (script ∷ []) names are = record {
+  script = script;
+  names = are.0;
+  whole = refl;
+  is = are.1.1;
+}
 only_script file (script ∷ more ∷ scripts) names are = absurd are.2
 
 -- one run text for the bytes of one file
 pub one_run_text : (file a b : Text) → RunsAs (Some file ∷ []) a → RunsAs (Some file ∷ []) b → a ≡ b
-one_run_text file a b (scripts, (some, few, (names, are)), (lines, run, is)) (others, (one, most, (more_names, accepted)), (more, other_run, is_other)) =
+one_run_text file a b (scripts, (some, few, (names, are)), (lines, run, is))
+    (others, (one, most, (more_names, accepted)), (more, other_run, is_other)) =
     let p : IsOnly file scripts = only_script file scripts names are in
     let q : IsOnly file others = only_script file others more_names accepted in
-    let commands : p.script ≡ q.script = (one_script [] file p.script q.script p.names q.names p.is q.is).0 in
-    let first : scripts ≡ q.script ∷ [] = p.whole ∙ ap (λ (cs : List (Command Text)). cs ∷ []) commands in
-    let same : lines ≡ more = one_run q.script lines more (subst (λ (all : List (List (Command Text))). IsRun all lines) first run) (subst (λ (all : List (List (Command Text))). IsRun all more) q.whole other_run) in
+    let commands : p.script ≡ q.script =
+    (one_script [] file p.script q.script p.names q.names p.is q.is).0 in
+    let first : scripts ≡ q.script ∷ [] =
+    p.whole ∙ ap (λ (cs : List (Command Text)). cs ∷ []) commands in
+    let same : lines ≡ more =
+    one_run q.script lines more (subst (λ (all : List (List (Command Text))). IsRun all lines)
+    first run) (subst (λ (all : List (List (Command Text))). IsRun all more) q.whole
+    other_run) in
     let scripts_same : scripts ≡ others = first ∙ sym q.whole in
     is ∙ (λ i. run_text_of (sessions_below (length (scripts_same i))) (same i)) ∙ sym is_other

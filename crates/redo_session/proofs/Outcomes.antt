@@ -31,6 +31,7 @@ use Rattle.redo_journal.specs.Plans.{PlanOf, IsPlan, script_of}
 use Rattle.redo_journal.specs.Journals.{journals_of}
 use Rattle.redo_journal.specs.declared.entry.Journal.{Journal}
 use Rattle.redo_board.proofs.Orders.{by_text_is_naming}
+use Rattle.redo_replay.specs.Recorded.{AreLinesBelow}
 use Rattle.redo_replay.specs.Merges.{by_number, AreMerged}
 use Rattle.redo_session.specs.Runs.{IsRun}
 use Rattle.redo_session.specs.Outcomes.{scripts_named, AreWhole, SeenStands}
@@ -182,7 +183,7 @@ module _ (p : PlanOf) (js : List Journal) (plan : IsPlan p) (whole : AreWhole p 
 
   pub history_below : Serves p js → (history : List Line)
       → AreMerged p js (map coded.line_of history)
-      → AllByRecursion (λ line. IsLineBelow (length p.names) (coded.line_of line)) history
+      → AreLinesBelow p.names history
   history_below serves history (lines, first, says) =
       let below =
       all-weaker Below (λ l. IsLineBelow (length p.names) (line_of l))

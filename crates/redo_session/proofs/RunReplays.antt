@@ -2,7 +2,6 @@
 use Rattle.std.proofs.Common.{◌*◌, ◌<◌, ◌≤◌, List, [], ◌∷◌, ◌++◌, Some, length, map, sym, ap, subst, arith}
 use Rattle.std.specs.List.{AllByRecursion, flat_map}
 use Rattle.std.proofs.lemmas.List.{length-map}
-use Rattle.redo_names.specs.declared.names.TheConstants.{MOST_NAMES}
 use Rattle.redo_model.specs.Names.{Text, texts}
 use Rattle.redo_model.specs.State.{empty}
 use Rattle.redo_model.specs.Command.{Command, names_in}
@@ -31,7 +30,7 @@ abbrev command_in : Line Text → Command Text
 command_in line = line.command
 
 module _ (names : List Text) (scripts : List (List (Command Text))) (few : length scripts ≤ 64)
-    (room : length names ≤ MOST_NAMES) (asked : AllByRecursion (AreAsked names) scripts)
+    (room : length names ≤ 65536) (asked : AllByRecursion (AreAsked names) scripts)
     (lines : List (Line Text)) (run : IsRun scripts lines) where
   -- each line's command is one of a script
   lines_asked : AllByRecursion (λ line. IsAsked names line.command) lines

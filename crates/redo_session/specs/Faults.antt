@@ -4,6 +4,7 @@ use Rattle.redo_model.specs.Names.{Text}
 use Rattle.redo_model.specs.Command.{Command}
 use Rattle.redo_command.specs.Faults.{IsFirstFault}
 use Rattle.redo_session.specs.Runs.{AreAccepted, AreSessions}
+use Rattle.redo_command.specs.declared.fault.LineFault.{LineFault}
 use Rattle.redo_session.specs.declared.fault.TextFault.{TextFault}
 use Rattle.redo_session.specs.declared.fault.TextFault.TheVariants.{Memory, Read, TooManySessions, NoSession, Write, Device, TooLong}
 use Rattle.redo_journal.specs.declared.plan.PlanFault.{PlanFault}
@@ -11,13 +12,25 @@ use Rattle.redo_journal.specs.declared.plan.PlanFault.TheVariants as plan
 
 -- the files before this one are accepted, and leave these names
 abbrev pub FilesBefore : List (Option Text) → ℕ → List Text → Type 0
-FilesBefore files file names = (file < length files) × ((scripts : List (List (Command Text))) × AreAccepted [] (take file files) scripts names)
+FilesBefore files file names =
+    (file < length files)
+    × ((scripts : List (List (Command Text))) × AreAccepted [] (take file files) scripts names)
 
--- the cause of a fault: `files` are the files' bytes, where they are known, `faulted` says of which files a read
--- failed, and `out_faulted` whether a write failed
+-- a file's bytes are not too long, and this is the first fault in their lines
+abbrev pub HasFaultyLine : List Text → ℕ → LineFault → Text → Type 0
+HasFaultyLine names line fault bytes =
+    (length bytes ≤ 67108864) × IsFirstFault names bytes line fault
+
+abbrev pub AreTooLong : Text → Type 0
+AreTooLong bytes = 67108864 < length bytes
+
+-- the cause of a fault: `files` are the files' bytes, where they are known, `faulted` says of which
+-- files a read failed, and `out_faulted` whether a write failed
 abbrev pub IsCause : List (Option Text) → List Bool → Bool → TextFault → Type 0
 IsCause files faulted out_faulted Memory = ⊤
-IsCause files faulted out_faulted (Read file line fault) = (names : List Text) × FilesBefore files file names × IfSome (slice_index_or files file None) (λ bytes. (length bytes ≤ 67108864) × IsFirstFault names bytes line fault)
+IsCause files faulted out_faulted (Read file line fault) =
+    (names : List Text) × FilesBefore files file names
+    × IfSome (slice_index_or files file None) (HasFaultyLine names line fault)
 IsCause files faulted out_faulted TooManySessions =
     (64 < length files)
     × ((scripts : List (List (Command Text))) × (names : List Text)
@@ -25,8 +38,11 @@ IsCause files faulted out_faulted TooManySessions =
 IsCause files faulted out_faulted NoSession = files ≡ []
 IsCause files faulted out_faulted Write =
     ((scripts : List (List (Command Text))) × AreSessions files scripts) × IsTrue out_faulted
-IsCause files faulted out_faulted (Device file) = (names : List Text) × FilesBefore files file names × IsTrue (slice_index_or faulted file false)
-IsCause files faulted out_faulted (TooLong file) = (names : List Text) × FilesBefore files file names × IfSome (slice_index_or files file None) (λ bytes. 67108864 < length bytes)
+IsCause files faulted out_faulted (Device file) =
+    (names : List Text) × FilesBefore files file names × IsTrue (slice_index_or faulted file false)
+IsCause files faulted out_faulted (TooLong file) =
+    (names : List Text) × FilesBefore files file names
+    × IfSome (slice_index_or files file None) AreTooLong
 
 -- the fault is one of a device: a read or a write failed
 abbrev pub IsDeviceFault : TextFault → Type 0
@@ -38,15 +54,17 @@ IsDeviceFault Write = ⊤
 IsDeviceFault (Device file) = ⊤
 IsDeviceFault (TooLong file) = ⊥
 
--- the cause of a fault of one file, which has this number, these bytes and this flag, with the names before it
+-- the cause of a fault of one file, which has this number, these bytes and this flag, with the
+-- names before it
 abbrev pub IsFileCause : List Text → Option Text → Bool → ℕ → TextFault → Type 0
 IsFileCause names known faulted at Memory = ⊤
-IsFileCause names known faulted at (Read file line fault) = (file ≡ at) × IfSome known (λ bytes. (length bytes ≤ 67108864) × IsFirstFault names bytes line fault)
+IsFileCause names known faulted at (Read file line fault) =
+    (file ≡ at) × IfSome known (HasFaultyLine names line fault)
 IsFileCause names known faulted at TooManySessions = ⊥
 IsFileCause names known faulted at NoSession = ⊥
 IsFileCause names known faulted at Write = ⊥
 IsFileCause names known faulted at (Device file) = (file ≡ at) × IsTrue faulted
-IsFileCause names known faulted at (TooLong file) = (file ≡ at) × IfSome known (λ bytes. 67108864 < length bytes)
+IsFileCause names known faulted at (TooLong file) = (file ≡ at) × IfSome known AreTooLong
 
 -- the fault that a plan's is
 abbrev pub plan_fault : PlanFault → TextFault

@@ -7,11 +7,12 @@ use Rattle.redo_model.specs.Renaming.{IsBelow}
 use Rattle.redo_command.specs.declared.command.Command.{Command}
 use Rattle.redo_command.specs.declared.watched.Watched.{Watched}
 use Rattle.redo_command.specs.Meaning.{command_of, command_at}
-use Rattle.redo_command.specs.Watched.{is_faulted, inner_of}
+use Rattle.redo_command.specs.Watched.{is_faulted}
+use Rattle.redo_replay.specs.Devices.{known_in}
 
 -- what each file has left, where it is known; `remaining` says it of a reader
 abbrev pub bytes_of_files : {R : Type 0} → (R → Option Text) → List (Watched R) → List (Option Text)
-bytes_of_files remaining files = map (λ file. remaining (inner_of file)) files
+bytes_of_files remaining files = map (known_in remaining) files
 
 -- of which files a read failed
 abbrev pub flags_of_files : {R : Type 0} → List (Watched R) → List Bool

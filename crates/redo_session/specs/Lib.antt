@@ -3,3 +3,4 @@ pub mod Faults
 pub mod Files
 pub mod Sessions
 pub mod Outcomes
+pub mod Printed

@@ -8,22 +8,29 @@ use Rattle.redo_model.specs.History.{Line, part_of, Legal}
 use Rattle.redo_command.specs.Grammar.{IsScript}
 use Rattle.redo_command.specs.Histories.{run_text_of, sessions_below}
 
--- the file's bytes, where they are known, are a script of these commands, with the names before and after it
+-- the file's bytes, where they are known, are a script of these commands, with the names before
+-- and after it
 abbrev pub IsAccepted : List Text → Option Text → List (Command Text) → List Text → Type 0
-IsAccepted names file script after = IfSome file (λ bytes. (length bytes ≤ 67108864) × IsScript names bytes script after)
+IsAccepted names file script after =
+    IfSome file (λ bytes. (length bytes ≤ 67108864) × IsScript names bytes script after)
 
 -- the files are accepted one after another, each with the names of those before it
-abbrev pub AreAccepted : List Text → List (Option Text) → List (List (Command Text)) → List Text → Type 0
+abbrev pub AreAccepted : List Text → List (Option Text) → List (List (Command Text)) → List Text
+    → Type 0
 AreAccepted names [] [] after = after ≡ names
 AreAccepted names [] (script ∷ scripts) after = ⊥
 AreAccepted names (file ∷ files) [] after = ⊥
-AreAccepted names (file ∷ files) (script ∷ scripts) after = (middle : List Text) × IsAccepted names file script middle × AreAccepted middle files scripts after
+AreAccepted names (file ∷ files) (script ∷ scripts) after =
+    (middle : List Text) × IsAccepted names file script middle
+    × AreAccepted middle files scripts after
 
--- one history that holds each session's commands once, in that session's order, each reply the database's at its point
+-- one history that holds each session's commands once, in that session's order, each reply the
+-- database's at its point
 pub record IsRun (scripts : List (List (Command Text))) (lines : List (Line Text)) : Type 0 where
   pub legal : Legal texts lines
   pub sessions : AllByRecursion (λ line. line.session < length scripts) lines
-  pub parts : (s : ℕ) → s < length scripts → map (λ line. line.command) (part_of s lines) ≡ slice_index_or scripts s []
+  pub parts : (s : ℕ) → s < length scripts
+      → map (λ line. line.command) (part_of s lines) ≡ slice_index_or scripts s []
 
 -- the text of such a run
 abbrev pub IsRunText : List (List (Command Text)) → Text → Type 0

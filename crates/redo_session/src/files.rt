@@ -1,7 +1,8 @@
 ghost use Rattle.std.specs.Prelude.{◌≡◌, ◌↔◌, ℕ, ◌<◌, false, [], length, map, IfOk, IfErr, IsErrAnd, OnErr};
 ghost use Rattle.redo_names.specs.Names.{Extends};
 ghost use Rattle.redo_command.specs.Meaning.{command_at};
-ghost use Rattle.redo_command.specs.Watched.{is_faulted, inner_of};
+ghost use Rattle.redo_command.specs.Watched.{is_faulted};
+ghost use Rattle.redo_replay.specs.Devices.{known_in};
 ghost use Rattle.redo_session.specs.Runs.{IsAccepted, AreAccepted};
 ghost use Rattle.redo_session.specs.Files.{bytes_of_files, flags_of_files, scripts_at, IsScriptBelow, AreScriptsBelow};
 ghost use Rattle.redo_session.specs.Faults.{IsFileCause, IsCause, IsDeviceFault};
@@ -48,11 +49,11 @@ fn read_file<R: Read>(
     names: &mut Names,
 ) -> Result<Script, TextFault>
     ensures accepted { IfOk result (λ script. IsAccepted names.old
-        (R.remaining (inner_of file.old)) (map (command_at names.new) script) names.new) }
+        (known_in R.remaining file.old) (map (command_at names.new) script) names.new) }
     ensures below { IfOk result (IsScriptBelow names.new) }
     ensures kept { Extends names.old names.new }
     ensures cause { IfErr result (IsFileCause names.old
-        (R.remaining (inner_of file.old)) (is_faulted file.new) at) }
+        (known_in R.remaining file.old) (is_faulted file.new) at) }
     ensures flag { ¬ (IsErrAnd result IsDeviceFault) → is_faulted file.new ≡ is_faulted file.old }
 {
     let text = match read_whole(alloc, file, FILE_LIMIT) {

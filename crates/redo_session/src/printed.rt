@@ -1,9 +1,10 @@
 ghost use Rattle.std.specs.Prelude.{◌≡◌, ◌+◌, ◌++◌, length, map, codes, decimal, IfOk, OnOk, [], ◌∷◌, ◌==◌, count_by};
-ghost use Rattle.std.specs.List.{AllByRecursion, flat_map};
 ghost use Rattle.redo_model.specs.History.{part_of};
 ghost use Rattle.redo_model.specs.Renaming.{IsLineBelow};
 ghost use Rattle.redo_command.specs.Meaning.{line_of, line_at};
-ghost use Rattle.redo_command.specs.Histories.{ended, answer_text_of, session_text_of, run_text_of, sessions_below};
+ghost use Rattle.redo_command.specs.Histories.{ended, session_text_of, run_text_of, sessions_below};
+ghost use Rattle.redo_replay.specs.Recorded.{AreLinesBelow};
+ghost use Rattle.redo_session.specs.Printed.{answers_of};
 
 use crate::runs::Outcome;
 use redo_command::Line;
@@ -28,7 +29,8 @@ fn put_own_answer(
     names: &Names,
 ) -> Result<(), AllocError>
     requires { IsLineBelow (length names.now) (line_of line.now) }
-    ensures { OnOk result (text.new.items ≡ text.old.items ++ flat_map (λ line. ended (answer_text_of line)) (part_of session (line_at names.now line.now ∷ []))) }
+    ensures { OnOk result (text.new.items
+        ≡ text.old.items ++ answers_of session (line_at names.now line.now ∷ [])) }
 {
     if line.session == session {
         return put_answer(alloc, text, line, names);
@@ -42,7 +44,8 @@ fn put_header(
     session: u8,
     count: usize,
 ) -> Result<(), AllocError>
-    ensures { OnOk result (text.new.items ≡ text.old.items ++ ended (codes "session " ++ decimal (session + 1) ++ codes " " ++ decimal count)) }
+    ensures { OnOk result (text.new.items ≡ text.old.items ++ ended
+        (codes "session " ++ decimal (session + 1) ++ codes " " ++ decimal count)) }
 {
     text.extend_from_slice(b"session ")?;
     put_number(alloc, text, session as usize + 1)?;
@@ -59,8 +62,9 @@ fn put_session(
     lines: &[Line],
     names: &Names,
 ) -> Result<(), AllocError>
-    requires { AllByRecursion (λ line. IsLineBelow (length names.now) (line_of line)) lines.now }
-    ensures { OnOk result (text.new.items ≡ text.old.items ++ session_text_of session (part_of session (map (line_at names.now) lines.now))) }
+    requires { AreLinesBelow names.now lines.now }
+    ensures { OnOk result (text.new.items ≡ text.old.items
+        ++ session_text_of session (part_of session (map (line_at names.now) lines.now))) }
 {
     put_header(alloc, text, session, count_of_session(session, lines))?;
     for line in lines {
@@ -71,8 +75,7 @@ fn put_session(
 
 /// The run text: the history, and then each session's own lines.
 pub fn run_text(alloc: Global, plan: &Plan, outcome: &Outcome) -> Result<Vec<u8>, AllocError>
-    requires { AllByRecursion (λ line. IsLineBelow (length plan.now.names) (line_of line))
-        outcome.now.history.items }
+    requires { AreLinesBelow plan.now.names outcome.now.history.items }
     ensures { IfOk result (λ text. text.items
         ≡ run_text_of (sessions_below (length plan.now.scripts))
         (map (line_at plan.now.names) outcome.now.history.items)) }

@@ -1,8 +1,7 @@
-ghost use Rattle.std.specs.Prelude.{length, map, IfOk};
-ghost use Rattle.std.specs.List.{AllByRecursion};
-ghost use Rattle.redo_model.specs.Renaming.{IsLineBelow};
+ghost use Rattle.std.specs.Prelude.{map, IfOk};
 ghost use Rattle.redo_command.specs.Meaning.{line_of, line_at};
 ghost use Rattle.redo_replay.specs.Merges.{AreMerged};
+ghost use Rattle.redo_replay.specs.Recorded.{AreLinesBelow};
 ghost use Rattle.redo_session.specs.Runs.{IsRun};
 ghost use Rattle.redo_session.specs.Outcomes.{scripts_named, AreWhole, SeenStands};
 
@@ -62,8 +61,8 @@ pub fn run<G: Gate + Sync, R: Threads + Wait + Sync>(
     // once, in order.
     ensures run { IfOk result (λ outcome. IsRun (scripts_named plan.now)
         (map (line_at plan.now.names) outcome.history.items)) }
-    ensures below { IfOk result (λ outcome. AllByRecursion
-        (λ line. IsLineBelow (length plan.now.names) (line_of line)) outcome.history.items) }
+    ensures below { IfOk result (λ outcome.
+        AreLinesBelow plan.now.names outcome.history.items) }
 {
     let (board, seat) = Board::open(alloc, plan)?;
     let sessions = Sessions {

@@ -1,6 +1,6 @@
 ghost use Rattle.std.specs.Prelude.{◌≡◌, ◌≢◌, ◌↔◌, ◌⊎◌, ◌<◌, ◌≤◌, [], false, true, length, map, Any, All, IfOk, IfErr, OnOk, IsErrOf, IsErrAnd};
-ghost use Rattle.std.specs.Io.KnownBytes.{Keeps};
-ghost use Rattle.redo_command.specs.Watched.{is_faulted, inner_of};
+ghost use Rattle.redo_command.specs.Watched.{is_faulted};
+ghost use Rattle.redo_replay.specs.Devices.{known_in, WritesNothing};
 ghost use Rattle.redo_session.specs.Runs.{IsRunText, RunsAs, WritesRun, WritesPart, AreKnownSessions};
 ghost use Rattle.redo_session.specs.Files.{bytes_of_files, flags_of_files, scripts_at, AreScriptsBelow};
 ghost use Rattle.redo_session.specs.Faults.{IsCause, IsDeviceFault};
@@ -67,7 +67,7 @@ pub fn run_texts<R: Read, W: Write, T: Threads + Wait + Sync>(
     // The files are accepted, 1 to 64 of them, and what was written is the run text of one legal
     // history of their commands.
     ensures run { OnOk result (WritesRun (bytes_of_files R.remaining files.old)
-        (W.contents (inner_of out.old)) (W.contents (inner_of out.new))) }
+        (known_in W.contents out.old) (known_in W.contents out.new)) }
 
     // Without a file there is no session.
     ensures none { files.old ≡ [] → IsErrOf result TextFault.NoSession }
@@ -76,10 +76,10 @@ pub fn run_texts<R: Read, W: Write, T: Threads + Wait + Sync>(
     ensures cause { IfErr result (IsCause (bytes_of_files R.remaining files.old)
         (flags_of_files files.new) (is_faulted out.new)) }
     ensures nothing_written { IfErr result (λ fault. fault ≢ TextFault.Write
-        → Keeps (W.contents (inner_of out.old)) (W.contents (inner_of out.new))) }
+        → WritesNothing W.contents out.old out.new) }
     ensures part_written { IsErrOf result TextFault.Write
         → WritesPart (bytes_of_files R.remaining files.old)
-        (W.contents (inner_of out.old)) (W.contents (inner_of out.new)) }
+        (known_in W.contents out.old) (known_in W.contents out.new) }
 
     // Files whose bytes are known and that are accepted are refused for memory and devices alone.
     ensures only { AreKnownSessions (bytes_of_files R.remaining files.old)

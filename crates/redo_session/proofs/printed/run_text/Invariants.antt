@@ -4,4 +4,5 @@ use Rattle.redo_command.specs.Histories.{run_text_of, sessions_below}
 use Rattle.redo_session.proofs.printed.run_text.Given as goal
 
 abbrev pub invariant-loop-session : goal.invariant-loop-session
-invariant-loop-session l = l.text.items ≡ run_text_of (sessions_below l.session) (map (line_at l.names) l.outcome.history.items)
+invariant-loop-session l = l.text.items ≡ run_text_of (sessions_below l.session)
+    (map (line_at l.names) l.outcome.history.items)

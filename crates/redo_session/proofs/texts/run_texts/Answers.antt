@@ -11,14 +11,17 @@ use Rattle.redo_session.proofs.texts.run_texts.Goals as goal
 pub returns-in_err-text-clause-device : goal.returns-in_err-text-clause-device
 returns-in_err-text-clause-device g c =
     let p = err_from_is_err_and c.from_residual.result c.from_residual.ensures.1 in
-    rw (p.1, p.2) (device_read (λ file. is_faulted file) (map (λ file. g.R.Read.remaining (inner_of file)) c.args.files.now) c.args.files.now c.text_of_files.new.files (is_faulted c.args.out.now) c.in_err-text.field-0.0
+    rw (p.1, p.2) (device_read (λ file. is_faulted file)
+    (map (λ file. g.R.Read.remaining (inner_of file)) c.args.files.now) c.args.files.now
+    c.text_of_files.new.files (is_faulted c.args.out.now) c.in_err-text.field-0.0
     c.in_err-text.ensures.cause c.in_err-text.ensures.flags)
 
 pub returns-in-Ok-clause-device : goal.returns-in-Ok-clause-device
 returns-in-Ok-clause-device g c down out_down = (
   λ no. absurd no,
   λ up. elim up [
-    | inl any ↦ no_flag (λ file. is_faulted file) c.args.files.now c.text_of_files.new.files down (c.in_ok-text.ensures.flags (λ no. no)) any
+    | inl any ↦ no_flag (λ file. is_faulted file) c.args.files.now c.text_of_files.new.files down
+        (c.in_ok-text.ensures.flags (λ no. no)) any
     | inr out_up ↦ absurd (let wrong = (c.in-Ok.ensures.write out_down).1 out_up in cc)
   ],
 )

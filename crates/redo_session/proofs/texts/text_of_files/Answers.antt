@@ -18,8 +18,10 @@ returns g c =
     ∙ AreAccepted-length [] files (scripts_at names scripts) names are
     ∙ length-map scripts (λ script. map (command_at names) script) in
     record {
-      text = runs_as c.text_of_scripts.result files scripts names are told.text told.few told.none.1;
-      cause = IsCause-sessions c.text_of_scripts.result files (flags_of_files c.read_files.new.files)
+      text = runs_as c.text_of_scripts.result files scripts names are told.text told.few
+          told.none.1;
+      cause = IsCause-sessions c.text_of_scripts.result files
+          (flags_of_files c.read_files.new.files)
           (scripts_at names scripts) names are
           (λ is. rw length-map (told.many.0 is))
           (λ is. ap (scripts_at names) (nil_from_length scripts (told.none.0 is)))
