@@ -4,7 +4,7 @@ use Rattle.redo_model.specs.Reply.{Okay}
 use Rattle.redo_model.specs.Placed.{Released}
 use Rattle.redo_model.specs.Journals.{Numbered}
 use Rattle.redo_board.specs.Core.{Way, row, free}
-use Rattle.redo_board.specs.Plays.{next, free_line}
+use Rattle.redo_board.specs.Plays.{free_line}
 use Rattle.redo_board.specs.Shown.{journal_of}
 use Rattle.redo_board.specs.Kept.{WorksAt, view_of}
 use Rattle.redo_board.specs.Outcomes.{Made}
