@@ -64,7 +64,8 @@ journal_from p c (l ∷ ls) s h =
           (sym e) h.0.next,
       subst (λ before. IsJournalAfter s (script_of p s) before (part_of s ls)) own rest,
     ))
-    (λ ne. subst (IsJournalAfter s (script_of p s) (c.own s)) (sym (part_of-other s l ls (λ q. ne (sym q))))
+    (λ ne. subst (IsJournalAfter s (script_of p s) (c.own s))
+    (sym (part_of-other s l ls (λ q. ne (sym q))))
     (subst (λ before. IsJournalAfter s (script_of p s) before (part_of s ls))
     (set-other c.own l.session (c.own l.session ++ l ∷ []) s ne) rest))
 

@@ -1,9 +1,9 @@
 -- What a session does next. All else of the board knows `next_of` by these laws alone.
-use Rattle.std.proofs.Common.{◌≡◌, ℕ, zero, suc, ◌<◌, ◌≤◌, List, [], ◌∷◌, length, get_or, Option, Some, None, refl, sym, ap, ◌∙◌}
+use Rattle.std.proofs.Common.{◌≡◌, ℕ, zero, suc, ◌<◌, List, [], ◌∷◌, length, get_or, Option, Some, None, refl, sym, ap, ◌∙◌}
 use Rattle.std.specs.List.{AllByRecursion}
 use Rattle.std.specs.Prelude.{option_map, slice_get}
 use Rattle.std.specs.Option.{unwrap_or}
-use Rattle.std.proofs.lemmas.Option.{slice_get_past, slice_get_within, get_or_from_slice_get, slice_get-get_or}
+use Rattle.std.proofs.lemmas.Option.{slice_get_within, get_or_from_slice_get}
 use Rattle.redo_model.specs.Command.{Command, Ood}
 use Rattle.redo_model.specs.Placed.{PlacedLine}
 use Rattle.redo_model.specs.Journals.{Numbered, next_of}
@@ -43,20 +43,6 @@ next_named script own n e = by (slice_get script (length own)) refl e
               ∙ sym (get_or_from_slice_get script (length own) x Ood at)
               ∙ ap (λ k. get_or script k Ood) (sym number);
         }
-
-pub next_there : (script : List (Command ℕ)) (own : List (PlacedLine ℕ)) (k : ℕ)
-    → k ≡ length own → k < length script
-    → next_of script own ≡ Some (record { number = k; command = get_or script k Ood })
-next_there script own k e less =
-    (λ i. option_map (λ x. record { number = sym e i; command = x }) (slice_get script (sym e i)))
-    ∙ ap (option_map (λ x. record { number = k; command = x }))
-    (slice_get-get_or script k Ood less)
-
-pub next_ended : (script : List (Command ℕ)) (own : List (PlacedLine ℕ))
-    → length script ≤ length own → next_of script own ≡ None
-next_ended script own past =
-    ap (option_map (λ x. record { number = length own; command = x }))
-    (slice_get_past script (length own) past)
 
 -- each command of a plan is of the plan's names
 pub command_below : (p : PlanOf) (s k : ℕ) → IsPlan p → IsBelow (length p.names) (command p s k)

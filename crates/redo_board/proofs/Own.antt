@@ -1,6 +1,5 @@
 -- What a worker keeps of its session's lines stays right with each line more.
 use Rattle.std.proofs.Common.{◌≡◌, ℕ, ◌+◌, ◌<◌, ◌≤◌, List, [], ◌∷◌, ◌++◌, Bool, true, false, cond, eqb, eq-eqb, ne_eqb, Option, Some, None, refl, sym, ap, ◌∙◌, subst, inl, inr, arith}
-use Rattle.std.specs.Prelude.{count_by}
 use Rattle.std.proofs.lemmas.Bool.{cases_Bool}
 use Rattle.redo_model.specs.Command.{Command, File, Gone, Lock, Unlock, Start, IfChange, IfCreate, Always, Stamp, Done, Failed, Ood, Targets, Sources, target_of}
 use Rattle.redo_model.specs.Reply.{Reply}
@@ -17,32 +16,13 @@ use Rattle.redo_board.specs.declared.worker.own.Own.{Own}
 use Rattle.redo_joint.proofs.Counts.{grants_push, releases_push}
 use Rattle.redo_board.proofs.Bridge.{stood_told, placed_told}
 use Rattle.redo_board.proofs.Counts.{bit-small}
+use Rattle.redo_board.proofs.Orders.{grants_alike, releases_alike}
 use Rattle.redo_board.proofs.Told.{built-push}
 
 -- each target is granted and released in turn
 pub record InTurn (lines : List Line) : Type 0 where
   pub least : (t : ℕ) → releases_in by_number lines t ≤ grants_in by_number lines t
   pub most : (t : ℕ) → grants_in by_number lines t ≤ releases_in by_number lines t + 1
-
-grants_same : (p : PlanOf) (lines : List Line) (t : ℕ)
-    → grants_in (naming_of p) lines t ≡ grants_in by_number lines t
-grants_same p lines t = λ i. count_by (λ (l : Line). same l.place i) lines
-  where
-    same : (place : Place ℕ) → is_grant (naming_of p) t place ≡ is_grant by_number t place
-    same (Row r) = refl
-    same (Granted u g) = refl
-    same (Busy u g) = refl
-    same (Released u g) = refl
-
-releases_same : (p : PlanOf) (lines : List Line) (t : ℕ)
-    → releases_in (naming_of p) lines t ≡ releases_in by_number lines t
-releases_same p lines t = λ i. count_by (λ (l : Line). same l.place i) lines
-  where
-    same : (place : Place ℕ) → is_release (naming_of p) t place ≡ is_release by_number t place
-    same (Row r) = refl
-    same (Granted u g) = refl
-    same (Busy u g) = refl
-    same (Released u g) = refl
 
 pub in_turn : (p : PlanOf) (log : List Line) (s : ℕ) → IsPlan p → IsLegal p start log
     → InTurn (part_of s log)
@@ -56,8 +36,8 @@ in_turn p log s plan h = record { least = λ t. least t; most = λ t. most t }
         let held = is_held_by s ((after_all p start log).state.locks.holder t) in
         let a = (stood_told p log plan h).tied.own s t in
         let b = bit-small held in
-        let c = grants_same p lines t in
-        let d = releases_same p lines t in
+        let c = grants_alike p.names lines t in
+        let d = releases_alike p.names lines t in
         omega arith
 
     most : (t : ℕ) → grants_in by_number lines t ≤ releases_in by_number lines t + 1
@@ -65,8 +45,8 @@ in_turn p log s plan h = record { least = λ t. least t; most = λ t. most t }
         let held = is_held_by s ((after_all p start log).state.locks.holder t) in
         let a = (stood_told p log plan h).tied.own s t in
         let b = bit-small held in
-        let c = grants_same p lines t in
-        let d = releases_same p lines t in
+        let c = grants_alike p.names lines t in
+        let d = releases_alike p.names lines t in
         omega arith
 
 -- a row turns nothing that is held

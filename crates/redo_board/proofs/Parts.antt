@@ -1,5 +1,5 @@
 -- A history's end, and the lines of one session in it.
-use Rattle.std.proofs.Common.{◌≡◌, ℕ, ◌+◌, cond, List, [], ◌∷◌, ◌++◌, false, Option, Some, None, refl, sym, ap, ◌∙◌, subst, arith, append_assoc}
+use Rattle.std.proofs.Common.{◌≡◌, ℕ, List, [], ◌∷◌, ◌++◌, false, Option, Some, None, refl, sym, ap, ◌∙◌, subst, arith, append_assoc}
 use Rattle.std.proofs.lemmas.List.{append-nil}
 use mathlib.Core.Logic.{dite}
 use native.Mathlib.Decide.{ℕ_discrete}
@@ -127,7 +127,8 @@ built_from p c (l ∷ ls) s t h =
     ≡ is_built_by z (target_state (done p c l).state.records t))
     (sym e) (sym (answered p c u t l.reply l.command h.0.answer)))
     ∙ rest)
-    (λ ne. ap (built t (is_built_by s (target_state c.state.records t))) (part_of-other s l ls (λ q. ne (sym q)))
+    (λ ne. ap (built t (is_built_by s (target_state c.state.records t)))
+    (part_of-other s l ls (λ q. ne (sym q)))
     ∙ ap (λ b. built t b (part_of s ls))
     (sym
     (builds_kept (by_text_is_naming p.names) c.state.records u s (has c u l.command) l.command t

@@ -1,13 +1,12 @@
 -- What a session does next, at the history's end.
 use Rattle.std.proofs.Common.{◌≡◌, ℕ, ◌+◌, ◌<◌, eqb, List, [], ◌∷◌, ◌++◌, length, get_or, set, true, Option, Some, None, refl, sym, ap, ◌∙◌, subst, inl, ⊎_elim}
-use Rattle.std.specs.Prelude.{count_by}
 use mathlib.Core.Option.{some}
 use lib.ListN.{get_elem?}
 use Rattle.redo_model.specs.Command.{Command, target_of}
 use Rattle.redo_model.specs.Reply.{Reply}
 use Rattle.redo_model.specs.Step.{Answers, holds_name}
 use Rattle.redo_model.specs.Renaming.{IsReplyBelow}
-use Rattle.redo_model.specs.Placed.{Place, Row, Granted, Busy, Released, part_of, is_row, is_grant, is_release, holds_by}
+use Rattle.redo_model.specs.Placed.{part_of, is_row, holds_by}
 use Rattle.redo_model.specs.Journals.{Numbered, next_of}
 use Rattle.redo_journal.specs.Plans.{PlanOf, script_of}
 use Rattle.redo_board.specs.Rows.{naming_of, rows_of}
@@ -18,6 +17,7 @@ use Rattle.redo_board.specs.Plays.{by_number, built_name, next, made, own, own_b
 use Rattle.redo_joint.proofs.Own.{push_own}
 use Rattle.redo_joint.proofs.Tied.{flag}
 use Rattle.redo_board.proofs.Bridge.{stood_told}
+use Rattle.redo_board.proofs.Orders.{grants_alike, releases_alike}
 use Rattle.redo_board.proofs.Parts.{after-push, legal-push, own-part, built-part}
 use Rattle.redo_board.proofs.Sound.{Sound, sound}
 use Rattle.redo_board.proofs.Kept.{St, board, fits_other, fits_set, apart_set, begins_done}
@@ -26,22 +26,8 @@ use Rattle.redo_board.proofs.Kept.{St, board, fits_other, fits_set, apart_set, b
 plain : (p : PlanOf) (own : List Line) (a : Option ℕ)
     → holds_by (naming_of p) own a ≡ holds_by by_number own a
 plain p own None = refl
-plain p own (Some t) = λ i.
-    eqb (count_by (λ (l : Line). granted l.place i) own)
-    (count_by (λ (l : Line). released l.place i) own + 1)
-  where
-    granted : (place : Place ℕ) → is_grant (naming_of p) t place ≡ is_grant by_number t place
-    granted (Row r) = refl
-    granted (Granted u g) = refl
-    granted (Busy u g) = refl
-    granted (Released u g) = refl
-
-    released : (place : Place ℕ)
-        → is_release (naming_of p) t place ≡ is_release by_number t place
-    released (Row r) = refl
-    released (Granted u g) = refl
-    released (Busy u g) = refl
-    released (Released u g) = refl
+plain p own (Some t) =
+    λ i. eqb (grants_alike p.names own t i) (releases_alike p.names own t i + 1)
 
 module _ (p : PlanOf) (s : St) (o : Orderly p s) (id t : ℕ) (j : List Line) (seen also : List ℕ)
     (me : get_elem? s.views id ≡ some (view p ((t, j) ∷ []) seen also))

@@ -7,8 +7,7 @@ use Rattle.redo_model.specs.Command.{Command}
 use Rattle.redo_model.specs.Reply.{Reply}
 use Rattle.redo_model.specs.Step.{Replies, records_after}
 use Rattle.redo_model.specs.Renaming.{OrdersAlike, numbering, IsReplyBelow}
-use Rattle.redo_store.specs.Orders.{by_place}
-use Rattle.redo_store.specs.Stored.{Stored, records_of, count_of, order_of, applied_of, naming_of, IsSameButRoom}
+use Rattle.redo_store.specs.Stored.{Stored, records_of, count_of, order_of, applied_of, naming_of}
 use Rattle.redo_journal.specs.Plans.{PlanOf}
 use Rattle.redo_board.specs.Rows as rows
 use Rattle.redo_board.specs.Rows.{command}
@@ -52,18 +51,6 @@ few_seen v told =
     let d = ap length told.fits.seen.1 in
     let e = length-append v.seen told.fits.seen.0 in
     omega arith
-
--- room is no matter
-pub lags_same : (p : PlanOf) (old new : Stored) (pending : Option ℕ) (seen : List ℕ)
-    → IsSameButRoom old new → Lags p old pending seen → Lags p new pending seen
-lags_same p old new pending seen same lags = record {
-  words = lags.words;
-  behind = lags.behind;
-  records = same.records ∙ lags.records;
-  applied = same.applied ∙ lags.applied;
-  count = same.count ∙ lags.count;
-  order = subst (OrdersAlike (numbering p.names) texts) (ap by_place (sym same.sorted)) lags.order;
-}
 
 pub lags_few : (p : PlanOf) (v : ViewOf) (stored : Stored) (pending : Option ℕ) → Told v
     → Lags p stored pending v.seen → applied_of stored + 1 < 2 ^ 32

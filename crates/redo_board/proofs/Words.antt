@@ -1,5 +1,5 @@
 -- Row words, and functions that are changed at one place.
-use Rattle.std.proofs.Common.{◌≡◌, ◌≢◌, ℕ, ◌-◌, ◌%◌, ◌<◌, eqb, cond, List, [], ◌∷◌, ◌++◌, length, Bool, true, false, None, refl, ap, ◌∙◌, subst, sym, arith, eq-eqb, ne_eqb}
+use Rattle.std.proofs.Common.{◌≡◌, ◌≢◌, ℕ, ◌-◌, ◌%◌, ◌<◌, List, [], ◌∷◌, ◌++◌, length, Bool, true, false, None, refl, ap, ◌∙◌, subst, sym, arith, eq-eqb, ne_eqb}
 use Rattle.redo_model.specs.Command.{Command, asked_lock}
 use Rattle.redo_model.specs.State.{Records}
 use Rattle.redo_model.specs.Step.{records_after}

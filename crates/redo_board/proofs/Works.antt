@@ -13,11 +13,12 @@ use Rattle.redo_store.specs.Stored.{Stored}
 use Rattle.redo_journal.specs.Plans.{PlanOf, IsPlan, script_of}
 use Rattle.redo_journal.specs.Journals.{place_of, line_told}
 use Rattle.redo_journal.specs.declared.entry.Entry.{Entry}
+use Rattle.redo_board.specs.Rows.{rows_of}
 use Rattle.redo_board.specs.Core.{Line, Begins, row}
 use Rattle.redo_board.specs.Histories.{EndsWith}
 use Rattle.redo_board.specs.Views.{Part, ViewOf, view}
 use Rattle.redo_board.specs.Rule.{HasPart, Told}
-use Rattle.redo_board.specs.Plays.{Goes, Lost, made, next, own, own_way}
+use Rattle.redo_board.specs.Plays.{Goes, Claims, Lost, made, next, own, own_way}
 use Rattle.redo_board.specs.Shown.{NeedsNoRow, IsNextBy, session_of, journal_of, seen_by, next_by, told, past, rows_up_to}
 use Rattle.redo_board.specs.Kept.{IsBoardOf, Works, WorksAt, Lags, view_of}
 use Rattle.redo_board.specs.Own.{Says, Notes, names_of, has, way_by}
@@ -242,6 +243,18 @@ module _ (p : PlanOf) (b : Board) (w w' : Worker) (n : Numbered ℕ) (reply : Re
         [],
         sym (append-nil (seen_by w)),
       )
+
+-- a step on the claim word of u that found this goes on as its play says
+pub claim_goes : (p : PlanOf) (b : Board) (w : Worker) (v : ViewOf) (n : Numbered ℕ) (u found : ℕ)
+    (line : ℕ → Numbered ℕ → ℕ → ℕ → Line)
+    → IsBoardOf p b → WorksAt p b w → next_by p w ≡ Some n
+    → Claims line (b.rows + 1 + u) (view_of w) found v
+    → Goes (view_of w) w.session (journal_of p w) (line w.session n u found) (seen_by w) v
+claim_goes p b w v n u found line is k is-next claims =
+    claims w.session u (journal_of p w) n
+    (lone p w.session (journal_of p w) (view_of w) k.works.view)
+    (ap (λ (v : ViewOf). next v.plan w.session (journal_of p w)) k.works.view ∙ is-next)
+    (ap (λ m. m + 1 + u) (is.rows ∙ ap rows_of (sym (ap (λ (v : ViewOf). v.plan) k.works.view))))
 
 -- after a row was lost
 module _ (p : PlanOf) (b : Board) (w w' : Worker) (found : ℕ) (k : WorksAt p b w)

@@ -3,16 +3,14 @@ use Rattle.redo_model.specs.Command.{Unlock}
 use Rattle.redo_model.specs.Reply.{Okay}
 use Rattle.redo_model.specs.Placed.{Released}
 use Rattle.redo_model.specs.Journals.{Numbered}
-use Rattle.redo_board.specs.Rows.{rows_of}
 use Rattle.redo_board.specs.Core.{Way, row, free}
-use Rattle.redo_board.specs.Views.{ViewOf}
-use Rattle.redo_board.specs.Plays.{next, free_line, Goes}
-use Rattle.redo_board.specs.Shown.{journal_of, seen_by}
+use Rattle.redo_board.specs.Plays.{free_line}
+use Rattle.redo_board.specs.Shown.{journal_of}
 use Rattle.redo_board.specs.Kept.{WorksAt, view_of}
 use Rattle.redo_board.specs.Outcomes.{Made}
 use Rattle.redo_board.specs.declared.worker.Worker.{Worker}
-use Rattle.redo_board.proofs.Steps.{frees_as, lone}
-use Rattle.redo_board.proofs.Works.{few_words, target_low, entered, claimed}
+use Rattle.redo_board.proofs.Steps.{frees_as}
+use Rattle.redo_board.proofs.Works.{few_words, target_low, entered, claim_goes, claimed}
 use Rattle.redo_board.proofs.worker.Worker.free.Goals as goal
 use Rattle.redo_board.proofs.worker.Worker.free.Goals.{After-enter}
 
@@ -61,18 +59,9 @@ done c =
     let w₁ : Worker = record w { seat = c.fetch_add-found.new.seat } in
     let w' : Worker =
     record w₁ { entries = c.enter.new.self.entries; own = c.enter.new.self.own } in
-    let word-at : c.args.board.now.rows + 1 + u ≡ rows_of (view_of w).plan + 1 + u =
-    ap (λ x. x + 1 + u)
-    (c.requires.belongs.0.rows
-    ∙ ap rows_of (sym (ap (λ (v : ViewOf). v.plan) k.works.view))) in
-    let goes : Goes (view_of w) w.session (journal_of p w) (free_line w.session n u found) (seen_by
-    w)
-    (view_of w') =
-    e.2.0 w.session u (journal_of p w) n
-    (lone p w.session (journal_of p w) (view_of w) k.works.view)
-    (ap (λ (v : ViewOf). next v.plan w.session (journal_of p w)) k.works.view
-    ∙ c.requires.command.next)
-    word-at in
+    let goes =
+    claim_goes p c.args.board.now w (view_of w') n u found free_line c.requires.belongs.0 k
+    c.requires.command.next e.2.0 in
     entered w₁ c.enter.new.self (Unlock u) _ cap
     (λ v. WorksAt p c.args.board.now v × Made p w v)
     (claimed p c.args.board.now w w' n Okay (Released u (found / 2 + 1)) k

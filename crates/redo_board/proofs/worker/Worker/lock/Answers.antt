@@ -1,17 +1,15 @@
-use Rattle.std.proofs.Common.{◌≡◌, ◌≢◌, ℕ, ◌+◌, ◌<◌, length, cond, eqb, Bool, true, false, ◌%◌, ◌/◌, arith, refl, sym, ap, ◌∙◌}
+use Rattle.std.proofs.Common.{◌≡◌, ◌≢◌, ℕ, ◌+◌, ◌<◌, length, cond, eqb, Bool, true, false, ◌%◌, ◌/◌, arith, refl, ap}
 use Rattle.redo_model.specs.Command.{Lock}
 use Rattle.redo_model.specs.Placed.{Granted, Busy}
 use Rattle.redo_model.specs.Journals.{Numbered}
-use Rattle.redo_board.specs.Rows.{rows_of}
 use Rattle.redo_board.specs.Core.{row, claim}
-use Rattle.redo_board.specs.Views.{ViewOf}
-use Rattle.redo_board.specs.Plays.{next, lock_line, lock_said, lock_place, Goes}
-use Rattle.redo_board.specs.Shown.{journal_of, seen_by, past}
+use Rattle.redo_board.specs.Plays.{lock_line, lock_said, lock_place}
+use Rattle.redo_board.specs.Shown.{journal_of, past}
 use Rattle.redo_board.specs.Kept.{WorksAt, view_of}
 use Rattle.redo_board.specs.Outcomes.{Made}
 use Rattle.redo_board.specs.declared.worker.Worker.{Worker}
-use Rattle.redo_board.proofs.Steps.{locks_as, lone}
-use Rattle.redo_board.proofs.Works.{few_words, target_low, entered, claimed}
+use Rattle.redo_board.proofs.Steps.{locks_as}
+use Rattle.redo_board.proofs.Works.{few_words, target_low, entered, claim_goes, claimed}
 use Rattle.redo_board.proofs.worker.Worker.lock.Goals as goal
 use Rattle.redo_board.proofs.worker.Worker.lock.Goals.{After-enter}
 
@@ -67,18 +65,9 @@ done c =
     let w₁ : Worker = record w { seat = c.fetch_or-found.new.seat } in
     let w' : Worker =
     record w₁ { entries = c.enter.new.self.entries; own = c.enter.new.self.own } in
-    let word-at : c.args.board.now.rows + 1 + u ≡ rows_of (view_of w).plan + 1 + u =
-    ap (λ x. x + 1 + u)
-    (c.requires.belongs.0.rows
-    ∙ ap rows_of (sym (ap (λ (v : ViewOf). v.plan) k.works.view))) in
-    let goes : Goes (view_of w) w.session (journal_of p w) (lock_line w.session n u found) (seen_by
-    w)
-    (view_of w') =
-    e.2.0 w.session u (journal_of p w) n
-    (lone p w.session (journal_of p w) (view_of w) k.works.view)
-    (ap (λ (v : ViewOf). next v.plan w.session (journal_of p w)) k.works.view
-    ∙ c.requires.command.next)
-    word-at in
+    let goes =
+    claim_goes p c.args.board.now w (view_of w') n u found lock_line c.requires.belongs.0 k
+    c.requires.command.next e.2.0 in
     entered w₁ c.enter.new.self (Lock u) _ cap
     (λ v. WorksAt p c.args.board.now v × Made p w v)
     (claimed p c.args.board.now w w' n (lock_said found) (lock_place u found) k
