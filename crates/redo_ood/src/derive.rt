@@ -3,7 +3,7 @@
 ghost use Rattle.std.specs.Prelude.{◌≡◌, ◌<◌, ◌↔◌, ℕ, IsTrue, IsSome, [], ◌∷◌, length};
 ghost use Rattle.redo_model.specs.OutOfDate.{Depends};
 ghost use Rattle.redo_model.specs.Renaming.{AllBelow};
-ghost use Rattle.redo_rows.specs.Rows.{records_of, rows_of, count_of};
+ghost use Rattle.redo_rows.specs.Rows.{with_rows, rows_of, rows_count};
 ghost use Rattle.redo_ood.specs.Marks.{IsMarked, size_of};
 ghost use Rattle.redo_ood.specs.Regions.{IsDue, IsClosed, EntersDue};
 
@@ -15,7 +15,7 @@ use redo_rows::DepRows;
 
 // Whether the target has a change row on the name, and the name is marked.
 fn needs_marked(rows: &DepRows, marks: &Marks, t: u32, n: u32) -> bool
-    requires target { t < count_of rows.now }
+    requires target { t < rows_count rows.now }
     requires name { n < size_of marks.now }
     ensures { IsTrue result ↔ (IsSome ((rows_of rows.now).change t n) × IsMarked marks.now n) }
 {
@@ -24,8 +24,8 @@ fn needs_marked(rows: &DepRows, marks: &Marks, t: u32, n: u32) -> bool
 
 // Whether the target has a change row on a marked name.
 fn needs_any_marked(rows: &DepRows, marks: &Marks, t: u32) -> bool
-    requires target { t < count_of rows.now }
-    requires sized { size_of marks.now ≡ count_of rows.now }
+    requires target { t < rows_count rows.now }
+    requires sized { size_of marks.now ≡ rows_count rows.now }
     ensures { IsTrue result
         ↔ ((n : ℕ) × IsSome ((rows_of rows.now).change t n) × IsMarked marks.now n) }
 {
@@ -39,32 +39,32 @@ fn needs_any_marked(rows: &DepRows, marks: &Marks, t: u32) -> bool
 
 // Whether it is a target that depends on a marked name.
 fn depends_on_marked(records: &Records, rows: &DepRows, marks: &Marks, t: u32) -> bool
-    requires target { t < count_of rows.now }
-    requires records { length records.now ≡ count_of rows.now }
-    requires sized { size_of marks.now ≡ count_of rows.now }
+    requires target { t < rows_count rows.now }
+    requires records { length records.now ≡ rows_count rows.now }
+    requires sized { size_of marks.now ≡ rows_count rows.now }
     ensures { IsTrue result
-        ↔ ((n : ℕ) × Depends (records_of records.now rows.now) t n × IsMarked marks.now n) }
+        ↔ ((n : ℕ) × Depends (with_rows records.now rows.now) t n × IsMarked marks.now n) }
 {
     is_target(records, t) && needs_any_marked(rows, marks, t)
 }
 
 // Whether it is a target that has a reason of its own, or depends on a marked name.
 fn is_due(records: &Records, rows: &DepRows, marks: &Marks, t: u32) -> bool
-    requires target { t < count_of rows.now }
-    requires records { length records.now ≡ count_of rows.now }
-    requires sized { size_of marks.now ≡ count_of rows.now }
-    ensures { IsTrue result ↔ IsDue (records_of records.now rows.now) marks.now t }
+    requires target { t < rows_count rows.now }
+    requires records { length records.now ≡ rows_count rows.now }
+    requires sized { size_of marks.now ≡ rows_count rows.now }
+    ensures { IsTrue result ↔ IsDue (with_rows records.now rows.now) marks.now t }
 {
     has_reason(records, rows, t) || depends_on_marked(records, rows, marks, t)
 }
 
 // Marks the target where it is due, and all that depend on it.
 fn enter_due(records: &Records, rows: &DepRows, t: u32, marks: &mut Marks)
-    requires target { t < count_of rows.now }
-    requires records { length records.now ≡ count_of rows.now }
-    requires sized { size_of marks.old ≡ count_of rows.now }
-    requires closed { IsClosed (records_of records.now rows.now) marks.old.queue marks.old }
-    ensures { EntersDue (records_of records.now rows.now) (t ∷ []) marks.old marks.new }
+    requires target { t < rows_count rows.now }
+    requires records { length records.now ≡ rows_count rows.now }
+    requires sized { size_of marks.old ≡ rows_count rows.now }
+    requires closed { IsClosed (with_rows records.now rows.now) marks.old.queue marks.old }
+    ensures { EntersDue (with_rows records.now rows.now) (t ∷ []) marks.old marks.new }
 {
     if !marks.has(t) && is_due(records, rows, marks, t) {
         let next = marks.queue_len();
@@ -76,10 +76,10 @@ fn enter_due(records: &Records, rows: &DepRows, t: u32, marks: &mut Marks)
 /// Marks those of the names that are due, and all that depend on them.
 pub(crate) fn derive(records: &Records, rows: &DepRows, names: &[u32], marks: &mut Marks)
     requires names { AllBelow (size_of marks.old) names.now }
-    requires records { length records.now ≡ count_of rows.now }
-    requires sized { size_of marks.old ≡ count_of rows.now }
-    requires closed { IsClosed (records_of records.now rows.now) marks.old.queue marks.old }
-    ensures { EntersDue (records_of records.now rows.now) names.now marks.old marks.new }
+    requires records { length records.now ≡ rows_count rows.now }
+    requires sized { size_of marks.old ≡ rows_count rows.now }
+    requires closed { IsClosed (with_rows records.now rows.now) marks.old.queue marks.old }
+    ensures { EntersDue (with_rows records.now rows.now) names.now marks.old marks.new }
 {
     for &t in names {
         enter_due(records, rows, t, marks);

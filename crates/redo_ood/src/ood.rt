@@ -3,7 +3,7 @@ ghost use Rattle.redo_model.specs.Names.{IsListed};
 ghost use Rattle.redo_model.specs.OutOfDate.{InRegion};
 ghost use Rattle.redo_model.specs.Renaming.{AllBelow};
 ghost use Rattle.redo_model.specs.State.{empty};
-ghost use Rattle.redo_rows.specs.Rows.{records_of, by_number, count_of as rows_count};
+ghost use Rattle.redo_rows.specs.Rows.{with_rows, by_number, rows_count};
 ghost use Rattle.redo_ood.specs.Memo.{count_of, is_out, IsRight, WasRight, HasCount};
 
 use crate::derive::derive;
@@ -69,10 +69,10 @@ impl Ood {
         requires records { length records.now ≡ count_of self.old }
         requires rows { rows_count rows.now ≡ count_of self.old }
         requires seeds { AllBelow (count_of self.old) seeds.now }
-        requires right { WasRight seeds.now self.old (records_of records.now rows.now) }
-        ensures right { IsRight self.new (records_of records.now rows.now) }
+        requires right { WasRight seeds.now self.old (with_rows records.now rows.now) }
+        ensures right { IsRight self.new (with_rows records.now rows.now) }
         ensures count { count_of self.new ≡ count_of self.old }
-        ensures region { HasCount (InRegion (records_of records.now rows.now) seeds.now) result }
+        ensures region { HasCount (InRegion (with_rows records.now rows.now) seeds.now) result }
     {
         let front = find_region(records, rows, seeds, &mut self.region);
         let region = self.region.queue();

@@ -2,16 +2,16 @@
 
 ghost use Rattle.std.specs.Prelude.{◌≡◌, ◌↔◌, ◌<◌, IsTrue, length};
 ghost use Rattle.redo_model.specs.OutOfDate.{HasReason};
-ghost use Rattle.redo_rows.specs.Rows.{records_of, count_of};
+ghost use Rattle.redo_rows.specs.Rows.{with_rows, rows_count};
 
 use redo_records::{Records, State};
 use redo_rows::DepRows;
 
 /// Whether it is a target with a reason of its own.
 pub(crate) fn has_reason(records: &Records, rows: &DepRows, t: u32) -> bool
-    requires target { t < count_of rows.now }
-    requires names { length records.now ≡ count_of rows.now }
-    ensures { IsTrue result ↔ HasReason (records_of records.now rows.now) t }
+    requires target { t < rows_count rows.now }
+    requires names { length records.now ≡ rows_count rows.now }
+    ensures { IsTrue result ↔ HasReason (with_rows records.now rows.now) t }
 {
     match records.state(t) {
         State::Idle => false,

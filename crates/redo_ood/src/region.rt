@@ -6,7 +6,7 @@ ghost use Rattle.redo_model.specs.OutOfDate.{IsTarget, Depends, HasRow, TouchesS
 ghost use Rattle.redo_model.specs.Renaming.{AllBelow};
 ghost use Rattle.redo_model.specs.State.{Idle};
 ghost use Rattle.redo_records.specs.Cells.{cell_at};
-ghost use Rattle.redo_rows.specs.Rows.{records_of, count_of};
+ghost use Rattle.redo_rows.specs.Rows.{with_rows, rows_count};
 ghost use Rattle.redo_ood.specs.Marks.{IsMarked, IsQueued, Enters, HoldsOnly, size_of};
 ghost use Rattle.redo_ood.specs.Regions.{Spreads, IsClosed};
 
@@ -46,21 +46,21 @@ fn enter_targets(records: &Records, names: &[u32], marks: &mut Marks)
 
 // Marks the targets that depend on the name.
 fn enter_dependents(records: &Records, rows: &DepRows, n: u32, marks: &mut Marks)
-    requires name { n < count_of rows.now }
-    requires records { length records.now ≡ count_of rows.now }
-    requires sized { size_of marks.old ≡ count_of rows.now }
-    ensures { Enters (λ t. Depends (records_of records.now rows.now) t n) marks.old marks.new }
+    requires name { n < rows_count rows.now }
+    requires records { length records.now ≡ rows_count rows.now }
+    requires sized { size_of marks.old ≡ rows_count rows.now }
+    ensures { Enters (λ t. Depends (with_rows records.now rows.now) t n) marks.old marks.new }
 {
     enter_targets(records, rows.needed_by(n), marks);
 }
 
 // Marks the targets with a row on the name.
 fn enter_holders(records: &Records, rows: &DepRows, n: u32, marks: &mut Marks)
-    requires name { n < count_of rows.now }
-    requires records { length records.now ≡ count_of rows.now }
-    requires sized { size_of marks.old ≡ count_of rows.now }
-    ensures { Enters (λ t. IsTarget (records_of records.now rows.now) t
-        × HasRow (records_of records.now rows.now) t n) marks.old marks.new }
+    requires name { n < rows_count rows.now }
+    requires records { length records.now ≡ rows_count rows.now }
+    requires sized { size_of marks.old ≡ rows_count rows.now }
+    ensures { Enters (λ t. IsTarget (with_rows records.now rows.now) t
+        × HasRow (with_rows records.now rows.now) t n) marks.old marks.new }
 {
     enter_dependents(records, rows, n, marks);
     enter_targets(records, rows.awaited_by(n), marks);
@@ -69,9 +69,9 @@ fn enter_holders(records: &Records, rows: &DepRows, n: u32, marks: &mut Marks)
 // Marks the seeds and the targets with a row on one of them.
 fn enter_touched(records: &Records, rows: &DepRows, seeds: &[u32], marks: &mut Marks)
     requires seeds { AllBelow (size_of marks.old) seeds.now }
-    requires records { length records.now ≡ count_of rows.now }
-    requires sized { size_of marks.old ≡ count_of rows.now }
-    ensures { Enters (TouchesSeed (records_of records.now rows.now) seeds.now) marks.old marks.new }
+    requires records { length records.now ≡ rows_count rows.now }
+    requires sized { size_of marks.old ≡ rows_count rows.now }
+    ensures { Enters (TouchesSeed (with_rows records.now rows.now) seeds.now) marks.old marks.new }
 {
     enter_each(seeds, marks);
     for &n in seeds {
@@ -82,12 +82,12 @@ fn enter_touched(records: &Records, rows: &DepRows, seeds: &[u32], marks: &mut M
 /// Marks the targets from which a chain of change rows leads to a name that is queued from this
 /// place on, where all that depend on the names before it are marked.
 pub(crate) fn spread(records: &Records, rows: &DepRows, from: usize, marks: &mut Marks)
-    requires records { length records.now ≡ count_of rows.now }
-    requires sized { size_of marks.old ≡ count_of rows.now }
+    requires records { length records.now ≡ rows_count rows.now }
+    requires sized { size_of marks.old ≡ rows_count rows.now }
     requires from { from ≤ length marks.old.queue }
-    requires closed { IsClosed (records_of records.now rows.now)
+    requires closed { IsClosed (with_rows records.now rows.now)
         (take from marks.old.queue) marks.old }
-    ensures { Spreads (records_of records.now rows.now) marks.new.queue marks.old marks.new }
+    ensures { Spreads (with_rows records.now rows.now) marks.new.queue marks.old marks.new }
 {
     let mut next = from;
     'names: while next < marks.queue_len() {
@@ -106,13 +106,13 @@ pub(crate) fn find_region(
     marks: &mut Marks,
 ) -> usize
     requires seeds { AllBelow (size_of marks.old) seeds.now }
-    requires records { length records.now ≡ count_of rows.now }
-    requires sized { size_of marks.old ≡ count_of rows.now }
+    requires records { length records.now ≡ rows_count rows.now }
+    requires sized { size_of marks.old ≡ rows_count rows.now }
     requires unmarked { (t : ℕ) → IsMarked marks.old t → ⊥ }
     requires empty { (t : ℕ) → IsQueued marks.old t → ⊥ }
-    ensures region { HoldsOnly (InRegion (records_of records.now rows.now) seeds.now) marks.new }
+    ensures region { HoldsOnly (InRegion (with_rows records.now rows.now) seeds.now) marks.new }
     ensures front { result ≤ length marks.new.queue }
-    ensures touched { (t : ℕ) → TouchesSeed (records_of records.now rows.now) seeds.now t →
+    ensures touched { (t : ℕ) → TouchesSeed (with_rows records.now rows.now) seeds.now t →
         Contains (take result marks.new.queue) t }
     ensures sized { size_of marks.new ≡ size_of marks.old }
 {

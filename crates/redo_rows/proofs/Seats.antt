@@ -33,8 +33,8 @@ seat_there seats k there =
     (at.0, at.2, λ d. ap (λ (seat : Seat). seat.name) (get_or_default seats at.0 d at.1 at.2 ∙ at.3) ∙ eqb-true at.1.name k at.4)
 
 -- the place of a name's seat gives what stands on it
-pub seat_of : (seats : List Seat) (n i : ℕ) (d : Seat) → Ascending seats → IsSeatOf seats n i → (get_or seats i d ≡ seat_at seats n) × (has_seat seats n ≡ true)
-seat_of seats n i d ascending at =
+pub seat_stands : (seats : List Seat) (n i : ℕ) (d : Seat) → Ascending seats → IsSeatOf seats n i → (get_or seats i d ≡ seat_at seats n) × (has_seat seats n ≡ true)
+seat_stands seats n i d ascending at =
     let found = seat_found seats i d ascending at.within in
     let named : (get_or seats i d).name ≡ n = name_read seats i d at.within ∙ at.named in
     (sym found.0 ∙ ap (seat_at seats) named, sym (ap (has_seat seats) named) ∙ found.1)

@@ -33,8 +33,8 @@ abbrev pub target_at : List TargetRows → ℕ → TargetRows
 target_at targets t = slice_index_or targets t bare
 
 -- how many names there are
-abbrev pub count_of : List TargetRows → ℕ
-count_of targets = length targets
+abbrev pub rows_count : List TargetRows → ℕ
+rows_count targets = length targets
 
 -- the rows that stand
 abbrev pub rows_of : List TargetRows → Rows ℕ
@@ -83,5 +83,5 @@ abbrev pub HasRowOn : Rows ℕ → ℕ → ℕ → Type 0
 HasRowOn rows t n = HasChangeRowOn rows t n ⊎ HasCreatedRowOn rows t n
 
 -- what is known of each name, with these rows
-abbrev pub records_of : List Cell → List TargetRows → Records ℕ
-records_of cells targets = record { cell = cell_at cells; rows = rows_of targets }
+abbrev pub with_rows : List Cell → List TargetRows → Records ℕ
+with_rows cells targets = record { cell = cell_at cells; rows = rows_of targets }

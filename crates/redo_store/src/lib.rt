@@ -2,7 +2,7 @@
 #![tactic(auto)]
 
 mod redo;
-mod rows;
+mod table;
 mod sorted;
 mod store;
 

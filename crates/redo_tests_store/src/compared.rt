@@ -1,6 +1,6 @@
 //! The database beside the plain form of it, which has to give the same replies.
 ghost use Rattle.std.specs.Prelude.{◌≡◌, length, IfOk};
-ghost use Rattle.redo_store.specs.Tables.{count_of};
+ghost use Rattle.redo_store.specs.Tables.{tables_count};
 ghost use Rattle.redo_model.specs.Renaming.{IsBelow};
 ghost use Rattle.redo_command.specs.Meaning.{command_of};
 ghost use Rattle.redo_tests_store.specs.declared.random.TheConstants.{NAMES};
@@ -38,7 +38,7 @@ pub(crate) fn all_names(rt: &impl Abort, alloc: Global) -> Result<Names, Fail>
 pub(crate) struct Compared {
     redo: Redo,
     pub(crate) plain: Plain,
-    ghost count: { count_of redo ≡ NAMES },
+    ghost count: { tables_count redo ≡ NAMES },
 }
 
 impl Compared {

@@ -2,7 +2,7 @@
 ghost use Rattle.std.specs.Prelude.{◌≡◌, ◌<◌, length, IfOk};
 ghost use Rattle.redo_model.specs.State.{is_building};
 ghost use Rattle.redo_records.specs.Cells.{cell_at};
-ghost use Rattle.redo_rows.specs.Rows.{count_of, records_of};
+ghost use Rattle.redo_rows.specs.Rows.{rows_count, with_rows};
 ghost use Rattle.redo_ood.specs.Memo.{count_of as memo_count, IsRight};
 
 use redo_command::FileStamp;
@@ -20,7 +20,7 @@ struct Graph {
     records: Records,
     rows: DepRows,
     ghost records_count: { length records ≡ NAMES },
-    ghost rows_count: { count_of rows ≡ NAMES },
+    ghost rows_count: { rows_count rows ≡ NAMES },
 }
 
 impl Graph {
@@ -87,7 +87,7 @@ impl Graph {
     /// The memo for all of this.
     fn memo(&self, alloc: Global) -> Result<Ood, AllocError>
         ensures count { IfOk result (λ ood. memo_count ood ≡ NAMES) }
-        ensures right { IfOk result (λ ood. IsRight ood (records_of self.now.records self.now.rows)) }
+        ensures right { IfOk result (λ ood. IsRight ood (with_rows self.now.records self.now.rows)) }
     {
         let mut ood = Ood::new(alloc, NAMES)?;
         ood.refresh(&self.records, &self.rows, &[0, 1, 2, 3]);

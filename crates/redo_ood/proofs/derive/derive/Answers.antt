@@ -1,4 +1,4 @@
-use Rattle.redo_rows.specs.Rows.{records_of}
+use Rattle.redo_rows.specs.Rows.{with_rows}
 use Rattle.redo_ood.specs.Regions.{EntersDue}
 use Rattle.redo_ood.proofs.Deriving.{due_more}
 use Rattle.redo_ood.proofs.Marking.{at_take_all}
@@ -6,13 +6,13 @@ use Rattle.redo_ood.proofs.derive.derive.Goals as goal
 
 pub loop-t-preserved : goal.loop-t-preserved
 loop-t-preserved c =
-    let r = records_of c.args.records.now c.args.rows.now in
+    let r = with_rows c.args.records.now c.args.rows.now in
     let m = c.loop-t in
     due_more r c.args.marks.now m.marks c.enter_due.new.marks c.args.names.now m.t-index 0
     c.loop-t-test.true m.invariant c.enter_due.ensures
 
 pub returns : goal.returns
 returns c =
-    let r = records_of c.args.records.now c.args.rows.now in
+    let r = with_rows c.args.records.now c.args.rows.now in
     at_take_all (λ ns. EntersDue r ns c.args.marks.now c.loop-t.marks)
     c.args.names.now c.loop-t.t-index c.loop-t-test.false c.loop-t.invariant

@@ -1,8 +1,8 @@
 use Rattle.std.proofs.Common.{take}
-use Rattle.redo_rows.specs.Rows.{records_of}
+use Rattle.redo_rows.specs.Rows.{with_rows}
 use Rattle.redo_ood.specs.Regions.{EntersDue}
 use Rattle.redo_ood.proofs.derive.derive.Given as goal
 
 abbrev pub invariant-loop-t : goal.invariant-loop-t
 invariant-loop-t l =
-    EntersDue (records_of l.records l.rows) (take l.t-index l.names) l.fn.marks l.marks
+    EntersDue (with_rows l.records l.rows) (take l.t-index l.names) l.fn.marks l.marks

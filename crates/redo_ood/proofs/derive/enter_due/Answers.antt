@@ -1,13 +1,13 @@
-use Rattle.redo_rows.specs.Rows.{records_of}
+use Rattle.redo_rows.specs.Rows.{with_rows}
 use Rattle.redo_ood.proofs.Deriving.{closed_then, due_spread}
 use Rattle.redo_ood.proofs.derive.enter_due.Goals as goal
 
 pub spread-requires-clause-closed : goal.spread-requires-clause-closed
 spread-requires-clause-closed c =
-    closed_then (records_of c.args.records.now c.args.rows.now) c.queue_len-next.result
+    closed_then (with_rows c.args.records.now c.args.rows.now) c.queue_len-next.result
     c.queue_len-next.ensures.len c.enter.ensures.grown c.requires.closed
 
 pub returns-then-is_due : goal.returns-then-is_due
 returns-then-is_due c =
-    due_spread (records_of c.args.records.now c.args.rows.now) c.args.t
+    due_spread (with_rows c.args.records.now c.args.rows.now) c.args.t
     (c.is_due.ensures.0 c.if-is_due.true) c.enter.ensures c.spread.ensures

@@ -1,12 +1,12 @@
 use Rattle.std.proofs.Common.{inl, inr}
 use Rattle.redo_model.specs.OutOfDate.{IsTarget, HasRow}
-use Rattle.redo_rows.specs.Rows.{records_of}
+use Rattle.redo_rows.specs.Rows.{with_rows}
 use Rattle.redo_ood.proofs.Marking.{enters_then}
 use Rattle.redo_ood.proofs.region.enter_holders.Goals as goal
 
 pub returns : goal.returns
 returns c =
-    let r = records_of c.args.records.now c.args.rows.now in
+    let r = with_rows c.args.records.now c.args.rows.now in
     enters_then (λ t. IsTarget r t × HasRow r t c.args.n) (λ t. (
       λ h. elim h.1 [
         | inl change ↦ inl (h.0, change)

@@ -1,4 +1,4 @@
-use Rattle.redo_rows.specs.Rows.{records_of}
+use Rattle.redo_rows.specs.Rows.{with_rows}
 use Rattle.redo_ood.specs.Marks.{Enters}
 use Rattle.redo_ood.proofs.Marking.{at_take_all}
 use Rattle.redo_ood.proofs.Spreading.{Touches, touches_more}
@@ -6,12 +6,12 @@ use Rattle.redo_ood.proofs.region.enter_touched.Goals as goal
 
 pub loop-n-preserved : goal.loop-n-preserved
 loop-n-preserved c =
-    touches_more (records_of c.args.records.now c.args.rows.now) c.args.seeds.now
+    touches_more (with_rows c.args.records.now c.args.rows.now) c.args.seeds.now
     c.loop-n.n-index c.loop-n-test.true c.loop-n.invariant c.enter_holders.ensures
 
 pub returns : goal.returns
 returns c =
-    let r = records_of c.args.records.now c.args.rows.now in
+    let r = with_rows c.args.records.now c.args.rows.now in
     let seeds = c.args.seeds.now in
     at_take_all (λ ns. Enters (Touches r seeds ns) c.args.marks.now c.loop-n.marks)
     seeds c.loop-n.n-index c.loop-n-test.false c.loop-n.invariant

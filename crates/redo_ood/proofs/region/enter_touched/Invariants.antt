@@ -1,10 +1,10 @@
 use Rattle.std.proofs.Common.{take}
-use Rattle.redo_rows.specs.Rows.{records_of}
+use Rattle.redo_rows.specs.Rows.{with_rows}
 use Rattle.redo_ood.specs.Marks.{Enters}
 use Rattle.redo_ood.proofs.Spreading.{Touches}
 use Rattle.redo_ood.proofs.region.enter_touched.Given as goal
 
 abbrev pub invariant-loop-n : goal.invariant-loop-n
 invariant-loop-n l =
-    Enters (Touches (records_of l.records l.rows) l.seeds (take l.n-index l.seeds))
+    Enters (Touches (with_rows l.records l.rows) l.seeds (take l.n-index l.seeds))
     l.fn.marks l.marks

@@ -1,5 +1,5 @@
 use Rattle.std.proofs.Common.{◌≤◌, ◌<◌, length, arith}
-use Rattle.redo_rows.specs.Rows.{records_of}
+use Rattle.redo_rows.specs.Rows.{with_rows}
 use Rattle.redo_ood.specs.Regions.{Spreads}
 use Rattle.redo_ood.proofs.Marking.{at_take_all, grows_longer}
 use Rattle.redo_ood.proofs.Spreading.{spreads_more}
@@ -7,7 +7,7 @@ use Rattle.redo_ood.proofs.region.spread.Goals as goal
 
 pub names-preserved : goal.names-preserved
 names-preserved c =
-    let r = records_of c.args.records.now c.args.rows.now in
+    let r = with_rows c.args.records.now c.args.rows.now in
     let in' : c.names.next < length c.names.marks.queue = omega (arith, c.queue_len.ensures.len) in
     let longer = grows_longer c.enter_dependents.ensures.grown in
     record {
@@ -18,7 +18,7 @@ names-preserved c =
 
 pub returns : goal.returns
 returns c =
-    let r = records_of c.args.records.now c.args.rows.now in
+    let r = with_rows c.args.records.now c.args.rows.now in
     let queue = c.names.marks.queue in
     let end : length queue ≤ c.names.next = omega (arith, c.queue_len.ensures.len) in
     at_take_all (λ ns. Spreads r ns c.args.marks.now c.names.marks)

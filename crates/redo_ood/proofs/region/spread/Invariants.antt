@@ -1,12 +1,12 @@
 use Rattle.std.proofs.Common.{◌≤◌, ◌-◌, length, take}
-use Rattle.redo_rows.specs.Rows.{records_of}
+use Rattle.redo_rows.specs.Rows.{with_rows}
 use Rattle.redo_ood.specs.Marks.{size_of}
 use Rattle.redo_ood.specs.Regions.{Spreads}
 use Rattle.redo_ood.proofs.region.spread.Given as goal
 
 abbrev pub invariant-names : goal.invariant-names
 invariant-names l = record {
-  spreads : Spreads (records_of l.records l.rows) (take l.next l.marks.queue) l.fn.marks l.marks;
+  spreads : Spreads (with_rows l.records l.rows) (take l.next l.marks.queue) l.fn.marks l.marks;
   done : l.next ≤ length l.marks.queue;
 }
 

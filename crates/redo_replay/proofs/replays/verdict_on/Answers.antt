@@ -3,7 +3,7 @@ use Rattle.std.proofs.lemmas.List.{take_more, length-map}
 use Rattle.redo_model.specs.Names.{texts}
 use Rattle.redo_model.specs.Renaming.{OrdersAlike, numbering, IsReplyBelow}
 use Rattle.redo_command.specs.Meaning.{reply_of, line_at}
-use Rattle.redo_store.specs.Tables.{state_of, order_of}
+use Rattle.redo_store.specs.Tables.{state_of, tables_order}
 use Rattle.redo_replay.proofs.Replayed.{Replayed, replayed_next, replayed_same, replayed_wrong}
 use Rattle.redo_replay.proofs.replays.verdict_on.Goals as goal
 
@@ -16,7 +16,7 @@ returns-then-not-is_same-clause-verdict c =
     c.in_ok-reply.ensures.below in
     let differs : reply_of reply ≢ reply_of wrong.reply = λ e. let same = c.is_same.ensures.1 e in
     cc in
-    replayed_wrong c.args.names.now c.len.ensures.names.distinct (order_of c.loop-at.redo)
+    replayed_wrong c.args.names.now c.len.ensures.names.distinct (tables_order c.loop-at.redo)
     c.loop-at.invariant.orders (state_of c.loop-at.redo) c.args.lines.now c.loop-at.at wrong
     reply
     c.requires.below c.loop-at-test.true c.index-lines-at.is below c.loop-at.invariant.replayed
@@ -46,11 +46,11 @@ pub returns-clause-verdict : goal.returns-clause-verdict
 returns-clause-verdict c =
     let whole : take c.loop-at.at c.args.lines.now ≡ c.args.lines.now =
     take_all c.loop-at.at c.args.lines.now c.loop-at-test.false in
-    let replayed : Replayed (order_of c.loop-at.redo) (state_of c.loop-at.redo) c.args.lines.now =
-    subst (Replayed (order_of c.loop-at.redo) (state_of c.loop-at.redo)) whole
+    let replayed : Replayed (tables_order c.loop-at.redo) (state_of c.loop-at.redo) c.args.lines.now =
+    subst (Replayed (tables_order c.loop-at.redo) (state_of c.loop-at.redo)) whole
     c.loop-at.invariant.replayed in (
       sym (length-map c.args.lines.now (line_at c.args.names.now)),
-      replayed_same c.args.names.now c.len.ensures.names.distinct (order_of c.loop-at.redo)
+      replayed_same c.args.names.now c.len.ensures.names.distinct (tables_order c.loop-at.redo)
           c.loop-at.invariant.orders (state_of c.loop-at.redo) c.args.lines.now c.requires.below
           replayed,
     )

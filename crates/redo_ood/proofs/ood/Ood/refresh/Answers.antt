@@ -1,7 +1,7 @@
 use Rattle.std.proofs.Common.{◌≡◌, ◌∙◌, ℕ, List, take, sym, subst}
 use Rattle.std.specs.List.{Contains}
 use Rattle.redo_model.specs.OutOfDate.{TouchesSeed}
-use Rattle.redo_rows.specs.Rows.{records_of}
+use Rattle.redo_rows.specs.Rows.{with_rows}
 use Rattle.redo_ood.specs.Marks.{IsMarked, HoldsOnly, size_of}
 use Rattle.redo_ood.specs.Regions.{EntersDue}
 use Rattle.redo_ood.proofs.Deriving.{region_listed, closed_after, cleared_again, memo_right, region_counted}
@@ -10,11 +10,11 @@ use Rattle.redo_ood.proofs.ood.Ood.refresh.Goals as goal
 
 pub derive-requires-clause-closed : goal.derive-requires-clause-closed
 derive-requires-clause-closed c =
-    closed_after (records_of c.args.records.now c.args.rows.now) c.unmark.ensures
+    closed_after (with_rows c.args.records.now c.args.rows.now) c.unmark.ensures
 
 pub derive-requires-2-clause-closed : goal.derive-requires-2-clause-closed
 derive-requires-2-clause-closed c =
-    let r = records_of c.args.records.now c.args.rows.now in
+    let r = with_rows c.args.records.now c.args.rows.now in
     c.derive.ensures.closed (closed_after r c.unmark.ensures)
 
 pub invariant_of-self : goal.invariant_of-self
@@ -35,7 +35,7 @@ invariant_of-self c =
 
 pub returns-clause-right : goal.returns-clause-right
 returns-clause-right c =
-    let r = records_of c.args.records.now c.args.rows.now in
+    let r = with_rows c.args.records.now c.args.rows.now in
     let seeds = c.args.seeds.now in
     let region = c.queue-region.result.now in
     let front = c.find_region-front.result in
@@ -57,6 +57,6 @@ returns-clause-right c =
 
 pub returns-clause-region : goal.returns-clause-region
 returns-clause-region c =
-    let r = records_of c.args.records.now c.args.rows.now in
+    let r = with_rows c.args.records.now c.args.rows.now in
     region_counted r c.args.seeds.now c.queue-region.result.now c.queue-region.ensures.queue
     c.find_region-front.ensures.region c.queue-region.ensures.kept

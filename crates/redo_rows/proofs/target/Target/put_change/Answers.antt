@@ -1,9 +1,9 @@
 use Rattle.std.proofs.Common.{◌≡◌, ◌∙◌, ap, subst, refl, true, Some, is_some, List, cond, eqb}
 use Rattle.redo_records.specs.declared.mark.Mark.{Mark}
-use Rattle.redo_records.specs.Meaning.{mark_meaning}
+use Rattle.redo_records.specs.Meaning.{row_mark_of}
 use Rattle.redo_rows.specs.Rows.{Seat, TargetRows, seat_at, has_seat}
 use Rattle.redo_rows.specs.Target.{has_row, IsSeatOf}
-use Rattle.redo_rows.proofs.Seats.{seat_of}
+use Rattle.redo_rows.proofs.Seats.{seat_stands}
 use Rattle.redo_rows.proofs.SeatEdits.{has_seat-set}
 use Rattle.redo_rows.proofs.Keeping.{row_listed, kept_written, new_named, rows_written}
 use Rattle.redo_rows.proofs.target.Target.put_change.Goals as goal
@@ -11,7 +11,7 @@ use Rattle.redo_rows.proofs.target.Target.put_change.Goals.{After-put_change}
 
 -- the seat that the call leaves
 abbrev with_mark : Mark → Seat → Seat
-with_mark mark seat = record seat { change = Some (mark_meaning mark) }
+with_mark mark seat = record seat { change = Some (row_mark_of mark) }
 
 -- the place is that of the name's seat
 at : (c : After-put_change) → IsSeatOf c.self.inside.seats.items c.args.n c.place_of-place.result
@@ -21,7 +21,7 @@ at c =
 
 -- the seat there is what stood on the name
 stood : (c : After-put_change) → c.index_mut-seat.result.now ≡ seat_at c.self.inside.seats.items c.args.n
-stood c = c.index_mut-seat.ensures.value ∙ (seat_of c.self.inside.seats.items c.args.n c.place_of-place.result c.index_mut-seat.result.now c.self.invariant.ascending (at c)).0
+stood c = c.index_mut-seat.ensures.value ∙ (seat_stands c.self.inside.seats.items c.args.n c.place_of-place.result c.index_mut-seat.result.now c.self.invariant.ascending (at c)).0
 
 stands : (c : After-put_change) → c.put_change.new.self ≡ with_mark c.args.mark (seat_at c.self.inside.seats.items c.args.n)
 stands c = c.put_change.ensures ∙ ap (with_mark c.args.mark) (stood c)

@@ -2,7 +2,7 @@ use Rattle.std.proofs.Common.{◌≡◌, ◌∙◌, ap, subst, refl, true, is_so
 use Rattle.std.proofs.lemmas.Bool.{or_right}
 use Rattle.redo_rows.specs.Rows.{Seat, TargetRows, seat_at, has_seat}
 use Rattle.redo_rows.specs.Target.{has_row, IsSeatOf}
-use Rattle.redo_rows.proofs.Seats.{seat_of}
+use Rattle.redo_rows.proofs.Seats.{seat_stands}
 use Rattle.redo_rows.proofs.SeatEdits.{has_seat-set}
 use Rattle.redo_rows.proofs.Keeping.{row_listed, kept_written, new_named, rows_written}
 use Rattle.redo_rows.proofs.target.Target.put_created.Goals as goal
@@ -20,7 +20,7 @@ at c =
 
 -- the seat there is what stood on the name
 stood : (c : After-put_created) → c.index_mut-seat.result.now ≡ seat_at c.self.inside.seats.items c.args.n
-stood c = c.index_mut-seat.ensures.value ∙ (seat_of c.self.inside.seats.items c.args.n c.place_of-place.result c.index_mut-seat.result.now c.self.invariant.ascending (at c)).0
+stood c = c.index_mut-seat.ensures.value ∙ (seat_stands c.self.inside.seats.items c.args.n c.place_of-place.result c.index_mut-seat.result.now c.self.invariant.ascending (at c)).0
 
 stands : (c : After-put_created) → c.put_created.new.self ≡ with_created (seat_at c.self.inside.seats.items c.args.n)
 stands c = c.put_created.ensures ∙ ap (with_created) (stood c)

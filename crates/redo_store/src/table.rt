@@ -93,11 +93,11 @@ macro_rules! effect {
     (stamp [$store:tt $s:tt] $t:ident $content:ident) => {
         $store.stamp(*$t, $content)
     };
-    (finish [$store:tt $s:tt] $t:ident $stamp:ident) => {
-        $store.finish(*$t, *$stamp)
+    (done [$store:tt $s:tt] $t:ident $stamp:ident) => {
+        $store.done(*$t, *$stamp)
     };
-    (fail [$store:tt $s:tt] $t:ident) => {
-        $store.fail(*$t)
+    (failed [$store:tt $s:tt] $t:ident) => {
+        $store.failed(*$t)
     };
 }
 

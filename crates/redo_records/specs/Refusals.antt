@@ -18,21 +18,21 @@ refusal_by_build s state = refusal_or (not (is_built_by s state)) NotBuilding No
 
 -- the first refusal that applies whatever the names after the target are, where `holds` says whether the session
 -- holds the target's lock
-abbrev pub verdict_at : TargetState → ℕ → Bool → Kind → Option (Refusal ℕ)
-verdict_at state s holds File = None
-verdict_at state s holds Gone = None
-verdict_at state s holds Lock = None
-verdict_at state s holds Unlock = refusal_by_lock holds state
-verdict_at state s holds Start = refusal_by_lock holds state
-verdict_at state s holds IfChange = refusal_by_build s state
-verdict_at state s holds IfCreate = refusal_by_build s state
-verdict_at state s holds Always = refusal_by_build s state
-verdict_at state s holds Stamp = refusal_by_build s state
-verdict_at state s holds Done = refusal_by_build s state
-verdict_at state s holds Failed = refusal_by_build s state
-verdict_at state s holds Ood = None
-verdict_at state s holds Targets = None
-verdict_at state s holds Sources = None
+abbrev pub refusal_by_target : TargetState → ℕ → Bool → Kind → Option (Refusal ℕ)
+refusal_by_target state s holds File = None
+refusal_by_target state s holds Gone = None
+refusal_by_target state s holds Lock = None
+refusal_by_target state s holds Unlock = refusal_by_lock holds state
+refusal_by_target state s holds Start = refusal_by_lock holds state
+refusal_by_target state s holds IfChange = refusal_by_build s state
+refusal_by_target state s holds IfCreate = refusal_by_build s state
+refusal_by_target state s holds Always = refusal_by_build s state
+refusal_by_target state s holds Stamp = refusal_by_build s state
+refusal_by_target state s holds Done = refusal_by_build s state
+refusal_by_target state s holds Failed = refusal_by_build s state
+refusal_by_target state s holds Ood = None
+refusal_by_target state s holds Targets = None
+refusal_by_target state s holds Sources = None
 
 -- the first refusal for the names after the target: the target is among them; one of them has a file
 abbrev pub refusal_of_names : {N : Type 0} → Naming N → Records N → commands.Command N → Option (Refusal N)
@@ -40,18 +40,18 @@ refusal_of_names naming r (commands.IfChange t ns) = refusal_or (is_among naming
 refusal_of_names naming r (commands.IfCreate t ns) = refusal_or (is_among naming ns t) Itself (refusal_of_existing (find (has_file r) ns))
 refusal_of_names naming r command = None
 
-abbrev pub kind_of : {N : Type 0} → commands.Command N → Kind
-kind_of (commands.File n stamp) = File
-kind_of (commands.Gone n) = Gone
-kind_of (commands.Lock t) = Lock
-kind_of (commands.Unlock t) = Unlock
-kind_of (commands.Start t) = Start
-kind_of (commands.IfChange t ns) = IfChange
-kind_of (commands.IfCreate t ns) = IfCreate
-kind_of (commands.Always t) = Always
-kind_of (commands.Stamp t content) = Stamp
-kind_of (commands.Done t stamp) = Done
-kind_of (commands.Failed t) = Failed
-kind_of commands.Ood = Ood
-kind_of commands.Targets = Targets
-kind_of commands.Sources = Sources
+abbrev pub kind_for : {N : Type 0} → commands.Command N → Kind
+kind_for (commands.File n stamp) = File
+kind_for (commands.Gone n) = Gone
+kind_for (commands.Lock t) = Lock
+kind_for (commands.Unlock t) = Unlock
+kind_for (commands.Start t) = Start
+kind_for (commands.IfChange t ns) = IfChange
+kind_for (commands.IfCreate t ns) = IfCreate
+kind_for (commands.Always t) = Always
+kind_for (commands.Stamp t content) = Stamp
+kind_for (commands.Done t stamp) = Done
+kind_for (commands.Failed t) = Failed
+kind_for commands.Ood = Ood
+kind_for commands.Targets = Targets
+kind_for commands.Sources = Sources
