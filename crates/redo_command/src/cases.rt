@@ -10,9 +10,9 @@
 /// - the answer where it is accepted: `okay`; `grant`, whether the lock is the session's, and the number of its grant;
 ///   `stale`, which of the names after the target are stale, or that none is; `digest`, that of the content; `ood`, the
 ///   targets that have a file and are out of date; `targets`, those that have a file; `sources`, the sources;
-/// - what it then changes: `set_file` and `clear_file` the name's file; `start`, `stamp`, `done` and `failed` the
-///   target's build; `put_changes` and `put_created` its rows on the names after it, `put_always` that it is always out
-///   of date; `nothing`.
+/// - what it then changes: `set_file` and `clear_file` the name's file; `start`, `stamp`, `done` and `failed`
+///   the target's build; `put_changes` and `put_created` its rows on the names after it, `put_always` that it is
+///   always out of date; `nothing`.
 #[macro_export]
 macro_rules! cases {
     ($then:ident $($args:tt)*) => {

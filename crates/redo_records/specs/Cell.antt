@@ -8,11 +8,23 @@ use Rattle.redo_records.specs.declared.cell.Cell.TheInside.{Inside}
 use Rattle.redo_records.specs.Meaning.{target_state_of, state_for}
 
 abbrev pub cell_of : Inside → states.Cell
-cell_of c = record { file = c.file; state = target_state_of c.state; builds = c.builds; done = c.done; digest = c.digest }
+cell_of c = record {
+  file = c.file;
+  state = target_state_of c.state;
+  builds = c.builds;
+  done = c.done;
+  digest = c.digest;
+}
 
 -- the fields that mean it
 abbrev pub fields_for : states.Cell → Inside
-fields_for c = record { file = c.file; state = state_for c.state; builds = c.builds; done = c.done; digest = c.digest }
+fields_for c = record {
+  file = c.file;
+  state = state_for c.state;
+  builds = c.builds;
+  done = c.done;
+  digest = c.digest;
+}
 
 state_for-target_state_of : (s : State) → state_for (target_state_of s) ≡ s
 state_for-target_state_of Idle = refl
@@ -22,4 +34,5 @@ state_for-target_state_of Failed = refl
 
 -- a cell's meaning gives its fields back
 pub fields_for-cell_of : (c : Inside) → fields_for (cell_of c) ≡ c
-fields_for-cell_of c = ap (λ (s : State). record c { state = s }) (state_for-target_state_of c.state)
+fields_for-cell_of c =
+    ap (λ (s : State). record c { state = s }) (state_for-target_state_of c.state)

@@ -8,16 +8,18 @@ use Rattle.redo_model.specs.Command as commands
 use Rattle.redo_command.specs.declared.kind.Kind.{Kind}
 use Rattle.redo_command.specs.declared.kind.Kind.TheVariants.{File, Gone, Lock, Unlock, Start, IfChange, IfCreate, Always, Stamp, Done, Failed, Ood, Targets, Sources}
 
--- the first of these that applies: the session does not hold the target's lock, the target is building
+-- the first of these that applies: the session does not hold the target's lock, the target is
+-- building
 abbrev pub refusal_by_lock : Bool → TargetState → Option (Refusal ℕ)
-refusal_by_lock holds state = refusal_or (not holds) NotLocked (refusal_or (is_building state) Building None)
+refusal_by_lock holds state =
+    refusal_or (not holds) NotLocked (refusal_or (is_building state) Building None)
 
 -- the session is not building the target
 abbrev pub refusal_by_build : ℕ → TargetState → Option (Refusal ℕ)
 refusal_by_build s state = refusal_or (not (is_built_by s state)) NotBuilding None
 
--- the first refusal that applies whatever the names after the target are, where `holds` says whether the session
--- holds the target's lock
+-- the first refusal that applies whatever the names after the target are, where `holds` says
+-- whether the session holds the target's lock
 abbrev pub refusal_by_target : TargetState → ℕ → Bool → Kind → Option (Refusal ℕ)
 refusal_by_target state s holds File = None
 refusal_by_target state s holds Gone = None
@@ -34,10 +36,13 @@ refusal_by_target state s holds Ood = None
 refusal_by_target state s holds Targets = None
 refusal_by_target state s holds Sources = None
 
--- the first refusal for the names after the target: the target is among them; one of them has a file
-abbrev pub refusal_of_names : {N : Type 0} → Naming N → Records N → commands.Command N → Option (Refusal N)
+-- the first refusal for the names after the target: the target is among them; one of them has a
+-- file
+abbrev pub refusal_of_names : {N : Type 0} → Naming N → Records N → commands.Command N
+    → Option (Refusal N)
 refusal_of_names naming r (commands.IfChange t ns) = refusal_or (is_among naming ns t) Itself None
-refusal_of_names naming r (commands.IfCreate t ns) = refusal_or (is_among naming ns t) Itself (refusal_of_existing (find (has_file r) ns))
+refusal_of_names naming r (commands.IfCreate t ns) =
+    refusal_or (is_among naming ns t) Itself (refusal_of_existing (find (has_file r) ns))
 refusal_of_names naming r command = None
 
 abbrev pub kind_for : {N : Type 0} → commands.Command N → Kind

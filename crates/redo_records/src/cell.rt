@@ -75,7 +75,12 @@ macro_rules! refuse_unless {
 macro_rules! first_refusal {
     (
         [$cell:ident $s:ident $holds:ident $kind:ident]
-        $(($case:ident $(($($field:ident),*))?, $word:literal, [$($need:ident $refusal:ident),*], $($rest:tt)*))*
+        $((
+            $case:ident $(($($field:ident),*))?,
+            $word:literal,
+            [$($need:ident $refusal:ident),*],
+            $($rest:tt)*
+        ))*
     ) => {
         match $kind {
             $(Kind::$case => {
@@ -189,7 +194,12 @@ impl Cell {
     /// The build ends with this file, or with none.
     pub fn done(&mut self, stamp: Option<FileStamp>)
         requires { self.old.builds + 1 < 2 ^ 32 }
-        ensures { self.new ≡ record self.old { file = stamp; state = states.Built; builds = self.old.builds + 1; done = stamp } }
+        ensures { self.new ≡ record self.old {
+          file = stamp;
+          state = states.Built;
+          builds = self.old.builds + 1;
+          done = stamp;
+        } }
     {
         let file = stamp;
         *self = Cell {

@@ -11,8 +11,12 @@ ghost use Rattle.redo_records.specs.Refusals.{refusal_by_target, refusal_of_name
 /// The verdict on a command is that of its kind, by the state of its target; where that refuses nothing, it is that of
 /// the names after the target. Where a command has no target, it is that of its kind, by any state.
 pub fn verdict_by_kind()
-    ensures with_target { (naming : Naming ℕ) (records : Records ℕ) (s : ℕ) (holds : Bool) (command : Command ℕ) (t : ℕ) → target_of command ≡ Some t
-        → option_or (refusal_by_target (target_state records t) s holds (kind_for command)) (refusal_of_names naming records command) ≡ verdict_of naming records s holds command }
-    ensures without_target { (naming : Naming ℕ) (records : Records ℕ) (s : ℕ) (holds : Bool) (command : Command ℕ) (state : TargetState) → target_of command ≡ None
-        → refusal_by_target state s holds (kind_for command) ≡ verdict_of naming records s holds command }
+    ensures with_target { (naming : Naming ℕ) (records : Records ℕ) (s : ℕ) (holds : Bool)
+        (command : Command ℕ) (t : ℕ) → target_of command ≡ Some t
+        → option_or (refusal_by_target (target_state records t) s holds (kind_for command))
+        (refusal_of_names naming records command) ≡ verdict_of naming records s holds command }
+    ensures without_target { (naming : Naming ℕ) (records : Records ℕ) (s : ℕ) (holds : Bool)
+        (command : Command ℕ) (state : TargetState) → target_of command ≡ None
+        → refusal_by_target state s holds (kind_for command)
+        ≡ verdict_of naming records s holds command }
 {}

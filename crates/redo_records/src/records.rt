@@ -88,7 +88,8 @@ impl Records {
     /// whether it holds its lock.
     pub fn verdict(&self, s: u8, kind: Kind, t: u32, holds: bool) -> Option<Refusal>
         requires { t < length self.now }
-        ensures { option_map refusal_of result ≡ refusal_by_target (cell_at self.now t).state s holds kind }
+        ensures { option_map refusal_of result
+            ≡ refusal_by_target (cell_at self.now t).state s holds kind }
     {
         self.cells[t as usize].refusal(s, kind, holds)
     }
@@ -105,7 +106,8 @@ impl Records {
     pub fn start(&mut self, s: u8, t: u32)
         requires number { t < length self.old }
         requires free { IsFalse (is_building (cell_at self.old t).state) }
-        ensures { self.new ≡ with_cell_at self.old t (record (cell_at self.old t) { state = states.Building s; digest = None }) }
+        ensures { self.new ≡ with_cell_at self.old t
+            (record (cell_at self.old t) { state = states.Building s; digest = None }) }
     {
         self.cells[t as usize].start(s);
     }
@@ -114,7 +116,8 @@ impl Records {
     pub fn stamp(&mut self, t: u32, digest: [u8; 20])
         requires number { t < length self.old }
         requires building { IsTrue (is_building (cell_at self.old t).state) }
-        ensures { self.new ≡ with_cell_at self.old t (record (cell_at self.old t) { digest = Some digest }) }
+        ensures { self.new
+            ≡ with_cell_at self.old t (record (cell_at self.old t) { digest = Some digest }) }
     {
         self.cells[t as usize].stamp(digest);
     }
@@ -124,7 +127,12 @@ impl Records {
         requires number { t < length self.old }
         requires building { IsTrue (is_building (cell_at self.old t).state) }
         requires builds { (cell_at self.old t).builds + 1 < 2 ^ 32 }
-        ensures { self.new ≡ with_cell_at self.old t (record (cell_at self.old t) { file = stamp; state = states.Built; builds = (cell_at self.old t).builds + 1; done = stamp }) }
+        ensures { self.new ≡ with_cell_at self.old t (record (cell_at self.old t) {
+          file = stamp;
+          state = states.Built;
+          builds = (cell_at self.old t).builds + 1;
+          done = stamp;
+        }) }
     {
         self.cells[t as usize].done(stamp);
     }
@@ -133,7 +141,8 @@ impl Records {
     pub fn failed(&mut self, t: u32)
         requires number { t < length self.old }
         requires building { IsTrue (is_building (cell_at self.old t).state) }
-        ensures { self.new ≡ with_cell_at self.old t (record (cell_at self.old t) { state = states.Failed }) }
+        ensures { self.new
+            ≡ with_cell_at self.old t (record (cell_at self.old t) { state = states.Failed }) }
     {
         self.cells[t as usize].failed();
     }

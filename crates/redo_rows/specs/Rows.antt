@@ -54,11 +54,13 @@ by_number = numbers nat_cmp
 
 -- the rows with a change row of t on n, in place of an earlier one
 abbrev pub with_change : Rows ℕ → ℕ → ℕ → Mark → Rows ℕ
-with_change rows t n mark = record rows { change = put by_number t (put by_number n (Some mark) (rows.change t)) rows.change }
+with_change rows t n mark = record rows
+    { change = put by_number t (put by_number n (Some mark) (rows.change t)) rows.change }
 
 -- the rows with a created row of t on n
 abbrev pub with_created : Rows ℕ → ℕ → ℕ → Rows ℕ
-with_created rows t n = record rows { created = put by_number t (put by_number n true (rows.created t)) rows.created }
+with_created rows t n =
+    record rows { created = put by_number t (put by_number n true (rows.created t)) rows.created }
 
 -- the rows with an always row of t
 abbrev pub with_always : Rows ℕ → ℕ → Rows ℕ

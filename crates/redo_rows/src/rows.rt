@@ -36,7 +36,8 @@ impl Model for DepRows {
 
     ghost view = { λ inside. inside.targets.items };
 
-    ghost invariant = { λ inside. IsKept inside.targets.items inside.needed.items inside.awaited.items inside.seated.items };
+    ghost invariant = { λ inside.
+        IsKept inside.targets.items inside.needed.items inside.awaited.items inside.seated.items };
 }
 
 impl DepRows {
@@ -61,9 +62,11 @@ impl DepRows {
         requires target { t < rows_count self.old }
         requires names { AllBelow (rows_count self.old) names.now }
         ensures rows { rows_of self.new ≡ rows_of self.old }
-        ensures made { OnOk result ((n : ℕ) → Contains names.now n → IsTrue (room_of self.new t n)) }
+        ensures made { OnOk result
+            ((n : ℕ) → Contains names.now n → IsTrue (room_of self.new t n)) }
         ensures kept { (u n : ℕ) → IsTrue (room_of self.old u n) → IsTrue (room_of self.new u n) }
-        ensures from { (u n : ℕ) → IsTrue (room_of self.new u n) → IsTrue (room_of self.old u n) ⊎ ((u ≡ t) × Contains names.now n) }
+        ensures from { (u n : ℕ) → IsTrue (room_of self.new u n)
+            → IsTrue (room_of self.old u n) ⊎ ((u ≡ t) × Contains names.now n) }
         ensures count { rows_count self.new ≡ rows_count self.old }
     {
         for &n in names {
@@ -77,7 +80,8 @@ impl DepRows {
         requires target { t < rows_count self.old }
         requires name { n < rows_count self.old }
         ensures rows { rows_of self.new ≡ rows_of self.old }
-        ensures made { OnOk result ((u k : ℕ) → room_of self.new u k ≡ (((t == u) && (k == n)) || room_of self.old u k)) }
+        ensures made { OnOk result
+            ((u k : ℕ) → room_of self.new u k ≡ (((t == u) && (k == n)) || room_of self.old u k)) }
         ensures err { OnErr result (self.new ≡ self.old) }
         ensures count { rows_count self.new ≡ rows_count self.old }
     {
@@ -200,7 +204,8 @@ impl DepRows {
     /// The targets with a change row on `n`, by ascending number.
     pub fn needed_by(&self, n: u32) -> &[u32]
         requires { n < rows_count self.now }
-        ensures listed { IsListed by_number (λ t. HasChangeRowOn (rows_of self.now) t n) result.now }
+        ensures listed { IsListed by_number
+            (λ t. HasChangeRowOn (rows_of self.now) t n) result.now }
         ensures below { AllBelow (rows_count self.now) result.now }
     {
         self.needed[n as usize].as_slice()
@@ -209,7 +214,8 @@ impl DepRows {
     /// The targets with a created row on `n`, by ascending number.
     pub fn awaited_by(&self, n: u32) -> &[u32]
         requires { n < rows_count self.now }
-        ensures listed { IsListed by_number (λ t. HasCreatedRowOn (rows_of self.now) t n) result.now }
+        ensures listed { IsListed by_number
+            (λ t. HasCreatedRowOn (rows_of self.now) t n) result.now }
         ensures below { AllBelow (rows_count self.now) result.now }
     {
         self.awaited[n as usize].as_slice()

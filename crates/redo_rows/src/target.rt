@@ -167,7 +167,8 @@ impl Target {
 
     fn find(&self, n: u32) -> Option<&Seat>
         ensures there { is_some result ≡ has_seat self.now.seats n }
-        ensures seat { MatchOption result (seat_at self.now.seats n ≡ blank n) (λ seat. seat.now ≡ seat_at self.now.seats n) }
+        ensures seat { MatchOption result (seat_at self.now.seats n ≡ blank n)
+            (λ seat. seat.now ≡ seat_at self.now.seats n) }
     {
         match search(self.seats.as_slice(), n) {
             Ok(place) => Some(&self.seats[place]),
@@ -229,7 +230,8 @@ impl Target {
         requires new { has_seat self.old.seats n ≡ false }
         ensures rows { (k : ℕ) → seat_at self.new.seats k ≡ seat_at self.old.seats k }
         ensures always { self.new.always ≡ self.old.always }
-        ensures made { OnOk result ((k : ℕ) → has_seat self.new.seats k ≡ (k == n || has_seat self.old.seats k)) }
+        ensures made { OnOk result
+            ((k : ℕ) → has_seat self.new.seats k ≡ (k == n || has_seat self.old.seats k)) }
         ensures err { OnErr result (self.new ≡ self.old) }
     {
         self.names.reserve(self.seats.len() + 1)?;
@@ -241,7 +243,9 @@ impl Target {
     pub fn put_change(&mut self, n: u32, mark: Mark) -> bool
         requires { has_seat self.old.seats n ≡ true }
         ensures was { result ≡ is_some (seat_at self.old.seats n).change }
-        ensures rows { (k : ℕ) → seat_at self.new.seats k ≡ (if n == k then record (seat_at self.old.seats k) { change = Some (row_mark_of mark) } else seat_at self.old.seats k) }
+        ensures rows { (k : ℕ)
+            → seat_at self.new.seats k ≡ (if n == k then record (seat_at self.old.seats k)
+            { change = Some (row_mark_of mark) } else seat_at self.old.seats k) }
         ensures room { (k : ℕ) → has_seat self.new.seats k ≡ has_seat self.old.seats k }
         ensures always { self.new.always ≡ self.old.always }
     {
@@ -258,7 +262,9 @@ impl Target {
     pub fn put_created(&mut self, n: u32) -> bool
         requires { has_seat self.old.seats n ≡ true }
         ensures was { result ≡ (seat_at self.old.seats n).created }
-        ensures rows { (k : ℕ) → seat_at self.new.seats k ≡ (if n == k then record (seat_at self.old.seats k) { created = true } else seat_at self.old.seats k) }
+        ensures rows { (k : ℕ)
+            → seat_at self.new.seats k ≡ (if n == k then record (seat_at self.old.seats k)
+            { created = true } else seat_at self.old.seats k) }
         ensures room { (k : ℕ) → has_seat self.new.seats k ≡ has_seat self.old.seats k }
         ensures always { self.new.always ≡ self.old.always }
     {

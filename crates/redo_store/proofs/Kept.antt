@@ -10,8 +10,7 @@ use Rattle.redo_model.specs.State.{Cell, idle}
 use Rattle.redo_model.specs.Step.{after, locks_granted}
 use Rattle.redo_model.specs.Command as commands
 use Rattle.redo_store.specs.Orders.{AreSorted}
-use Rattle.redo_rows.specs.Rows as rows
-use Rattle.redo_rows.specs.Rows.{TargetRows}
+use Rattle.redo_rows.specs.Rows.{TargetRows, rows_count}
 use Rattle.redo_store.specs.Stored.{Stored, IsStored}
 use Rattle.redo_store.specs.Stored as stored
 use Rattle.redo_ood.proofs.Marking.{same_everywhere}
@@ -39,7 +38,7 @@ IsStored-set_cell t n c h few = record {
 
 -- the rows of as many targets may be written
 pub IsStored-set_rows : (t : Stored) (to : List TargetRows) → IsStored t
-    → rows.rows_count to ≡ rows.rows_count t.rows → IsStored (record t { rows = to })
+    → rows_count to ≡ rows_count t.rows → IsStored (record t { rows = to })
 IsStored-set_rows t to h same = record {
   rows_for_each = same ∙ h.rows_for_each;
   all_in_order = h.all_in_order;
@@ -49,7 +48,7 @@ IsStored-set_rows t to h same = record {
 
 -- a store that knows nothing
 pub IsStored-new : (names : List (List ℕ)) (t : Stored) → AreSorted names t.sorted
-    → t.cells ≡ replicate (length names) idle → rows.rows_count t.rows ≡ length names
+    → t.cells ≡ replicate (length names) idle → rows_count t.rows ≡ length names
     → length names < 2 ^ 32 → IsStored t
 IsStored-new names t sorted cells each few =
     let count : length t.cells ≡ length names =

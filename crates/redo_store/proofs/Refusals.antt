@@ -10,12 +10,11 @@ use Rattle.redo_model.specs.Names.{Naming}
 use Rattle.redo_model.specs.Reply as replies
 use Rattle.redo_model.specs.State.{Records, target_state}
 use Rattle.redo_model.specs.Step.{verdict_of}
-use Rattle.redo_records.specs.Refusals as verdicts
-use Rattle.redo_records.specs.Refusals.{refusal_by_target, refusal_of_names}
+use Rattle.redo_records.specs.Refusals.{refusal_by_target, refusal_of_names, kind_for}
 use Rattle.redo_records.proofs.Refusals.{verdict_on_target}
 
 -- the kind of a command is that of what it means
-same_kind : (command : Command) → kind_of command ≡ verdicts.kind_for (command_of command)
+same_kind : (command : Command) → kind_of command ≡ kind_for (command_of command)
 same_kind (coded.File n stamp) = refl
 same_kind (coded.Gone n) = refl
 same_kind (coded.Lock t) = refl
@@ -47,5 +46,5 @@ module _ (naming : Naming ℕ) (r : Records ℕ) (s : ℕ) (holds : Bool) where
       ap (λ (o : Option (replies.Refusal ℕ)). option_or o names)
       (by_cell ∙ ap (refusal_by_target (target_state r t) s holds) (same_kind command))
       ∙ ap (option_or
-      (refusal_by_target (target_state r t) s holds (verdicts.kind_for (command_of command)))) by_names
+      (refusal_by_target (target_state r t) s holds (kind_for (command_of command)))) by_names
       ∙ verdict_on_target naming r s holds (command_of command) t (sym on)

@@ -7,8 +7,8 @@ ghost use Rattle.redo_model.specs.Step.{Replies, Tells, records_after, verdict_o
 ghost use Rattle.redo_model.specs.Renaming.{OrdersAlike, numbering, IsBelow, IsReplyBelow};
 ghost use Rattle.redo_command.specs.Meaning.{command_of, reply_of, refusal_of};
 
-use crate::table::{answer, answers, effect, effects};
 use crate::sorted::{ranks_of, sorted_numbers};
+use crate::table::{answer, answers, effect, effects};
 use redo_command::{Command, FileStamp, Refusal, Reply, cases};
 use redo_names::Names;
 use redo_ood::Ood;

@@ -6,8 +6,8 @@ ghost use Rattle.redo_command.specs.Meaning.{command_of, refusal_of};
 ghost use Rattle.redo_records.specs.Refusals.{refusal_of_names};
 ghost use Rattle.redo_store.specs.Stored.{records_of, naming_of, count_of};
 
-use crate::table::{first_refusal_of_names, refusals_of_names, refuse_names_unless};
 use crate::store::Store;
+use crate::table::{first_refusal_of_names, refusals_of_names, refuse_names_unless};
 use redo_command::{Command, Refusal, cases};
 
 fn is_among(names: &[u32], t: u32) -> bool

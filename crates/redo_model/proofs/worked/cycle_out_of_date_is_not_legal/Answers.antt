@@ -8,5 +8,6 @@ use Rattle.redo_model.proofs.worked.cycle_out_of_date_is_not_legal.Goals as goal
 
 pub returns : goal.returns
 returns c wrong =
-    let e = same_reply 13 (Ood []) (Ood (codes "a" ∷ codes "b" ∷ [])) cycle refl cycle_legal wrong in
+    let e =
+    same_reply 13 (Ood []) (Ood (codes "a" ∷ codes "b" ∷ [])) cycle refl cycle_legal wrong in
     cc
