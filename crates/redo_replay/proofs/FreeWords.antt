@@ -18,7 +18,7 @@ use Rattle.redo_command.specs.Stamp.{is_stamp, is_placeholder}
 use Rattle.redo_command.specs.declared.stamp.TheConstants.{LONGEST_STAMP}
 use Rattle.redo_command.specs.Texts.{after_space, spaced, stamp_word, content_word, refusal_words}
 use Rattle.redo_command.specs.Grammar.{IsCommandLine, IsSpelled, HasForm, IsContentWord}
-use Rattle.redo_command.specs.Replies.{IsReplyText, HasReplyForm, IsGrant, AreAllNames}
+use Rattle.redo_command.specs.Replies.{IsReplyText, HasReplyForm, AreAllNames}
 use Rattle.redo_command.proofs.Steps.{both}
 use Rattle.redo_command.proofs.Spaced.{IsVisible, name_is_visible, stamp_is_visible}
 use Rattle.redo_command.proofs.Contents.{content_is_visible, content_word_says, arrow_is_no_content}

@@ -71,11 +71,6 @@ with_names-known names (t ∷ ts) known =
     let same : with_name names t ≡ names = ap (λ b. cond b names (names ++ t ∷ [])) known.0 in
     ap (λ front. with_names front ts) same ∙ with_names-known names ts known.1
 
-pub with_names-append : (names ts us : List Text)
-    → with_names names (ts ++ us) ≡ with_names (with_names names ts) us
-with_names-append names [] us = refl
-with_names-append names (t ∷ ts) us = with_names-append (with_name names t) ts us
-
 one_more_name : (names : List Text) (t : Text) → AreAllNames names → IsTrue (is_name t)
     → AreAllNames (names ++ t ∷ [])
 one_more_name [] t each is = (is, tt)

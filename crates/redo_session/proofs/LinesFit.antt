@@ -8,11 +8,12 @@ use Rattle.redo_model.specs.Step.{holds_target, verdict_of, after}
 use Rattle.redo_model.specs.History.{Line, LegalFrom}
 use Rattle.redo_command.specs.Grammar.{with_names}
 use Rattle.redo_command.specs.Replies.{AreAllNames, names_in_reply}
+use Rattle.redo_command.proofs.ScriptParts.{with_names-append}
 use Rattle.redo_replay.specs.HistoryTexts.{HasLineForm, names_in_line}
 use Rattle.redo_session.proofs.CommandsSaid.{IsSaid, form_has_names}
 use Rattle.redo_session.proofs.Grants.{AreFewGrants, few_after}
 use Rattle.redo_session.proofs.KnownFiles.{AreFilesKnown, files_known_after}
-use Rattle.redo_session.proofs.KnownNames.{AreKnown, known-with_names, added_are_known, with_names-known, with_names-append, each-with_names}
+use Rattle.redo_session.proofs.KnownNames.{AreKnown, known-with_names, added_are_known, with_names-known, each-with_names}
 use Rattle.redo_session.proofs.RepliesFit.{IsFitting, reply_fits}
 
 -- the state after some lines: each of the names is one, each name that has a file is among them,

@@ -1,6 +1,6 @@
 -- The lines of a joint order of whole journals are a run of the scripts, where one history serves
 -- the journals.
-use Rattle.std.proofs.Common.{◌≡◌, ℕ, ◌<◌, ◌++◌, eqb, Bool, true, false, cond, List, [], ◌∷◌, length, map, get_or, refl, sym, ap, ◌∙◌, subst, arith}
+use Rattle.std.proofs.Common.{◌≡◌, ℕ, ◌<◌, ◌++◌, eqb, List, [], ◌∷◌, length, map, get_or, refl, sym, ap, ◌∙◌, subst, arith}
 use Rattle.std.specs.List.{AllByRecursion}
 use Rattle.std.specs.Ordering.{nat_cmp}
 use Rattle.std.proofs.lemmas.List.{get_or_past, length-map}
@@ -25,7 +25,7 @@ use Rattle.redo_joint.specs.Named.{named_placed_line, named_journals, IsPlaceBel
 use Rattle.redo_joint.proofs.Exchange.{In}
 use Rattle.redo_joint.proofs.Own.{all_by_parts, all_of_part}
 use Rattle.redo_joint.proofs.Orders.{legal_in_every_order, front_placed}
-use Rattle.redo_joint.proofs.ByName.{joint_by_name}
+use Rattle.redo_joint.proofs.ByName.{joint_by_name, kept_map}
 use Rattle.redo_joint.proofs.Standing.{seen_stands}
 use Rattle.redo_journal.specs.Plans.{PlanOf, IsPlan, script_of}
 use Rattle.redo_journal.specs.Journals.{journals_of}
@@ -33,15 +33,11 @@ use Rattle.redo_journal.specs.declared.entry.Journal.{Journal}
 use Rattle.redo_board.proofs.Orders.{by_text_is_naming}
 use Rattle.redo_replay.specs.Recorded.{AreLinesBelow}
 use Rattle.redo_replay.specs.Merges.{by_number, AreMerged}
+use Rattle.redo_replay.proofs.Replayed.{all_map}
 use Rattle.redo_session.specs.Runs.{IsRun}
 use Rattle.redo_session.specs.Outcomes.{scripts_named, AreWhole, SeenStands}
 use Rattle.redo_session.proofs.Wholes.{whole_commands, of_session}
 use Rattle.redo_session.proofs.Served.{Serves, whole_at}
-
-pub all-mapped : {A B : Type 0} (f : A → B) (P : B → Type 0) (xs : List A)
-    → AllByRecursion (λ x. P (f x)) xs → AllByRecursion P (map f xs)
-all-mapped f P [] h = tt
-all-mapped f P (x ∷ xs) h = (h.0, all-mapped f P xs h.1)
 
 pub all-unmapped : {A B : Type 0} (f : A → B) (P : B → Type 0) (xs : List A)
     → AllByRecursion P (map f xs) → AllByRecursion (λ x. P (f x)) xs
@@ -52,11 +48,6 @@ pub all-weaker : {A : Type 0} (P Q : A → Type 0) → ((x : A) → P x → Q x)
     → AllByRecursion P xs → AllByRecursion Q xs
 all-weaker P Q f [] h = tt
 all-weaker P Q f (x ∷ xs) h = (f x h.0, all-weaker P Q f xs h.1)
-
-kept_map : {A B : Type 0} (f : A → B) (b : Bool) (x : A) (xs : List A) (ys : List B)
-    → ys ≡ map f xs → cond b (f x ∷ ys) ys ≡ map f (cond b (x ∷ xs) xs)
-kept_map f true x xs ys e = ap (λ zs. f x ∷ zs) e
-kept_map f false x xs ys e = e
 
 -- the part of a session under names, without its places
 part_named : (name : ℕ → Text) (s : ℕ) (lines : List (PlacedLine ℕ))
@@ -153,7 +144,7 @@ module _ (p : PlanOf) (js : List Journal) (plan : IsPlan p) (whole : AreWhole p 
       let P : histories.Line Text → Type 0 = λ l. l.session < length (scripts_named p) in
       let name : List (Command ℕ) → List (Command Text) =
       λ script. map (named_command (text_at p.names)) script in
-      all-mapped at_names P lines
+      all_map at_names P lines
       (all_by_parts (λ l. P (at_names l)) lines (λ s l i.
       let of =
       of_session (script_of p s) s [] (journals_of p js s) (whole_at p js whole s).0 l
@@ -190,7 +181,7 @@ module _ (p : PlanOf) (js : List Journal) (plan : IsPlan p) (whole : AreWhole p 
       (λ l b. (b.placed.command, b.reply)) lines (all_below serves lines first.joint) in
       all-unmapped coded.line_of (IsLineBelow (length p.names)) history
       (subst (AllByRecursion (IsLineBelow (length p.names))) (sym says)
-      (all-mapped line_of (IsLineBelow (length p.names)) lines below))
+      (all_map line_of (IsLineBelow (length p.names)) lines below))
 
 -- what a session had seen stands before
 pub seen_before : (p : PlanOf) (js : List Journal) → SeenStands p js

@@ -9,6 +9,7 @@ use Rattle.redo_model.specs.History.{Line, part_of, Legal}
 use Rattle.redo_command.specs.Grammar.{with_names}
 use Rattle.redo_command.specs.Histories.{history_text_of, session_text_of, sessions_below}
 use Rattle.redo_replay.proofs.HistoryReadsBack.{history_reads_back}
+use Rattle.redo_replay.proofs.Replayed.{all_map}
 use Rattle.redo_replay.specs.HistoryTexts.{IsHistory, AreNamesOf}
 use Rattle.redo_session.specs.Runs.{IsRun, RunsAs}
 use Rattle.redo_session.proofs.Accepted.{AreAccepted-length}
@@ -18,7 +19,7 @@ use Rattle.redo_session.proofs.DistinctNames.{few_known}
 use Rattle.redo_session.proofs.Grants.{few_at_first}
 use Rattle.redo_session.proofs.KnownFiles.{files_known_at_first}
 use Rattle.redo_session.proofs.LinesFit.{IsLineSaid, lines_fit}
-use Rattle.redo_session.proofs.Outcomes.{all-mapped, all-unmapped}
+use Rattle.redo_session.proofs.Outcomes.{all-unmapped}
 
 -- the text is a history of legal lines
 abbrev pub Replays : Text → Type 0
@@ -67,7 +68,7 @@ module _ (names : List Text) (scripts : List (List (Command Text))) (few : lengt
       (lines_said lines run.sessions lines_asked) (omega arith) run.legal in
       let commands = map command_in lines in
       let known =
-      all_names_known names commands (all-mapped command_in (IsAsked names) lines lines_asked) in
+      all_names_known names commands (all_map command_in (IsAsked names) lines lines_asked) in
       let less = few_known names (flat_map names_in commands) known in
       let met = with_names [] (flat_map names_in commands) in
       let named : AreNamesOf lines met = (sym fit.same_names, omega arith) in
