@@ -193,9 +193,21 @@ class Imports:
         self.doubts.append(f"{path}: {alias} is of both kinds: {' '.join(sorted(used & file.goes))}")
         return [line]
 
+    def item(self, crate, found):
+        """A definition that an attribute of the code names."""
+        root, name, item = found.groups()
+        file = self.files.get((crate if root == "crate" else root, name))
+        if not file or not (file.is_moved or item in file.goes):
+            return found.group()
+        return f"{root}::specs::{self.folder}::{name}::{item}"
+
     def rewrite(self, path):
         text = path.read_text()
         lines = [new for line in text.split("\n") for new in self.line(line, text, path)]
+        if path.suffix == ".rt":
+            crate = path.parts[path.parts.index("crates") + 1]
+            path_of = re.compile(r"\b(crate|redo_\w+)::specs::(\w+)::(\w+)")
+            lines = [path_of.sub(lambda found: self.item(crate, found), line) for line in lines]
         if "\n".join(lines) != text:
             path.write_text("\n".join(lines))
             return 1
