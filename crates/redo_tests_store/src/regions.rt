@@ -4,6 +4,7 @@ ghost use Rattle.redo_model.specs.State.{is_building};
 ghost use Rattle.redo_records.specs.Cells.{cell_at};
 ghost use Rattle.redo_rows.specs.Rows.{rows_count, with_rows};
 ghost use Rattle.redo_ood.specs.Memo.{count_of as memo_count, IsRight};
+ghost use Rattle.redo_tests_store.specs.declared.regions.TheConstants.{NAMES};
 
 use redo_command::FileStamp;
 use redo_ood::Ood;
@@ -58,36 +59,35 @@ impl Graph {
     }
 
     /// The build of the target ends, always with the same content.
-    fn finish(&mut self, rt: &impl Abort, t: u32, file: Option<FileStamp>)
+    fn finish(&mut self, rt: &impl Abort, t: u32, has_file: bool)
         requires { t < NAMES }
     {
         assert!(rt; self.is_building(t) && self.records.builds(t) < 9);
         self.records.stamp(t, digest_of(b"abc"));
         assert!(rt; self.is_building(t) && self.records.builds(t) < 9);
-        self.records.done(t, file);
+        if has_file {
+            self.records.done(t, FileStamp::new(b"1"));
+        } else {
+            self.records.done(t, None);
+        }
     }
 
     /// A build of the target, which needs the name.
-    fn build(
-        &mut self,
-        rt: &impl Abort,
-        t: u32,
-        n: u32,
-        file: Option<FileStamp>,
-    ) -> Result<(), AllocError>
+    fn build(&mut self, rt: &impl Abort, t: u32, n: u32, has_file: bool) -> Result<(), AllocError>
         requires target { t < NAMES }
         requires name { n < NAMES }
     {
         self.start(rt, t);
         self.need(rt, t, n)?;
-        self.finish(rt, t, file);
+        self.finish(rt, t, has_file);
         Ok(())
     }
 
     /// The memo for all of this.
     fn memo(&self, alloc: Global) -> Result<Ood, AllocError>
         ensures count { IfOk result (λ ood. memo_count ood ≡ NAMES) }
-        ensures right { IfOk result (λ ood. IsRight ood (with_rows self.now.records self.now.rows)) }
+        ensures right { IfOk result (λ ood.
+            IsRight ood (with_rows self.now.records self.now.rows)) }
     {
         let mut ood = Ood::new(alloc, NAMES)?;
         ood.refresh(&self.records, &self.rows, &[0, 1, 2, 3]);
@@ -139,11 +139,10 @@ impl Graph {
 #[test]
 fn chain(rt: HostRuntime) -> Result<(), AllocError> {
     let mut graph = Graph::new(rt.alloc())?;
-    let stamp = FileStamp::new(b"1");
-    graph.records.set_file(0, stamp);
-    graph.build(&rt, 1, 0, stamp)?;
-    graph.build(&rt, 2, 1, None)?;
-    graph.build(&rt, 3, 2, stamp)?;
+    graph.records.set_file(0, FileStamp::new(b"1"));
+    graph.build(&rt, 1, 0, true)?;
+    graph.build(&rt, 2, 1, false)?;
+    graph.build(&rt, 3, 2, true)?;
     graph.change_file(&rt, rt.alloc(), 0, 4, &[1, 2, 3])
 }
 
@@ -155,7 +154,7 @@ fn appearance(rt: HostRuntime) -> Result<(), AllocError> {
     graph.rows.reserve(1, &[0])?;
     assert!(rt; graph.rows.has_room(1, 0));
     graph.rows.put_created(1, 0);
-    graph.finish(&rt, 1, FileStamp::new(b"1"));
+    graph.finish(&rt, 1, true);
     graph.change_file(&rt, rt.alloc(), 0, 2, &[1])
 }
 
@@ -163,10 +162,9 @@ fn appearance(rt: HostRuntime) -> Result<(), AllocError> {
 #[test]
 fn cycle(rt: HostRuntime) -> Result<(), AllocError> {
     let mut graph = Graph::new(rt.alloc())?;
-    let stamp = FileStamp::new(b"1");
     graph.start(&rt, 0);
-    graph.finish(&rt, 0, stamp);
-    graph.build(&rt, 1, 0, stamp)?;
-    graph.build(&rt, 0, 1, stamp)?;
+    graph.finish(&rt, 0, true);
+    graph.build(&rt, 1, 0, true)?;
+    graph.build(&rt, 0, 1, true)?;
     graph.begin(&rt, rt.alloc(), 0, 2, &[0, 1])
 }

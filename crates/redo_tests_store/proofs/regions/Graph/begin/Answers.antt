@@ -5,5 +5,5 @@ pub refresh-requires-clause-right : goal.refresh-requires-clause-right
 refresh-requires-clause-right g c =
     let old = c.args.self.now in
     rw c.start.ensures
-    (was_right_by_start c.in_ok-ood.ok old.records old.rows c.args.t c.in_ok-ood.ensures.right _
+    (was_right_by_start c.in_ok-ood.ood old.records old.rows c.args.t c.in_ok-ood.ensures.right _
     c.clear.new.self c.clear.ensures.rows)

@@ -5,4 +5,4 @@ pub refresh-requires-clause-right : goal.refresh-requires-clause-right
 refresh-requires-clause-right g c =
     let old = c.args.self.now in
     rw c.set_file.ensures
-    (was_right_by_cell c.in_ok-ood.ok old.records old.rows c.args.n c.in_ok-ood.ensures.right _)
+    (was_right_by_cell c.in_ok-ood.ood old.records old.rows c.args.n c.in_ok-ood.ensures.right _)
