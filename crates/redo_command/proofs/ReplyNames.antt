@@ -6,7 +6,6 @@ use Rattle.redo_names.specs.Names.{has}
 use Rattle.redo_model.specs.Names.{Text}
 use Rattle.redo_command.specs.declared.fault.LineFault.TheVariants.{TooManyNames}
 use Rattle.redo_command.specs.Reading.{added, all_added}
-use Rattle.redo_command.specs.declared.reply_kind.ReplyKind.TheVariants as kinds
 
 pub none_added : (names : List Text) → length names ≤ 65536 → all_added names [] ≡ Ok names
 unfolding all_added
