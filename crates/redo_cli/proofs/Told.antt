@@ -1,7 +1,8 @@
--- What a write did, where it did not fail.
+-- What was told where no failure is noted.
 use Rattle.std.proofs.Common.{◌≡◌, Bool, true, false, Result, Ok, Err, OnOk, OnErr}
 
 -- where the flag is not set, the writes did not fail
-pub by_flag : {T E : Type 0} {P : Type 0} (told : Result T E) (flag : Bool) → OnOk told P → OnErr told (flag ≡ true) → flag ≡ false → P
+pub by_flag : {T E P : Type 0} (told : Result T E) (flag : Bool) → OnOk told P
+    → OnErr told (flag ≡ true) → flag ≡ false → P
 by_flag (Ok x) flag ok failed quiet = ok
 by_flag (Err e) flag ok failed quiet = absurd (cc)

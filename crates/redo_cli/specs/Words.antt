@@ -1,7 +1,7 @@
 -- The words that the program takes.
 use Rattle.std.specs.Prelude.{◌≡◌, List, [], ◌∷◌, map, Option, Some, None, true, codes, string_bytes, String}
 use Rattle.std.specs.declared.alloc.Global.{Global}
-use Rattle.clap.specs.Words.{App, Row, Rule, Text, all_of, first_of, new_app, new_rule, with_rule, with_subcommand}
+use Rattle.clap.specs.Words.{App, Row, Rule, Text, all_of, fault_of, first_of, new_app, new_rule, subcommand_of, with_rule, with_subcommand}
 use Rattle.clap.specs.Lexer.{usize_max}
 use Rattle.clap.specs.declared.builder.action.ArgAction.TheVariants.{Set, Append}
 use Rattle.redo_cli.specs.declared.task.Job.{Job}
@@ -46,5 +46,15 @@ redodb = with_subcommand (with_subcommand empty_app run_app.top) replay_app.top
 abbrev pub Asks : Option (Text × List Row) → Job → Type 0
 Asks None job = ⊥
 Asks (Some (name, rows)) Input = ⊥
-Asks (Some (name, rows)) (Run files) = (name ≡ codes "run") × (all_of (codes "FILE") rows ≡ Some (map string_bytes files.items))
-Asks (Some (name, rows)) (Replay file) = (name ≡ codes "replay") × (first_of (codes "FILE") rows ≡ Some (string_bytes file))
+Asks (Some (name, rows)) (Run files) =
+    (name ≡ codes "run") × (all_of (codes "FILE") rows ≡ Some (map string_bytes files.items))
+Asks (Some (name, rows)) (Replay file) =
+    (name ≡ codes "replay") × (first_of (codes "FILE") rows ≡ Some (string_bytes file))
+
+-- the words after the program's name ask for the job
+abbrev pub AskFor : List (String Global) → Job → Type 0
+AskFor words job = Asks (subcommand_of redodb (map string_bytes words)) job
+
+-- clap finds no fault in them
+abbrev pub AreFaultless : List (String Global) → Type 0
+AreFaultless words = fault_of redodb (map string_bytes words) ≡ []

@@ -1,7 +1,7 @@
-ghost use Rattle.std.specs.Prelude.{◌≡◌, ◌++◌, IfErr, OnOk, OnErr, false, true, codes, decimal};
-ghost use Rattle.std.specs.Io.KnownBytes.{Appends, Keeps};
-ghost use Rattle.redo_command.specs.Watched.{is_faulted, inner_of};
-ghost use Rattle.redo_cli.specs.Lines.{word_of, file_name, text_line, history_line, replay_line, fault_line, said, status_of};
+ghost use Rattle.std.specs.Prelude.{◌≡◌, IfErr, OnOk, OnErr, false, true};
+ghost use Rattle.redo_command.specs.Watched.{is_faulted};
+ghost use Rattle.redo_replay.specs.Devices.{Writes, WritesNothing};
+ghost use Rattle.redo_cli.specs.Lines.{word_of, file_name, text_line, history_line, replay_line, fault_line, said, said_of, in_line, status_of};
 
 use crate::fault::Fault;
 use itoa::Buffer;
@@ -37,7 +37,7 @@ fn name(files: &[String], file: usize) -> &str
 
 /// `redodb: TEXT`.
 fn say<W: Write>(err: &mut Watched<W>, text: &str) -> Result<(), WriteFault>
-    ensures line { OnOk result (Appends (W.contents (inner_of err.old)) (W.contents (inner_of err.new)) (said text.now)) }
+    ensures line { OnOk result (Writes W.contents err.old err.new (said text.now)) }
     ensures failed { OnErr result (is_faulted err.new ≡ true) }
 {
     write_whole(err, b"redodb: ")?;
@@ -47,7 +47,7 @@ fn say<W: Write>(err: &mut Watched<W>, text: &str) -> Result<(), WriteFault>
 
 /// `redodb: FILE: TEXT`.
 fn say_of_file<W: Write>(err: &mut Watched<W>, name: &str, text: &str) -> Result<(), WriteFault>
-    ensures line { OnOk result (Appends (W.contents (inner_of err.old)) (W.contents (inner_of err.new)) (said (name.now ++ codes ": " ++ text.now))) }
+    ensures line { OnOk result (Writes W.contents err.old err.new (said_of name.now text.now)) }
     ensures failed { OnErr result (is_faulted err.new ≡ true) }
 {
     write_whole(err, b"redodb: ")?;
@@ -64,7 +64,8 @@ fn say_line<W: Write>(
     line: usize,
     word: &str,
 ) -> Result<(), WriteFault>
-    ensures line { OnOk result (Appends (W.contents (inner_of err.old)) (W.contents (inner_of err.new)) (said (name.now ++ codes ": " ++ (codes "line " ++ decimal line ++ codes ": " ++ word.now)))) }
+    ensures line { OnOk result
+        (Writes W.contents err.old err.new (said_of name.now (in_line line word.now))) }
     ensures failed { OnErr result (is_faulted err.new ≡ true) }
 {
     let mut digits = Buffer::new();
@@ -83,7 +84,7 @@ fn tell_text<W: Write>(
     files: &[String],
     fault: &TextFault,
 ) -> Result<(), WriteFault>
-    ensures line { OnOk result (Appends (W.contents (inner_of err.old)) (W.contents (inner_of err.new)) (text_line files.now fault.now)) }
+    ensures line { OnOk result (Writes W.contents err.old err.new (text_line files.now fault.now)) }
     ensures failed { OnErr result (is_faulted err.new ≡ true) }
 {
     match fault {
@@ -105,7 +106,7 @@ fn tell_history<W: Write>(
     files: &[String],
     fault: HistoryFault,
 ) -> Result<(), WriteFault>
-    ensures line { OnOk result (Appends (W.contents (inner_of err.old)) (W.contents (inner_of err.new)) (history_line files.now fault)) }
+    ensures line { OnOk result (Writes W.contents err.old err.new (history_line files.now fault)) }
     ensures failed { OnErr result (is_faulted err.new ≡ true) }
 {
     let name = name(files, 0);
@@ -125,7 +126,7 @@ fn tell_replay<W: Write>(
     files: &[String],
     fault: ReplayFault,
 ) -> Result<(), WriteFault>
-    ensures line { OnOk result (Appends (W.contents (inner_of err.old)) (W.contents (inner_of err.new)) (replay_line files.now fault)) }
+    ensures line { OnOk result (Writes W.contents err.old err.new (replay_line files.now fault)) }
     ensures failed { OnErr result (is_faulted err.new ≡ true) }
 {
     match fault {
@@ -139,7 +140,8 @@ fn tell_replay<W: Write>(
 
 /// Writes the fault's line.
 fn tell<W: Write>(err: &mut Watched<W>, files: &[String], fault: &Fault) -> Result<(), WriteFault>
-    ensures line { OnOk result (Appends (W.contents (inner_of err.old)) (W.contents (inner_of err.new)) (fault_line files.now fault.now)) }
+    ensures line { OnOk result
+        (Writes W.contents err.old err.new (fault_line files.now fault.now)) }
     ensures failed { OnErr result (is_faulted err.new ≡ true) }
 {
     match fault {
@@ -151,18 +153,20 @@ fn tell<W: Write>(err: &mut Watched<W>, files: &[String], fault: &Fault) -> Resu
     }
 }
 
-/// Writes the fault's line to `err`, if there is a fault, and answers the program's status: 1 for a history that
-/// differs, 2 for a fault, and else 0. FILE is the word in `files`, or `-` where there is none. It takes no memory,
-/// and a fault of `err` changes nothing in the answer.
+/// Writes the fault's line to `err`, if there is a fault, and answers the program's status: 1 for a
+/// history that differs, 2 for a fault, and else 0. FILE is the word in `files`, or `-` where there
+/// is none. It takes no memory, and a fault of `err` changes nothing in the answer.
 pub fn finish<W: Write>(
     answer: &Result<Option<Verdict>, Fault>,
     files: &[String],
     err: &mut Watched<W>,
 ) -> u8
     ensures status { result ≡ status_of answer.now }
-    ensures silent { OnOk answer.now (Keeps (W.contents (inner_of err.old)) (W.contents (inner_of err.new))) }
-    ensures line { IfErr answer.now (λ fault. is_faulted err.old ≡ false → is_faulted err.new ≡ false
-        → Appends (W.contents (inner_of err.old)) (W.contents (inner_of err.new)) (fault_line files.now fault)) }
+    ensures silent { OnOk answer.now (WritesNothing W.contents err.old err.new) }
+
+    // The line is written wherever `err` notes no failure.
+    ensures line { IfErr answer.now (λ fault. is_faulted err.new ≡ false
+        → Writes W.contents err.old err.new (fault_line files.now fault)) }
 {
     match answer {
         Ok(None | Some(Verdict::Same(_))) => 0,

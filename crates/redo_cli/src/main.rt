@@ -1,7 +1,7 @@
 //! The program `redodb`: runs of session files, and replays of histories.
 #![tactic(auto)]
 
-ghost use Rattle.std.specs.Prelude.{◌≡◌, ◌⊎◌, length, IfOk, IfErr};
+ghost use Rattle.std.specs.Prelude.{◌≡◌, ◌⊎◌, ℕ, ◌<◌, length, IfOk, IfErr};
 
 mod fault;
 mod finish;
@@ -49,7 +49,9 @@ fn open_all<R: Files + AllocGlobal>(
     rt: &R,
     names: &[String],
 ) -> Result<Vec<Watched<R::File>>, Fault>
-    ensures { IfOk result (λ files. length files.items ≡ length names.now) }
+    ensures each { IfOk result (λ files. length files.items ≡ length names.now) }
+    ensures faults { IfErr result (λ fault. (fault ≡ Fault.Memory)
+        ⊎ ((file : ℕ) × (file < length names.now) × (fault ≡ Fault.CannotOpen file))) }
 {
     let mut opened = Vec::new(rt.alloc());
     for (file, name) in names.iter().enumerate() {

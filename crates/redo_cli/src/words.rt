@@ -1,6 +1,6 @@
 ghost use Rattle.std.specs.Prelude.{◌≡◌, ◌≢◌, ◌↔◌, ◌⊎◌, [], map, string_bytes, IfOk, IfErr, IfSome, IsSome, OnOk, IsOkAnd};
-ghost use Rattle.clap.specs.Words.{app_of, fault_of, kind_of, subcommand_of, subcommand_rows_of};
-ghost use Rattle.redo_cli.specs.Words.{redodb, Asks};
+ghost use Rattle.clap.specs.Words.{app_of, kind_of, subcommand_rows_of};
+ghost use Rattle.redo_cli.specs.Words.{redodb, Asks, AreFaultless, AskFor};
 
 use crate::fault::Fault;
 use crate::task::Job;
@@ -29,7 +29,8 @@ fn command<'a>(alloc: Global) -> Result<Command<'a>, AllocError>
 }
 
 fn copies(alloc: Global, texts: &[&str]) -> Result<Vec<String>, AllocError>
-    ensures { IfOk result (λ copies. map string_bytes copies.items ≡ map (λ text. text.now) texts.now) }
+    ensures { IfOk result (λ copies. map string_bytes copies.items
+        ≡ map (λ text. text.now) texts.now) }
 {
     let mut copies = Vec::new(alloc);
     for text in texts {
@@ -41,7 +42,8 @@ fn copies(alloc: Global, texts: &[&str]) -> Result<Vec<String>, AllocError>
 /// `None` where the matches are those of another command.
 fn job_of(alloc: Global, matches: &ArgMatches<'_>) -> Result<Option<Job>, AllocError>
     ensures asked { IfOk result (λ found. IfSome found (Asks (subcommand_rows_of matches.now))) }
-    ensures only { (job : Job) → Asks (subcommand_rows_of matches.now) job → IfOk result (λ found. IsSome found) }
+    ensures only { (job : Job) → Asks (subcommand_rows_of matches.now) job
+        → IfOk result (λ found. IsSome found) }
 {
     match matches.subcommand() {
         Some(("run", run)) => match run.get_strs("FILE") {
@@ -56,7 +58,8 @@ fn job_of(alloc: Global, matches: &ArgMatches<'_>) -> Result<Option<Job>, AllocE
     }
 }
 
-/// Whatever is refused for another cause than memory is no use of the program, a call for help included.
+/// Whatever is refused for another cause than memory is no use of the program, a call for help
+/// included.
 fn refusal(error: &Error) -> Fault
     ensures memory { (result ≡ Fault.Memory) ↔ (kind_of error.now ≡ ErrorKind.OutOfMemory) }
     ensures usage { (result ≡ Fault.Usage) ↔ (kind_of error.now ≢ ErrorKind.OutOfMemory) }
@@ -73,11 +76,12 @@ pub fn job(alloc: Global, words: &[String]) -> Result<Job, Fault>
     ensures others { IfErr result (λ fault. (fault ≡ Fault.Memory) ⊎ (fault ≡ Fault.Usage)) }
 
     // A job is that of its words, in which clap finds no fault.
-    ensures asked { IfOk result (λ job. words.now ≢ [] → Asks (subcommand_of redodb (map string_bytes words.now)) job) }
-    ensures sound { OnOk result (words.now ≢ [] → fault_of redodb (map string_bytes words.now) ≡ []) }
+    ensures asked { IfOk result (λ job. words.now ≢ [] → AskFor words.now job) }
+    ensures sound { OnOk result (words.now ≢ [] → AreFaultless words.now) }
 
-    // Words that ask for a job, and in which clap finds no fault, are refused for want of memory alone.
-    ensures only { (job : Job) → Asks (subcommand_of redodb (map string_bytes words.now)) job → fault_of redodb (map string_bytes words.now) ≡ []
+    // Words that ask for a job, and in which clap finds no fault, are refused for want of memory
+    // alone.
+    ensures only { (job : Job) → AskFor words.now job → AreFaultless words.now
         → IfErr result (λ fault. fault ≡ Fault.Memory) }
 {
     if words.is_empty() {

@@ -32,8 +32,8 @@ pub all_push : {A : Type 0} (P : A → Type 0) (xs : List A) (x : A) → AllByRe
 all_push P [] x all h = (h, tt)
 all_push P (y ∷ ys) x all h = (all.0, all_push P ys x all.1 h)
 
-pub kept_map : {A B : Type 0} (f : A → B) (b : Bool) (x : A) (xs : List A) (ys : List B) → ys ≡ map f xs
-    → cond b (f x ∷ ys) ys ≡ map f (cond b (x ∷ xs) xs)
+pub kept_map : {A B : Type 0} (f : A → B) (b : Bool) (x : A) (xs : List A) (ys : List B)
+    → ys ≡ map f xs → cond b (f x ∷ ys) ys ≡ map f (cond b (x ∷ xs) xs)
 kept_map f true x xs ys e = ap (λ zs. f x ∷ zs) e
 kept_map f false x xs ys e = e
 

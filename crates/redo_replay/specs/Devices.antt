@@ -2,7 +2,7 @@
 use Rattle.std.specs.Prelude.{Option}
 use Rattle.std.specs.Io.KnownBytes.{Appends, Keeps}
 use Rattle.redo_model.specs.Names.{Text}
-use Rattle.redo_command.specs.Watched.{inner_of, AppendsFront}
+use Rattle.redo_command.specs.Watched.{inner_of}
 use Rattle.redo_command.specs.declared.watched.Watched.{Watched}
 
 -- the bytes that a reader has left, or those that a writer was given: `bytes` says them of the
@@ -13,10 +13,6 @@ known_in bytes device = bytes (inner_of device)
 -- the text was written
 abbrev pub Writes : {D : Type 0} → (D → Option Text) → Watched D → Watched D → Text → Type 0
 Writes bytes old new text = Appends (known_in bytes old) (known_in bytes new) text
-
--- a front of the text was written
-abbrev pub WritesFront : {D : Type 0} → (D → Option Text) → Watched D → Watched D → Text → Type 0
-WritesFront bytes old new text = AppendsFront (known_in bytes old) (known_in bytes new) text
 
 -- nothing was written
 abbrev pub WritesNothing : {D : Type 0} → (D → Option Text) → Watched D → Watched D → Type 0

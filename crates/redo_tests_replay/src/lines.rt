@@ -107,7 +107,8 @@ fn malicious_histories(rt: HostRuntime) -> Result<(), Fail> {
     commands(&rt)
 }
 
-/// What is no fault: a reply that doesn't fit its command, any session up to 64, and whatever follows the lines.
+/// What is no fault: a reply that doesn't fit its command, any session up to 64, and whatever
+/// follows the lines.
 #[test]
 fn accepted_histories(rt: HostRuntime) -> Result<(), Fail> {
     for (input, want) in [
