@@ -32,8 +32,12 @@ read_on : (names lines rest before : List Text) (commands : List (Command Text))
     → lines ≡ before ++ rest → AreScriptLines names before commands mid
     → AllRead names lines ⊎ OneFails names lines
 read_on names lines [] before commands mid parts read =
-    inl (commands, mid, subst (λ (ls : List Text). AreScriptLines names ls commands mid)
-    (sym (parts ∙ append-nil before)) read)
+    inl (
+      commands,
+      mid,
+      subst (λ (ls : List Text). AreScriptLines names ls commands mid)
+          (sym (parts ∙ append-nil before)) read,
+    )
 read_on names lines (line ∷ rest) before commands mid parts read =
     by (script_line_in (length commands) mid line) refl
     (λ front cs after e is. read_on names lines rest front cs after e is)
@@ -76,14 +80,18 @@ pub script_or_fault : (names : List Text) (text : Text) → length names ≤ 655
 script_or_fault names text few =
     elim (read_on names (lines_of text) (lines_of text) [] [] names refl start) [
       | inl all ↦ inl all
-      | inr one ↦ inr (length one.before + 1, one.fault, record {
-        before = one.before;
-        line = one.line;
-        rest = one.rest;
-        lines = one.parts;
-        counted = refl;
-        fails = one.fails;
-      })
+      | inr one ↦ inr (
+        length one.before + 1,
+        one.fault,
+        record {
+          before = one.before;
+          line = one.line;
+          rest = one.rest;
+          lines = one.parts;
+          counted = refl;
+          fails = one.fails;
+        },
+      )
     ]
   where
     start : AreScriptLines names [] [] names
@@ -101,9 +109,9 @@ stand_later : (first : Text) (before : List Text) (line : Text) (others : List T
 stand_later first before line others other stand = elim stand [
   | inl same ↦ inl (ap (λ (l : List Text). first ∷ l) same.0, same.1)
   | inr apart ↦ elim apart [
-      | inl after ↦ inr (inl (after.0, ap (λ (l : List Text). first ∷ l) after.1))
-      | inr front ↦ inr (inr (front.0, ap (λ (l : List Text). first ∷ l) front.1))
-    ]
+    | inl after ↦ inr (inl (after.0, ap (λ (l : List Text). first ∷ l) after.1))
+    | inr front ↦ inr (inr (front.0, ap (λ (l : List Text). first ∷ l) front.1))
+  ]
 ]
 
 two_lines : (before : List Text) (line : Text) (rest others : List Text) (other : Text)
@@ -145,15 +153,15 @@ one_first_fault names text n m a b one two =
       | inl same ↦ (
         one.counted ∙ ap (λ (l : List Text). length l + 1) same.0 ∙ sym two.counted,
         one_fault_of names two.before two.line a b
-        (subst (λ (l : Text). FailsAfter names two.before l a) same.1
-        (subst (λ (l : List Text). FailsAfter names l one.line a) same.0 one.fails)) two.fails,
+            (subst (λ (l : Text). FailsAfter names two.before l a) same.1
+            (subst (λ (l : List Text). FailsAfter names l one.line a) same.0 one.fails)) two.fails,
       )
       | inr apart ↦ elim apart [
-          | inl after ↦
-              absurd (not_before names one.before one.line two.before two.line after.0 a b after.1
-              one.fails two.fails)
-          | inr front ↦
-              absurd (not_before names two.before two.line one.before one.line front.0 b a front.1
-              two.fails one.fails)
-        ]
+        | inl after ↦
+            absurd (not_before names one.before one.line two.before two.line after.0 a b after.1
+            one.fails two.fails)
+        | inr front ↦
+            absurd (not_before names two.before two.line one.before one.line front.0 b a front.1
+            two.fails one.fails)
+      ]
     ]
