@@ -2,6 +2,7 @@ pub mod Added
 pub mod Asked
 pub mod Contents
 pub mod FaultOrCommand
+pub mod FaultOrScript
 pub mod FormsFound
 pub mod FormsRead
 pub mod Fronts

@@ -1,12 +1,13 @@
 // What command lines, session files and the texts of replies are.
-ghost use Rattle.std.specs.Prelude.{◌≡◌, List, [], ◌∷◌, None};
+ghost use Rattle.std.specs.Prelude.{◌≡◌, ◌≤◌, ◌⊎◌, ℕ, List, [], ◌∷◌, length, None};
 ghost use Rattle.redo_model.specs.Names.{Text};
 ghost use Rattle.redo_model.specs.Command.{Command};
 ghost use Rattle.redo_model.specs.Reply.{Reply};
 ghost use Rattle.redo_command.specs.Texts.{command_text_of, reply_text_of};
 ghost use Rattle.redo_command.specs.Grammar.{HasForm, IsShort, IsCommandLine, IsScript, AddsNames};
 ghost use Rattle.redo_command.specs.Questions.{line_fault};
-ghost use Rattle.redo_command.specs.Faults.{IsReadFault};
+ghost use Rattle.redo_command.specs.Faults.{IsFirstFault, IsReadFault};
+ghost use Rattle.redo_command.specs.declared.fault.LineFault.{LineFault};
 ghost use Rattle.redo_command.specs.declared.fault.ReadFault.{ReadFault};
 ghost use Rattle.redo_command.specs.Replies.{HasReplyForm, IsReplyText};
 
@@ -54,4 +55,14 @@ pub fn fault_or_command()
     ensures fault { (names : List Text) (line : Text) (command : Command Text) (after : List Text)
         → IsCommandLine line command → AddsNames names (command ∷ []) after
         → line_fault names line ≡ None }
+{}
+
+/// A text is a session file, or it has a first fault, and it has no two.
+pub fn fault_or_script()
+    ensures either { (names : List Text) (text : Text) → length names ≤ 65536
+        → ((commands : List (Command Text)) × (after : List Text)
+        × IsScript names text commands after)
+        ⊎ ((number : ℕ) × (fault : LineFault) × IsFirstFault names text number fault) }
+    ensures one { (names : List Text) (text : Text) (n m : ℕ) (a b : LineFault)
+        → IsFirstFault names text n a → IsFirstFault names text m b → (n ≡ m) × (a ≡ b) }
 {}

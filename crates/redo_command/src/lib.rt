@@ -29,8 +29,8 @@ pub use command::Command;
 pub use fault::{LineFault, ReadFault, ReplyFault};
 pub use kind::Kind;
 pub use laws::{
-    command_reads_back, fault_or_command, no_read_fault, one_command_a_line, one_reply_a_text,
-    one_script, reply_reads_back,
+    command_reads_back, fault_or_command, fault_or_script, no_read_fault, one_command_a_line,
+    one_reply_a_text, one_script, reply_reads_back,
 };
 pub use name_lists::MOST_LISTED_NAMES;
 pub use numbers::read_number;
