@@ -25,7 +25,9 @@ def believed(top):
     source = (top / "tests/believe").read_text().replace("sys.exit(main())", "")
     module = {"__name__": "believe", "__file__": str(top / "tests/believe")}
     exec(compile(source, "believe", "exec"), module)
-    return module["Closure"]().run(), module
+    closure = module["Closure"]().run(module["ROOTS"])
+    crates = sorted({path.relative_to(top / "crates").parts[0] for path in closure.reached if path.suffix == ".antt"})
+    return closure.run(module["BESIDE"]), module, crates
 
 
 class Paragraph:
@@ -109,7 +111,7 @@ class File:
         return "\n".join(self.head() + imports + body) + "\n"
 
     def used(self, parts):
-        return set(re.findall(r"[^\s(){}\[\],;.]+", "\n".join(line for part in parts for line in part.lines)))
+        return set(re.findall(r"[^\s(){}\[\],;.]+", "\n".join(line for part in parts for line in [part.header or ""] + part.lines)))
 
     def imports(self, parts):
         """The lines of the file's `use` that these paragraphs need, of the repository's own modules."""
@@ -133,11 +135,12 @@ class File:
         """The texts of the file and of the one that the others move to."""
         stays = [part for part in self.parts if not part.moves and not is_comment(part)]
         goes = [part for part in self.parts if part.moves]
-        own = {name: explicit(part.header) for part in stays for name in self.names_in(part)}
+        own = {name: part.header for part in stays for name in self.names_in(part)}
         used = self.used(goes)
         borrowed = [name for name in own if piece(name) in used]
         for part in goes:
-            part.lines = [apply(line, {name: own[name] for name in borrowed if own[name]}) for line in part.lines]
+            taken = {name: explicit(own[name]) for name in borrowed if own[name] and own[name] == part.header}
+            part.lines = [apply(line, {name: names for name, names in taken.items() if names}) for line in part.lines]
         line = [f"use Rattle.{self.crate}.specs.{self.name}.{{{', '.join(borrowed)}}}"] if borrowed else []
         return self.text(stays, self.imports(stays)), self.text(goes, self.imports(goes) + line)
 
@@ -218,8 +221,7 @@ def main():
     words = [word for word in sys.argv[1:] if not word.startswith("--")]
     folder = words[1] if "--folder" in sys.argv else "Inside"
     top = Path(words[0]).resolve()
-    closure, module = believed(top)
-    crates = sorted({path.relative_to(top / "crates").parts[0] for path in closure.reached if path.suffix == ".antt"})
+    closure, module, crates = believed(top)
     files = []
     for crate in crates:
         for path in sorted((top / "crates" / crate / "specs").glob("*.antt")):

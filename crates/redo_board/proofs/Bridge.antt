@@ -12,7 +12,8 @@ use Rattle.redo_model.specs.Step.{Answers, Replies, lock_reply, holds_target}
 use Rattle.redo_model.specs.History.{LegalFrom}
 use Rattle.redo_model.specs.Renaming.{IsBelow, IsLineBelow}
 use Rattle.redo_model.specs.Placed.{line_of, part_of, Fits, Follows, is_row, rows_in, IsPlacedAfter, IsPlaced}
-use Rattle.redo_model.specs.Journals.{IsJournalAfter, IsOfPlan, next_of, numbered}
+use Rattle.redo_model.specs.Journals.{IsJournalAfter, next_of, numbered}
+use Rattle.redo_model.specs.Inside.Journals.{IsOfPlan}
 use Rattle.redo_joint.proofs.Answered.{from_answers}
 use Rattle.redo_joint.proofs.Bridge.{tied_after}
 use Rattle.redo_joint.proofs.Counts.{one_if, rows_push}

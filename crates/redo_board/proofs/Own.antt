@@ -5,7 +5,8 @@ use Rattle.redo_model.specs.Command.{Command, File, Gone, Lock, Unlock, Start, I
 use Rattle.redo_model.specs.Reply.{Reply}
 use Rattle.redo_model.specs.Step.{is_held_by}
 use Rattle.redo_model.specs.Renaming.{IsBelow}
-use Rattle.redo_model.specs.Placed.{Place, Row, Granted, Busy, Released, Fits, IsPlacedAfter, part_of, is_claim, is_grant, is_release, grants_in, releases_in, holds_by}
+use Rattle.redo_model.specs.Placed.{Place, Row, Granted, Busy, Released, Fits, IsPlacedAfter, part_of, is_claim, is_grant, is_release, grants_in, releases_in}
+use Rattle.redo_model.specs.Inside.Placed.{holds_by}
 use Rattle.redo_journal.specs.Plans.{PlanOf, IsPlan}
 use Rattle.redo_board.specs.Rows.{naming_of, bit}
 use Rattle.redo_board.specs.Core.{Line, IsLegal, start, after_all, turn_build, way}

@@ -6,7 +6,8 @@ use Rattle.redo_model.specs.Command.{Command, target_of}
 use Rattle.redo_model.specs.Reply.{Reply}
 use Rattle.redo_model.specs.Step.{Answers, holds_name}
 use Rattle.redo_model.specs.Renaming.{IsReplyBelow}
-use Rattle.redo_model.specs.Placed.{part_of, is_row, holds_by}
+use Rattle.redo_model.specs.Placed.{part_of, is_row}
+use Rattle.redo_model.specs.Inside.Placed.{holds_by}
 use Rattle.redo_model.specs.Journals.{Numbered, next_of}
 use Rattle.redo_journal.specs.Plans.{PlanOf, script_of}
 use Rattle.redo_board.specs.Rows.{naming_of, rows_of}

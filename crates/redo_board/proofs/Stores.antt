@@ -6,7 +6,8 @@ use Rattle.redo_model.specs.State.{Records, empty}
 use Rattle.redo_model.specs.Command.{Command}
 use Rattle.redo_model.specs.Reply.{Reply}
 use Rattle.redo_model.specs.Step.{Replies, records_after}
-use Rattle.redo_model.specs.Renaming.{OrdersAlike, numbering, IsReplyBelow}
+use Rattle.redo_model.specs.Renaming.{IsReplyBelow}
+use Rattle.redo_model.specs.Inside.Renaming.{OrdersAlike, numbering}
 use Rattle.redo_store.specs.Stored.{Stored, records_of, count_of, order_of, applied_of, naming_of}
 use Rattle.redo_journal.specs.Plans.{PlanOf}
 use Rattle.redo_board.specs.Rows as rows

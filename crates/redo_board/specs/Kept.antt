@@ -1,7 +1,7 @@
 -- What fits together, and what boards, seats and workers keep.
 use Rattle.std.specs.Prelude.{◌≡◌, ℕ, ◌+◌, ◌-◌, ◌<◌, ◌≤◌, List, [], ◌∷◌, ◌++◌, length, Option, MatchOption, vec_capacity}
 use Rattle.redo_model.specs.Names.{texts}
-use Rattle.redo_model.specs.Renaming.{OrdersAlike, numbering}
+use Rattle.redo_model.specs.Inside.Renaming.{OrdersAlike, numbering}
 use Rattle.redo_store.specs.Stored.{Stored, records_of, count_of, order_of, applied_of}
 use Rattle.redo_journal.specs.Plans.{PlanOf, IsPlan, script_of}
 use Rattle.redo_board.specs.declared.board.Board.{Board}

@@ -2,7 +2,7 @@
 use Rattle.std.specs.Prelude.{◌≡◌, ℕ, ◌+◌, ◌<◌, ◌≤◌, List, [], ◌∷◌, ◌++◌, length, Some, slice_index}
 use Rattle.redo_model.specs.Placed.{rows_in}
 use Rattle.redo_model.specs.Journals.{numbered, IsJointOrder}
-use Rattle.redo_model.specs.Words.{claim_word_of}
+use Rattle.redo_model.specs.Inside.Words.{claim_word_of}
 use Rattle.redo_journal.specs.Plans.{PlanOf, script_of}
 use Rattle.redo_journal.specs.Journals.{told_by}
 use Rattle.redo_journal.specs.declared.entry.Journal.{Journal}

@@ -2,7 +2,7 @@
 use Rattle.std.specs.Prelude.{◌≡◌, ℕ, ◌<◌, ◌==◌, Bool, true, false, cond, List, length, Option, Some, None, slice_index_or}
 use Rattle.redo_model.specs.Command.{Command, Lock, Unlock, target_of}
 use Rattle.redo_model.specs.Reply.{Reply, Okay, Granted}
-use Rattle.redo_model.specs.Placed.{holds_by}
+use Rattle.redo_model.specs.Inside.Placed.{holds_by}
 use Rattle.redo_board.specs.declared.worker.own.Hold.{Hold}
 use Rattle.redo_board.specs.declared.worker.own.Own.{Own}
 use Rattle.redo_board.specs.Core.{Line, Way, way, built, turn_build}

@@ -8,7 +8,8 @@ use Rattle.redo_model.specs.Reply.{Reply, Okay}
 use Rattle.redo_model.specs.Reply as replies
 use Rattle.redo_model.specs.Step.{Replies}
 use Rattle.redo_model.specs.Renaming.{IsReplyBelow}
-use Rattle.redo_model.specs.Placed.{Place, Row, Granted, Busy, Released, is_row, holds_by}
+use Rattle.redo_model.specs.Placed.{Place, Row, Granted, Busy, Released, is_row}
+use Rattle.redo_model.specs.Inside.Placed.{holds_by}
 use Rattle.redo_model.specs.Journals.{Numbered, next_of}
 use Rattle.redo_journal.specs.Plans.{PlanOf, IsPlan, script_of}
 use Rattle.redo_board.specs.Rows.{rows_of, naming_of}

@@ -14,16 +14,6 @@ use Rattle.redo_replay.specs.declared.verdict.Verdict.TheVariants.{Same, Differs
 use Rattle.redo_cli.specs.declared.fault.Fault.{Fault}
 use Rattle.redo_cli.specs.declared.fault.Fault.TheVariants.{Memory, Usage, CannotOpen, Text, Replay}
 
--- a run's fault as the program's: want of memory is its own
-abbrev pub run_fault : TextFault → Fault
-run_fault texts.Memory = Memory
-run_fault fault = Text fault
-
--- a replay's fault as the program's, in the same way
-abbrev pub replay_fault : ReplayFault → Fault
-replay_fault replays.Memory = Memory
-replay_fault fault = Replay fault
-
 -- the word for a line's fault
 abbrev pub word_of : LineFault → List ℕ
 word_of LineTooLong = codes "line-too-long"

@@ -7,12 +7,6 @@ use Rattle.clap.specs.declared.builder.action.ArgAction.TheVariants.{Set, Append
 use Rattle.redo_cli.specs.declared.task.Job.{Job}
 use Rattle.redo_cli.specs.declared.task.Job.TheVariants.{Input, Run, Replay}
 
--- the files that a job reads
-abbrev pub files_of : Job → List (String Global)
-files_of Input = []
-files_of (Run files) = files.items
-files_of (Replay file) = file ∷ []
-
 -- FILE...
 abbrev pub files_rule : Rule
 files_rule = record (new_rule (codes "FILE")) {

@@ -4,7 +4,7 @@ pub use Rattle.redo_text.specs.Texts
 pub use Rattle.redo_text.specs.Grammar
 pub use Rattle.redo_text.specs.Questions
 pub use Rattle.redo_text.specs.Faults
-pub use Rattle.redo_text.specs.Reading
+pub use Rattle.redo_text.specs.Inside.Reading
 pub use Rattle.redo_text.specs.Replies
-pub use Rattle.redo_text.specs.ReplyReading
+pub use Rattle.redo_text.specs.Inside.ReplyReading
 pub use Rattle.redo_whole.specs.Watched

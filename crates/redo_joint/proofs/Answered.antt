@@ -11,7 +11,7 @@ use Rattle.redo_model.specs.Reply as replies
 use Rattle.redo_model.specs.Step.{verdict_of, after, Answers, Replies, records_after, unless_refused, locks_after, locks_granted, locks_freed, holds_target, is_held_by, is_built_by, refusal_or, lock_reply}
 use Rattle.redo_model.proofs.Held.{test_failed}
 use Rattle.redo_model.specs.Placed.{Place, Row, Granted, Busy, Released, PlacedLine, is_claim, Fits, part_of, Follows}
-use Rattle.redo_model.specs.Placed.{holds_by}
+use Rattle.redo_model.specs.Inside.Placed.{holds_by}
 use Rattle.redo_joint.specs.ByRows.{Stands}
 use Rattle.redo_joint.proofs.Own.{not_false, not_building}
 use Rattle.redo_joint.proofs.Tied.{none_of, some_of, Tied, flag, state_by}

@@ -1,7 +1,8 @@
 -- A placed history is legal exactly where each of its lines stands.
 use Rattle.std.proofs.Common.{◌≡◌, ℕ, ◌+◌, true, cond, eqb, List, [], ◌∷◌, ◌++◌, Option, Some, None, is_some, map, sym, ap, ◌∙◌, subst, inl, inr, arith, eqb-true}
 use Rattle.std.proofs.lemmas.Bool.{cases_Bool, false≢true}
-use Rattle.redo_model.specs.Names.{Naming, IsNaming, put}
+use Rattle.redo_model.specs.Names.{Naming, put}
+use Rattle.redo_model.specs.Inside.Names.{IsNaming}
 use Rattle.redo_model.specs.State.{State, empty}
 use Rattle.redo_model.specs.Step.{after, is_held_by}
 use Rattle.redo_model.specs.History.{LegalFrom}

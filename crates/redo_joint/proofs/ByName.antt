@@ -5,11 +5,13 @@ use Rattle.std.specs.declared.cmp.Ordering.{Ordering}
 use Rattle.std.proofs.lemmas.Bool.{cases_Bool, false≢true}
 use Rattle.std.proofs.lemmas.List.Sums.{sum_by-cons}
 use Rattle.std.proofs.lemmas.List.{map_push}
-use Rattle.redo_model.specs.Names.{Naming, IsNaming, numbers}
+use Rattle.redo_model.specs.Names.{Naming, numbers}
+use Rattle.redo_model.specs.Inside.Names.{IsNaming}
 use Rattle.redo_model.specs.Command.{Command, File, Gone, Lock, Unlock, Start, IfChange, IfCreate, Always, Stamp, Done, Failed, Ood, Targets, Sources}
 use Rattle.redo_model.specs.Reply.{Reply, Okay, Stale, Stamped, Refused}
 use Rattle.redo_model.specs.Reply as replies
-use Rattle.redo_model.specs.Renaming.{Renaming, IsRenaming, named_command, named_reply}
+use Rattle.redo_model.specs.Renaming.{named_command, named_reply}
+use Rattle.redo_model.specs.Inside.Renaming.{Renaming, IsRenaming}
 use Rattle.redo_model.proofs.RepliesByName.{one_number}
 use Rattle.redo_model.specs.Placed.{Place, Row, Granted, Busy, Released, PlacedLine, is_claim, Fits, part_of, is_row, rows_in, is_grant, is_release, grants_in, releases_in, Follows, IsPlacedAfter, IsPlaced}
 use Rattle.redo_model.specs.Journals.{IsJointOrder}

@@ -5,7 +5,8 @@ use Rattle.std.proofs.lemmas.List.Sums.{sum_by_push}
 use Rattle.std.specs.List.{AllByRecursion}
 use mathlib.Core.Logic.{dite}
 use native.Mathlib.Decide.{ℕ_discrete}
-use Rattle.redo_model.specs.Names.{Naming, IsNaming}
+use Rattle.redo_model.specs.Names.{Naming}
+use Rattle.redo_model.specs.Inside.Names.{IsNaming}
 use Rattle.redo_model.specs.Placed.{Place, Row, Granted, Busy, Released, PlacedLine, Fits, part_of, is_row, rows_in, is_grant, is_release, grants_in, releases_in, Follows, IsPlacedAfter, IsPlaced}
 use Rattle.redo_joint.proofs.Exchange.{cond_same, cond_other, after, Comes, AllCome}
 use Rattle.redo_joint.proofs.Own.{push_own, push_other}

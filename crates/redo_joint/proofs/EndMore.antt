@@ -1,7 +1,8 @@
 -- One line more at the end of a legal placed history: a row, a grant, a busy answer, a release.
 use Rattle.std.proofs.Common.{◌≡◌, ℕ, ◌+◌, ◌-◌, ◌/◌, ◌%◌, Bool, true, false, cond, eqb, List, [], ◌∷◌, ◌++◌, Some, map, refl, sym, ap, ◌∙◌, subst, inl, inr, arith, append_assoc, append-nil, eq-eqb, ne_eqb}
 use Rattle.std.proofs.lemmas.List.{map_push}
-use Rattle.redo_model.specs.Names.{Naming, IsNaming}
+use Rattle.redo_model.specs.Names.{Naming}
+use Rattle.redo_model.specs.Inside.Names.{IsNaming}
 use Rattle.redo_model.specs.State.{State, empty, target_state}
 use Rattle.redo_model.specs.Command.{Command, Lock, Unlock, target_of}
 use Rattle.redo_model.specs.Reply.{Reply, Okay}
@@ -10,10 +11,10 @@ use Rattle.redo_model.specs.Step.{after, Replies, is_built_by, is_held_by}
 use Rattle.redo_model.specs.History.{left_by, LegalFrom, Legal}
 use Rattle.redo_model.proofs.OneMore.{legal_more}
 use Rattle.redo_model.specs.Placed.{Place, Row, Granted, Busy, Released, PlacedLine, line_of, is_claim, Fits, part_of, rows_in, grants_in, releases_in, Follows, IsPlacedAfter, IsPlaced}
-use Rattle.redo_model.specs.Placed.{holds_by}
+use Rattle.redo_model.specs.Inside.Placed.{holds_by}
 use Rattle.redo_joint.specs.ByRows.{Stands, records_left}
 use Rattle.redo_joint.specs.Events.{GoesOnBy, moved_by}
-use Rattle.redo_model.specs.Words.{word_before, row_word_of, row_words_after, row_words_of, claim_word_of}
+use Rattle.redo_model.specs.Inside.Words.{word_before, row_word_of, row_words_after, row_words_of, claim_word_of}
 use Rattle.redo_joint.proofs.Counts.{Paired, paired_after, paired_by, grants_push, releases_push}
 use Rattle.redo_joint.proofs.Bridge.{tied_after}
 use Rattle.redo_joint.proofs.Answered.{from_answers, from_stands}

@@ -3,11 +3,13 @@ use Rattle.std.proofs.Common.{◌≡◌, ℕ, ◌<◌, List, [], ◌∷◌, ◌+
 use Rattle.std.specs.List.{AllByRecursion}
 use Rattle.std.proofs.lemmas.List.{map_push}
 use Rattle.std.specs.declared.cmp.Ordering.{Ordering}
-use Rattle.redo_model.specs.Names.{Naming, IsNaming, numbers}
+use Rattle.redo_model.specs.Names.{Naming, numbers}
+use Rattle.redo_model.specs.Inside.Names.{IsNaming}
 use Rattle.redo_model.specs.Command.{Command, File, Gone, Lock, Unlock, Start, IfChange, IfCreate, Always, Stamp, Done, Failed, Ood, Targets, Sources}
 use Rattle.redo_model.specs.Reply.{Reply, Okay, Stale, Stamped, Refused, NotLocked, Building, NotBuilding, Itself, Exists}
 use Rattle.redo_model.specs.Reply as replies
-use Rattle.redo_model.specs.Renaming.{Renaming, IsRenaming, value_at, named_command, named_reply, AllBelow, IsBelow, IsReplyBelow}
+use Rattle.redo_model.specs.Renaming.{named_command, named_reply, AllBelow, IsBelow, IsReplyBelow}
+use Rattle.redo_model.specs.Inside.Renaming.{Renaming, IsRenaming, value_at}
 use Rattle.redo_model.specs.Placed.{Place, Row, Granted, Busy, Released, PlacedLine, Fits, IsPlacedAfter, IsPlaced}
 use Rattle.redo_model.specs.Journals.{IsJointOrder, IsFirstJointOrder, NoLater}
 use Rattle.redo_joint.specs.Named.{named_place, named_placed_line, named_journals, IsPlaceBelow, IsPlacedBelow, IsToldBelow, AreToldBelow}

@@ -2,12 +2,13 @@
 use Rattle.std.proofs.Common.{◌≡◌, ◌≢◌, ℕ, ◌+◌, ◌*◌, ◌⊎◌, Bool, true, false, List, [], ◌∷◌, ◌++◌, Option, Some, None, refl, sym, ap, ◌∙◌, subst, inl, inr, arith, Decides}
 use mathlib.Core.Logic.{dite}
 use native.Mathlib.Decide.{ℕ_discrete}
-use Rattle.redo_model.specs.Names.{Naming, IsNaming}
+use Rattle.redo_model.specs.Names.{Naming}
+use Rattle.redo_model.specs.Inside.Names.{IsNaming}
 use Rattle.redo_model.specs.State.{Records}
 use Rattle.redo_model.specs.Command.{Command, target_of}
 use Rattle.redo_model.specs.Reply.{Reply}
 use Rattle.redo_model.specs.Placed.{Place, Row, Granted, Busy, Released, PlacedLine, part_of}
-use Rattle.redo_model.specs.Placed.{holds_by}
+use Rattle.redo_model.specs.Inside.Placed.{holds_by}
 use Rattle.redo_joint.specs.ByRows.{Stands, records_by, StandAfter}
 use Rattle.redo_joint.proofs.Exchange.{Ticket, Tickets, In, cond_same, cond_other, without, after, Comes, AllCome, Free, part-own, part-other, apart_sym, apart_first, free_rest, no_move}
 use Rattle.redo_joint.proofs.Greedy.{IsJoint, first_may, takes_first, rest_joint, exchange}

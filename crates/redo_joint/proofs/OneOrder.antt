@@ -6,7 +6,7 @@ use Rattle.redo_model.specs.Reply as replies
 use Rattle.redo_model.specs.Names.{Text, texts}
 use Rattle.redo_model.specs.Placed.{PlacedLine, Granted, Busy, Released}
 use Rattle.redo_model.specs.Journals.{IsJointOrder}
-use Rattle.redo_model.specs.Merging.{placed_at, shared, first_journal, second_journal, two_journals, merging}
+use Rattle.redo_model.specs.Inside.Merging.{placed_at, shared, first_journal, second_journal, two_journals, merging}
 use Rattle.redo_joint.proofs.TwoSessions.{Joins, who_goes, joined}
 
 -- the lines of the two journals

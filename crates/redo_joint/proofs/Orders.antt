@@ -1,10 +1,12 @@
 -- Joint orders: by their tickets, and legal in every order.
 use Rattle.std.proofs.Common.{ℕ, ◌≤◌, length, List, [], ◌∷◌, ◌++◌, map, subst, sym, inl, inr, append_assoc, append-nil}
-use Rattle.redo_model.specs.Names.{Naming, IsNaming}
+use Rattle.redo_model.specs.Names.{Naming}
+use Rattle.redo_model.specs.Inside.Names.{IsNaming}
 use Rattle.redo_model.specs.State.{empty}
 use Rattle.redo_model.specs.History.{Legal}
 use Rattle.redo_model.specs.Placed.{PlacedLine, line_of, Fits, Follows, IsPlacedAfter}
-use Rattle.redo_model.specs.Journals.{IsJointOrder, IsFirstJointOrder, NoLater, IsJournal, IsOfPlan}
+use Rattle.redo_model.specs.Journals.{IsJointOrder, IsFirstJointOrder, NoLater, IsJournal}
+use Rattle.redo_model.specs.Inside.Journals.{IsOfPlan}
 use Rattle.redo_model.specs.Command.{Command}
 use Rattle.redo_joint.proofs.Exchange.{In}
 use Rattle.redo_joint.proofs.Own.{all_by_parts, all_of_part}

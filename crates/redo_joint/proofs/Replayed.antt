@@ -4,14 +4,16 @@ use Rattle.std.specs.Prelude.{option_map}
 use Rattle.std.proofs.lemmas.Option.{get_or_from_slice_get, slice_get_within}
 use mathlib.Core.Logic.{dite}
 use native.Mathlib.Decide.{ℕ_discrete}
-use Rattle.redo_model.specs.Names.{Naming, IsNaming}
+use Rattle.redo_model.specs.Names.{Naming}
+use Rattle.redo_model.specs.Inside.Names.{IsNaming}
 use Rattle.redo_model.specs.State.{State, Records, empty}
 use Rattle.redo_model.specs.Command.{Command, Ood, target_of}
 use Rattle.redo_model.specs.Step.{after, records_after}
 use Rattle.redo_model.specs.History.{left_by, LegalFrom}
-use Rattle.redo_model.specs.Placed.{Place, Row, Granted, Busy, Released, PlacedLine, line_of, part_of, holds_by, IsPlacedAfter}
+use Rattle.redo_model.specs.Placed.{Place, Row, Granted, Busy, Released, PlacedLine, line_of, part_of, IsPlacedAfter}
+use Rattle.redo_model.specs.Inside.Placed.{holds_by}
 use Rattle.redo_model.specs.Journals.{Numbered, next_of, numbered, IsJournalAfter}
-use Rattle.redo_model.specs.Words.{word_before, row_word_of, row_words_after, row_words_of}
+use Rattle.redo_model.specs.Inside.Words.{word_before, row_word_of, row_words_after, row_words_of}
 use Rattle.redo_joint.specs.ByRows.{records_by, records_left}
 use Rattle.redo_joint.specs.Replayed.{session_in, number_in, flag_in, no_records, replayed, IsLegalOfPlan}
 use Rattle.redo_joint.proofs.Own.{part_of-own, part_of-other, push_own, push_other}

@@ -3,7 +3,8 @@ use Rattle.std.proofs.Common.{◌≡◌, ℕ, ◌+◌, ◌<◌, ◌≤◌, ◌�
 use Rattle.std.proofs.lemmas.Bool.{cases_Bool}
 use mathlib.Core.Logic.{dite}
 use native.Mathlib.Decide.{dec_lt}
-use Rattle.redo_model.specs.Names.{Naming, IsNaming}
+use Rattle.redo_model.specs.Names.{Naming}
+use Rattle.redo_model.specs.Inside.Names.{IsNaming}
 use Rattle.redo_model.specs.Placed.{Place, Row, Granted, Busy, Released, PlacedLine, part_of, is_row, rows_in, is_grant, is_release, grants_in, releases_in, Follows, IsPlaced}
 use Rattle.redo_model.specs.Seen.{StandsIn, IsToldOf, HasSeen}
 use Rattle.redo_joint.proofs.Counts.{one_if, rows_push, grants_push, releases_push, along_placed}

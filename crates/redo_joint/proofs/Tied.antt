@@ -7,7 +7,7 @@ use Rattle.redo_model.specs.Command.{Command}
 use Rattle.redo_model.specs.Step.{locks_freed, holds_name, is_held_by}
 use Rattle.redo_model.proofs.Held.{BuildersHold, builders_hold_at_first}
 use Rattle.redo_model.specs.Placed.{Place, Row, Granted, Busy, Released, PlacedLine, part_of, grants_in, releases_in}
-use Rattle.redo_model.specs.Placed.{holds_by}
+use Rattle.redo_model.specs.Inside.Placed.{holds_by}
 use Rattle.redo_joint.specs.ByRows.{records_by}
 use Rattle.redo_joint.proofs.Counts.{one_if}
 

@@ -3,7 +3,7 @@ use Rattle.std.proofs.Common.{◌≡◌, ℕ, zero, suc, ◌⊎◌, List, [], �
 use Rattle.redo_model.specs.Names.{Text, texts}
 use Rattle.redo_model.specs.Placed.{PlacedLine, part_of, Follows, IsPlacedAfter}
 use Rattle.redo_model.specs.Journals.{IsJointOrder}
-use Rattle.redo_model.specs.Merging.{first_journal, second_journal, two_journals}
+use Rattle.redo_model.specs.Inside.Merging.{first_journal, second_journal, two_journals}
 use Rattle.redo_joint.proofs.Own.{part_of-own, part_of-other}
 
 -- after the lines before, these are placed; the first two sessions have the lists, and no other

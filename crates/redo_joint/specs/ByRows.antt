@@ -6,7 +6,8 @@ use Rattle.redo_model.specs.Command.{Command, target_of}
 use Rattle.redo_model.specs.Reply.{Reply}
 use Rattle.redo_model.specs.Step.{Replies, records_after, is_built_by}
 use Rattle.redo_model.specs.History.{left_by}
-use Rattle.redo_model.specs.Placed.{Place, Row, Granted, Busy, Released, PlacedLine, line_of, part_of, holds_by}
+use Rattle.redo_model.specs.Placed.{Place, Row, Granted, Busy, Released, PlacedLine, line_of, part_of}
+use Rattle.redo_model.specs.Inside.Placed.{holds_by}
 
 module _ {N : Type 0} (naming : Naming N) where
   -- after the session's own lines a row has the reply of the database, and who releases a target

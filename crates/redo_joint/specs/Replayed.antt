@@ -6,7 +6,7 @@ use Rattle.redo_model.specs.Command.{Command, Ood}
 use Rattle.redo_model.specs.Step.{records_after}
 use Rattle.redo_model.specs.History.{Legal}
 use Rattle.redo_model.specs.Placed.{PlacedLine, line_of, IsPlaced}
-use Rattle.redo_model.specs.Journals.{IsOfPlan}
+use Rattle.redo_model.specs.Inside.Journals.{IsOfPlan}
 
 -- the session, the number of the command and the flag that a row word tells
 abbrev pub session_in : ℕ → ℕ

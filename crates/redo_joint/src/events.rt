@@ -5,14 +5,15 @@ ghost use Rattle.redo_joint.specs.ByRows.{records_left};
 ghost use Rattle.redo_joint.specs.Events.{GoesOnBy};
 ghost use Rattle.redo_model.specs.Command.{Command, Lock, Unlock, target_of};
 ghost use Rattle.redo_model.specs.History.{Legal, left_by};
-ghost use Rattle.redo_model.specs.Merging.{placed_at};
+ghost use Rattle.redo_model.specs.Inside.Merging.{placed_at};
 ghost use Rattle.redo_model.specs.Names.{Text, texts};
-ghost use Rattle.redo_model.specs.Placed.{Busy, Granted, IsPlaced, PlacedLine, Released, Row, grants_in, holds_by, is_claim, line_of, part_of, rows_in};
+ghost use Rattle.redo_model.specs.Placed.{Busy, Granted, IsPlaced, PlacedLine, Released, Row, grants_in, is_claim, line_of, part_of, rows_in};
+ghost use Rattle.redo_model.specs.Inside.Placed.{holds_by};
 ghost use Rattle.redo_model.specs.Reply as replies;
 ghost use Rattle.redo_model.specs.Reply.{Okay, Reply};
 ghost use Rattle.redo_model.specs.State.{empty, target_state};
 ghost use Rattle.redo_model.specs.Step.{Replies, is_built_by, is_held_by};
-ghost use Rattle.redo_model.specs.Words.{claim_word_of};
+ghost use Rattle.redo_model.specs.Inside.Words.{claim_word_of};
 
 /// What a session holds is told by its own lines, and the number of grants by all lines.
 pub fn locks_by_lines()

@@ -4,7 +4,8 @@ ghost use Rattle.std.specs.Prelude.{◌≡◌, ◌↔◌, ◌∷◌, ◌++◌, �
 ghost use Rattle.redo_joint.specs.ByRows.{AllStand};
 ghost use Rattle.redo_model.specs.Command.{Command};
 ghost use Rattle.redo_model.specs.History.{Legal};
-ghost use Rattle.redo_model.specs.Journals.{IsJointOrder, IsJournal, IsOfPlan};
+ghost use Rattle.redo_model.specs.Journals.{IsJointOrder, IsJournal};
+ghost use Rattle.redo_model.specs.Inside.Journals.{IsOfPlan};
 ghost use Rattle.redo_model.specs.Names.{Text, texts};
 ghost use Rattle.redo_model.specs.Placed.{Fits, Follows, IsPlaced, Place, PlacedLine, line_of, part_of};
 ghost use Rattle.redo_model.specs.Seen.{HasSeen, StandsIn};

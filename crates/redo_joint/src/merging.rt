@@ -3,7 +3,7 @@
 ghost use Rattle.std.specs.Prelude.{◌≡◌, List, map};
 ghost use Rattle.redo_model.specs.History.{Legal};
 ghost use Rattle.redo_model.specs.Journals.{IsJointOrder};
-ghost use Rattle.redo_model.specs.Merging.{merging, two_journals};
+ghost use Rattle.redo_model.specs.Inside.Merging.{merging, two_journals};
 ghost use Rattle.redo_model.specs.Names.{Text, texts};
 ghost use Rattle.redo_model.specs.Placed.{PlacedLine, line_of};
 

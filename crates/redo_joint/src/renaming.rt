@@ -5,7 +5,7 @@ ghost use Rattle.redo_joint.specs.Named.{AreToldBelow, IsPlacedBelow, named_jour
 ghost use Rattle.redo_model.specs.Journals.{IsFirstJointOrder, IsJointOrder};
 ghost use Rattle.redo_model.specs.Names.{Text, numbers, texts};
 ghost use Rattle.redo_model.specs.Placed.{PlacedLine};
-ghost use Rattle.redo_model.specs.Renaming.{IsRenaming, Renaming};
+ghost use Rattle.redo_model.specs.Inside.Renaming.{IsRenaming, Renaming};
 ghost use Rattle.std.specs.List.{AllByRecursion};
 ghost use Rattle.std.specs.declared.cmp.Ordering.{Ordering};
 

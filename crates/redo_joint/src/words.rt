@@ -7,7 +7,7 @@ ghost use Rattle.redo_joint.specs.Replayed.{IsLegalOfPlan, no_records, replayed}
 ghost use Rattle.redo_model.specs.Command.{Command};
 ghost use Rattle.redo_model.specs.Names.{Text, texts};
 ghost use Rattle.redo_model.specs.Placed.{IsPlaced, PlacedLine, part_of};
-ghost use Rattle.redo_model.specs.Words.{claim_word_of, row_word_of, row_words_of, word_before};
+ghost use Rattle.redo_model.specs.Inside.Words.{claim_word_of, row_word_of, row_words_of, word_before};
 
 /// The words after one line more.
 pub fn words_by_one_more()

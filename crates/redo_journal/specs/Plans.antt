@@ -1,7 +1,7 @@
 -- The scripts of a run.
 use Rattle.std.specs.Prelude.{ℕ, ◌≤◌, List, [], length, map, slice_index_or}
 use Rattle.std.specs.List.{AllByRecursion}
-use Rattle.redo_names.specs.Names.{AreNames}
+use Rattle.redo_names.specs.Inside.Names.{AreNames}
 use Rattle.redo_model.specs.Names.{Text}
 use Rattle.redo_model.specs.Command as commands
 use Rattle.redo_model.specs.Renaming.{IsBelow}

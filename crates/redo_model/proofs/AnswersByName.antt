@@ -5,14 +5,16 @@ use Rattle.std.proofs.lemmas.List.Elements.{All-from_recursion, All-contains}
 use Rattle.std.specs.List.{Contains}
 use Rattle.std.specs.declared.cmp.Ordering.{Ordering}
 use Rattle.sha1.specs.Sha1.{sha1}
-use Rattle.redo_model.specs.Names.{Naming, IsNaming, numbers}
+use Rattle.redo_model.specs.Names.{Naming, numbers}
+use Rattle.redo_model.specs.Inside.Names.{IsNaming}
 use Rattle.redo_model.specs.State.{State, Records, Cell, idle}
 use Rattle.redo_model.specs.Command.{Command, Lock, IfChange, Stamp, Ood, Targets, Sources}
 use Rattle.redo_model.specs.Reply.{Refusal, Reply, Okay, Stamped, Refused}
 use Rattle.redo_model.specs.Reply as replies
 use Rattle.redo_model.specs.OutOfDate.{IsTarget, HasFile, OutOfDate, IsStale, IsSource}
 use Rattle.redo_model.specs.Step.{verdict_of, Tells, Replies, Answers, stale_reply, holds_target, lock_reply}
-use Rattle.redo_model.specs.Renaming.{Renaming, IsRenaming, named_state, named_records, named_locks, named_command, named_refusal, named_reply, IsBelow, AllBelow, IsReplyBelow, IsWithin, OrdersAlike}
+use Rattle.redo_model.specs.Renaming.{named_command, named_refusal, named_reply, IsBelow, AllBelow, IsReplyBelow}
+use Rattle.redo_model.specs.Inside.Renaming.{Renaming, IsRenaming, named_state, named_records, named_locks, IsWithin, OrdersAlike}
 use Rattle.redo_model.proofs.Members.{contains_map, contains_from_map}
 use Rattle.redo_model.proofs.RecordsByName.{value_at_name, number_where, row_where, file_at_name, state_at_name, change_at_names, created_at_names, target_to_name, target_from_name, out_to_name, out_from_name}
 use Rattle.redo_model.proofs.VerdictsByName.{verdict_by_name, holds_by_name, RefusesBelow, verdict_below}

@@ -5,7 +5,7 @@ use Rattle.redo_model.specs.State.{State, empty}
 use Rattle.redo_model.specs.Reply.{Reply}
 use Rattle.redo_model.specs.Step.{after}
 use Rattle.redo_model.specs.History.{Line, Legal, LegalFrom}
-use Rattle.redo_model.specs.Worked.{with_reply}
+use Rattle.redo_model.specs.Inside.Worked.{with_reply}
 use Rattle.redo_model.proofs.Unique.{one_answer}
 use Rattle.redo_model.proofs.Texts.{texts_are_names}
 

@@ -5,7 +5,7 @@ use Rattle.redo_model.specs.Names.{Text, texts, IsListed}
 use Rattle.redo_model.specs.State.{Records, Idle, empty}
 use Rattle.redo_model.specs.OutOfDate.{HasFile, HasReason, OutOfDate, IsTarget, IsStale, IsSource}
 use Rattle.redo_model.specs.History.{Legal, left_by}
-use Rattle.redo_model.specs.Worked.{common_path}
+use Rattle.redo_model.specs.Inside.Worked.{common_path}
 use Rattle.redo_model.proofs.Texts.{texts_are_names}
 use Rattle.redo_model.proofs.Answered.{◌▸◌}
 use Rattle.redo_model.proofs.UpToDate.{up_to_date_without_reasons, idle_up_to_date, idle_without_reason, nothing_listed, one_listed, none_stale, built_on_one, at_two}

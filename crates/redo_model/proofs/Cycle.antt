@@ -7,7 +7,7 @@ use Rattle.redo_model.specs.State.{Records, Digest, empty}
 use Rattle.redo_model.specs.OutOfDate.{HasFile, HasReason, Depends, OutOfDate, IsStale}
 use Rattle.redo_model.specs.Reply.{Stamped}
 use Rattle.redo_model.specs.History.{Legal, left_by}
-use Rattle.redo_model.specs.Worked.{cycle}
+use Rattle.redo_model.specs.Inside.Worked.{cycle}
 use Rattle.redo_model.proofs.Texts.{texts_are_names}
 use Rattle.redo_model.proofs.Digests.{digest_of_abc, digest_of_nothing}
 use Rattle.redo_model.proofs.Answered.{◌▸◌}

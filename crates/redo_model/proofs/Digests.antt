@@ -1,7 +1,7 @@
 -- Two digests by computation.
 use Rattle.std.proofs.Common.{◌≡◌, [], codes, refl}
 use Rattle.sha1.specs.Sha1.{first_words, schedule, rounds, compress, hash_after, digest_bytes, sha1}
-use Rattle.redo_model.specs.Worked as worked
+use Rattle.redo_model.specs.Inside.Worked as worked
 
 pub digest_of_abc : worked.digest_of_abc ≡ sha1 (codes "abc")
 unfolding first_words schedule rounds compress hash_after digest_bytes sha1

@@ -3,11 +3,13 @@ use Rattle.std.proofs.Common.{◌≡◌, ◌↔◌, ℕ, false, List, [], ◌∷
 use Rattle.std.proofs.Math.Path.{fun_ext}
 use Rattle.std.specs.List.{AllByRecursion}
 use Rattle.std.specs.declared.cmp.Ordering.{Ordering}
-use Rattle.redo_model.specs.Names.{Naming, IsNaming, numbers}
+use Rattle.redo_model.specs.Names.{Naming, numbers}
+use Rattle.redo_model.specs.Inside.Names.{IsNaming}
 use Rattle.redo_model.specs.State.{State, idle, empty}
 use Rattle.redo_model.specs.Step.{after}
 use Rattle.redo_model.specs.History.{Line, left_by, LegalFrom, Legal}
-use Rattle.redo_model.specs.Renaming.{Renaming, IsRenaming, value_at, named_state, named_line, IsBelow, IsLineBelow, IsWithin, OrdersAlike}
+use Rattle.redo_model.specs.Renaming.{named_line, IsBelow, IsLineBelow}
+use Rattle.redo_model.specs.Inside.Renaming.{Renaming, IsRenaming, value_at, named_state, IsWithin, OrdersAlike}
 use Rattle.redo_model.proofs.RecordsByName.{default_at}
 use Rattle.redo_model.proofs.StepsByName.{after_by_name}
 use Rattle.redo_model.proofs.AnswersByName.{answers_by_name}

@@ -2,7 +2,8 @@
 use Rattle.std.proofs.Common.{◌≡◌, ◌⊎◌, ◌↔◌, Bool, true, false, cond, List, [], ◌∷◌, refl, sym, ap, ◌∙◌, subst, inl, inr, arith, suc}
 use Rattle.std.specs.List.{Contains, filter}
 use Rattle.std.specs.declared.cmp.Ordering.TheVariants.{Less}
-use Rattle.redo_model.specs.Names.{Naming, Ascending, IsListed, IsNaming}
+use Rattle.redo_model.specs.Names.{Naming, Ascending, IsListed}
+use Rattle.redo_model.specs.Inside.Names.{IsNaming}
 use Rattle.redo_model.proofs.Members.{contains_first, contains_later, contains_cases, contains_none}
 
 module _ {N : Type 0} {naming : Naming N} (law : IsNaming naming) where

@@ -9,7 +9,7 @@ use Rattle.std.proofs.lemmas.List.Sums.{position_or_len_is}
 use Rattle.std.proofs.lemmas.List.Quantifiers.{position-Some}
 use Rattle.std.proofs.lemmas.Map.Made.{AllPairs-from_IsDistinct}
 use Rattle.redo_model.specs.Names.{Text}
-use Rattle.redo_model.specs.Renaming.{IsRenaming, numbering}
+use Rattle.redo_model.specs.Inside.Renaming.{IsRenaming, numbering}
 
 -- each of distinct texts has its place as its position
 position_of_name : (names : List Text) (k : ℕ) → IsDistinct bytes_eq names → k < length names

@@ -4,10 +4,11 @@ use Rattle.std.proofs.Math.Path.{fun_ext}
 use Rattle.std.proofs.lemmas.Bool.{cases_Bool, false≢true, eqb-true, eq-eqb, false_from_ne_true}
 use Rattle.std.specs.Prelude.{◌==◌}
 use Rattle.std.specs.declared.cmp.Ordering.{Ordering}
-use Rattle.redo_model.specs.Names.{Naming, IsNaming, put, numbers}
+use Rattle.redo_model.specs.Names.{Naming, put, numbers}
+use Rattle.redo_model.specs.Inside.Names.{IsNaming}
 use Rattle.redo_model.specs.State.{Records, Cell, TargetState, Idle, Building, Built, Failed, target_state, idle, mark_of, mark_in, has_file}
 use Rattle.redo_model.specs.OutOfDate.{IsTarget, ReasonIn, HasReason, Chain, Depends, OutOfDate}
-use Rattle.redo_model.specs.Renaming.{Renaming, IsRenaming, value_at, named_records, IsWithin}
+use Rattle.redo_model.specs.Inside.Renaming.{Renaming, IsRenaming, value_at, named_records, IsWithin}
 
 -- where the default stands everywhere, the default is read
 pub default_at : {X : Type 0} (d : X) (o : Option ℕ) → d ≡ value_at d (λ n. d) o

@@ -3,7 +3,8 @@ use Rattle.std.proofs.Common.{◌≡◌, ◌⊎◌, ◌↔◌, ◌∙◌, Bool, 
 use Rattle.std.specs.Prelude.{IsSome, Contains}
 use Rattle.std.proofs.lemmas.Bool.{cases_Bool, false≢true}
 use Rattle.redo_model.specs.State.{Records, Cell, TargetState, Idle, Building, Built, Failed, mark_in}
-use Rattle.redo_model.specs.OutOfDate.{IsTarget, HasRow, ReasonIn, HasReason, Depends, Chain, OutOfDate, TouchesSeed, InRegion, DifferAt}
+use Rattle.redo_model.specs.OutOfDate.{IsTarget, HasRow, ReasonIn, HasReason, Depends, Chain, OutOfDate}
+use Rattle.redo_model.specs.Inside.OutOfDate.{TouchesSeed, InRegion, DifferAt}
 
 pub differ_back : {N : Type 0} {seeds : List N} {old new : Records N}
     → DifferAt seeds old new → DifferAt seeds new old

@@ -5,7 +5,8 @@ use Rattle.std.specs.declared.cmp.Ordering.{Ordering}
 use Rattle.std.specs.declared.cmp.Ordering.TheVariants.{Less}
 use Rattle.redo_model.specs.Names.{Naming, numbers, IsListed}
 use Rattle.redo_model.specs.Reply.{NotLocked, Building, NotBuilding, Itself, Exists, Reply, Okay, Granted, Busy, Stale, Stamped, Ood, Targets, Sources, Refused}
-use Rattle.redo_model.specs.Renaming.{Renaming, IsRenaming, value_at, named_reply, AllBelow, IsReplyBelow, OrdersAlike}
+use Rattle.redo_model.specs.Renaming.{named_reply, AllBelow, IsReplyBelow}
+use Rattle.redo_model.specs.Inside.Renaming.{Renaming, IsRenaming, value_at, OrdersAlike}
 use Rattle.redo_model.proofs.Members.{contains_map, contains_from_map, pairs_map}
 use Rattle.redo_model.proofs.RecordsByName.{value_at_name}
 

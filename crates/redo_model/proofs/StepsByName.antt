@@ -4,13 +4,15 @@ use Rattle.std.proofs.Math.Path.{fun_ext}
 use Rattle.std.specs.Prelude.{◌==◌}
 use Rattle.std.specs.declared.cmp.Ordering.{Ordering}
 use Rattle.sha1.specs.Sha1.{sha1}
-use Rattle.redo_model.specs.Names.{Naming, IsNaming, put, numbers}
+use Rattle.redo_model.specs.Names.{Naming, put, numbers}
+use Rattle.redo_model.specs.Inside.Names.{IsNaming}
 use Rattle.redo_model.specs.State.{State, Locks, Records, Cell, Building, Built, Mark, idle, mark_of, mark_in}
 use Rattle.redo_model.specs.State as states
 use Rattle.redo_model.specs.Command.{Command, File, Gone, Lock, Unlock, Start, IfChange, IfCreate, Always, Stamp, Done, Failed, Ood, Targets, Sources}
 use Rattle.redo_model.specs.Reply.{Refusal}
 use Rattle.redo_model.specs.Step.{verdict_of, effect_of, after, is_among, unless_refused, locks_after, locks_granted, locks_freed, holds_target}
-use Rattle.redo_model.specs.Renaming.{Renaming, IsRenaming, value_at, named_state, named_records, named_locks, named_command, named_refusal, IsBelow, AllBelow}
+use Rattle.redo_model.specs.Renaming.{named_command, named_refusal, IsBelow, AllBelow}
+use Rattle.redo_model.specs.Inside.Renaming.{Renaming, IsRenaming, value_at, named_state, named_records, named_locks}
 use Rattle.redo_model.proofs.RecordsByName.{default_at, same_at, put_by_name, value_at_name, row_at_name, cell_at_name}
 use Rattle.redo_model.proofs.VerdictsByName.{among_at, holder_at_name, holds_by_name, verdict_by_name}
 

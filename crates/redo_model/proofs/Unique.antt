@@ -1,7 +1,8 @@
 -- One state gives one answer to a command.
 use Rattle.std.proofs.Common.{◌≡◌, ℕ, Bool, List, Option, Some, None, sym, ap, ◌∙◌}
 use Rattle.std.specs.Prelude.{MatchOption}
-use Rattle.redo_model.specs.Names.{Naming, IsListed, IsNaming}
+use Rattle.redo_model.specs.Names.{Naming, IsListed}
+use Rattle.redo_model.specs.Inside.Names.{IsNaming}
 use Rattle.redo_model.specs.State.{Records, State}
 use Rattle.redo_model.specs.Command.{Command, File, Gone, Lock, Unlock, Start, IfChange, IfCreate, Always, Stamp, Done, Failed, Ood, Targets, Sources, asked_lock}
 use Rattle.redo_model.specs.Reply.{Refusal, Reply, Refused}

@@ -3,7 +3,8 @@ use Rattle.std.proofs.Common.{◌≡◌, ◌⊎◌, zero, suc, false, List, [], 
 use Rattle.std.proofs.lemmas.Bool.{cases_Bool}
 use Rattle.std.specs.Prelude.{IsTrue, Contains}
 use Rattle.std.specs.declared.cmp.Ordering.TheVariants.{Less}
-use Rattle.redo_model.specs.Names.{Naming, IsNaming, Ascending, IsListed}
+use Rattle.redo_model.specs.Names.{Naming, Ascending, IsListed}
+use Rattle.redo_model.specs.Inside.Names.{IsNaming}
 use Rattle.redo_model.specs.State.{Records, Mark, Idle, Built, target_state, mark_of}
 use Rattle.redo_model.specs.OutOfDate.{HasFile, HasReason, ReasonIn, Depends, Chain, OutOfDate, IsStale}
 use Rattle.redo_model.proofs.Members.{contains_first, contains_later, contains_cases, contains_none}

@@ -2,12 +2,14 @@
 use Rattle.std.proofs.Common.{◌≡◌, ℕ, ◌<◌, Bool, true, false, cond, not, List, [], ◌∷◌, Option, Some, None, refl, ap, ◌∙◌, map, option_map, MatchOption}
 use Rattle.std.specs.Prelude.{⊤, find}
 use Rattle.std.specs.declared.cmp.Ordering.{Ordering}
-use Rattle.redo_model.specs.Names.{Naming, IsNaming, numbers}
+use Rattle.redo_model.specs.Names.{Naming, numbers}
+use Rattle.redo_model.specs.Inside.Names.{IsNaming}
 use Rattle.redo_model.specs.State.{Locks, Records, has_file, target_state, is_building}
 use Rattle.redo_model.specs.Command.{Command, File, Gone, Lock, Unlock, Start, IfChange, IfCreate, Always, Stamp, Done, Failed, Ood, Targets, Sources}
 use Rattle.redo_model.specs.Reply.{Refusal, NotLocked, Building, NotBuilding, Itself, Refused}
 use Rattle.redo_model.specs.Step.{verdict_of, is_among, refusal_or, refusal_of_existing, is_built_by, holds_target, is_held_by}
-use Rattle.redo_model.specs.Renaming.{Renaming, IsRenaming, value_at, named_records, named_locks, named_command, named_refusal, IsBelow, AllBelow, IsReplyBelow}
+use Rattle.redo_model.specs.Renaming.{named_command, named_refusal, IsBelow, AllBelow, IsReplyBelow}
+use Rattle.redo_model.specs.Inside.Renaming.{Renaming, IsRenaming, value_at, named_records, named_locks}
 use Rattle.redo_model.proofs.RecordsByName.{same_at, value_at_name, file_at_name, state_at_name}
 
 module _ {M : Type 0} (name : ℕ → M) where

@@ -10,7 +10,8 @@ use Rattle.redo_model.specs.State as states
 use Rattle.redo_model.specs.Command.{Command, File, Gone, Lock, Unlock, Start, IfChange, IfCreate, Always, Stamp, Done, Failed, Ood, Targets, Sources}
 use Rattle.redo_model.specs.Reply.{Refusal}
 use Rattle.redo_model.specs.Step.{verdict_of, effect_of, after, is_among, unless_refused, holds_target, with_cell}
-use Rattle.redo_model.specs.Renaming.{IsBelow, AllBelow, IsWithin}
+use Rattle.redo_model.specs.Renaming.{IsBelow, AllBelow}
+use Rattle.redo_model.specs.Inside.Renaming.{IsWithin}
 
 module _ (count : ℕ) (order : ℕ → ℕ → Ordering) where
   among_below : (ns : List ℕ) (m : ℕ) → AllBelow count ns → is_among (numbers order) ns m ≡ true

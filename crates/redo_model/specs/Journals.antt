@@ -35,13 +35,6 @@ module _ {N : Type 0} (s : ℕ) (script : List (Command N)) where
   abbrev pub IsWholeJournal : List (PlacedLine N) → Type 0
   IsWholeJournal lines = IsJournal lines × (next_of script lines ≡ None)
 
-module _ {N : Type 0} (plan : ℕ → List (Command N)) where
-  -- a plan has a script for each session, of at most 4,096 commands; the lines of each session are
-  -- its journal
-  pub record IsOfPlan (lines : List (PlacedLine N)) : Type 0 where
-    pub journals : (s : ℕ) → IsJournal s (plan s) (part_of s lines)
-    pub short : (s : ℕ) → length (plan s) ≤ 4096
-
 -- the sessions of the first list come no later in dictionary order
 abbrev pub NoLater : {N : Type 0} → List (PlacedLine N) → List (PlacedLine N) → Type 0
 NoLater [] others = Unit {0}

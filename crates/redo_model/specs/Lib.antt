@@ -8,7 +8,5 @@ pub mod History
 pub mod Placed
 pub mod Journals
 pub mod Seen
-pub mod Words
 pub mod Renaming
-pub mod Worked
-pub mod Merging
+pub mod Inside

@@ -14,13 +14,6 @@ pub record Naming (N : Type 0) : Type 0 where
   pub same : N → N → Bool
   pub order : N → N → Ordering
 
--- what a naming keeps: the test tells equal names, and the order is strict
-pub record IsNaming {N : Type 0} (naming : Naming N) : Type 0 where
-  pub decides : (m n : N) → Decides (naming.same m n) (m ≡ n)
-  pub irreflexive : (n : N) → naming.order n n ≢ Less
-  pub transitive : (l m n : N) → naming.order l m ≡ Less → naming.order m n ≡ Less
-      → naming.order l n ≡ Less
-
 -- names as texts, by their bytes
 abbrev pub texts : Naming Text
 texts = record { same = bytes_eq; order = slice_cmp nat_cmp }

@@ -74,11 +74,6 @@ module _ {N : Type 0} (naming : Naming N) where
   abbrev pub releases_in : List (PlacedLine N) → N → ℕ
   releases_in lines t = count_by (λ line. is_release t line.place) lines
 
-  -- whether a session with these lines holds the target: it was granted once more than released
-  abbrev pub holds_by : List (PlacedLine N) → Option N → Bool
-  holds_by own None = false
-  holds_by own (Some t) = grants_in own t == releases_in own t + 1
-
   -- what may come after the lines: rows are counted up from 0; of each target the first grant comes
   -- first, then every answer that it is in force, then its release, then the second grant
   abbrev pub Follows : List (PlacedLine N) → Place N → Type 0

@@ -65,21 +65,11 @@ has_file r n = is_some (r.cell n).file
 abbrev pub target_state : {N : Type 0} → Records N → N → TargetState
 target_state r n = (r.cell n).state
 
-abbrev pub is_idle : TargetState → Bool
-is_idle Idle = true
-is_idle (Building s) = false
-is_idle Built = false
-is_idle Failed = false
-
 abbrev pub is_building : TargetState → Bool
 is_building Idle = false
 is_building (Building s) = true
 is_building Built = false
 is_building Failed = false
-
--- a name is a target from its first start on
-abbrev pub is_target : {N : Type 0} → Records N → N → Bool
-is_target r n = not (is_idle (target_state r n))
 
 abbrev pub file_mark : Option Text → Mark
 file_mark None = Absent

@@ -2,7 +2,8 @@
 //! of it all is told by what is out of date outside.
 
 ghost use Rattle.redo_model.specs.Names.{Text};
-ghost use Rattle.redo_model.specs.OutOfDate.{Depends, DifferAt, HasReason, InRegion, OutOfDate};
+ghost use Rattle.redo_model.specs.OutOfDate.{Depends, HasReason, OutOfDate};
+ghost use Rattle.redo_model.specs.Inside.OutOfDate.{DifferAt, InRegion};
 ghost use Rattle.redo_model.specs.State.{Records};
 ghost use Rattle.std.specs.Prelude.{◌↔◌, Bool, IsTrue, List};
 

@@ -3,7 +3,8 @@ use Rattle.std.proofs.Common.{◌≡◌, ℕ, ◌<◌, Bool, true, false, cond, 
 use Rattle.std.specs.List.{IsDistinct}
 use Rattle.std.proofs.lemmas.Cmp.{nat_list_eq_equiv}
 use Rattle.std.proofs.lemmas.Map.Keys.{IsDistinct-push}
-use Rattle.redo_names.specs.Names.{is_name, has, with_name, Extends, AreAllNames, AreNames}
+use Rattle.redo_names.specs.Names.{is_name, has, with_name, AreAllNames}
+use Rattle.redo_names.specs.Inside.Names.{Extends, AreNames}
 
 pub Extends-same : (names : List (List ℕ)) → Extends names names
 Extends-same names = record { more = []; is = sym (append-nil names) }

@@ -33,17 +33,6 @@ with_name names text = if has names text then names else names ++ text ∷ []
 abbrev pub text_at : List (List ℕ) → ℕ → List ℕ
 text_at names n = slice_index_or names n []
 
--- the old names are a front of the new ones, so they keep their numbers
-pub record Extends (old new : List (List ℕ)) : Type 0 where
-  pub more : List (List ℕ)
-  pub is : new ≡ old ++ more
-
 -- each text is a name
 abbrev pub AreAllNames : List (List ℕ) → Type 0
 AreAllNames texts = AllByRecursion (λ text. is_name text ≡ true) texts
-
--- at most 65,536 texts, no two of them equal, and each of them a name
-pub record AreNames (names : List (List ℕ)) : Type 0 where
-  pub few : length names ≤ 65536
-  pub distinct : IsDistinct bytes_eq names
-  pub each : AreAllNames names

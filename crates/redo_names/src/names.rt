@@ -2,7 +2,8 @@ ghost use Rattle.std.specs.Prelude.{◌≡◌, ◌<◌, ◌↔◌, List, ℕ, []
 ghost use Rattle.std.specs.Cmp.Lexicographic.{slice_cmp};
 ghost use Rattle.std.specs.Ordering.{nat_cmp};
 ghost use Rattle.redo_names.specs.declared.names.NamesFault.TheVariants.{Memory};
-ghost use Rattle.redo_names.specs.Names.{is_name, has, with_name, text_at, Extends, AreNames};
+ghost use Rattle.redo_names.specs.Names.{is_name, has, with_name, text_at};
+ghost use Rattle.redo_names.specs.Inside.Names.{Extends, AreNames};
 
 use indexmap::IndexSet;
 use std::alloc::{AllocError, AllocFailed, Global};

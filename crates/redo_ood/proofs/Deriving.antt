@@ -6,7 +6,8 @@ use Rattle.std.proofs.lemmas.Bool.{false≢true}
 use Rattle.std.proofs.lemmas.List.{take-append-drop}
 use Rattle.std.proofs.lemmas.List.Elements.{Contains-append_cases}
 use Rattle.redo_model.specs.State.{Records, empty}
-use Rattle.redo_model.specs.OutOfDate.{OutOfDate, Depends, TouchesSeed, InRegion}
+use Rattle.redo_model.specs.OutOfDate.{OutOfDate, Depends}
+use Rattle.redo_model.specs.Inside.OutOfDate.{TouchesSeed, InRegion}
 use Rattle.redo_model.proofs.Members.{contains_first, contains_cases, contains_none}
 use Rattle.redo_model.proofs.Region.{out_of_date_by_step, as_before_outside, was_out_of_date, derived_along}
 use Rattle.redo_model.proofs.UpToDate.{idle_up_to_date}

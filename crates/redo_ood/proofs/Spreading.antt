@@ -3,7 +3,8 @@ use Rattle.std.proofs.Common.{◌≡◌, ◌⊎◌, ◌∙◌, ℕ, ◌<◌, ◌
 use Rattle.std.proofs.lemmas.List.{get_or_default, take-append-le}
 use Rattle.std.specs.List.{Contains}
 use Rattle.redo_model.specs.State.{Records}
-use Rattle.redo_model.specs.OutOfDate.{IsTarget, HasRow, Chain, Depends, OutOfDate, TouchesSeed, InRegion}
+use Rattle.redo_model.specs.OutOfDate.{IsTarget, HasRow, Chain, Depends, OutOfDate}
+use Rattle.redo_model.specs.Inside.OutOfDate.{TouchesSeed, InRegion}
 use Rattle.redo_model.proofs.Region.{out_of_date_by_step}
 use Rattle.redo_ood.specs.Marks.{Marked, IsMarked, IsQueued, Enters, HoldsOnly}
 use Rattle.redo_ood.specs.Regions.{Reaches, Spreads, IsClosed}

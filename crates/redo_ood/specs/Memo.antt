@@ -1,7 +1,8 @@
 -- What a memo tells of the names.
 use Rattle.std.specs.Prelude.{◌≡◌, ◌≢◌, ◌↔◌, ℕ, Bool, false, List, IsTrue, AllPairs, Contains, slice_index_or, length}
 use Rattle.redo_model.specs.State.{Records}
-use Rattle.redo_model.specs.OutOfDate.{OutOfDate, DifferAt}
+use Rattle.redo_model.specs.OutOfDate.{OutOfDate}
+use Rattle.redo_model.specs.Inside.OutOfDate.{DifferAt}
 
 -- how many names there are
 abbrev pub count_of : List Bool → ℕ

@@ -1,6 +1,6 @@
 ghost use Rattle.std.specs.Prelude.{◌≡◌, ◌<◌, ℕ, IsTrue, length, IfOk, OnOk, OnErr, ◌++◌, ◌∷◌, [], if◌then◌else◌};
 ghost use Rattle.redo_model.specs.Names.{IsListed};
-ghost use Rattle.redo_model.specs.OutOfDate.{InRegion};
+ghost use Rattle.redo_model.specs.Inside.OutOfDate.{InRegion};
 ghost use Rattle.redo_model.specs.Renaming.{AllBelow};
 ghost use Rattle.redo_model.specs.State.{empty};
 ghost use Rattle.redo_rows.specs.Rows.{with_rows, by_number, rows_count};

@@ -2,7 +2,8 @@
 //! change rows leads there.
 
 ghost use Rattle.std.specs.Prelude.{◌≡◌, ◌≢◌, ◌<◌, ◌≤◌, ◌↔◌, ℕ, IsTrue, length, take, Contains};
-ghost use Rattle.redo_model.specs.OutOfDate.{IsTarget, Depends, HasRow, TouchesSeed, InRegion};
+ghost use Rattle.redo_model.specs.OutOfDate.{IsTarget, Depends, HasRow};
+ghost use Rattle.redo_model.specs.Inside.OutOfDate.{TouchesSeed, InRegion};
 ghost use Rattle.redo_model.specs.Renaming.{AllBelow};
 ghost use Rattle.redo_model.specs.State.{Idle};
 ghost use Rattle.redo_records.specs.Cells.{cell_at};

@@ -5,7 +5,7 @@ use Rattle.std.proofs.lemmas.List.Sums.{count_by-le-length}
 use Rattle.redo_joint.proofs.Counts.{one_if}
 use Rattle.redo_journal.specs.declared.entry.Place.TheVariants.{Busy}
 use Rattle.redo_journal.specs.declared.entry.Entry.{Entry}
-use Rattle.redo_replay.specs.Merging.{is_busy, busy_one, busy_in, busy_below}
+use Rattle.redo_replay.specs.Inside.Merging.{is_busy, busy_one, busy_in, busy_below}
 
 pub and_true : (a b : Bool) → (a && b) ≡ true → (a ≡ true) × (b ≡ true)
 and_true true b e = (refl, e)

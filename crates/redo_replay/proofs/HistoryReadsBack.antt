@@ -7,7 +7,8 @@ use Rattle.redo_model.specs.History.{Line}
 use Rattle.redo_text.specs.Texts.{command_text_of, reply_text_of}
 use Rattle.redo_replay.specs.Histories.{ended, answer_text_of, line_text_of, header_of, history_text_of}
 use Rattle.redo_text.proofs.LineLaws.{text_is_spelled}
-use Rattle.redo_replay.specs.HistoryTexts.{IsHistoryLine, HasLineForm, AreHistoryLines, AreNamesOf, IsHistory}
+use Rattle.redo_replay.specs.HistoryTexts.{IsHistoryLine, AreHistoryLines, AreNamesOf, IsHistory}
+use Rattle.redo_replay.specs.Inside.HistoryTexts.{HasLineForm}
 
 -- without its LF
 abbrev own_text_of : Line Text → Text

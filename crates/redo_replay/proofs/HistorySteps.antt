@@ -4,7 +4,7 @@ use Rattle.std.specs.Prelude.{Contains}
 use Rattle.std.specs.List.{flat_map}
 use Rattle.std.proofs.lemmas.Grind.{flat_map-append}
 use Rattle.std.proofs.lemmas.List.{map_push, length-map}
-use Rattle.redo_names.specs.Names.{Extends}
+use Rattle.redo_names.specs.Inside.Names.{Extends}
 use Rattle.redo_model.specs.Names.{Text}
 use Rattle.redo_model.specs.History as histories
 use Rattle.redo_terms.specs.declared.reply.Line.{Line}
@@ -12,9 +12,12 @@ use Rattle.redo_text.specs.Grammar.{with_names}
 use Rattle.redo_terms.specs.Meaning.{line_of, line_at}
 use Rattle.redo_replay.specs.Histories.{ended, header_of}
 use Rattle.redo_text.proofs.ScriptParts.{with_names-append}
-use Rattle.redo_replay.specs.HistoryTexts.{IsHistoryLine, AreHistoryLines, names_in_line, AddsLineNames, AreNamesOf, AreLinesOf, IsHistory}
-use Rattle.redo_replay.specs.HistoryFaults.{IsLineCause, IsReadUpTo, IsReadBefore, IsHistoryFault}
-use Rattle.redo_replay.specs.Recorded.{Recorded, lines_of, AreLinesBelow}
+use Rattle.redo_replay.specs.HistoryTexts.{IsHistoryLine, AreHistoryLines, names_in_line, AreNamesOf, AreLinesOf, IsHistory}
+use Rattle.redo_replay.specs.Inside.HistoryTexts.{AddsLineNames}
+use Rattle.redo_replay.specs.HistoryFaults.{IsReadUpTo, IsReadBefore, IsHistoryFault}
+use Rattle.redo_replay.specs.Inside.HistoryFaults.{IsLineCause}
+use Rattle.redo_replay.specs.Recorded.{AreLinesBelow}
+use Rattle.redo_replay.specs.Inside.Recorded.{Recorded, lines_of}
 use Rattle.redo_replay.specs.declared.fault.HistoryFault.{HistoryFault}
 use Rattle.redo_replay.specs.declared.fault.HistoryFault.TheVariants.{Memory, BadHeader, Cut, BadSession, BadLine, BadReply}
 use Rattle.redo_replay.proofs.Replayed.{recorded_lines}

@@ -6,7 +6,7 @@ use Rattle.redo_model.specs.History.{Line}
 use Rattle.redo_text.specs.Grammar.{with_names, AddsNames}
 use Rattle.redo_text.specs.Replies.{AddsReplyNames, names_in_reply}
 use Rattle.redo_text.proofs.ScriptParts.{with_names-append}
-use Rattle.redo_replay.specs.HistoryTexts.{AddsLineNames}
+use Rattle.redo_replay.specs.Inside.HistoryTexts.{AddsLineNames}
 use Rattle.redo_replay.specs.HistoryFaults.{arrow, IsCutAtSpace, IsCutAtArrow, IsSessionWord}
 
 pub line_parts : (text word rest command reply : Text) (session : ℕ) → IsCutAtSpace text word rest

@@ -1,6 +1,6 @@
 -- What lines say, and that their numbers have names, does not change where names are added.
 use Rattle.std.proofs.Common.{◌≡◌, ℕ, List, [], ◌∷◌, map, length, refl, ap}
-use Rattle.redo_names.specs.Names.{Extends}
+use Rattle.redo_names.specs.Inside.Names.{Extends}
 use Rattle.redo_model.specs.Names.{Text}
 use Rattle.redo_model.specs.Reply as replies
 use Rattle.redo_model.specs.Renaming.{IsReplyBelow, IsLineBelow}

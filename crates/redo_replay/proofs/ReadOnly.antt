@@ -3,7 +3,7 @@ use Rattle.std.proofs.Common.{◌≡◌, ◌⊎◌, inl, inr, Result, Ok, Err, L
 use Rattle.std.specs.Prelude.{IfOk, IfErr, IsOkAnd}
 use Rattle.redo_model.specs.Names.{Text}
 use Rattle.redo_model.specs.History.{Line}
-use Rattle.redo_replay.specs.Recorded.{Recorded, lines_of}
+use Rattle.redo_replay.specs.Inside.Recorded.{Recorded, lines_of}
 use Rattle.redo_replay.specs.HistoryTexts.{IsHistory}
 use Rattle.redo_replay.specs.HistoryFaults.{IsHistoryFault}
 use Rattle.redo_replay.specs.declared.fault.HistoryFault.{HistoryFault}

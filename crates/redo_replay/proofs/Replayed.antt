@@ -13,16 +13,19 @@ use Rattle.redo_model.specs.Step.{Answers, after}
 use Rattle.redo_model.specs.History.{left_by, Legal}
 use Rattle.redo_model.specs.History as histories
 use Rattle.redo_model.specs.Reply as replies
-use Rattle.redo_model.specs.Renaming.{OrdersAlike, numbering, IsBelow, IsReplyBelow, IsLineBelow, named_line}
+use Rattle.redo_model.specs.Renaming.{IsBelow, IsReplyBelow, IsLineBelow, named_line}
+use Rattle.redo_model.specs.Inside.Renaming.{OrdersAlike, numbering}
 use Rattle.redo_model.proofs.Texts.{texts_are_names}
 use Rattle.redo_model.proofs.Naming.{numbering_is_renaming}
 use Rattle.redo_model.proofs.OneMore.{left_by-append, legal_more, legal_front}
 use Rattle.redo_model.proofs.HistoriesByName.{legal_by_name}
 use Rattle.redo_model.proofs.RepliesByName.{same_reply}
-use Rattle.redo_terms.specs.Meaning.{command_of, command_at, reply_of, line_of, line_at, reply_at}
+use Rattle.redo_terms.specs.Meaning.{command_of, reply_of, line_of, line_at, reply_at}
+use Rattle.redo_terms.specs.Inside.Meaning.{command_at}
 use Rattle.redo_terms.specs.declared.reply.Line.{Line}
 use Rattle.redo_terms.specs.declared.reply.Reply.{Reply}
-use Rattle.redo_replay.specs.Recorded.{Recorded, AreLinesBelow, lines_of}
+use Rattle.redo_replay.specs.Recorded.{AreLinesBelow}
+use Rattle.redo_replay.specs.Inside.Recorded.{Recorded, lines_of}
 use Rattle.redo_replay.specs.Verdicts.{IsFirstWrong}
 
 -- the lines of the code are those of the history, under its names

@@ -8,7 +8,8 @@ use Rattle.std.proofs.lemmas.List.{drop_more, get_or-set_same, get_or-set_other}
 use Rattle.std.proofs.lemmas.List.Sums.{sum_by-cons}
 use mathlib.Core.Logic.{dite}
 use native.Mathlib.Decide.{ℕ_discrete, dec_lt}
-use Rattle.redo_model.specs.Names.{IsNaming, numbers}
+use Rattle.redo_model.specs.Names.{numbers}
+use Rattle.redo_model.specs.Inside.Names.{IsNaming}
 use Rattle.redo_model.specs.Placed.{PlacedLine}
 use Rattle.redo_model.specs.Placed as placed
 use Rattle.redo_joint.proofs.Exchange.{In, Tickets, after, Comes, Free}
@@ -23,8 +24,8 @@ use Rattle.redo_journal.specs.declared.entry.Journal.{Journal}
 use Rattle.redo_replay.specs.declared.merging.turning.Turns.{Turns}
 use Rattle.redo_journal.specs.Plans.{PlanOf, script_of}
 use Rattle.redo_journal.specs.Journals.{place_of, line_told}
-use Rattle.redo_replay.specs.Merging.{entries_of, is_busy, busy_one, busy_in, busy_below, none, tally, IsFree, Turned, SessionMayCome}
-use Rattle.redo_replay.specs.Merging as merging
+use Rattle.redo_replay.specs.Inside.Merging.{entries_of, is_busy, busy_one, busy_in, busy_below, none, tally, IsFree, Turned, SessionMayCome}
+use Rattle.redo_replay.specs.Inside.Merging as merging
 use Rattle.redo_replay.proofs.Unmerged.{entries_past}
 use Rattle.redo_replay.proofs.BusyCounts.{and_true}
 

@@ -14,10 +14,6 @@ use Rattle.redo_replay.specs.HistoryTexts.{AreLinesOf}
 use Rattle.redo_replay.specs.declared.fault.HistoryFault.{HistoryFault}
 use Rattle.redo_replay.specs.declared.fault.HistoryFault.TheVariants.{Memory, BadHeader, Cut, BadSession, BadLine, BadReply}
 
--- what stands before the first such byte, and what stands after it
-abbrev pub IsCutAt : ℕ → Text → Text → Text → Type 0
-IsCutAt byte text front rest = (text ≡ front ++ byte ∷ rest) × ¬ (Contains front byte)
-
 -- what stands before the first space, or all where there is none; and what stands after that space
 pub record IsCutAtSpace (line front rest : Text) : Type 0 where
   pub free : ¬ (Contains front 32)
@@ -67,15 +63,6 @@ abbrev pub HasBadCommand : List Text → Text → LineFault → Type 0
 HasBadCommand names line fault =
     (rest : Text) × (text : Text) × (reply : Text) × HasSession line rest
     × IsCutAtArrow rest text reply × (line_fault names text ≡ Some fault)
-
--- the cause of the fault of the line of this number, where the lines before have these names
-abbrev pub IsLineCause : List Text → ℕ → Text → HistoryFault → Type 0
-IsLineCause names number line Memory = ⊤
-IsLineCause names number line BadHeader = ⊥
-IsLineCause names number line Cut = ⊥
-IsLineCause names number line (BadSession at) = (at ≡ number) × HasBadSession line
-IsLineCause names number line (BadLine at fault) = (at ≡ number) × HasBadCommand names line fault
-IsLineCause names number line (BadReply at) = (at ≡ number) × HasBadReply names line
 
 -- the lines before the one of this number, counted from 1, are read, with these names; the header
 -- counts this one too, and this is what is left of the input

@@ -4,9 +4,8 @@ use Rattle.std.specs.List.{flat_map}
 use Rattle.redo_model.specs.Names.{Text}
 use Rattle.redo_model.specs.Command.{names_in}
 use Rattle.redo_model.specs.History.{Line}
-use Rattle.redo_text.specs.Grammar.{HasForm, IsShort, IsCommandLine, with_names}
-use Rattle.redo_text.specs.Texts.{command_text_of}
-use Rattle.redo_text.specs.Replies.{HasReplyForm, IsReplyText, names_in_reply}
+use Rattle.redo_text.specs.Grammar.{IsCommandLine, with_names}
+use Rattle.redo_text.specs.Replies.{IsReplyText, names_in_reply}
 use Rattle.redo_replay.specs.Histories.{ended, header_of}
 
 -- the text, without its LF, is the line's: its session's number, its command and its reply
@@ -17,13 +16,6 @@ pub record IsHistoryLine (text : Text) (line : Line Text) : Type 0 where
   pub parts : text ≡ decimal (line.session + 1) ++ codes " " ++ command ++ codes " => " ++ reply
   pub said : IsCommandLine command line.command
   pub answered : IsReplyText reply line.reply
-
--- what a line has to be, so that its text is a line of a history
-pub record HasLineForm (line : Line Text) : Type 0 where
-  pub session : line.session < 64
-  pub command : HasForm line.command
-  pub short : IsShort (command_text_of line.command)
-  pub reply : HasReplyForm line.reply
 
 -- each text is its line's
 abbrev pub AreHistoryLines : List Text → List (Line Text) → Type 0
@@ -36,11 +28,6 @@ AreHistoryLines (text ∷ texts) (line ∷ lines) =
 -- its names, in the order in which they are written
 abbrev pub names_in_line : Line Text → List Text
 names_in_line line = names_in line.command ++ names_in_reply line.reply
-
--- after are the names with those of the line, and not too many
-abbrev pub AddsLineNames : List Text → Line Text → List Text → Type 0
-AddsLineNames names line after =
-    (after ≡ with_names names (names_in_line line)) × (length after ≤ 65536)
 
 -- after are the names of the lines, each once, in the order in which they are met, and not too many
 abbrev pub AreNamesOf : List (Line Text) → List Text → Type 0

@@ -1,10 +1,9 @@
 pub mod Histories
 pub mod Recorded
-pub mod Kept
 pub mod Verdicts
 pub mod HistoryTexts
 pub mod HistoryFaults
 pub mod Devices
 pub mod Replays
 pub mod Merges
-pub mod Merging
+pub mod Inside

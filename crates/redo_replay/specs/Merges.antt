@@ -4,7 +4,7 @@ use Rattle.std.specs.Ordering.{nat_cmp}
 use Rattle.redo_model.specs.Names.{Naming, numbers}
 use Rattle.redo_model.specs.History.{Line}
 use Rattle.redo_model.specs.Placed.{PlacedLine, line_of}
-use Rattle.redo_model.specs.Journals.{IsJointOrder, IsFirstJointOrder}
+use Rattle.redo_model.specs.Journals.{IsFirstJointOrder}
 use Rattle.redo_journal.specs.Plans.{PlanOf}
 use Rattle.redo_journal.specs.Journals.{journals_of}
 use Rattle.redo_journal.specs.declared.entry.Journal.{Journal}
@@ -12,11 +12,6 @@ use Rattle.redo_journal.specs.declared.entry.Journal.{Journal}
 -- joint orders only ask whether two numbers are the same
 abbrev pub by_number : Naming ℕ
 by_number = numbers nat_cmp
-
--- the journals have no joint order
-abbrev pub HaveNoOrder : PlanOf → List Journal → Type 0
-HaveNoOrder plan journals =
-    (lines : List (PlacedLine ℕ)) → IsJointOrder by_number (journals_of plan journals) lines → ⊥
 
 -- the history is that of the journals' first joint order
 abbrev pub AreMerged : PlanOf → List Journal → List (Line ℕ) → Type 0

@@ -7,7 +7,6 @@ use Rattle.redo_replay.specs.Verdicts.{IsVerdict, verdict_at, verdict_text_of}
 use Rattle.redo_replay.specs.HistoryTexts.{IsHistory}
 use Rattle.redo_replay.specs.HistoryFaults.{IsHistoryFault}
 use Rattle.redo_replay.specs.declared.verdict.Verdict as declared
-use Rattle.redo_replay.specs.declared.fault.HistoryFault.{HistoryFault}
 use Rattle.redo_replay.specs.declared.fault.HistoryFault.TheVariants as history_faults
 use Rattle.redo_replay.specs.declared.fault.ReplayFault.{ReplayFault}
 use Rattle.redo_replay.specs.declared.fault.ReplayFault.TheVariants.{Memory, History, Device, TooLong, Write}
@@ -40,11 +39,6 @@ abbrev pub WritesPart : Option Text → Option Text → Option Text → Type 0
 WritesPart known before after =
     (verdict : declared.Verdict) × (sent : Text) × (rest : Text)
     × HasVerdict known verdict (sent ++ rest) × Appends before after sent
-
--- want of memory has one name
-abbrev pub replay_fault : HistoryFault → ReplayFault
-replay_fault history_faults.Memory = Memory
-replay_fault fault = History fault
 
 -- the cause of a fault: `known` are the input's bytes, where they are known, `faulted` says whether
 -- a read failed, and `out_faulted` whether a write failed

@@ -5,8 +5,7 @@ use Rattle.redo_model.specs.State.{empty}
 use Rattle.redo_model.specs.Reply.{Reply}
 use Rattle.redo_model.specs.Step.{Answers}
 use Rattle.redo_model.specs.History.{Line, left_by, Legal}
-use Rattle.redo_model.specs.Renaming.{IsReplyBelow}
-use Rattle.redo_terms.specs.Meaning.{reply_of, reply_at}
+use Rattle.redo_terms.specs.Meaning.{reply_at}
 use Rattle.redo_text.specs.Texts.{reply_text_of}
 use Rattle.redo_replay.specs.Histories.{ended}
 use Rattle.redo_replay.specs.declared.verdict.Verdict as declared
@@ -43,11 +42,6 @@ verdict_text_of (Differs number reply) =
 abbrev pub verdict_at : List Text → declared.Verdict → Verdict
 verdict_at names (coded.Same count) = Same count
 verdict_at names (coded.Differs line reply) = Differs line (reply_at names reply)
-
--- the verdict's numbers are below n
-abbrev pub IsVerdictBelow : ℕ → declared.Verdict → Type 0
-IsVerdictBelow n (coded.Same count) = ⊤
-IsVerdictBelow n (coded.Differs line reply) = IsReplyBelow n (reply_of reply)
 
 abbrev pub IsSame : declared.Verdict → Type 0
 IsSame (coded.Same count) = ⊤

@@ -1,6 +1,7 @@
 ghost use Rattle.std.specs.Prelude.{◌≡◌, ◌≢◌, ◌<◌, ◌-◌, ◌∷◌, ◌++◌, length, drop, Contains, MatchOption};
 ghost use Rattle.redo_model.specs.Names.{Text};
-ghost use Rattle.redo_replay.specs.HistoryFaults.{arrow, IsCutAt, IsCutAtSpace, IsCutAtArrow, HasNoArrow};
+ghost use Rattle.redo_replay.specs.HistoryFaults.{arrow, IsCutAtSpace, IsCutAtArrow, HasNoArrow};
+ghost use Rattle.redo_replay.specs.Inside.HistoryFaults.{IsCutAt};
 
 use redo_command::place_of;
 

@@ -75,7 +75,7 @@ impl From<AllocError> for ReplayFault {
 
 impl From<HistoryFault> for ReplayFault {
     ghost use Rattle.std.specs.Prelude.{◌≡◌};
-    ghost use Rattle.redo_replay.specs.Replays.{replay_fault};
+    ghost use Rattle.redo_replay.specs.Inside.Replays.{replay_fault};
 
     ghost from_gives = { λ history fault. fault ≡ replay_fault history };
 

@@ -18,11 +18,11 @@ pub struct History {
 }
 
 impl Model for History {
-    ghost use Rattle.redo_replay.specs.Recorded.{Recorded};
+    ghost use Rattle.redo_replay.specs.Inside.Recorded.{Recorded};
 
     ghost Value = { Recorded };
 
-    ghost use Rattle.redo_replay.specs.Kept.{recorded_of, KeepsLines};
+    ghost use Rattle.redo_replay.specs.Inside.Kept.{recorded_of, KeepsLines};
 
     ghost view = { recorded_of };
 

@@ -4,8 +4,9 @@ ghost use Rattle.std.specs.Prelude.{◌≡◌, ◌↔◌, ℕ, ◌<◌, ◌≤�
 ghost use Rattle.redo_terms.specs.Meaning.{command_of, line_of};
 ghost use Rattle.redo_model.specs.Placed as placed;
 ghost use Rattle.redo_journal.specs.Journals.{AreJournals, line_told};
-ghost use Rattle.redo_replay.specs.Merges.{AreMerged, HaveNoOrder};
-ghost use Rattle.redo_replay.specs.Merging.{entries_of, none, AreWithin, IsLeast, MayCome, MayTake, NoneMayCome, Tells, Turned, Uncounted};
+ghost use Rattle.redo_replay.specs.Merges.{AreMerged};
+ghost use Rattle.redo_replay.specs.Inside.Merges.{HaveNoOrder};
+ghost use Rattle.redo_replay.specs.Inside.Merging.{entries_of, none, AreWithin, IsLeast, MayCome, MayTake, NoneMayCome, Tells, Turned, Uncounted};
 
 mod counts;
 mod fitting;

@@ -1,13 +1,15 @@
 ghost use Rattle.std.specs.Prelude.{◌≡◌, ◌⊎◌, ◌↔◌, ℕ, ◌<◌, ◌≤◌, ◌++◌, List, length, MatchOption, IfOk, IfErr, IsOkAnd};
-ghost use Rattle.redo_names.specs.Names.{Extends};
+ghost use Rattle.redo_names.specs.Inside.Names.{Extends};
 ghost use Rattle.redo_model.specs.Names.{Text};
 ghost use Rattle.redo_model.specs.History.{Line as LineOf};
 ghost use Rattle.redo_model.specs.Renaming.{IsLineBelow};
 ghost use Rattle.redo_terms.specs.Meaning.{line_of, line_at};
 ghost use Rattle.redo_replay.specs.Histories.{header_of};
-ghost use Rattle.redo_replay.specs.Recorded.{lines_of};
-ghost use Rattle.redo_replay.specs.HistoryTexts.{IsHistory, IsHistoryLine, AddsLineNames};
-ghost use Rattle.redo_replay.specs.HistoryFaults.{IsHistoryFault, IsLineCause, IsSessionWord};
+ghost use Rattle.redo_replay.specs.Inside.Recorded.{lines_of};
+ghost use Rattle.redo_replay.specs.HistoryTexts.{IsHistory, IsHistoryLine};
+ghost use Rattle.redo_replay.specs.Inside.HistoryTexts.{AddsLineNames};
+ghost use Rattle.redo_replay.specs.HistoryFaults.{IsHistoryFault, IsSessionWord};
+ghost use Rattle.redo_replay.specs.Inside.HistoryFaults.{IsLineCause};
 
 use crate::cuts::{cut_at, cut_at_arrow, cut_at_space};
 use crate::fault::HistoryFault;

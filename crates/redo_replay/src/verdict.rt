@@ -1,5 +1,6 @@
 ghost use Rattle.std.specs.Prelude.{◌≡◌, length, IfOk};
-ghost use Rattle.redo_replay.specs.Verdicts.{IsVerdictBelow, verdict_at, verdict_text_of};
+ghost use Rattle.redo_replay.specs.Verdicts.{verdict_at, verdict_text_of};
+ghost use Rattle.redo_replay.specs.Inside.Verdicts.{IsVerdictBelow};
 
 use crate::printed::put_number;
 use redo_command::{Reply, reply_text};

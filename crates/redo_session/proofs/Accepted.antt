@@ -4,17 +4,18 @@ use Rattle.std.proofs.lemmas.List.{length-map, nil_from_length, take_more}
 use Rattle.std.specs.Prelude.{IfErr, IfOk, OnOk, Vec}
 use mathlib.Core.Logic.{dite}
 use native.Mathlib.Decide.{dec_lt}
-use Rattle.redo_names.specs.Names.{Extends}
+use Rattle.redo_names.specs.Inside.Names.{Extends}
 use Rattle.redo_model.specs.Names.{Text}
 use Rattle.redo_model.specs.Command as commands
 use Rattle.redo_terms.specs.declared.command.Command.{Command}
-use Rattle.redo_terms.specs.Meaning.{command_of, command_at}
+use Rattle.redo_terms.specs.Meaning.{command_of}
+use Rattle.redo_terms.specs.Inside.Meaning.{command_at}
 use Rattle.redo_text.proofs.Added.{command_at-Extends, IsBelow-Extends}
 use Rattle.redo_session.specs.declared.fault.TextFault.{TextFault}
 use Rattle.redo_session.specs.declared.fault.TextFault.TheVariants.{Memory, Read, TooManySessions, NoSession, Write, Device, TooLong}
 use Rattle.redo_session.specs.Runs.{IsAccepted, AreAccepted, IsRunText, RunsAs}
 use Rattle.redo_session.specs.Faults.{IsCause}
-use Rattle.redo_session.specs.Files.{IsScriptBelow, AreScriptsBelow, scripts_at}
+use Rattle.redo_session.specs.Inside.Files.{IsScriptBelow, AreScriptsBelow, scripts_at}
 use Rattle.redo_session.proofs.Causes.{shown_at}
 
 -- one more file is accepted with the names of those before it

@@ -8,7 +8,8 @@ use Rattle.redo_session.specs.declared.fault.TextFault.{TextFault}
 use Rattle.redo_session.specs.declared.fault.TextFault.TheVariants.{Memory, Read, TooManySessions, NoSession, Write, Device, TooLong}
 use Rattle.redo_text.specs.Faults.{IsFirstFault}
 use Rattle.redo_session.specs.Runs.{AreAccepted}
-use Rattle.redo_session.specs.Faults.{IsCause, IsFileCause, FilesBefore}
+use Rattle.redo_session.specs.Faults.{IsCause, FilesBefore}
+use Rattle.redo_session.specs.Inside.Faults.{IsFileCause}
 
 -- the fault of a file after those that are accepted
 pub IsCause-file : (files : List (Option Text)) (faulted : List Bool) (out : Bool) (at : ℕ)

@@ -9,7 +9,7 @@ use Rattle.redo_board.specs.declared.seat.Seat.{Seat}
 use Rattle.redo_board.specs.declared.worker.Worker.{Worker}
 use Rattle.redo_board.specs.Shown.{session_of, journal_of, tries_of, rows_up_to, IsAtEnd}
 use Rattle.redo_board.specs.Outcomes.{Made, Leaves}
-use Rattle.redo_session.specs.Sessions.{AreDone}
+use Rattle.redo_session.specs.Inside.Sessions.{AreDone}
 use Rattle.redo_session.proofs.Wholes.{next_within}
 
 -- each step that does something leaves less to do

@@ -9,7 +9,8 @@ use Rattle.redo_model.specs.History.{Line, LegalFrom}
 use Rattle.redo_text.specs.Grammar.{with_names}
 use Rattle.redo_text.specs.Replies.{AreAllNames, names_in_reply}
 use Rattle.redo_text.proofs.ScriptParts.{with_names-append}
-use Rattle.redo_replay.specs.HistoryTexts.{HasLineForm, names_in_line}
+use Rattle.redo_replay.specs.HistoryTexts.{names_in_line}
+use Rattle.redo_replay.specs.Inside.HistoryTexts.{HasLineForm}
 use Rattle.redo_session.proofs.CommandsSaid.{IsSaid, form_has_names}
 use Rattle.redo_session.proofs.Grants.{AreFewGrants, few_after}
 use Rattle.redo_session.proofs.KnownFiles.{AreFilesKnown, files_known_after}

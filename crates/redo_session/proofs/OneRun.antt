@@ -1,7 +1,8 @@
 -- What a session asks decides what it is answered.
 use Rattle.std.proofs.Common.{◌≡◌, ℕ, ◌<◌, List, [], ◌∷◌, Some, length, refl, ap, ◌∙◌, sym, subst, map, lit<, arith}
 use Rattle.std.specs.List.{AllByRecursion}
-use Rattle.redo_model.specs.Names.{Naming, IsNaming, Text}
+use Rattle.redo_model.specs.Names.{Naming, Text}
+use Rattle.redo_model.specs.Inside.Names.{IsNaming}
 use Rattle.redo_model.specs.State.{State, empty}
 use Rattle.redo_model.specs.Command.{Command}
 use Rattle.redo_model.specs.Step.{Answers, after}

@@ -13,7 +13,7 @@ use Rattle.redo_terms.specs.Meaning.{command_of, line_at}
 use Rattle.redo_terms.specs.declared.reply.Line as coded
 use Rattle.redo_journal.specs.Plans.{PlanOf, scripts_of}
 use Rattle.redo_session.specs.Runs.{IsRun, IsRunText}
-use Rattle.redo_session.specs.Files.{scripts_at}
+use Rattle.redo_session.specs.Inside.Files.{scripts_at}
 use Rattle.redo_session.specs.Outcomes.{scripts_named}
 
 -- the plan of these scripts, over these names

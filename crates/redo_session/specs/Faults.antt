@@ -7,8 +7,6 @@ use Rattle.redo_session.specs.Runs.{AreAccepted, AreSessions}
 use Rattle.redo_text.specs.declared.fault.LineFault.{LineFault}
 use Rattle.redo_session.specs.declared.fault.TextFault.{TextFault}
 use Rattle.redo_session.specs.declared.fault.TextFault.TheVariants.{Memory, Read, TooManySessions, NoSession, Write, Device, TooLong}
-use Rattle.redo_journal.specs.declared.plan.PlanFault.{PlanFault}
-use Rattle.redo_journal.specs.declared.plan.PlanFault.TheVariants as plan
 
 -- the files before this one are accepted, and leave these names
 abbrev pub FilesBefore : List (Option Text) → ℕ → List Text → Type 0
@@ -53,20 +51,3 @@ IsDeviceFault NoSession = ⊥
 IsDeviceFault Write = ⊤
 IsDeviceFault (Device file) = ⊤
 IsDeviceFault (TooLong file) = ⊥
-
--- the cause of a fault of one file, which has this number, these bytes and this flag, with the
--- names before it
-abbrev pub IsFileCause : List Text → Option Text → Bool → ℕ → TextFault → Type 0
-IsFileCause names known faulted at Memory = ⊤
-IsFileCause names known faulted at (Read file line fault) =
-    (file ≡ at) × IfSome known (HasFaultyLine names line fault)
-IsFileCause names known faulted at TooManySessions = ⊥
-IsFileCause names known faulted at NoSession = ⊥
-IsFileCause names known faulted at Write = ⊥
-IsFileCause names known faulted at (Device file) = (file ≡ at) × IsTrue faulted
-IsFileCause names known faulted at (TooLong file) = (file ≡ at) × IfSome known AreTooLong
-
--- the fault that a plan's is
-abbrev pub plan_fault : PlanFault → TextFault
-plan_fault plan.NoSession = NoSession
-plan_fault plan.TooManySessions = TooManySessions

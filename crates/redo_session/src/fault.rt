@@ -55,7 +55,7 @@ impl<T: Drop> From<AllocFailed<T>> for TextFault {
 
 impl From<PlanFault> for TextFault {
     ghost use Rattle.std.specs.Prelude.{◌≡◌};
-    ghost use Rattle.redo_session.specs.Faults.{plan_fault};
+    ghost use Rattle.redo_session.specs.Inside.Faults.{plan_fault};
 
     ghost from_gives = { λ plan fault. fault ≡ plan_fault plan };
 

@@ -1,11 +1,13 @@
 ghost use Rattle.std.specs.Prelude.{◌≡◌, ◌↔◌, ℕ, ◌<◌, false, [], length, map, IfOk, IfErr, IsErrAnd, OnErr};
-ghost use Rattle.redo_names.specs.Names.{Extends};
-ghost use Rattle.redo_terms.specs.Meaning.{command_at};
+ghost use Rattle.redo_names.specs.Inside.Names.{Extends};
+ghost use Rattle.redo_terms.specs.Inside.Meaning.{command_at};
 ghost use Rattle.redo_whole.specs.Watched.{is_faulted};
 ghost use Rattle.redo_replay.specs.Devices.{known_in};
 ghost use Rattle.redo_session.specs.Runs.{IsAccepted, AreAccepted};
-ghost use Rattle.redo_session.specs.Files.{bytes_of_files, flags_of_files, scripts_at, IsScriptBelow, AreScriptsBelow};
-ghost use Rattle.redo_session.specs.Faults.{IsFileCause, IsCause, IsDeviceFault};
+ghost use Rattle.redo_session.specs.Files.{bytes_of_files, flags_of_files};
+ghost use Rattle.redo_session.specs.Inside.Files.{scripts_at, IsScriptBelow, AreScriptsBelow};
+ghost use Rattle.redo_session.specs.Faults.{IsCause, IsDeviceFault};
+ghost use Rattle.redo_session.specs.Inside.Faults.{IsFileCause};
 
 use crate::fault::TextFault;
 use redo_command::{LineFault, ReadFault, Script, Watched, WholeFault, read_script, read_whole};

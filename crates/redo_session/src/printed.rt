@@ -5,7 +5,7 @@ ghost use Rattle.redo_terms.specs.Meaning.{line_of, line_at};
 ghost use Rattle.redo_replay.specs.Histories.{ended};
 ghost use Rattle.redo_session.specs.RunTexts.{session_text_of, run_text_of, sessions_below};
 ghost use Rattle.redo_replay.specs.Recorded.{AreLinesBelow};
-ghost use Rattle.redo_session.specs.Printed.{answers_of};
+ghost use Rattle.redo_session.specs.Inside.Printed.{answers_of};
 
 use crate::runs::Outcome;
 use redo_command::Line;

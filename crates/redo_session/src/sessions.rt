@@ -2,7 +2,7 @@
 ghost use Rattle.std.specs.Prelude.{◌≡◌, ◌+◌, ◌<◌, ◌∷◌, [], IfOk};
 ghost use Rattle.std.specs.Thread.{IsSync};
 ghost use Rattle.redo_board.specs.Kept.{IsBoardOf};
-ghost use Rattle.redo_session.specs.Sessions.{AreReady, AreDone};
+ghost use Rattle.redo_session.specs.Inside.Sessions.{AreReady, AreDone};
 
 use redo_board::{Board, Gate, Journal, Plan, Seat, Worker};
 use std::alloc::{AllocError, Global};
@@ -76,7 +76,7 @@ struct Answer<'a> {
 
 impl<'a> Promise<Result<(Seat, Journal), AllocError>> for Answer<'a> {
     ghost use Rattle.std.specs.Prelude.{◌+◌, ◌∷◌, [], IfOk};
-    ghost use Rattle.redo_session.specs.Sessions.{AreDone};
+    ghost use Rattle.redo_session.specs.Inside.Sessions.{AreDone};
 
     ghost kept_by = { λ a result. IfOk result (λ done. AreDone a.plan.now a.board.now
         a.session (a.session + 1) done.0 (done.1 ∷ [])) };

@@ -2,7 +2,8 @@ ghost use Rattle.std.specs.Prelude.{◌≡◌, ◌≢◌, ◌↔◌, ◌⊎◌, 
 ghost use Rattle.redo_whole.specs.Watched.{is_faulted};
 ghost use Rattle.redo_replay.specs.Devices.{known_in, WritesNothing};
 ghost use Rattle.redo_session.specs.Runs.{IsRunText, RunsAs, WritesRun, WritesPart, AreKnownSessions};
-ghost use Rattle.redo_session.specs.Files.{bytes_of_files, flags_of_files, scripts_at, AreScriptsBelow};
+ghost use Rattle.redo_session.specs.Files.{bytes_of_files, flags_of_files};
+ghost use Rattle.redo_session.specs.Inside.Files.{scripts_at, AreScriptsBelow};
 ghost use Rattle.redo_session.specs.Faults.{IsCause, IsDeviceFault};
 
 use crate::fault::TextFault;

@@ -11,7 +11,7 @@ use Rattle.std.proofs.lemmas.List.{get_or_default}
 use Rattle.std.proofs.lemmas.List.Elements.{Contains-get_or}
 use Rattle.std.proofs.lemmas.List.Sums.{position_or_len_is}
 use Rattle.redo_model.specs.Names.{texts, numbers, IsListed}
-use Rattle.redo_model.specs.Renaming.{OrdersAlike, numbering}
+use Rattle.redo_model.specs.Inside.Renaming.{OrdersAlike, numbering}
 use Rattle.redo_model.proofs.Texts.{texts_are_names}
 use Rattle.redo_names.specs.Names.{text_at}
 use Rattle.redo_store.specs.Orders.{AreSorted, place, by_place}

@@ -8,7 +8,7 @@ use Rattle.std.proofs.lemmas.Bool.{ne_eqb}
 use Rattle.std.proofs.lemmas.List.{get_or-set_other}
 use Rattle.redo_model.specs.Command as commands
 use Rattle.redo_model.specs.Names.{put}
-use Rattle.redo_model.specs.OutOfDate.{DifferAt}
+use Rattle.redo_model.specs.Inside.OutOfDate.{DifferAt}
 use Rattle.redo_model.specs.State.{Cell, Mark, empty, idle, no_rows}
 use Rattle.redo_model.proofs.Members.{contains_first}
 use Rattle.redo_ood.proofs.Marking.{same_everywhere}

@@ -4,7 +4,8 @@ ghost use Rattle.redo_model.specs.State.{empty};
 ghost use Rattle.redo_model.specs.Command as commands;
 ghost use Rattle.redo_model.specs.Command.{asked_lock};
 ghost use Rattle.redo_model.specs.Step.{Answers, after, is_held_by, holds_target, records_after};
-ghost use Rattle.redo_model.specs.Renaming.{OrdersAlike, numbering, IsBelow, IsReplyBelow};
+ghost use Rattle.redo_model.specs.Renaming.{IsBelow, IsReplyBelow};
+ghost use Rattle.redo_model.specs.Inside.Renaming.{OrdersAlike, numbering};
 ghost use Rattle.redo_terms.specs.Meaning.{command_of, reply_of};
 ghost use Rattle.redo_store.specs.Tables.{freed_by};
 

@@ -1,7 +1,7 @@
 ghost use Rattle.std.specs.Prelude.{◌≡◌, ◌<◌, ◌^◌, length, map, IfOk};
 ghost use Rattle.redo_model.specs.Renaming.{AllBelow};
 ghost use Rattle.redo_store.specs.Orders.{AreSorted, AreRanks};
-ghost use Rattle.redo_names.specs.Names.{AreNames};
+ghost use Rattle.redo_names.specs.Inside.Names.{AreNames};
 ghost use Rattle.redo_store.specs.Numbered.{AreNumbered};
 
 use redo_names::Names;

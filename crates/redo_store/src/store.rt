@@ -4,7 +4,8 @@ ghost use Rattle.redo_model.specs.State.{empty, is_building, target_state};
 ghost use Rattle.redo_model.specs.Command as commands;
 ghost use Rattle.redo_model.specs.Command.{asked_lock};
 ghost use Rattle.redo_model.specs.Step.{Replies, Tells, records_after, verdict_of};
-ghost use Rattle.redo_model.specs.Renaming.{OrdersAlike, numbering, IsBelow, IsReplyBelow};
+ghost use Rattle.redo_model.specs.Renaming.{IsBelow, IsReplyBelow};
+ghost use Rattle.redo_model.specs.Inside.Renaming.{OrdersAlike, numbering};
 ghost use Rattle.redo_terms.specs.Meaning.{command_of, reply_of, refusal_of};
 
 use crate::sorted::{ranks_of, sorted_numbers};

@@ -1,2 +1,3 @@
 pub mod Stamp
 pub mod Meaning
+pub mod Inside

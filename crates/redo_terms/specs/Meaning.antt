@@ -5,11 +5,9 @@ use Rattle.redo_model.specs.Names.{Text}
 use Rattle.redo_model.specs.Command as commands
 use Rattle.redo_model.specs.Reply as replies
 use Rattle.redo_model.specs.History as histories
-use Rattle.redo_model.specs.Renaming.{named_command, named_reply, named_line}
+use Rattle.redo_model.specs.Renaming.{named_reply, named_line}
 use Rattle.redo_terms.specs.declared.command.Command.{Command}
 use Rattle.redo_terms.specs.declared.command.Command.TheVariants.{File, Gone, Lock, Unlock, Start, IfChange, IfCreate, Always, Stamp, Done, Failed, Ood, Targets, Sources}
-use Rattle.redo_terms.specs.declared.kind.Kind.{Kind}
-use Rattle.redo_terms.specs.declared.kind.Kind.TheVariants as kinds
 use Rattle.redo_terms.specs.declared.reply.Refusal.{Refusal}
 use Rattle.redo_terms.specs.declared.reply.Refusal.TheVariants.{NotLocked, Building, NotBuilding, Itself, Exists}
 use Rattle.redo_terms.specs.declared.reply.Reply.{Reply}
@@ -31,22 +29,6 @@ command_of (Failed t) = commands.Failed t
 command_of Ood = commands.Ood
 command_of Targets = commands.Targets
 command_of Sources = commands.Sources
-
-abbrev pub kind_of : Command → Kind
-kind_of (File n stamp) = kinds.File
-kind_of (Gone n) = kinds.Gone
-kind_of (Lock t) = kinds.Lock
-kind_of (Unlock t) = kinds.Unlock
-kind_of (Start t) = kinds.Start
-kind_of (IfChange t names) = kinds.IfChange
-kind_of (IfCreate t names) = kinds.IfCreate
-kind_of (Always t) = kinds.Always
-kind_of (Stamp t content) = kinds.Stamp
-kind_of (Done t stamp) = kinds.Done
-kind_of (Failed t) = kinds.Failed
-kind_of Ood = kinds.Ood
-kind_of Targets = kinds.Targets
-kind_of Sources = kinds.Sources
 
 abbrev pub refusal_of : Refusal → replies.Refusal ℕ
 refusal_of NotLocked = replies.NotLocked
@@ -72,10 +54,6 @@ line_of line = record {
   command = command_of line.command;
   reply = reply_of line.reply;
 }
-
--- under the names that the numbers stand for
-abbrev pub command_at : List Text → Command → commands.Command Text
-command_at names command = named_command (text_at names) (command_of command)
 
 abbrev pub reply_at : List Text → Reply → replies.Reply Text
 reply_at names reply = named_reply (text_at names) (reply_of reply)

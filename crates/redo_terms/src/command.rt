@@ -36,7 +36,8 @@ pub enum Command {
 impl Command {
     ghost use Rattle.std.specs.Prelude.{◌≡◌, IfOk};
     ghost use Rattle.redo_model.specs.Command.{target_of};
-    ghost use Rattle.redo_terms.specs.Meaning.{command_of, kind_of};
+    ghost use Rattle.redo_terms.specs.Meaning.{command_of};
+    ghost use Rattle.redo_terms.specs.Inside.Meaning.{kind_of};
 
     /// Its case.
     pub fn kind(&self) -> Kind

@@ -5,7 +5,7 @@ use Rattle.std.specs.List.{range_with_len}
 use Rattle.std.proofs.lemmas.Bool.{cases_lt}
 use Rattle.std.proofs.lemmas.List.{get_or_past}
 use Rattle.std.proofs.lemmas.List.FromFn.{length-range_with_len, get_or-range_with_len}
-use Rattle.redo_model.specs.OutOfDate.{DifferAt}
+use Rattle.redo_model.specs.Inside.OutOfDate.{DifferAt}
 use Rattle.redo_model.specs.Renaming.{AllBelow}
 use Rattle.redo_model.specs.State.{Cell, empty, idle}
 use Rattle.redo_records.specs.Cells.{cell_at}

@@ -2,7 +2,8 @@
 use Rattle.std.proofs.Common.{◌≡◌, ℕ, ◌+◌, ◌<◌, ◌≤◌, Bool, true, false, cond, List, [], ◌∷◌, ◌++◌, map, length, get_or, Result, Ok, Err, refl, sym, ap, ◌∙◌, arith, eqb, length-append}
 use Rattle.std.proofs.lemmas.Bool.Decides.{nat_tests}
 use Rattle.std.proofs.lemmas.List.{get_or_append_left}
-use Rattle.redo_names.specs.Names.{has, text_at, with_name, Extends}
+use Rattle.redo_names.specs.Names.{has, text_at, with_name}
+use Rattle.redo_names.specs.Inside.Names.{Extends}
 use Rattle.redo_names.proofs.NameLists.{Extends-same, Extends-then}
 use Rattle.redo_model.specs.Names.{Text}
 use Rattle.redo_model.specs.Command as commands
@@ -11,9 +12,10 @@ use Rattle.redo_terms.specs.declared.command.Command.{Command}
 use Rattle.redo_terms.specs.declared.command.Command.TheVariants.{File, Gone, Lock, Unlock, Start, IfChange, IfCreate, Always, Stamp, Done, Failed, Ood, Targets, Sources}
 use Rattle.redo_text.specs.declared.fault.LineFault.{LineFault}
 use Rattle.redo_text.specs.declared.fault.LineFault.TheVariants.{TooManyNames}
-use Rattle.redo_terms.specs.Meaning.{command_of, command_at}
+use Rattle.redo_terms.specs.Meaning.{command_of}
+use Rattle.redo_terms.specs.Inside.Meaning.{command_at}
 use Rattle.redo_text.specs.Grammar.{with_names, AddsNames}
-use Rattle.redo_text.specs.Reading.{added}
+use Rattle.redo_text.specs.Inside.Reading.{added}
 use Rattle.redo_text.proofs.Steps.{same_given}
 
 pub extends_same : (names : List Text) → Extends names names

@@ -19,7 +19,7 @@ use Rattle.redo_text.specs.declared.fault.LineFault.TheVariants.{LineTooLong, Ba
 use Rattle.redo_terms.specs.Stamp.{is_stamp}
 use Rattle.redo_text.specs.Grammar.{with_names, is_skipped}
 use Rattle.redo_text.specs.Questions.{Question, first_yes, Wanted, a_name, some_content, wanted, are_digits, is_it, word_questions, names_among, is_full, kind_named, form_questions, word_list_questions, words_of, has_bad_byte, is_too_long, text_questions, line_fault, file_line_fault}
-use Rattle.redo_text.specs.Reading.{◌>>=◌, Reading, some_content as content_or_fault, content_in, added, all_added, one_name_in, target_and_names_in, names_form_in, file_in, stamp_in, done_in, no_words_in, form_in, words_in, line_in, script_line_in}
+use Rattle.redo_text.specs.Inside.Reading.{◌>>=◌, Reading, some_content as content_or_fault, content_in, added, all_added, one_name_in, target_and_names_in, names_form_in, file_in, stamp_in, done_in, no_words_in, form_in, words_in, line_in, script_line_in}
 use Rattle.redo_text.proofs.ReplyNames.{none_added, one_all_added}
 use Rattle.redo_text.proofs.ScriptParts.{with_names-longer}
 use Rattle.redo_text.proofs.Steps.{both, read}

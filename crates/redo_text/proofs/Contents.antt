@@ -13,7 +13,7 @@ use Rattle.redo_model.specs.Names.{Text}
 use Rattle.redo_text.specs.declared.fault.LineFault.{LineFault}
 use Rattle.redo_text.specs.Texts.{content_word}
 use Rattle.redo_text.specs.Grammar.{IsContentWord}
-use Rattle.redo_text.specs.Reading.{some_content, content_in}
+use Rattle.redo_text.specs.Inside.Reading.{some_content, content_in}
 use Rattle.redo_text.proofs.Spaced.{IsVisible}
 use Rattle.redo_text.proofs.Steps.{same_given}
 

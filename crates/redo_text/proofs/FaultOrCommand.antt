@@ -6,8 +6,8 @@ use Rattle.redo_model.specs.Command.{Command, names_in}
 use Rattle.redo_text.specs.declared.fault.LineFault.{LineFault}
 use Rattle.redo_text.specs.Grammar.{IsCommandLine, AddsNames}
 use Rattle.redo_text.specs.Questions.{line_fault}
-use Rattle.redo_text.specs.Faults.{IsLineFault}
-use Rattle.redo_text.specs.Reading.{Reads, line_in}
+use Rattle.redo_text.specs.Inside.Faults.{IsLineFault}
+use Rattle.redo_text.specs.Inside.Reading.{Reads, line_in}
 use Rattle.redo_text.specs.declared.fault.Unread.{Unread}
 use Rattle.redo_text.specs.declared.fault.Unread.TheVariants as unread
 use Rattle.redo_text.specs.declared.fault.ReadFault.{ReadFault}

@@ -6,7 +6,7 @@ use Rattle.redo_text.specs.declared.fault.LineFault.{LineFault}
 use Rattle.redo_text.specs.Grammar.{lines_of, AreScriptLines, IsScript}
 use Rattle.redo_text.specs.Questions.{file_line_fault}
 use Rattle.redo_text.specs.Faults.{FailsAfter, IsFirstFault}
-use Rattle.redo_text.specs.Reading.{script_line_in}
+use Rattle.redo_text.specs.Inside.Reading.{script_line_in}
 use Rattle.redo_text.proofs.Asked.{fault_in, asked_file_line}
 use Rattle.redo_text.proofs.ScriptLaws.{commands_read, line_taken, scripts_agree, no_fault_in_a_script}
 use Rattle.redo_text.proofs.ScriptParts.{script_joined}

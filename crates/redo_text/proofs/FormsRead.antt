@@ -8,7 +8,7 @@ use Rattle.redo_model.specs.Command.{Command, File, Gone, Lock, Unlock, Start, I
 use Rattle.redo_terms.specs.Stamp.{is_stamp}
 use Rattle.redo_text.specs.Texts.{spaced, stamp_word}
 use Rattle.redo_text.specs.Grammar.{HasForm, IsNameList, IsSpelled, IsContentWord, AddsNames}
-use Rattle.redo_text.specs.Reading.{file_stamp_or_none_in, one_name_in, names_form_in, file_in, stamp_in, done_in, no_words_in, form_in, words_in}
+use Rattle.redo_text.specs.Inside.Reading.{file_stamp_or_none_in, one_name_in, names_form_in, file_in, stamp_in, done_in, no_words_in, form_in, words_in}
 use Rattle.redo_text.proofs.Added.{one_fits}
 use Rattle.redo_text.proofs.Contents.{content_read, content_is_visible}
 use Rattle.redo_text.proofs.NameLists.{target_and_names_read, names_are_visible, all_fit}

@@ -16,8 +16,8 @@ use Rattle.redo_text.specs.declared.reply_kind.ReplyKind.{ReplyKind}
 use Rattle.redo_text.specs.declared.reply_kind.ReplyKind.TheVariants as replies
 use Rattle.redo_text.specs.Texts.{after_space, word_of}
 use Rattle.redo_text.specs.Questions.{words_of, kind_named, all_kinds}
-use Rattle.redo_text.specs.Reading.{words_after, no_words_in, form_in, words_in}
-use Rattle.redo_text.specs.ReplyReading.{okay_in, names_in_words, some_names_in_words, reply_word, reply_kind_named, all_reply_kinds, reply_args_in, reply_words_in}
+use Rattle.redo_text.specs.Inside.Reading.{words_after, no_words_in, form_in, words_in}
+use Rattle.redo_text.specs.Inside.ReplyReading.{okay_in, names_in_words, some_names_in_words, reply_word, reply_kind_named, all_reply_kinds, reply_args_in, reply_words_in}
 use Rattle.redo_text.proofs.Spaced.{line_is_spaced}
 use Rattle.redo_text.proofs.Steps.{neither, found_passes}
 

@@ -10,7 +10,7 @@ use Rattle.redo_text.specs.declared.fault.LineFault.TheVariants.{LineTooLong, Ba
 use Rattle.redo_text.specs.Texts.{spaced, content_word, command_text_of}
 use Rattle.redo_text.specs.Grammar.{IsCommandLine, IsShort, IsSpelled, HasForm, with_names, AddsNames}
 use Rattle.redo_text.specs.Questions.{words_of, is_text_byte}
-use Rattle.redo_text.specs.Reading.{line_in, words_in}
+use Rattle.redo_text.specs.Inside.Reading.{line_in, words_in}
 use Rattle.redo_text.proofs.Steps.{unless_ok, same_given}
 use Rattle.redo_text.proofs.Spaced.{line_is_spaced, words_of-spaced, spaced_is_text}
 use Rattle.redo_text.proofs.Contents.{content_word_says}

@@ -15,8 +15,8 @@ use Rattle.redo_text.specs.declared.fault.LineFault.TheVariants.{BadName, TooMan
 use Rattle.redo_text.specs.declared.fault.Unread.{Unread}
 use Rattle.redo_text.specs.declared.fault.Unread.TheVariants as unread
 use Rattle.redo_text.specs.Grammar.{with_names, AddsNames, IsNameList}
-use Rattle.redo_text.specs.Reading.{Reads, added}
-use Rattle.redo_text.specs.Reading.{target_and_names_in, all_added, names_form_in}
+use Rattle.redo_text.specs.Inside.Reading.{Reads, added}
+use Rattle.redo_text.specs.Inside.Reading.{target_and_names_in, all_added, names_form_in}
 use Rattle.redo_text.proofs.Added.{added_is}
 use Rattle.redo_text.proofs.ScriptParts.{with_names-longer}
 use Rattle.redo_text.proofs.Spaced.{IsVisible, name_is_visible}

@@ -5,15 +5,16 @@ use Rattle.std.specs.List.{list_all}
 use Rattle.std.proofs.lemmas.List.{length-map}
 use Rattle.std.proofs.lemmas.Option.{get_or_from_slice_get, slice_get_within, slice_get-get_or}
 use Rattle.std.proofs.lemmas.Slice.Eq.{bytes_eq-Decides}
-use Rattle.redo_names.specs.Names.{is_name, has, text_at, AreAllNames, AreNames}
+use Rattle.redo_names.specs.Names.{is_name, has, text_at, AreAllNames}
+use Rattle.redo_names.specs.Inside.Names.{AreNames}
 use Rattle.redo_model.specs.Names.{Text}
 use Rattle.redo_model.specs.Command.{Command}
 use Rattle.redo_text.specs.declared.fault.LineFault.TheVariants.{TooManyNames}
 use Rattle.redo_model.specs.Renaming.{AllBelow}
 use Rattle.redo_text.specs.Grammar.{with_names}
 use Rattle.redo_text.specs.Questions.{words_of}
-use Rattle.redo_text.specs.Reading.{IsNumbered, added, all_added, one_name_in, names_form_in}
-use Rattle.redo_text.specs.ReplyReading.{names_in_words, with_its_names}
+use Rattle.redo_text.specs.Inside.Reading.{IsNumbered, added, all_added, one_name_in, names_form_in}
+use Rattle.redo_text.specs.Inside.ReplyReading.{names_in_words, with_its_names}
 use Rattle.redo_text.proofs.NameLists.{all_added-fits, each_name, target_and_names_read}
 use Rattle.redo_text.proofs.Spaced.{name_is_visible, words_of-spaced}
 use Rattle.redo_text.proofs.Steps.{same_found}

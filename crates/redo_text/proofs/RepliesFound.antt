@@ -13,9 +13,9 @@ use Rattle.redo_text.specs.declared.reply_kind.ReplyKind.{ReplyKind}
 use Rattle.redo_text.specs.declared.reply_kind.ReplyKind.TheVariants as kinds
 use Rattle.redo_text.specs.Texts.{spaced, refusal_words, reply_text_of}
 use Rattle.redo_text.specs.Questions.{words_of}
-use Rattle.redo_text.specs.Reading.{◌>>=◌, name_in, all_added}
+use Rattle.redo_text.specs.Inside.Reading.{◌>>=◌, name_in, all_added}
 use Rattle.redo_text.specs.Replies.{IsGrant, IsDigest, AreAllNames, HasRefusalForm, HasReplyForm, IsReplyText, AddsReplyNames, names_in_reply}
-use Rattle.redo_text.specs.ReplyReading.{one_word_in, grant_in, digest_in, names_in_words, some_names_in_words, plain_refusal_in, refusal_in_words, okay_in, reply_word, reply_kind_named, reply_args_in, reply_words_in, reply_in}
+use Rattle.redo_text.specs.Inside.ReplyReading.{one_word_in, grant_in, digest_in, names_in_words, some_names_in_words, plain_refusal_in, refusal_in_words, okay_in, reply_word, reply_kind_named, reply_args_in, reply_words_in, reply_in}
 use Rattle.redo_text.proofs.Steps.{bind_ok, guard_ok, unless_ok}
 use Rattle.redo_text.proofs.Fronts.{reply_word_is}
 use Rattle.redo_text.proofs.NameLists.{not_false, each_name, all_added-is}

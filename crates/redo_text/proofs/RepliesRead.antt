@@ -12,7 +12,7 @@ use Rattle.redo_text.specs.declared.reply_kind.ReplyKind.TheVariants as kinds
 use Rattle.redo_text.specs.Texts.{spaced, refusal_words, reply_text_of}
 use Rattle.redo_text.specs.Questions.{words_of}
 use Rattle.redo_text.specs.Replies.{AreAllNames, HasRefusalForm, HasReplyForm, IsReplyText, AddsReplyNames, names_in_reply}
-use Rattle.redo_text.specs.ReplyReading.{names_in_words, some_names_in_words, refusal_in_words, reply_word, reply_kind_named, reply_args_in, reply_words_in, reply_in}
+use Rattle.redo_text.specs.Inside.ReplyReading.{names_in_words, some_names_in_words, refusal_in_words, reply_word, reply_kind_named, reply_args_in, reply_words_in, reply_in}
 use Rattle.redo_text.proofs.NameLists.{all_names, names_are_visible, all_added-fits}
 use Rattle.redo_text.proofs.ReplyWords.{grant_read, grant_is_visible, digest_read, digest_is_visible}
 use Rattle.redo_text.proofs.Spaced.{IsVisible, name_is_visible, words_of-spaced}

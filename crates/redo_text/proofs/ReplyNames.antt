@@ -5,7 +5,7 @@ use Rattle.std.proofs.lemmas.Bool.Decides.{nat_tests}
 use Rattle.redo_names.specs.Names.{has}
 use Rattle.redo_model.specs.Names.{Text}
 use Rattle.redo_text.specs.declared.fault.LineFault.TheVariants.{TooManyNames}
-use Rattle.redo_text.specs.Reading.{added, all_added}
+use Rattle.redo_text.specs.Inside.Reading.{added, all_added}
 
 pub none_added : (names : List Text) → length names ≤ 65536 → all_added names [] ≡ Ok names
 unfolding all_added

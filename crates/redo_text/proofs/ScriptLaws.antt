@@ -9,7 +9,7 @@ use Rattle.redo_text.specs.declared.fault.LineFault.TheVariants.{LineTooLong, To
 use Rattle.redo_text.specs.Grammar.{is_skipped, lines_of, AddsNames, AreCommandLines, AreScriptLines, IsScript}
 use Rattle.redo_text.specs.Questions.{file_line_fault}
 use Rattle.redo_text.specs.Faults.{FailsAfter}
-use Rattle.redo_text.specs.Reading.{Reading, ◌>>=◌, line_in, script_line_in}
+use Rattle.redo_text.specs.Inside.Reading.{Reading, ◌>>=◌, line_in, script_line_in}
 use Rattle.redo_text.proofs.Asked.{fault_in, asked_file_line}
 use Rattle.redo_text.proofs.LineLaws.{line_found, line_only}
 use Rattle.redo_text.proofs.ScriptParts.{with_names-longer, InParts, script_split}

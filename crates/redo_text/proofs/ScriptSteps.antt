@@ -4,8 +4,9 @@ use Rattle.std.specs.Prelude.{MatchOption, Option, Some, None}
 use Rattle.redo_model.specs.Names.{Text}
 use Rattle.redo_model.specs.Command.{Command}
 use Rattle.redo_text.specs.Grammar.{lines_of, IsScript, AreScriptLines}
-use Rattle.redo_text.specs.Faults.{IsFirstFault, IsReadFault}
-use Rattle.redo_text.specs.Reading.{script_line_in}
+use Rattle.redo_text.specs.Faults.{IsFirstFault}
+use Rattle.redo_text.specs.Inside.Faults.{IsReadFault}
+use Rattle.redo_text.specs.Inside.Reading.{script_line_in}
 use Rattle.redo_text.specs.declared.fault.LineFault.{LineFault}
 use Rattle.redo_text.specs.declared.fault.Unread.{Unread}
 use Rattle.redo_text.specs.declared.fault.Unread.TheVariants as unread

@@ -3,14 +3,15 @@ use Rattle.std.proofs.Common.{◌≡◌, ℕ, ◌≤◌, List, [], ◌∷◌, �
 use Rattle.std.proofs.lemmas.List.{map_push, length-map}
 use Rattle.std.specs.List.{AllByRecursion}
 use Rattle.std.specs.Option.{option_map}
-use Rattle.redo_names.specs.Names.{Extends}
+use Rattle.redo_names.specs.Inside.Names.{Extends}
 use Rattle.redo_model.specs.Names.{Text}
 use Rattle.redo_model.specs.Command as commands
 use Rattle.redo_model.specs.Renaming.{IsBelow}
 use Rattle.redo_terms.specs.declared.command.Command.{Command}
-use Rattle.redo_terms.specs.Meaning.{command_of, command_at}
+use Rattle.redo_terms.specs.Meaning.{command_of}
+use Rattle.redo_terms.specs.Inside.Meaning.{command_at}
 use Rattle.redo_text.specs.Grammar.{AreScriptLines}
-use Rattle.redo_text.specs.Reading.{script_line_in}
+use Rattle.redo_text.specs.Inside.Reading.{script_line_in}
 use Rattle.redo_text.proofs.Added.{command_at-Extends, IsBelow-Extends}
 use Rattle.redo_text.proofs.ScriptParts.{script_joined}
 use Rattle.redo_text.proofs.ScriptLaws.{commands_read, Taken, line_taken}

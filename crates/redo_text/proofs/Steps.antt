@@ -4,7 +4,7 @@ use Rattle.std.specs.List.{find}
 use Rattle.redo_model.specs.Names.{Text}
 use Rattle.redo_model.specs.Command.{Command}
 use Rattle.redo_text.specs.declared.fault.LineFault.{LineFault}
-use Rattle.redo_text.specs.Reading.{◌>>=◌, Reading}
+use Rattle.redo_text.specs.Inside.Reading.{◌>>=◌, Reading}
 
 pub both : (a b : Bool) → (a && b) ≡ true → (a ≡ true) × (b ≡ true)
 both true b e = (refl, e)

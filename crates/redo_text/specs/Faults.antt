@@ -3,17 +3,8 @@ use Rattle.std.specs.Prelude.{◌≡◌, ℕ, ◌+◌, List, ◌∷◌, ◌++◌
 use Rattle.redo_model.specs.Names.{Text}
 use Rattle.redo_model.specs.Command.{Command}
 use Rattle.redo_text.specs.declared.fault.LineFault.{LineFault}
-use Rattle.redo_text.specs.declared.fault.ReadFault.{ReadFault}
-use Rattle.redo_text.specs.declared.fault.ReadFault.TheVariants as faults
 use Rattle.redo_text.specs.Grammar.{lines_of, AreScriptLines}
-use Rattle.redo_text.specs.Questions.{line_fault, file_line_fault}
-
--- the fault of a line that is read alone, which counts as line 1; for want of memory nothing is
--- said
-abbrev pub IsLineFault : List Text → Text → ReadFault → Type 0
-IsLineFault names line faults.Memory = ⊤
-IsLineFault names line (faults.Line number fault) =
-    (number ≡ 1) × (line_fault names line ≡ Some fault)
+use Rattle.redo_text.specs.Questions.{file_line_fault}
 
 -- the lines before it are those of commands, and with these before it the line has this fault
 pub record FailsAfter (names : List Text) (before : List Text) (line : Text)
@@ -32,8 +23,3 @@ pub record IsFirstFault (names : List Text) (text : Text) (number : ℕ)
   pub lines : lines_of text ≡ before ++ line ∷ rest
   pub counted : number ≡ length before + 1
   pub fails : FailsAfter names before line fault
-
--- the fault of a session file; for want of memory nothing is said
-abbrev pub IsReadFault : List Text → Text → ReadFault → Type 0
-IsReadFault names text faults.Memory = ⊤
-IsReadFault names text (faults.Line number fault) = IsFirstFault names text number fault

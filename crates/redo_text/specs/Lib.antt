@@ -2,6 +2,5 @@ pub mod Texts
 pub mod Grammar
 pub mod Questions
 pub mod Faults
-pub mod Reading
 pub mod Replies
-pub mod ReplyReading
+pub mod Inside

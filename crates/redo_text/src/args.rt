@@ -2,7 +2,7 @@ ghost use Rattle.std.specs.Prelude.{◌≡◌, ◌≢◌, ◌∷◌, [], List, S
 ghost use Rattle.std.specs.List.{list_any};
 ghost use Rattle.redo_model.specs.Names.{Text};
 ghost use Rattle.redo_text.specs.Questions.{words_of};
-ghost use Rattle.redo_text.specs.Reading.{words_after};
+ghost use Rattle.redo_text.specs.Inside.Reading.{words_after};
 
 use crate::scan::place_of;
 use std::alloc::{AllocError, Global};

@@ -1,13 +1,15 @@
 ghost use Rattle.std.specs.Prelude.{◌<◌, List, length, IfOk, Err};
-ghost use Rattle.redo_names.specs.Names.{text_at, Extends};
+ghost use Rattle.redo_names.specs.Names.{text_at};
+ghost use Rattle.redo_names.specs.Inside.Names.{Extends};
 ghost use Rattle.redo_model.specs.Names.{Text};
 ghost use Rattle.redo_model.specs.Command as commands;
 ghost use Rattle.redo_model.specs.Reply as replies;
 ghost use Rattle.redo_model.specs.Renaming.{IsBelow};
-ghost use Rattle.redo_terms.specs.Meaning.{command_of, command_at};
+ghost use Rattle.redo_terms.specs.Meaning.{command_of};
+ghost use Rattle.redo_terms.specs.Inside.Meaning.{command_at};
 ghost use Rattle.redo_text.specs.Questions.{words_of};
-ghost use Rattle.redo_text.specs.Reading.{Reads, one_name_in, file_in, stamp_in, done_in, no_words_in, form_in, words_in, words_after};
-ghost use Rattle.redo_text.specs.ReplyReading.{okay_in};
+ghost use Rattle.redo_text.specs.Inside.Reading.{Reads, one_name_in, file_in, stamp_in, done_in, no_words_in, form_in, words_in, words_after};
+ghost use Rattle.redo_text.specs.Inside.ReplyReading.{okay_in};
 
 use crate::args::{one, two};
 use crate::fault::{LineFault, Unread};
@@ -21,7 +23,7 @@ use redo_terms::{Command, Kind};
 use std::alloc::Global;
 
 /// The number of the one name that a form has.
-#[tactic(auto, using(crate::proofs::Added::extends_same), unfolding(crate::specs::Reading::one_name_in))]
+#[tactic(auto, using(crate::proofs::Added::extends_same), unfolding(crate::specs::Inside::Reading::one_name_in))]
 fn one_name_of(names: &mut Names, args: Option<&[u8]>) -> Result<u32, Unread>
     ensures reads { (form : Text → commands.Command Text)
         → Reads (λ n. (form (text_at names.new n), names.new)) result
@@ -39,7 +41,7 @@ fn one_name_of(names: &mut Names, args: Option<&[u8]>) -> Result<u32, Unread>
     number_of(names, None, name)
 }
 
-#[tactic(auto, using(crate::proofs::Added::extends_same), unfolding(crate::specs::Reading::file_in))]
+#[tactic(auto, using(crate::proofs::Added::extends_same), unfolding(crate::specs::Inside::Reading::file_in))]
 fn file_of(names: &mut Names, args: Option<&[u8]>) -> Result<Command, Unread>
     ensures reads { Reads (λ command. (command_at names.new command, names.new)) result
         (file_in names.old (words_after args.entry)) }
@@ -55,7 +57,7 @@ fn file_of(names: &mut Names, args: Option<&[u8]>) -> Result<Command, Unread>
     Ok(Command::File(number, stamp))
 }
 
-#[tactic(auto, using(crate::proofs::Added::extends_same), unfolding(crate::specs::Reading::stamp_in))]
+#[tactic(auto, using(crate::proofs::Added::extends_same), unfolding(crate::specs::Inside::Reading::stamp_in))]
 fn stamp_of(alloc: Global, names: &mut Names, args: Option<&[u8]>) -> Result<Command, Unread>
     ensures reads { Reads (λ command. (command_at names.new command, names.new)) result
         (stamp_in names.old (words_after args.entry)) }
@@ -71,7 +73,7 @@ fn stamp_of(alloc: Global, names: &mut Names, args: Option<&[u8]>) -> Result<Com
     Ok(Command::Stamp(number, content))
 }
 
-#[tactic(auto, using(crate::proofs::Added::extends_same), unfolding(crate::specs::Reading::done_in))]
+#[tactic(auto, using(crate::proofs::Added::extends_same), unfolding(crate::specs::Inside::Reading::done_in))]
 fn done_of(names: &mut Names, args: Option<&[u8]>) -> Result<Command, Unread>
     ensures reads { Reads (λ command. (command_at names.new command, names.new)) result
         (done_in names.old (words_after args.entry)) }
@@ -88,7 +90,7 @@ fn done_of(names: &mut Names, args: Option<&[u8]>) -> Result<Command, Unread>
 }
 
 /// Whether a form without words has none.
-#[tactic(auto, unfolding(crate::specs::Reading::no_words_in))]
+#[tactic(auto, unfolding(crate::specs::Inside::Reading::no_words_in))]
 pub(crate) fn check_no_words(args: Option<&[u8]>) -> Result<(), Unread>
     ensures command { (form : commands.Command Text) (names : List Text)
         → Reads (λ _. (form, names)) result (no_words_in form names (words_after args.entry)) }
@@ -101,7 +103,7 @@ pub(crate) fn check_no_words(args: Option<&[u8]>) -> Result<(), Unread>
 }
 
 /// The command that a text is, by its first word.
-#[tactic(auto, using(crate::proofs::Added::extends_same), unfolding(crate::specs::Reading::form_in))]
+#[tactic(auto, using(crate::proofs::Added::extends_same), unfolding(crate::specs::Inside::Reading::form_in))]
 pub(crate) fn form_of(alloc: Global, names: &mut Names, text: &[u8]) -> Result<Command, Unread>
     ensures reads { Reads (λ command. (command_at names.new command, names.new)) result
         (words_in names.old (words_of text.now)) }

@@ -2,7 +2,7 @@ ghost use Rattle.std.specs.Prelude.{◌≡◌, List, Some, Err, MatchOption};
 ghost use Rattle.redo_model.specs.Names.{Text};
 ghost use Rattle.redo_text.specs.Texts.{word_of};
 ghost use Rattle.redo_text.specs.Questions.{words_of};
-ghost use Rattle.redo_text.specs.Reading.{words_in, words_after, form_in};
+ghost use Rattle.redo_text.specs.Inside.Reading.{words_in, words_after, form_in};
 ghost use Rattle.redo_text.specs.declared.fault.LineFault.TheVariants.{UnknownCommand};
 
 use crate::args::args_after;

@@ -1,7 +1,7 @@
 ghost use Rattle.std.specs.Prelude.{◌≡◌, ◌≤◌, ◌∷◌, map, length, IfOk, IfSome};
 ghost use Rattle.redo_names.specs.Names.{text_at};
 ghost use Rattle.redo_model.specs.Renaming.{AllBelow};
-ghost use Rattle.redo_text.specs.Reading.{words_after};
+ghost use Rattle.redo_text.specs.Inside.Reading.{words_after};
 
 use crate::args::cut_word;
 use crate::name_lists::MOST_LISTED_NAMES;

@@ -1,10 +1,11 @@
 ghost use Rattle.std.specs.Prelude.{◌≡◌, ◌≤◌, ◌∷◌, List, map, length, IfOk, true};
 ghost use Rattle.std.specs.List.{list_all};
-ghost use Rattle.redo_names.specs.Names.{is_name as name_test, text_at, Extends};
+ghost use Rattle.redo_names.specs.Names.{is_name as name_test, text_at};
+ghost use Rattle.redo_names.specs.Inside.Names.{Extends};
 ghost use Rattle.redo_model.specs.Names.{Text};
 ghost use Rattle.redo_model.specs.Command as commands;
 ghost use Rattle.redo_model.specs.Renaming.{AllBelow};
-ghost use Rattle.redo_text.specs.Reading.{Reads, target_and_names_in, all_added, names_form_in, words_after};
+ghost use Rattle.redo_text.specs.Inside.Reading.{Reads, target_and_names_in, all_added, names_form_in, words_after};
 
 use crate::args::words;
 use crate::fault::{LineFault, Unread};
@@ -29,7 +30,7 @@ pub(crate) fn are_names(words: &[&[u8]]) -> bool
 }
 
 /// The word of the target and those of the names after it, of which there are 1 to 64.
-#[tactic(auto, unfolding(crate::specs::Reading::target_and_names_in))]
+#[tactic(auto, unfolding(crate::specs::Inside::Reading::target_and_names_in))]
 fn target_and_names<'a, 'b>(args: &'b [&'a [u8]]) -> Result<(&'a [u8], &'b [&'a [u8]]), Unread>
     ensures reads { Reads (λ p. (p.0.now, map (λ w. w.now) p.1.now)) result
         (target_and_names_in (map (λ w. w.now) args.now)) }
@@ -75,7 +76,7 @@ pub(crate) fn numbers_of(
 }
 
 /// The numbers of the target and of the names that words are.
-#[tactic(auto, using(crate::proofs::Added::extends_same), unfolding(crate::specs::Reading::names_form_in))]
+#[tactic(auto, using(crate::proofs::Added::extends_same), unfolding(crate::specs::Inside::Reading::names_form_in))]
 fn target_and_numbers_in(
     alloc: Global,
     names: &mut Names,

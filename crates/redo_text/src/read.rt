@@ -1,14 +1,15 @@
 ghost use Rattle.std.specs.Prelude.{◌≡◌, ◌⊎◌, ◌∷◌, [], List, length, IfOk, IsOkAnd, IfErr, IfSome, true};
 ghost use Rattle.std.specs.Option.{option_map};
-ghost use Rattle.redo_names.specs.Names.{Extends};
+ghost use Rattle.redo_names.specs.Inside.Names.{Extends};
 ghost use Rattle.redo_model.specs.Names.{Text};
 ghost use Rattle.redo_model.specs.Command.{Command as CommandOf};
 ghost use Rattle.redo_model.specs.Renaming.{IsBelow};
-ghost use Rattle.redo_terms.specs.Meaning.{command_of, command_at};
+ghost use Rattle.redo_terms.specs.Meaning.{command_of};
+ghost use Rattle.redo_terms.specs.Inside.Meaning.{command_at};
 ghost use Rattle.redo_text.specs.Grammar.{IsCommandLine, IsShort, AddsNames, is_skipped as skipped_test};
 ghost use Rattle.redo_text.specs.Questions.{has_bad_byte as bad_byte_test};
-ghost use Rattle.redo_text.specs.Faults.{IsLineFault};
-ghost use Rattle.redo_text.specs.Reading.{Reads, line_in, script_line_in};
+ghost use Rattle.redo_text.specs.Inside.Faults.{IsLineFault};
+ghost use Rattle.redo_text.specs.Inside.Reading.{Reads, line_in, script_line_in};
 
 use crate::fault::{LineFault, ReadFault, Unread, at_line};
 use crate::forms::form_of;
@@ -21,7 +22,7 @@ use std::alloc::Global;
 pub const LONGEST_LINE: usize = 8192;
 
 /// The command that a line is, without its LF.
-#[tactic(auto, using(crate::proofs::Added::extends_same), unfolding(crate::specs::Reading::line_in))]
+#[tactic(auto, using(crate::proofs::Added::extends_same), unfolding(crate::specs::Inside::Reading::line_in))]
 fn line_of(alloc: Global, line: &[u8], names: &mut Names) -> Result<Command, Unread>
     ensures reads { Reads (λ command. (command_at names.new command, names.new)) result
         (line_in names.old line.now) }
@@ -80,7 +81,7 @@ fn is_skipped(line: &[u8]) -> bool
 }
 
 /// Reads a line of a script that has `count` commands so far: nothing, where it is skipped.
-#[tactic(auto, using(crate::proofs::Added::extends_same), unfolding(crate::specs::Reading::script_line_in))]
+#[tactic(auto, using(crate::proofs::Added::extends_same), unfolding(crate::specs::Inside::Reading::script_line_in))]
 pub(crate) fn read_script_line(
     alloc: Global,
     line: &[u8],

@@ -1,12 +1,12 @@
 ghost use Rattle.std.specs.Prelude.{◌≡◌, ◌⊎◌, ◌≤◌, List, length, IfOk, IsOkAnd};
-ghost use Rattle.redo_names.specs.Names.{Extends};
+ghost use Rattle.redo_names.specs.Inside.Names.{Extends};
 ghost use Rattle.redo_model.specs.Names.{Text};
 ghost use Rattle.redo_model.specs.Reply.{Reply as ReplyOf};
 ghost use Rattle.redo_model.specs.Renaming.{IsReplyBelow};
 ghost use Rattle.redo_terms.specs.Meaning.{reply_of, reply_at};
-ghost use Rattle.redo_text.specs.Reading.{Reads};
+ghost use Rattle.redo_text.specs.Inside.Reading.{Reads};
 ghost use Rattle.redo_text.specs.Replies.{IsReplyText, AddsReplyNames};
-ghost use Rattle.redo_text.specs.ReplyReading.{reply_in};
+ghost use Rattle.redo_text.specs.Inside.ReplyReading.{reply_in};
 
 use crate::fault::{LineFault, ReplyFault, Unread};
 use crate::forms::check_no_words;
@@ -17,7 +17,7 @@ use redo_terms::Reply;
 use std::alloc::Global;
 
 /// The reply that a text is, without LF.
-#[tactic(auto, using(crate::proofs::Added::extends_same, crate::proofs::ReplyNames::none_added), unfolding(crate::specs::ReplyReading::reply_in, crate::specs::ReplyReading::reply_args_in))]
+#[tactic(auto, using(crate::proofs::Added::extends_same, crate::proofs::ReplyNames::none_added), unfolding(crate::specs::Inside::ReplyReading::reply_in, crate::specs::Inside::ReplyReading::reply_args_in))]
 fn text_read(alloc: Global, text: &[u8], names: &mut Names) -> Result<Reply, Unread>
     requires { length names.old ≤ 65536 }
     ensures reads { Reads (λ reply. (reply_at names.new reply, names.new)) result

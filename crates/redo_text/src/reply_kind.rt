@@ -1,7 +1,7 @@
 ghost use Rattle.std.specs.Prelude.{◌≡◌, Some, Err, MatchOption};
 ghost use Rattle.redo_text.specs.Questions.{words_of};
-ghost use Rattle.redo_text.specs.Reading.{words_after};
-ghost use Rattle.redo_text.specs.ReplyReading.{reply_words_in, reply_args_in};
+ghost use Rattle.redo_text.specs.Inside.Reading.{words_after};
+ghost use Rattle.redo_text.specs.Inside.ReplyReading.{reply_words_in, reply_args_in};
 ghost use Rattle.redo_text.specs.declared.fault.LineFault.TheVariants.{WrongWords};
 
 use crate::args::args_after;

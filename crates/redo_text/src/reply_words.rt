@@ -1,12 +1,13 @@
 ghost use Rattle.std.specs.Prelude.{◌≤◌, List, ℕ, map, length, IfOk};
-ghost use Rattle.redo_names.specs.Names.{text_at, Extends};
+ghost use Rattle.redo_names.specs.Names.{text_at};
+ghost use Rattle.redo_names.specs.Inside.Names.{Extends};
 ghost use Rattle.redo_model.specs.Names.{Text};
 ghost use Rattle.redo_model.specs.Reply.{Refused};
 ghost use Rattle.redo_model.specs.Renaming.{AllBelow, IsReplyBelow, named_refusal};
 ghost use Rattle.redo_terms.specs.Meaning.{refusal_of};
-ghost use Rattle.redo_text.specs.Reading.{Reads, words_after};
+ghost use Rattle.redo_text.specs.Inside.Reading.{Reads, words_after};
 ghost use Rattle.redo_text.specs.Replies.{names_in_refusal};
-ghost use Rattle.redo_text.specs.ReplyReading.{one_word_in, grant_in, digest_in, names_in_words, some_names_in_words, plain_refusal_in, refusal_in_words, with_its_names};
+ghost use Rattle.redo_text.specs.Inside.ReplyReading.{one_word_in, grant_in, digest_in, names_in_words, some_names_in_words, plain_refusal_in, refusal_in_words, with_its_names};
 
 use crate::args::{one, two, words};
 use crate::fault::{LineFault, Unread};
@@ -44,7 +45,7 @@ pub(crate) fn grant_of(args: Option<&[u8]>) -> Result<u32, Unread>
 }
 
 /// The 20 bytes whose digits a word is, with letters in lower case.
-#[tactic(auto, unfolding(crate::specs::ReplyReading::digest_in))]
+#[tactic(auto, unfolding(crate::specs::Inside::ReplyReading::digest_in))]
 fn digest_in_word(word: &[u8]) -> Result<[u8; 20], Unread>
     ensures { Reads (λ digest. digest) result (digest_in word.now) }
 {

@@ -1,13 +1,14 @@
 ghost use Rattle.std.specs.Prelude.{◌≡◌, ◌⊎◌, ◌<◌, List, [], ◌∷◌, ◌++◌, map, length, position, ◌==◌, MatchOption, IfOk, IsOkAnd, IfErr, OnOk};
 ghost use Rattle.std.specs.List.{AllByRecursion};
-ghost use Rattle.redo_names.specs.Names.{Extends};
+ghost use Rattle.redo_names.specs.Inside.Names.{Extends};
 ghost use Rattle.redo_model.specs.Names.{Text};
 ghost use Rattle.redo_model.specs.Command.{Command as CommandOf};
 ghost use Rattle.redo_model.specs.Renaming.{IsBelow};
-ghost use Rattle.redo_terms.specs.Meaning.{command_of, command_at};
+ghost use Rattle.redo_terms.specs.Meaning.{command_of};
+ghost use Rattle.redo_terms.specs.Inside.Meaning.{command_at};
 ghost use Rattle.redo_text.specs.Grammar.{lines_of, IsScript, AreScriptLines};
-ghost use Rattle.redo_text.specs.Faults.{IsReadFault};
-ghost use Rattle.redo_text.specs.Reading.{script_line_in};
+ghost use Rattle.redo_text.specs.Inside.Faults.{IsReadFault};
+ghost use Rattle.redo_text.specs.Inside.Reading.{script_line_in};
 
 use crate::fault::{LineFault, ReadFault, Unread, at_line};
 use crate::read::read_script_line;

@@ -4,7 +4,8 @@ ghost use Rattle.hex.specs.Hex.{encode_lower};
 ghost use Rattle.redo_names.specs.Names.{text_at};
 ghost use Rattle.redo_model.specs.Reply.{Refused};
 ghost use Rattle.redo_model.specs.Renaming.{IsBelow, IsReplyBelow, AllBelow, named_refusal};
-ghost use Rattle.redo_terms.specs.Meaning.{command_of, kind_of, reply_of, refusal_of, command_at, reply_at};
+ghost use Rattle.redo_terms.specs.Meaning.{command_of, reply_of, refusal_of, reply_at};
+ghost use Rattle.redo_terms.specs.Inside.Meaning.{kind_of, command_at};
 ghost use Rattle.redo_text.specs.Texts.{after_space, stamp_word, content_word, refusal_words, word_of, command_text_of, reply_text_of};
 
 use crate::keywords::keyword;

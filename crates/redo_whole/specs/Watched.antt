@@ -10,8 +10,3 @@ is_faulted watched = watched.is_faulted
 -- the reader or writer itself
 abbrev pub inner_of : {T : Type 0} → Watched T → T
 inner_of watched = watched.inner
-
--- known bytes grow by a front of these bytes
-abbrev pub AppendsFront : Option (List ℕ) → Option (List ℕ) → List ℕ → Type 0
-AppendsFront old new bytes =
-    (sent : List ℕ) × (rest : List ℕ) × (bytes ≡ sent ++ rest) × Appends old new sent

@@ -1,6 +1,7 @@
 ghost use Rattle.std.specs.Prelude.{◌≡◌, ◌||◌, ◌↔◌, ◌≤◌, ◌<◌, false, true, length, is_err, IfOk, IfSome, OnOk, OnErr, IsErrOf};
 ghost use Rattle.std.specs.Io.KnownBytes.{Appends, IsAtEnd};
-ghost use Rattle.redo_whole.specs.Watched.{is_faulted, inner_of, AppendsFront};
+ghost use Rattle.redo_whole.specs.Watched.{is_faulted, inner_of};
+ghost use Rattle.redo_whole.specs.Inside.Watched.{AppendsFront};
 ghost use Rattle.redo_whole.specs.declared.whole.WholeFault.TheVariants.{Memory};
 
 use crate::watched::Watched;

@@ -7,7 +7,7 @@ ghost use Rattle.redo_model.specs.Placed.{Fits};
 ghost use Rattle.redo_terms.specs.Meaning.{command_of, reply_of};
 ghost use Rattle.redo_journal.specs.Plans.{scripts_of};
 ghost use Rattle.redo_journal.specs.Journals.{place_of};
-ghost use Rattle.redo_replay.specs.Merging.{entries_of, AllFit, AreOfScript, FitsAt, MisfitsAt, OneMisfits};
+ghost use Rattle.redo_replay.specs.Inside.Merging.{entries_of, AllFit, AreOfScript, FitsAt, MisfitsAt, OneMisfits};
 
 use redo_command::{Command, Reply, Script};
 use redo_journal::{Entry, Journal, Place};

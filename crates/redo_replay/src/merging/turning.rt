@@ -1,7 +1,7 @@
 //! Which rows and grants came.
 
 ghost use Rattle.std.specs.Prelude.{◌↔◌, IsTrue, length};
-ghost use Rattle.redo_replay.specs.Merging.{Comes, IsWithin, Turned};
+ghost use Rattle.redo_replay.specs.Inside.Merging.{Comes, IsWithin, Turned};
 
 use redo_journal::Place;
 

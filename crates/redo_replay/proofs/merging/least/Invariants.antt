@@ -1,5 +1,5 @@
 use Rattle.std.proofs.Common.{ℕ, ◌<◌}
-use Rattle.redo_replay.specs.Merging.{SessionMayCome}
+use Rattle.redo_replay.specs.Inside.Merging.{SessionMayCome}
 use Rattle.redo_replay.proofs.merging.least.Given as goal
 
 abbrev pub invariant-looking : goal.invariant-looking

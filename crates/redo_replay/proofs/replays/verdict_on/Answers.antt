@@ -1,7 +1,8 @@
 use Rattle.std.proofs.Common.{◌≡◌, ◌≢◌, ◌+◌, ◌++◌, [], ◌∷◌, ap, rules, sym, subst, ◌∙◌, length, take, take_all}
 use Rattle.std.proofs.lemmas.List.{take_more, length-map}
 use Rattle.redo_model.specs.Names.{texts}
-use Rattle.redo_model.specs.Renaming.{OrdersAlike, numbering, IsReplyBelow}
+use Rattle.redo_model.specs.Renaming.{IsReplyBelow}
+use Rattle.redo_model.specs.Inside.Renaming.{OrdersAlike, numbering}
 use Rattle.redo_terms.specs.Meaning.{reply_of, line_at}
 use Rattle.redo_store.specs.Tables.{state_of, tables_order}
 use Rattle.redo_replay.proofs.Replayed.{Replayed, replayed_next, replayed_same, replayed_wrong}

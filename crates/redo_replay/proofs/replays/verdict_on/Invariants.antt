@@ -1,6 +1,6 @@
 use Rattle.std.proofs.Common.{◌≡◌, length, take}
 use Rattle.redo_model.specs.Names.{texts}
-use Rattle.redo_model.specs.Renaming.{OrdersAlike, numbering}
+use Rattle.redo_model.specs.Inside.Renaming.{OrdersAlike, numbering}
 use Rattle.redo_store.specs.Tables.{state_of, tables_order, tables_count, calls_of}
 use Rattle.redo_replay.proofs.Replayed.{Replayed}
 use Rattle.redo_replay.proofs.replays.verdict_on.Given as goal

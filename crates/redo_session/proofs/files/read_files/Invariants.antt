@@ -1,6 +1,7 @@
 use Rattle.std.proofs.Common.{◌≡◌, ◌≤◌, ℕ, None, [], take, get_or}
 use Rattle.redo_session.specs.Runs.{AreAccepted}
-use Rattle.redo_session.specs.Files.{bytes_of_files, flags_of_files, AreScriptsBelow, scripts_at}
+use Rattle.redo_session.specs.Files.{bytes_of_files, flags_of_files}
+use Rattle.redo_session.specs.Inside.Files.{AreScriptsBelow, scripts_at}
 use Rattle.redo_session.proofs.files.read_files.Given as goal
 
 abbrev pub invariant-loop-at : goal.invariant-loop-at

@@ -2,7 +2,7 @@ use Rattle.std.proofs.Common.{◌≡◌, ◌+◌, ◌++◌, length, map, codes, 
 use Rattle.redo_model.specs.History.{part_of}
 use Rattle.redo_terms.specs.Meaning.{line_at}
 use Rattle.redo_replay.specs.Histories.{ended}
-use Rattle.redo_session.specs.Printed.{answers_of}
+use Rattle.redo_session.specs.Inside.Printed.{answers_of}
 use Rattle.redo_session.proofs.printed.put_session.Given as goal
 
 -- the header counts all lines of the session

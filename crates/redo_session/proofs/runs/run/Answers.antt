@@ -11,7 +11,7 @@ use Rattle.redo_board.specs.declared.seat.Seat.{Seat}
 use Rattle.redo_board.specs.Outcomes.{Closes}
 use Rattle.redo_replay.specs.Merges.{AreMerged}
 use Rattle.redo_session.specs.Outcomes.{AreWhole}
-use Rattle.redo_session.specs.Sessions.{AreDone}
+use Rattle.redo_session.specs.Inside.Sessions.{AreDone}
 use Rattle.redo_session.proofs.Served.{Serves, for_all, served, are_journals, are_whole}
 use Rattle.redo_session.proofs.Outcomes.{is_run, history_below, seen_before}
 use Rattle.redo_session.proofs.runs.run.Goals as goal

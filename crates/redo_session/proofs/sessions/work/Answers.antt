@@ -2,7 +2,7 @@ use Rattle.std.proofs.Common.{rules, ◌≡◌, ◌-◌, ◌<◌, [], ◌∷◌,
 use Rattle.redo_journal.specs.Plans.{script_of}
 use Rattle.redo_board.specs.Shown.{session_of, journal_of, tries_of, rows_up_to, IsAtEnd}
 use Rattle.redo_board.specs.Outcomes.{Made}
-use Rattle.redo_session.specs.Sessions.{AreDone}
+use Rattle.redo_session.specs.Inside.Sessions.{AreDone}
 use Rattle.redo_session.proofs.Ended.{made_less, left_done}
 use Rattle.redo_session.proofs.sessions.work.Goals as goal
 

@@ -3,7 +3,7 @@ use Rattle.std.proofs.lemmas.List.{map_push}
 use Rattle.std.proofs.lemmas.Option.{get_or_from_slice_get, slice_get_within}
 use Rattle.redo_names.specs.Names.{text_at}
 use Rattle.redo_model.specs.Names.{Text}
-use Rattle.redo_text.specs.Reading.{words_after}
+use Rattle.redo_text.specs.Inside.Reading.{words_after}
 use Rattle.redo_text.proofs.NameLists.{AllBelow-push}
 use Rattle.redo_text.proofs.known.known_numbers.Goals as goal
 

@@ -6,8 +6,8 @@ use Rattle.redo_text.specs.declared.fault.Unread.{Unread}
 use Rattle.redo_text.specs.declared.fault.Unread.TheVariants as unread
 use Rattle.redo_text.specs.declared.fault.ReadFault.{ReadFault}
 use Rattle.redo_text.specs.declared.fault.ReadFault.TheVariants as faults
-use Rattle.redo_terms.specs.Meaning.{command_at}
-use Rattle.redo_text.specs.Reading.{Reading, Reads, line_in}
+use Rattle.redo_terms.specs.Inside.Meaning.{command_at}
+use Rattle.redo_text.specs.Inside.Reading.{Reading, Reads, line_in}
 use Rattle.redo_text.proofs.Steps.{same_given}
 use Rattle.redo_text.proofs.FaultOrCommand.{unread_fault}
 use Rattle.redo_text.proofs.LineLaws.{line_found, line_only}

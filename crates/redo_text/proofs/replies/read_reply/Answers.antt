@@ -1,7 +1,7 @@
 use Rattle.std.proofs.Common.{rules, ◌≡◌, List, Err, sym, ap, ◌∙◌, inr}
 use Rattle.redo_model.specs.Names.{Text}
 use Rattle.redo_model.specs.Reply.{Reply}
-use Rattle.redo_text.specs.ReplyReading.{reply_in}
+use Rattle.redo_text.specs.Inside.ReplyReading.{reply_in}
 use Rattle.redo_text.proofs.RepliesFound.{reply_found}
 use Rattle.redo_text.proofs.RepliesRead.{reply_only, reply_has_no_fault}
 use Rattle.redo_text.proofs.Steps.{same_given}

@@ -1,7 +1,7 @@
 use Rattle.std.proofs.Common.{◌≢◌, ◌∷◌, List, sym, ap, ◌∙◌}
 use Rattle.redo_model.specs.Names.{Text}
 use Rattle.redo_text.specs.declared.reply_kind.ReplyKind.TheVariants as kinds
-use Rattle.redo_text.specs.ReplyReading.{reply_word}
+use Rattle.redo_text.specs.Inside.ReplyReading.{reply_word}
 use Rattle.redo_text.specs.Questions.{words_of}
 use Rattle.redo_text.proofs.Fronts.{unanswered}
 use Rattle.redo_text.proofs.reply_kind.cut_reply_kind.Goals as goal

@@ -1,6 +1,6 @@
 use Rattle.std.proofs.Common.{◌≡◌, sym, ap, ◌∙◌, arith}
 use Rattle.std.proofs.lemmas.Fmt.{decimal_injective}
-use Rattle.redo_text.specs.ReplyReading.{grant_in}
+use Rattle.redo_text.specs.Inside.ReplyReading.{grant_in}
 use Rattle.redo_text.proofs.ReplyWords.{grant_read, grant_refused}
 use Rattle.redo_text.proofs.reply_words.grant_in_word.Goals as goal
 

@@ -2,10 +2,10 @@ use Rattle.std.proofs.Common.{◌≡◌, ℕ, ◌<◌, ◌≤◌, ◌∷◌, [],
 use Rattle.std.proofs.lemmas.List.{length-map}
 use Rattle.redo_text.specs.declared.fault.LineFault.{LineFault}
 use Rattle.redo_text.specs.declared.fault.Unread.TheVariants.{Fault}
-use Rattle.redo_terms.specs.Meaning.{command_at}
+use Rattle.redo_terms.specs.Inside.Meaning.{command_at}
 use Rattle.redo_text.specs.Grammar.{lines_of, IsScript}
 use Rattle.redo_text.specs.Faults.{IsFirstFault}
-use Rattle.redo_text.specs.Reading.{script_line_in}
+use Rattle.redo_text.specs.Inside.Reading.{script_line_in}
 use Rattle.redo_text.proofs.Added.{extends_then}
 use Rattle.redo_text.proofs.ScriptLaws.{scripts_agree}
 use Rattle.redo_text.proofs.ScriptSteps.{line_read, last_read, line_fails, read_fault, only_memory, first_is}

@@ -1,6 +1,6 @@
 use Rattle.std.proofs.Common.{◌+◌, ◌≤◌, map, length}
-use Rattle.redo_names.specs.Names.{Extends}
-use Rattle.redo_terms.specs.Meaning.{command_at}
+use Rattle.redo_names.specs.Inside.Names.{Extends}
+use Rattle.redo_terms.specs.Inside.Meaning.{command_at}
 use Rattle.redo_text.proofs.Scripts.{AreBelow}
 use Rattle.redo_text.proofs.ScriptSteps.{IsReadSoFar}
 use Rattle.redo_text.proofs.session_file.read_script.Given as goal

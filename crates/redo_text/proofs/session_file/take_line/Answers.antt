@@ -1,7 +1,7 @@
 use Rattle.std.proofs.Common.{◌≡◌, ℕ, length, Some, None, Ok, rules, subst}
 use Rattle.std.specs.Option.{option_map}
-use Rattle.redo_terms.specs.Meaning.{command_at}
-use Rattle.redo_text.specs.Reading.{script_line_in}
+use Rattle.redo_terms.specs.Inside.Meaning.{command_at}
+use Rattle.redo_text.specs.Inside.Reading.{script_line_in}
 use Rattle.redo_text.proofs.Scripts.{line_more, AreBelow-Extends, AreBelow-push}
 use Rattle.redo_text.proofs.session_file.take_line.Goals as goal
 

@@ -1,7 +1,7 @@
 use Rattle.std.proofs.Common.{◌≡◌, ℕ, List, ◌-◌, ◌<◌, sym, ap, subst, ◌∙◌, arith, [], ◌∷◌, length}
 use Rattle.std.proofs.lemmas.List.{length-map}
 use Rattle.redo_model.specs.Names.{texts}
-use Rattle.redo_model.specs.Renaming.{OrdersAlike, numbering}
+use Rattle.redo_model.specs.Inside.Renaming.{OrdersAlike, numbering}
 use Rattle.redo_store.specs.Stored.{order_of}
 use Rattle.redo_terms.specs.Meaning.{command_of}
 use Rattle.redo_journal.specs.Plans.{script_of}

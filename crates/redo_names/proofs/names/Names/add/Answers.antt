@@ -1,6 +1,7 @@
 use Rattle.std.proofs.Common.{◌≡◌, ◌∙◌, ℕ, ◌<◌, ◌≤◌, List, [], ◌∷◌, ◌++◌, length, sym, ap, subst, arith, Some, slice_get, false}
 use Rattle.std.proofs.lemmas.Option.{slice_get_within}
-use Rattle.redo_names.specs.Names.{has, AreNames}
+use Rattle.redo_names.specs.Names.{has}
+use Rattle.redo_names.specs.Inside.Names.{AreNames}
 use Rattle.redo_names.proofs.Keys.{texts, length-texts, texts-insert}
 use Rattle.redo_names.proofs.NameLists.{with_name-new, AreNames-push, slice_get-last}
 use Rattle.redo_names.proofs.names.Names.add.Goals as goal

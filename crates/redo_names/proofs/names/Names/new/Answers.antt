@@ -1,6 +1,6 @@
 use Rattle.std.proofs.Common.{subst, sym, List, ℕ}
 use Rattle.std.specs.Global.{Vec}
-use Rattle.redo_names.specs.Names.{AreNames}
+use Rattle.redo_names.specs.Inside.Names.{AreNames}
 use Rattle.redo_names.proofs.Keys.{texts}
 use Rattle.redo_names.proofs.NameLists.{AreNames-none}
 use Rattle.redo_names.proofs.names.Names.new.Goals as goal

@@ -1,6 +1,6 @@
 use Rattle.std.proofs.Common.{◌≡◌, ◌∙◌, ℕ, List, take, sym, subst}
 use Rattle.std.specs.List.{Contains}
-use Rattle.redo_model.specs.OutOfDate.{TouchesSeed}
+use Rattle.redo_model.specs.Inside.OutOfDate.{TouchesSeed}
 use Rattle.redo_rows.specs.Rows.{with_rows}
 use Rattle.redo_ood.specs.Marks.{IsMarked, HoldsOnly, size_of}
 use Rattle.redo_ood.specs.Regions.{EntersDue}

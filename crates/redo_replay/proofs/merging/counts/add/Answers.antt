@@ -2,7 +2,7 @@ use Rattle.std.proofs.Common.{ap, sym, ◌∙◌, ◌+◌}
 use Rattle.std.specs.Option.{unwrap_or}
 use Rattle.std.specs.HashMap.{get}
 use Rattle.std.proofs.lemmas.Map.{count_at-update}
-use Rattle.redo_replay.specs.Merging.{tally, same_pair, busy_one}
+use Rattle.redo_replay.specs.Inside.Merging.{tally, same_pair, busy_one}
 use Rattle.redo_replay.proofs.BusyCounts.{put_at}
 use Rattle.redo_replay.proofs.merging.counts.add.Goals as goal
 

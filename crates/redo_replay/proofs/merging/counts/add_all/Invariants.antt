@@ -1,5 +1,5 @@
 use Rattle.std.proofs.Common.{◌≡◌, ℕ, ◌+◌, take}
-use Rattle.redo_replay.specs.Merging.{tally, busy_in}
+use Rattle.redo_replay.specs.Inside.Merging.{tally, busy_in}
 use Rattle.redo_replay.proofs.merging.counts.add_all.Given as goal
 
 abbrev pub invariant-adding : goal.invariant-adding

@@ -1,6 +1,6 @@
 use Rattle.std.proofs.Common.{◌≡◌, ℕ}
-use Rattle.redo_replay.specs.Merging.{entries_of}
-use Rattle.redo_replay.specs.Merging.{tally, busy_below}
+use Rattle.redo_replay.specs.Inside.Merging.{entries_of}
+use Rattle.redo_replay.specs.Inside.Merging.{tally, busy_below}
 use Rattle.redo_replay.proofs.merging.counts.busy_answers.Given as goal
 
 abbrev pub invariant-counting : goal.invariant-counting

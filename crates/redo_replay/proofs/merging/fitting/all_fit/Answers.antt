@@ -1,7 +1,7 @@
 use Rattle.std.proofs.Common.{arith, ℕ, ◌≡◌, [], ap, sym, ◌∙◌, map, get_or, slice_index_or}
 use Rattle.redo_terms.specs.Meaning.{command_of}
 use Rattle.redo_journal.specs.Plans.{scripts_of}
-use Rattle.redo_replay.specs.Merging.{entries_of, FitsAt}
+use Rattle.redo_replay.specs.Inside.Merging.{entries_of, FitsAt}
 use Rattle.redo_replay.proofs.Unmerged.{next_below, entries_at, script_at, of_script, fits_back, misfit_back}
 use Rattle.redo_replay.proofs.merging.fitting.all_fit.Goals as goal
 

@@ -14,7 +14,7 @@ use Rattle.redo_text.specs.declared.fault.LineFault.TheVariants.{WrongWords, Bad
 use Rattle.redo_text.specs.declared.reply_kind.ReplyKind.{ReplyKind}
 use Rattle.redo_text.specs.declared.reply_kind.ReplyKind.TheVariants as kinds
 use Rattle.redo_text.specs.Questions.{words_of}
-use Rattle.redo_text.specs.Reading.{◌>>=◌, name_in, all_added}
+use Rattle.redo_text.specs.Inside.Reading.{◌>>=◌, name_in, all_added}
 use Rattle.redo_text.specs.Replies.{names_in_reply}
 
 -- what the one word of the list is read as

@@ -2,7 +2,8 @@
 use Rattle.std.specs.Prelude.{◌<◌, ◌≤◌, length, map}
 use Rattle.std.specs.List.{AllByRecursion}
 use Rattle.redo_terms.specs.Meaning.{line_of}
-use Rattle.redo_replay.specs.Recorded.{Recorded, AreLinesBelow}
+use Rattle.redo_replay.specs.Recorded.{AreLinesBelow}
+use Rattle.redo_replay.specs.Inside.Recorded.{Recorded}
 use Rattle.redo_replay.specs.declared.history.History.TheInside.{Inside}
 
 abbrev pub recorded_of : Inside → Recorded

@@ -2,7 +2,8 @@
 use Rattle.std.specs.Prelude.{ℕ, ◌+◌, ◌*◌, cond, List, [], ◌∷◌, ◌++◌, ◌==◌}
 use Rattle.redo_model.specs.Names.{Naming}
 use Rattle.redo_model.specs.Command.{target_of}
-use Rattle.redo_model.specs.Placed.{Place, Row, Granted, Busy, Released, PlacedLine, part_of, grants_in, releases_in, holds_by}
+use Rattle.redo_model.specs.Placed.{Place, Row, Granted, Busy, Released, PlacedLine, part_of, grants_in, releases_in}
+use Rattle.redo_model.specs.Inside.Placed.{holds_by}
 
 -- the words with the word of a line in front, where the line has a row
 abbrev pub word_before : {N : Type 0} → Place N → ℕ → List ℕ → List ℕ

@@ -1,0 +1,9 @@
+pub mod Names
+pub mod State
+pub mod OutOfDate
+pub mod Placed
+pub mod Journals
+pub mod Words
+pub mod Renaming
+pub mod Worked
+pub mod Merging

@@ -1,0 +1,12 @@
+-- Journals, which tell what one session did, and the histories that journals can be joined to.
+use Rattle.std.specs.Prelude.{◌≡◌, ℕ, ◌<◌, ◌≤◌, ◌⊎◌, List, [], ◌∷◌, ◌++◌, length, Option, Some, None, option_map, slice_get}
+use Rattle.redo_model.specs.Command.{Command}
+use Rattle.redo_model.specs.Placed.{PlacedLine, part_of}
+use Rattle.redo_model.specs.Journals.{IsJournal}
+
+module _ {N : Type 0} (plan : ℕ → List (Command N)) where
+  -- a plan has a script for each session, of at most 4,096 commands; the lines of each session are
+  -- its journal
+  pub record IsOfPlan (lines : List (PlacedLine N)) : Type 0 where
+    pub journals : (s : ℕ) → IsJournal s (plan s) (part_of s lines)
+    pub short : (s : ℕ) → length (plan s) ≤ 4096

@@ -1,0 +1,19 @@
+-- Which targets are out of date, which names are stale, and which are sources.
+use Rattle.std.specs.Prelude.{◌≡◌, ◌≢◌, ◌⊎◌, List, [], ◌∷◌, Some, IsSome, IsTrue, IsNone, Contains, ⊤}
+use Rattle.redo_model.specs.State.{Records}
+use Rattle.redo_model.specs.OutOfDate.{IsTarget, Chain, Depends, HasRow}
+
+-- a seed, or a target with a row on a seed
+abbrev pub TouchesSeed : {N : Type 0} → Records N → List N → N → Type 0
+TouchesSeed {N} r seeds t = Contains seeds t ⊎ (IsTarget r t × ((n : N) × Contains seeds n × HasRow r t n))
+
+-- the region of the seeds: what touches one, and the targets from which a chain of change rows leads there
+abbrev pub InRegion : {N : Type 0} → Records N → List N → N → Type 0
+InRegion {N} r seeds t = (ns : List N) × Chain (Depends r) (TouchesSeed r seeds) t ns
+
+-- two states that differ in the cells and the rows of the seeds alone
+pub record DifferAt {N : Type 0} (seeds : List N) (old new : Records N) : Type 0 where
+  pub cell : (n : N) → (Contains seeds n → ⊥) → old.cell n ≡ new.cell n
+  pub change : (t n : N) → (Contains seeds t → ⊥) → old.rows.change t n ≡ new.rows.change t n
+  pub created : (t n : N) → (Contains seeds t → ⊥) → old.rows.created t n ≡ new.rows.created t n
+  pub always : (t : N) → (Contains seeds t → ⊥) → old.rows.always t ≡ new.rows.always t

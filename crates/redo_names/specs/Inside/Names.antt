@@ -1,0 +1,15 @@
+-- What a name is, and lists of distinct names.
+use Rattle.std.specs.Prelude.{◌≡◌, ℕ, ◌≤◌, Bool, true, false, ◌&&◌, ◌||◌, not, ◌==◌, nat_le, List, [], ◌∷◌, ◌++◌, length, if◌then◌else◌, bytes_eq, slice_index_or, codes}
+use Rattle.std.specs.List.{list_all, list_any, IsDistinct, AllByRecursion}
+use Rattle.redo_names.specs.Names.{AreAllNames}
+
+-- the old names are a front of the new ones, so they keep their numbers
+pub record Extends (old new : List (List ℕ)) : Type 0 where
+  pub more : List (List ℕ)
+  pub is : new ≡ old ++ more
+
+-- at most 65,536 texts, no two of them equal, and each of them a name
+pub record AreNames (names : List (List ℕ)) : Type 0 where
+  pub few : length names ≤ 65536
+  pub distinct : IsDistinct bytes_eq names
+  pub each : AreAllNames names

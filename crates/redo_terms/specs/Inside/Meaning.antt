@@ -1,0 +1,31 @@
+-- What the values of the code mean: over numbers, and over the names that the numbers stand for.
+use Rattle.std.specs.Prelude.{ℕ, List}
+use Rattle.redo_names.specs.Names.{text_at}
+use Rattle.redo_model.specs.Names.{Text}
+use Rattle.redo_model.specs.Command as commands
+use Rattle.redo_model.specs.Renaming.{named_command}
+use Rattle.redo_terms.specs.declared.command.Command.{Command}
+use Rattle.redo_terms.specs.declared.command.Command.TheVariants.{File, Gone, Lock, Unlock, Start, IfChange, IfCreate, Always, Stamp, Done, Failed, Ood, Targets, Sources}
+use Rattle.redo_terms.specs.declared.kind.Kind.{Kind}
+use Rattle.redo_terms.specs.declared.kind.Kind.TheVariants as kinds
+use Rattle.redo_terms.specs.Meaning.{command_of}
+
+abbrev pub kind_of : Command → Kind
+kind_of (File n stamp) = kinds.File
+kind_of (Gone n) = kinds.Gone
+kind_of (Lock t) = kinds.Lock
+kind_of (Unlock t) = kinds.Unlock
+kind_of (Start t) = kinds.Start
+kind_of (IfChange t names) = kinds.IfChange
+kind_of (IfCreate t names) = kinds.IfCreate
+kind_of (Always t) = kinds.Always
+kind_of (Stamp t content) = kinds.Stamp
+kind_of (Done t stamp) = kinds.Done
+kind_of (Failed t) = kinds.Failed
+kind_of Ood = kinds.Ood
+kind_of Targets = kinds.Targets
+kind_of Sources = kinds.Sources
+
+-- under the names that the numbers stand for
+abbrev pub command_at : List Text → Command → commands.Command Text
+command_at names command = named_command (text_at names) (command_of command)

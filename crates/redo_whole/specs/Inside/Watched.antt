@@ -1,0 +1,8 @@
+-- Readers and writers that remember a failure.
+use Rattle.std.specs.Prelude.{◌≡◌, ℕ, Bool, Option, List, ◌++◌}
+use Rattle.std.specs.Io.KnownBytes.{Appends}
+
+-- known bytes grow by a front of these bytes
+abbrev pub AppendsFront : Option (List ℕ) → Option (List ℕ) → List ℕ → Type 0
+AppendsFront old new bytes =
+    (sent : List ℕ) × (rest : List ℕ) × (bytes ≡ sent ++ rest) × Appends old new sent
