@@ -60,7 +60,7 @@ impl Plain {
         }
     }
 
-    pub(crate) fn has_file(&self, n: u32) -> bool {
+    pub fn has_file(&self, n: u32) -> bool {
         match self.known(n) {
             Some(known) => known.has_file(),
             None => false,

@@ -72,7 +72,7 @@ impl Plain {
 
     /// The targets that are out of date, in any order: those that have a reason of their own, and as many times as
     /// there are names, those that need one that was found so far.
-    pub fn out_of_date(&self, alloc: Global) -> Result<Vec<u32>, AllocError> {
+    fn out_of_date(&self, alloc: Global) -> Result<Vec<u32>, AllocError> {
         let mut old = Vec::new(alloc);
         for t in 0..self.count() {
             if self.has_reason(t) {

@@ -1,4 +1,4 @@
-//! The database beside the plain form of it, which has to give the same replies.
+//! The database beside the plain form of it, which has to give the same replies, and beside the slow search.
 ghost use Rattle.std.specs.Prelude.{◌≡◌, length, IfOk};
 ghost use Rattle.redo_store.specs.Tables.{tables_count};
 ghost use Rattle.redo_model.specs.Renaming.{IsBelow};
@@ -6,8 +6,9 @@ ghost use Rattle.redo_terms.specs.Meaning.{command_of};
 ghost use Rattle.redo_tests_store.specs.declared.random.TheConstants.{NAMES};
 
 use crate::random::NAMES;
+use crate::search::search;
 use crate::sorts::{Sort, sort_of};
-use redo_command::Command;
+use redo_command::{Command, Reply};
 use redo_names::{Names, is_name};
 use redo_plain::Plain;
 use redo_store::Redo;
@@ -51,7 +52,8 @@ impl Compared {
         Ok(Compared { redo, plain })
     }
 
-    /// The reply of the database is that of the plain form, and so is what is out of date after it. Answers its sort.
+    /// The reply of the database is that of the plain form, and so is what is out of date after it. Answers the sort
+    /// of the reply.
     pub(crate) fn call(
         &mut self,
         rt: &impl Abort,
@@ -66,6 +68,7 @@ impl Compared {
         Ok(sort)
     }
 
+    /// The reply is that of the plain form, and what it says of being out of date is what the search finds.
     fn ask(
         &mut self,
         rt: &impl Abort,
@@ -79,16 +82,34 @@ impl Compared {
         let reply = self.redo.call(alloc, session, command)?;
         let want = self.plain.call(alloc, session, command)?;
         assert!(rt; reply.is_same(&want), "{session} {command:?}");
+        self.check_found(rt, command, &reply);
         Ok(sort_of(&reply))
     }
 
-    /// For each name, whether it is a target that is out of date.
-    pub(crate) fn out_of_date(&self, alloc: Global) -> Result<[bool; 12], AllocError> {
-        let targets = self.plain.out_of_date(alloc)?;
-        let mut out = [false; 12];
+    /// The names that the reply tells are those that the search finds, where they are asked for.
+    fn check_found(&self, rt: &impl Abort, command: &Command, reply: &Reply) {
+        let told = match (command, reply) {
+            (Command::Ood, Reply::Ood(names)) => names.as_slice(),
+            (Command::IfChange(..), Reply::Stale(names)) => names.as_slice(),
+            (Command::IfChange(..), Reply::Okay) => &[],
+            _ => return,
+        };
+        let found = search(&self.plain);
         for n in 0..NAMES {
-            out[n as usize] = targets.contains(&n);
+            let want = self.is_asked_for(command, n, found[n as usize]);
+            assert!(rt; told.contains(&n) == want, "{command:?} {n}");
         }
-        Ok(out)
+    }
+
+    /// Whether the reply to the command has to tell the name, which is out of date or not.
+    fn is_asked_for(&self, command: &Command, n: u32, is_out: bool) -> bool {
+        match command {
+            Command::Ood => is_out && self.plain.has_file(n),
+            Command::IfChange(_, names) => {
+                let is_missing = !self.plain.is_target(n) && !self.plain.has_file(n);
+                names.contains(&n) && (is_out || is_missing)
+            }
+            _ => false,
+        }
     }
 }

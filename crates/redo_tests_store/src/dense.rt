@@ -1,9 +1,10 @@
-//! The database against its plain form, over builds of targets on one another.
+//! The database against its plain form and the slow search, over builds of targets on one another.
 ghost use Rattle.std.specs.Prelude.{◌≡◌, ◌<◌, length};
 
 use crate::builds::{STEPS, TARGETS, step_command};
 use crate::compared::{Compared, all_names};
 use crate::random::{NAMES, Random, owner};
+use crate::search::search;
 use crate::shapes::shapes_in;
 use redo_names::Names;
 use redo_plain::Plain;
@@ -62,15 +63,14 @@ fn are_many_lost(first: &[bool; 12], second: &[bool; 12]) -> bool {
 }
 
 /// Counts what a build left.
-fn note_shapes(alloc: Global, compared: &Compared, met: &mut Met) -> Result<(), AllocError> {
-    let shapes = shapes_in(&compared.plain);
-    let is_fresh = compared.plain.out_of_date(alloc)?.is_empty();
+fn note_shapes(plain: &Plain, met: &mut Met) {
+    let shapes = shapes_in(plain);
+    let is_fresh = !search(plain).contains(&true);
     count_if(shapes.cycle, &mut met.cycle);
     count_if(shapes.diamond, &mut met.diamond);
     count_if(shapes.chain, &mut met.chain);
     count_if(shapes.popular, &mut met.popular);
     count_if(shapes.cycle && is_fresh, &mut met.fresh_cycle);
-    Ok(())
 }
 
 /// A step of a build of the target has the same reply by both databases.
@@ -101,13 +101,14 @@ fn build(
     requires { t < NAMES }
 {
     for step in 0..STEPS {
-        let before = compared.out_of_date(alloc)?;
+        let before = search(&compared.plain);
         obey(rt, alloc, compared, random, t, step)?;
-        let after = compared.out_of_date(alloc)?;
+        let after = search(&compared.plain);
         count_if(are_many_lost(&after, &before), &mut met.spread);
         count_if(are_many_lost(&before, &after), &mut met.settled);
     }
-    note_shapes(alloc, compared, met)
+    note_shapes(&compared.plain, met);
+    Ok(())
 }
 
 /// The builds of one list.

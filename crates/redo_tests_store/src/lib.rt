@@ -20,6 +20,8 @@ mod regions;
 #[cfg(test)]
 mod rows;
 #[cfg(test)]
+mod search;
+#[cfg(test)]
 mod shapes;
 #[cfg(test)]
 mod sorts;

@@ -1,4 +1,4 @@
-//! The database against its plain form, over commands drawn at random.
+//! The database against its plain form and the slow search, over commands drawn at random.
 ghost use Rattle.std.specs.Prelude.{◌≡◌, ◌<◌, ◌≤◌, length};
 
 use crate::compared::{Compared, all_names};

@@ -38,7 +38,7 @@ fn lengthen_all(plain: &Plain, chain: u32, lengths: &mut [u32; 12])
 }
 
 /// For each name, of how many rows the shortest chain is that leads there from the target; 0 where none does.
-fn lengths_from(plain: &Plain, t: u32) -> [u32; 12] {
+pub(crate) fn lengths_from(plain: &Plain, t: u32) -> [u32; 12] {
     let mut lengths = [0; 12];
     lengthen(plain, t, 1, &mut lengths);
     for chain in 1..NAMES {
