@@ -50,8 +50,8 @@ fn leave_apart(
 {
     let (board, seat) = Board::open(alloc, plan)?;
     let (left, right) = split(&board, plan, seat, 1);
-    let first = worker_of(alloc, plan, left)?;
-    let second = worker_of(alloc, plan, right)?;
+    let first = worker_of(alloc, &board, plan, left)?;
+    let second = worker_of(alloc, &board, plan, right)?;
     let (left, journal) = leave_after(rt, alloc, &board, plan, first, 3)?;
     let (right, other) = leave_after(rt, alloc, &board, plan, second, 4)?;
     let all = meet(&board, plan, left, right);

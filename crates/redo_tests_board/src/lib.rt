@@ -20,6 +20,8 @@ mod schedules;
 #[cfg(test)]
 mod seats;
 #[cfg(test)]
+mod threads;
+#[cfg(test)]
 mod whole_runs;
 #[cfg(test)]
 mod worked;

@@ -1,19 +1,20 @@
 //! Refused requests for memory: these tests pass with any one request refused, too.
-ghost use Rattle.std.specs.Prelude.{length, IfOk};
+ghost use Rattle.std.specs.Prelude.{◌≡◌, length, IfOk};
 ghost use Rattle.redo_board.specs.Kept.{IsBoardOf, SitsAt, IsFreshOf};
 
+use crate::gates::Holds;
 use crate::histories::{history_of, replays};
 use crate::outcomes::{ran, tries_of};
 use crate::plans::plan_of;
 use crate::seats::close;
+use crate::threads::journals_of;
 use crate::worked::{COMMON_PATH, COMMON_PATH_HISTORY, LOST_TRY, LOST_TRY_HISTORY, lost_try};
 use crate::workers::work;
 use redo_board::{Board, Open, Seat};
 use redo_journal::{Journal, Plan};
-use redo_session::{Outcome, RunFault};
+use redo_session::RunFault;
 use std::alloc::{AllocError, Global};
 use std::process::Abort;
-use std::sync::Wait;
 use std::thread::Threads;
 
 /// The plan of these files. Where a request is refused, the next try succeeds.
@@ -33,6 +34,14 @@ fn opened(alloc: Global, plan: &Plan) -> Result<(Board, Seat), AllocError>
     match Board::open(alloc, plan) {
         Ok(opened) => Ok(opened),
         Err(_) => Board::open(alloc, plan),
+    }
+}
+
+/// The gate of the lost try. Where a request is refused, the next try succeeds.
+fn gated(alloc: Global) -> Result<Holds, AllocError> {
+    match lost_try(alloc) {
+        Ok(gate) => Ok(gate),
+        Err(_) => lost_try(alloc),
     }
 }
 
@@ -62,27 +71,34 @@ fn every_request_refused(rt: HostRuntime) -> Result<(), AllocError> {
     Ok(())
 }
 
-/// The run of the lost try, where it came so.
-fn lost<R: Threads + Wait + Abort + Sync>(
+/// The journals of the lost try. Without a thread of its own, a session waits in vain for the other.
+fn lost<R: Threads + Abort + Sync>(
     rt: &R,
     alloc: Global,
     plan: &Plan,
-) -> Result<(Outcome, Vec<u8>), RunFault> {
-    let gate = lost_try(alloc)?;
-    let left = ran(rt, alloc, plan, &gate)?;
-    assert!(rt; gate.are_met() && gate.ready_calls() == 6);
-    Ok(left)
+) -> Result<Vec<Journal>, AllocError>
+    requires { length plan.now.scripts ≡ 2 }
+{
+    let gate = gated(alloc)?;
+    let (rows, journals) = journals_of(rt, alloc, plan, &gate)?;
+    if !gate.are_met() {
+        return Err(AllocError);
+    }
+    assert!(rt; rows == 6 && gate.ready_calls() == 6);
+    Ok(journals)
 }
 
 #[test]
-fn refused_after_the_lost_row(rt: HostRuntime) -> Result<(), RunFault> {
+fn refused_after_the_lost_row(rt: HostRuntime) -> Result<(), AllocError> {
     let alloc = rt.alloc();
     let plan = planned(&rt, alloc, &LOST_TRY)?;
-    let (outcome, history) = match lost(&rt, alloc, &plan) {
-        Ok(left) => left,
-        Err(RunFault::Memory) => lost(&rt, alloc, &plan)?,
+    assert!(rt; plan.scripts().len() == 2);
+    let journals = match lost(&rt, alloc, &plan) {
+        Ok(journals) => journals,
+        Err(_) => lost(&rt, alloc, &plan)?,
     };
-    assert!(rt; tries_of(&outcome.journals, 0) == 6 && tries_of(&outcome.journals, 1) == 5);
+    assert!(rt; tries_of(&journals, 0) == 6 && tries_of(&journals, 1) == 5);
+    let history = merged(&rt, alloc, &plan, &journals)?;
     assert!(rt; history.as_slice() == LOST_TRY_HISTORY.as_bytes());
     Ok(())
 }

@@ -1,6 +1,6 @@
 //! Runs of whole plans, each session on a thread of its own.
 use crate::gates::{Hold, Holds, Moment};
-use crate::histories::{replays, rows_in};
+use crate::histories::replays;
 use crate::outcomes::{ran, tries_of};
 use crate::plans::plan_of;
 use crate::worked::{
@@ -111,33 +111,16 @@ fn common_path_beside_own_lock(rt: HostRuntime) -> Result<(), RunFault> {
     Ok(())
 }
 
-/// What a run of these files leaves replays as the same, with so many lines. Answers how many of
-/// them are at rows.
-fn runs_freely<R: Threads + Wait + Abort + AllocGlobal + Sync>(
-    rt: &R,
-    files: &[&str],
-    lines: usize,
-) -> Result<usize, RunFault> {
-    let alloc = rt.alloc();
-    let plan = plan_of(rt, alloc, files)?;
-    let (outcome, history) = ran(rt, alloc, &plan, &Open)?;
-    replays(rt, alloc, &history, lines)?;
-    assert!(rt; outcome.journals.len() == files.len());
-    Ok(rows_in(&outcome.journals))
-}
-
-#[test]
-fn two_seats(rt: HostRuntime) -> Result<(), RunFault> {
-    assert!(rt; runs_freely(&rt, &FILES, 2)? == 2);
-    Ok(())
-}
-
 /// The file of each of many sessions: all build one target.
 const BUILD: &str = "file a 1\nlock t\nstart t\nifchange t a\ndone t 1\nunlock t\nood\n";
 
-/// As many sessions as a plan has at most.
+/// As many sessions as a plan has at most. What they leave replays as the same.
 #[test]
 fn most_sessions(rt: HostRuntime) -> Result<(), RunFault> {
-    runs_freely(&rt, &[BUILD; 64], 448)?;
+    let alloc = rt.alloc();
+    let plan = plan_of(&rt, alloc, &[BUILD; 64])?;
+    let (outcome, history) = ran(&rt, alloc, &plan, &Open)?;
+    assert!(rt; outcome.journals.len() == 64);
+    replays(&rt, alloc, &history, 448)?;
     Ok(())
 }

@@ -1,0 +1,78 @@
+//! Two sessions, each on a thread of its own.
+ghost use Rattle.std.specs.Prelude.{◌≡◌, ◌+◌, ◌<◌, length, IfOk};
+ghost use Rattle.redo_board.specs.Shown.{first_of, end_of};
+ghost use Rattle.redo_board.specs.Kept.{IsBoardOf, SitsAt, IsFresh, IsFreshOf};
+ghost use Rattle.redo_tests_board.specs.Workers.{HasFrom};
+
+use crate::plans::plan_of;
+use crate::seats::{close, meet, split};
+use crate::worked::FILES;
+use crate::workers::work;
+use redo_board::{Board, Gate, Open, Seat};
+use redo_journal::{Journal, Plan};
+use std::alloc::{AllocError, Global};
+use std::process::Abort;
+use std::thread::{Threads, join};
+
+/// Does the scripts of both sessions. Both threads are joined before it answers.
+fn work_both<G: Gate + Sync, R: Threads + Abort + Sync>(
+    rt: &R,
+    alloc: Global,
+    board: &Board,
+    plan: &Plan,
+    gate: &G,
+    seat: Seat,
+) -> Result<(Seat, Journal, Journal), AllocError>
+    requires board { IsBoardOf plan.now board.now × SitsAt plan.now board.now seat }
+    requires fresh { IsFreshOf 0 (length plan.now.scripts) seat }
+    requires two { length plan.now.scripts ≡ 2 }
+    ensures { IfOk result (λ r. HasFrom plan.now board.now 0 (length plan.now.scripts) r.0) }
+{
+    let (left, right) = split(board, plan, seat, 1);
+    let (one, other) = join(
+        rt,
+        || -> Result<(Seat, Journal), AllocError>
+            requires { IsBoardOf plan.now board.now × SitsAt plan.now board.now left
+                × IsFresh left × (end_of left ≡ first_of left + 1)
+                × (first_of left < length plan.now.scripts) }
+            ensures { IfOk result (λ r. HasFrom plan.entry.now board.entry.now
+                (first_of left) (end_of left) r.0) }
+        { work(rt, alloc, board, plan, gate, left) },
+        || -> Result<(Seat, Journal), AllocError>
+            requires { IsBoardOf plan.now board.now × SitsAt plan.now board.now right
+                × IsFresh right × (end_of right ≡ first_of right + 1)
+                × (first_of right < length plan.now.scripts) }
+            ensures { IfOk result (λ r. HasFrom plan.entry.now board.entry.now
+                (first_of right) (end_of right) r.0) }
+        { work(rt, alloc, board, plan, gate, right) },
+    );
+    let (Ok((one, first)), Ok((other, second))) = (one, other) else {
+        return Err(AllocError);
+    };
+    Ok((meet(board, plan, one, other), first, second))
+}
+
+/// The number of filled rows, and the journals of a plan's two sessions.
+pub(crate) fn journals_of<G: Gate + Sync, R: Threads + Abort + Sync>(
+    rt: &R,
+    alloc: Global,
+    plan: &Plan,
+    gate: &G,
+) -> Result<(usize, Vec<Journal>), AllocError>
+    requires { length plan.now.scripts ≡ 2 }
+{
+    let (board, seat) = Board::open(alloc, plan)?;
+    let (all, first, second) = work_both(rt, alloc, &board, plan, gate, seat)?;
+    let rows = close(board, plan, all);
+    Ok((rows, vec![in alloc; first, second]?))
+}
+
+#[test]
+fn two_seats(rt: HostRuntime) -> Result<(), AllocError> {
+    let alloc = rt.alloc();
+    let plan = plan_of(&rt, alloc, &FILES)?;
+    assert!(rt; plan.scripts().len() == 2);
+    let (rows, _) = journals_of(&rt, alloc, &plan, &Open)?;
+    assert!(rt; rows == 2);
+    Ok(())
+}
