@@ -11,7 +11,8 @@ use std::io;
 
 /// Reads the history and prints it, which has to give the same text; answers how many lines it has.
 fn once(alloc: Global, text: &[u8]) -> Result<usize>
-    ensures { IfOk result (λ count. (lines : List (Line Text)) × (text.now ≡ history_text_of lines) × (count ≡ length lines)) }
+    ensures { IfOk result (λ count. (lines : List (Line Text))
+        × (text.now ≡ history_text_of lines) × (count ≡ length lines)) }
 {
     let history = read_history(alloc, text)?;
     let lines = history.lines();

@@ -1,5 +1,5 @@
 -- Fresh seats: ranges of sessions, and how they are cut.
-use Rattle.std.proofs.Common.{◌≡◌, ◌≢◌, ℕ, zero, suc, ◌+◌, ◌-◌, ◌<◌, ◌≤◌, cond, lt-ltb, le-ltb, List, [], ◌∷◌, length, get_or, refl, sym, ap, ◌∙◌, subst, inl, inr, ⊎_elim, arith}
+use Rattle.std.proofs.Common.{◌≡◌, ◌≢◌, ℕ, zero, suc, ◌+◌, ◌-◌, ◌<◌, ◌≤◌, cond, lt-ltb, le-ltb, List, [], ◌∷◌, length, get_or, refl, sym, ap, ◌∙◌, subst, ⊎_elim, arith}
 use Rattle.std.proofs.lemmas.List.{get_or_past}
 use mathlib.Core.Logic.{dite}
 use mathlib.Core.Option.{some, some-injective, some-ne-none}
@@ -24,12 +24,6 @@ range_fits p n k =
 
 pub fresh_fits : (p : PlanOf) → Fits p [] (first_view p)
 fresh_fits p = range_fits p 0 (length p.scripts)
-
--- each session of a range is there, without lines
-pub range_has : (n k s : ℕ) → n ≤ s → s < n + k → HasPart (range n k) s []
-range_has n zero s a b = absurd (omega arith)
-range_has n (suc k) s a b = dite (ℕ_discrete n s) (λ e. inl (e, refl))
-    (λ ne. inr (range_has (n + 1) k s (omega arith) (omega arith)))
 
 -- a range that is cut
 pub below-range : (m n k : ℕ) → n ≤ m → m ≤ n + k → below m (range n k) ≡ range n (m - n)

@@ -1,6 +1,6 @@
 -- Lists in order, each name once: two with the same members are equal.
-use Rattle.std.proofs.Common.{◌≡◌, ◌⊎◌, ◌↔◌, Bool, true, false, cond, List, [], ◌∷◌, refl, sym, ap, ◌∙◌, subst, inl, inr, arith, suc}
-use Rattle.std.specs.List.{Contains, filter}
+use Rattle.std.proofs.Common.{◌≡◌, ◌↔◌, List, [], ◌∷◌, refl, sym, ◌∙◌, subst, inl, inr, arith, suc}
+use Rattle.std.specs.List.{Contains}
 use Rattle.std.specs.declared.cmp.Ordering.TheVariants.{Less}
 use Rattle.redo_model.specs.Names.{Naming, Ascending, IsListed}
 use Rattle.redo_model.specs.Inside.Names.{IsNaming}
@@ -62,36 +62,3 @@ module _ {N : Type 0} {naming : Naming N} (law : IsNaming naming) where
   one_list xs ys p q =
       same_ascending xs ys p.0 q.0
       (λ n. (λ h. (q.1 n).1 ((p.1 n).0 h), λ h. (p.1 n).1 ((q.1 n).0 h)))
-
-module _ {X : Type 0} (test : X → Bool) where
-  contains_cond : (b : Bool) (x : X) (xs : List X) (n : X) → Contains (cond b (x ∷ xs) xs) n
-      → ((x ≡ n) × (b ≡ true)) ⊎ Contains xs n
-  contains_cond true x xs n h =
-      elim (contains_cases x xs n h) [ inl e ↦ inl (e, refl) | inr k ↦ inr k ]
-  contains_cond false x xs n h = inr h
-
-  -- what a filter keeps
-  pub contains_from_filter : (xs : List X) (n : X) → Contains (filter test xs) n
-      → Contains xs n × (test n ≡ true)
-  contains_from_filter [] n h = absurd (contains_none n h)
-  contains_from_filter (x ∷ xs) n h =
-      elim (contains_cond (test x) x (filter test xs) n h) [
-        | inl p ↦ (subst (Contains (x ∷ xs)) p.0 (contains_first x xs), ap test (sym p.0) ∙ p.1)
-        | inr k ↦ let r = contains_from_filter xs n k in (contains_later x xs n r.0, r.1)
-      ]
-
-  contains_kept : (b : Bool) (x : X) (xs : List X) (n : X) → Contains xs n
-      → Contains (cond b (x ∷ xs) xs) n
-  contains_kept true x xs n h = contains_later x xs n h
-  contains_kept false x xs n h = h
-
-  pub contains_filter : (xs : List X) (n : X) → Contains xs n → test n ≡ true
-      → Contains (filter test xs) n
-  contains_filter [] n h p = absurd (contains_none n h)
-  contains_filter (x ∷ xs) n h p =
-      elim (contains_cases x xs n h) [
-        | inl e ↦ subst (λ b. Contains (cond b (x ∷ filter test xs) (filter test xs)) n)
-            (sym (ap test e ∙ p))
-            (subst (Contains (x ∷ filter test xs)) e (contains_first x (filter test xs)))
-        | inr k ↦ contains_kept (test x) x (filter test xs) n (contains_filter xs n k p)
-      ]

@@ -1,6 +1,6 @@
 -- How names are told apart and ordered. The definitions hold for names of any kind: what is
 -- promised speaks of texts, and the code of numbers.
-use Rattle.std.specs.Prelude.{◌≡◌, ◌≢◌, ℕ, Bool, cond, List, bytes_eq, ◌==◌, ◌↔◌, AllPairs, Contains, Decides}
+use Rattle.std.specs.Prelude.{◌≡◌, ℕ, Bool, cond, List, bytes_eq, ◌==◌, ◌↔◌, AllPairs, Contains}
 use Rattle.std.specs.Ordering.{nat_cmp}
 use Rattle.std.specs.declared.cmp.Ordering.{Ordering}
 use Rattle.std.specs.declared.cmp.Ordering.TheVariants.{Less}

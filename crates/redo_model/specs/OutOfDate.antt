@@ -1,5 +1,5 @@
 -- Which targets are out of date, which names are stale, and which are sources.
-use Rattle.std.specs.Prelude.{◌≡◌, ◌≢◌, ◌⊎◌, List, [], ◌∷◌, Some, IsSome, IsTrue, IsNone, Contains, ⊤}
+use Rattle.std.specs.Prelude.{◌≡◌, ◌≢◌, ◌⊎◌, List, [], ◌∷◌, Some, IsSome, IsTrue, IsNone, ⊤}
 use Rattle.redo_model.specs.State.{Records, Mark, TargetState, Idle, Building, Built, Failed, has_file, target_state, mark_of}
 
 abbrev pub IsTarget : {N : Type 0} → Records N → N → Type 0

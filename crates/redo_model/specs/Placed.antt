@@ -1,5 +1,5 @@
 -- Histories with places: at which atomic step each line was answered.
-use Rattle.std.specs.Prelude.{◌≡◌, ℕ, ◌+◌, Bool, true, false, List, [], ◌∷◌, ◌++◌, Option, Some, None, filter, count_by, ◌==◌}
+use Rattle.std.specs.Prelude.{◌≡◌, ℕ, ◌+◌, Bool, true, false, List, [], ◌∷◌, ◌++◌, filter, count_by, ◌==◌}
 use Rattle.redo_model.specs.Names.{Naming}
 use Rattle.redo_model.specs.Command.{Command, Lock, Unlock}
 use Rattle.redo_model.specs.Reply.{Reply, Okay}

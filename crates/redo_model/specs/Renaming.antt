@@ -1,8 +1,7 @@
 -- The same under other names. A renaming gives each number below `count` a name of its own: `name
 -- k`, and `number t` is the number whose name is t, if there is one.
-use Rattle.std.specs.Prelude.{◌≡◌, ℕ, ◌<◌, ◌≤◌, false, List, [], Option, Some, None, IsSome, IsTrue, map, ⊤, length, bytes_eq, slice_index_or}
-use Rattle.std.specs.List.{AllByRecursion, position}
-use Rattle.std.specs.declared.cmp.Ordering.{Ordering}
+use Rattle.std.specs.Prelude.{ℕ, ◌<◌, List, map, ⊤}
+use Rattle.std.specs.List.{AllByRecursion}
 use Rattle.redo_model.specs.Command.{Command, File, Gone, Lock, Unlock, Start, IfChange, IfCreate, Always, Stamp, Done, Failed, Ood, Targets, Sources, names_in}
 use Rattle.redo_model.specs.Reply.{Refusal, NotLocked, Building, NotBuilding, Itself, Exists, Reply, Okay, Granted, Busy, Stale, Stamped, Refused}
 use Rattle.redo_model.specs.Reply as replies

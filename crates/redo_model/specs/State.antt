@@ -1,5 +1,5 @@
 -- What the database knows at one moment.
-use Rattle.std.specs.Prelude.{ℕ, Bool, true, false, not, List, Option, Some, None, is_some}
+use Rattle.std.specs.Prelude.{ℕ, Bool, true, false, List, Option, Some, None, is_some}
 use Rattle.redo_model.specs.Names.{Text}
 
 -- how far a name has come: idle until its first start

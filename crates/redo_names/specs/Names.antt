@@ -1,6 +1,6 @@
 -- What a name is, and lists of distinct names.
-use Rattle.std.specs.Prelude.{◌≡◌, ℕ, ◌≤◌, Bool, true, false, ◌&&◌, ◌||◌, not, ◌==◌, nat_le, List, [], ◌∷◌, ◌++◌, length, if◌then◌else◌, bytes_eq, slice_index_or, codes}
-use Rattle.std.specs.List.{list_all, list_any, IsDistinct, AllByRecursion}
+use Rattle.std.specs.Prelude.{◌≡◌, ℕ, Bool, true, false, ◌&&◌, ◌||◌, not, ◌==◌, nat_le, List, [], ◌∷◌, ◌++◌, length, if◌then◌else◌, bytes_eq, slice_index_or, codes}
+use Rattle.std.specs.List.{list_all, list_any, AllByRecursion}
 
 -- a printed byte of ASCII, and no space
 abbrev pub is_visible : ℕ → Bool

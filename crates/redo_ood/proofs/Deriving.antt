@@ -16,7 +16,7 @@ use Rattle.redo_ood.specs.KeptMemo.{IsCleared}
 use Rattle.redo_ood.specs.Memo.{is_out, IsRight, WasRight, HasCount}
 use Rattle.redo_ood.specs.Regions.{Spreads, IsDue, IsClosed, IsSound, EntersDue}
 use Rattle.redo_ood.proofs.Listing.{listed_or_not}
-use Rattle.redo_ood.proofs.Marking.{front_of, grows_same, grows_then, one_more, marked_or_not, same_everywhere}
+use Rattle.redo_ood.proofs.Marking.{front_of, grows_then, one_more, marked_or_not, same_everywhere}
 use Rattle.redo_ood.proofs.Spreading.{reaches_queued, reaches_out_of_date}
 
 due_then : (r : Records ℕ) {a b : Marked} → Grows a b → (t : ℕ) → IsDue r a t → IsDue r b t
@@ -31,27 +31,6 @@ due_out_of_date r m sound t due = elim due [
   | inl reason ↦ ([], reason)
   | inr w ↦ out_of_date_by_step r t w.0 w.1 (sound w.0 w.2)
 ]
-
-pub due_none : (r : Records ℕ) (m : Marked) → EntersDue r [] m m
-due_none r m = record {
-  grown = grows_same m;
-  sound = λ sound. sound;
-  closed = λ closed. closed;
-  due = λ t c. absurd (contains_none t c);
-}
-
--- a name that is marked already, or isn't due
-pub due_no_more : (r : Records ℕ) (m : Marked) (t : ℕ) → (IsDue r m t → IsMarked m t)
-    → EntersDue r (t ∷ []) m m
-due_no_more r m t on = record {
-  grown = grows_same m;
-  sound = λ sound. sound;
-  closed = λ closed. closed;
-  due = λ u c h. elim (contains_cases t [] u c) [
-    | inl e ↦ subst (IsMarked m) e (on (subst (IsDue r m) (sym e) h))
-    | inr none ↦ absurd (contains_none u none)
-  ];
-}
 
 -- a due name enters, and what depends on it
 module _ (r : Records ℕ) (t : ℕ) {a b c : Marked} (due : IsDue r a t)

@@ -1,9 +1,9 @@
 -- A list of numbers that grows by its greatest.
-use Rattle.std.proofs.Common.{◌≡◌, ◌⊎◌, ◌↔◌, ℕ, ◌<◌, ◌+◌, List, [], ◌∷◌, ◌++◌, get_or, take, drop, Bool, true, false, cond, IsTrue, refl, subst, sym, inl, inr, arith}
+use Rattle.std.proofs.Common.{◌≡◌, ◌⊎◌, ◌↔◌, ℕ, ◌<◌, ◌+◌, List, [], ◌∷◌, ◌++◌, get_or, Bool, true, false, cond, IsTrue, refl, subst, sym, inl, inr, arith}
 use Rattle.std.proofs.lemmas.Bool.{cases_eq, cases_lt, false≢true}
-use Rattle.std.proofs.lemmas.List.{append-nil, take-append-drop}
+use Rattle.std.proofs.lemmas.List.{append-nil}
 use Rattle.std.proofs.lemmas.List.Quantifiers.{all_pairs_push}
-use Rattle.std.proofs.lemmas.List.Elements.{Contains-get_or, Contains-push, Contains-push_cases, Contains-append_left, Contains-append_right}
+use Rattle.std.proofs.lemmas.List.Elements.{Contains-get_or, Contains-push, Contains-push_cases, Contains-append_left}
 use Rattle.std.specs.List.{Contains}
 use Rattle.std.specs.Cmp.{nat_cmp_is}
 use Rattle.std.specs.Ordering.{nat_cmp}
@@ -64,17 +64,6 @@ below_in n (u ∷ us) t all c = elim (contains_cases u us t c) [
   | inl e ↦ subst (λ v. v < n) e all.0
   | inr later ↦ below_in n us t all.1 later
 ]
-
--- the parts of a list of numbers below the bound
-pub front_below : (n k : ℕ) (ts : List ℕ) → AllBelow n ts → AllBelow n (take k ts)
-front_below n k ts all = each_below n (take k ts) (λ t c.
-    let whole = Contains-append_left (take k ts) (drop k ts) t c in
-    below_in n ts t all (subst (λ (us : List ℕ). Contains us t) (take-append-drop k ts) whole))
-
-pub rest_below : (n k : ℕ) (ts : List ℕ) → AllBelow n ts → AllBelow n (drop k ts)
-rest_below n k ts all = each_below n (drop k ts) (λ t c.
-    let whole = Contains-append_right (take k ts) (drop k ts) t c in
-    below_in n ts t all (subst (λ (us : List ℕ). Contains us t) (take-append-drop k ts) whole))
 
 -- a number is on a list or isn't
 pub listed_or_not : (ts : List ℕ) (t : ℕ) → Contains ts t ⊎ (Contains ts t → ⊥)

@@ -156,14 +156,6 @@ module _ (m : Marked) (t : ℕ) (below : t < size_of m) (off : get_or m.marks t 
         few = subst (λ n. n < 2 ^ 32) (sym sized) h.few;
       }
 
--- names that are marked already
-pub enters_marked : (P : ℕ → Type 0) (m : Marked) → ((t : ℕ) → P t → IsMarked m t)
-    → Enters P m m
-enters_marked P m on = record {
-  grown = grows_same m;
-  each = λ t. (λ h. inl h, λ s. elim s [ inl h ↦ h | inr p ↦ on t p ]);
-}
-
 -- what enters first and what enters then
 pub enters_then : {P Q : ℕ → Type 0} {a b c : Marked} (R : ℕ → Type 0)
     → ((t : ℕ) → R t ↔ (P t ⊎ Q t)) → Enters P a b → Enters Q b c → Enters R a c

@@ -7,8 +7,8 @@ use Rattle.redo_model.specs.OutOfDate.{IsTarget, HasRow, Chain, Depends, OutOfDa
 use Rattle.redo_model.specs.Inside.OutOfDate.{TouchesSeed, InRegion}
 use Rattle.redo_model.proofs.Region.{out_of_date_by_step}
 use Rattle.redo_ood.specs.Marks.{Marked, IsMarked, IsQueued, Enters, HoldsOnly}
-use Rattle.redo_ood.specs.Regions.{Reaches, Spreads, IsClosed}
-use Rattle.redo_ood.proofs.Marking.{grows_same, grows_then, front_of, enters_same, enters_then, one_more}
+use Rattle.redo_ood.specs.Regions.{Reaches, Spreads}
+use Rattle.redo_ood.proofs.Marking.{grows_then, front_of, enters_then, one_more}
 
 module _ (r : Records ℕ) where
   reaches_weaker : {P Q : ℕ → Type 0} → ((t : ℕ) → P t → Q t) → (ns : List ℕ) (t : ℕ)
@@ -34,14 +34,6 @@ module _ (r : Records ℕ) where
     | inl before ↦ ([], before)
     | inr w ↦ elim (s.reaches t w.0) [ inl on ↦ absurd (w.1 on) | inr reach ↦ reach ]
   ]
-
-  -- nothing has spread yet
-  pub spreads_first : (done : List ℕ) (m : Marked) → IsClosed r done m → Spreads r done m m
-  spreads_first done m closed = record {
-    grown = grows_same m;
-    reaches = λ t on. inl on;
-    closed = closed;
-  }
 
   -- the targets that depend on the queue's next name enter
   pub spreads_more : (k n : ℕ) {old m new : Marked} → k < length m.queue
@@ -71,13 +63,6 @@ module _ (r : Records ℕ) where
   abbrev pub Touches : List ℕ → List ℕ → ℕ → Type 0
   Touches seeds some t =
       Contains seeds t ⊎ (IsTarget r t × ((n : ℕ) × Contains some n × HasRow r t n))
-
-  pub touches_none : (seeds : List ℕ) {a b : Marked} → Enters (Contains seeds) a b
-      → Enters (Touches seeds []) a b
-  touches_none seeds = enters_same (Touches seeds []) (λ t. (
-    λ h. elim h [ inl seed ↦ seed | inr w ↦ absurd (omega (arith, w.1.1.1)) ],
-    λ seed. inl seed,
-  ))
 
   -- the targets with a row on the next seed enter
   pub touches_more : (seeds : List ℕ) (k : ℕ) {a b c : Marked} → k < length seeds

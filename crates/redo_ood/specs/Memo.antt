@@ -5,8 +5,8 @@ use Rattle.redo_model.specs.OutOfDate.{OutOfDate}
 use Rattle.redo_model.specs.Inside.OutOfDate.{DifferAt}
 
 -- how many names there are
-abbrev pub count_of : List Bool → ℕ
-count_of memo = length memo
+abbrev pub memo_count : List Bool → ℕ
+memo_count memo = length memo
 
 -- whether the memo has the name as out of date
 abbrev pub is_out : List Bool → ℕ → Bool

@@ -4,7 +4,7 @@ ghost use Rattle.redo_model.specs.Inside.OutOfDate.{InRegion};
 ghost use Rattle.redo_model.specs.Renaming.{AllBelow};
 ghost use Rattle.redo_model.specs.State.{empty};
 ghost use Rattle.redo_rows.specs.Rows.{with_rows, by_number, rows_count};
-ghost use Rattle.redo_ood.specs.Memo.{count_of, is_out, IsRight, WasRight, HasCount};
+ghost use Rattle.redo_ood.specs.Memo.{memo_count, is_out, IsRight, WasRight, HasCount};
 
 use crate::derive::derive;
 use crate::marks::Marks;
@@ -50,7 +50,7 @@ impl Model for Ood {
 impl Ood {
     /// Nothing is out of date. All room that a refresh takes is made here.
     pub fn new(alloc: Global, names: u32) -> Result<Ood, AllocError>
-        ensures count { IfOk result (λ ood. count_of ood ≡ names) }
+        ensures count { IfOk result (λ ood. memo_count ood ≡ names) }
         ensures right { IfOk result (λ ood. IsRight ood empty.records) }
     {
         let out = Marks::new(alloc, names)?;
@@ -66,12 +66,12 @@ impl Ood {
     /// Makes it right for the records and rows, where it was right before they were changed at the seeds. Answers how
     /// many names the region of the seeds has. Takes no memory, and looks at the region and its rows alone.
     pub fn refresh(&mut self, records: &Records, rows: &DepRows, seeds: &[u32]) -> u32
-        requires records { length records.now ≡ count_of self.old }
-        requires rows { rows_count rows.now ≡ count_of self.old }
-        requires seeds { AllBelow (count_of self.old) seeds.now }
+        requires records { length records.now ≡ memo_count self.old }
+        requires rows { rows_count rows.now ≡ memo_count self.old }
+        requires seeds { AllBelow (memo_count self.old) seeds.now }
         requires right { WasRight seeds.now self.old (with_rows records.now rows.now) }
         ensures right { IsRight self.new (with_rows records.now rows.now) }
-        ensures count { count_of self.new ≡ count_of self.old }
+        ensures count { memo_count self.new ≡ memo_count self.old }
         ensures region { HasCount (InRegion (with_rows records.now rows.now) seeds.now) result }
     {
         let front = find_region(records, rows, seeds, &mut self.region);
@@ -90,7 +90,7 @@ impl Ood {
 
     /// Whether it is an out-of-date target.
     pub fn is(&self, t: u32) -> bool
-        requires { t < count_of self.now }
+        requires { t < memo_count self.now }
         ensures { result ≡ is_out self.now t }
     {
         self.out.has(t)
@@ -100,7 +100,7 @@ impl Ood {
     pub fn list(&self, alloc: Global) -> Result<Vec<u32>, AllocError>
         ensures listed { IfOk result (λ targets.
             IsListed by_number (λ t. IsTrue (is_out self.now t)) targets.items) }
-        ensures below { IfOk result (λ targets. AllBelow (count_of self.now) targets.items) }
+        ensures below { IfOk result (λ targets. AllBelow (memo_count self.now) targets.items) }
     {
         let mut targets = Vec::new(alloc);
         for t in 0..self.out.count() {

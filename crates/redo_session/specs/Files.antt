@@ -1,6 +1,5 @@
 -- What is read from files, one after another.
-use Rattle.std.specs.Prelude.{Bool, List, length, map, Option}
-use Rattle.std.specs.List.{AllByRecursion}
+use Rattle.std.specs.Prelude.{Bool, List, map, Option}
 use Rattle.redo_model.specs.Names.{Text}
 use Rattle.redo_whole.specs.declared.watched.Watched.{Watched}
 use Rattle.redo_whole.specs.Watched.{is_faulted}

@@ -1,5 +1,5 @@
 -- Why a line is not read as a command, and a text not as a session file.
-use Rattle.std.specs.Prelude.{◌≡◌, ℕ, ◌+◌, List, ◌∷◌, ◌++◌, length, Some, ⊤}
+use Rattle.std.specs.Prelude.{◌≡◌, ℕ, ◌+◌, List, ◌∷◌, ◌++◌, length, Some}
 use Rattle.redo_model.specs.Names.{Text}
 use Rattle.redo_model.specs.Command.{Command}
 use Rattle.redo_text.specs.declared.fault.LineFault.{LineFault}

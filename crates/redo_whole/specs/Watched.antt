@@ -1,6 +1,5 @@
 -- Readers and writers that remember a failure.
-use Rattle.std.specs.Prelude.{◌≡◌, ℕ, Bool, Option, List, ◌++◌}
-use Rattle.std.specs.Io.KnownBytes.{Appends}
+use Rattle.std.specs.Prelude.{Bool}
 use Rattle.redo_whole.specs.declared.watched.Watched.{Watched}
 
 -- whether a call of it failed

@@ -1,5 +1,5 @@
--- Journals, which tell what one session did, and the histories that journals can be joined to.
-use Rattle.std.specs.Prelude.{◌≡◌, ℕ, ◌<◌, ◌≤◌, ◌⊎◌, List, [], ◌∷◌, ◌++◌, length, Option, Some, None, option_map, slice_get}
+-- Lines that are the journals of a plan.
+use Rattle.std.specs.Prelude.{ℕ, ◌≤◌, List, length}
 use Rattle.redo_model.specs.Command.{Command}
 use Rattle.redo_model.specs.Placed.{PlacedLine, part_of}
 use Rattle.redo_model.specs.Journals.{IsJournal}

@@ -1,10 +1,6 @@
--- How names are told apart and ordered. The definitions hold for names of any kind: what is
--- promised speaks of texts, and the code of numbers.
-use Rattle.std.specs.Prelude.{◌≡◌, ◌≢◌, ℕ, Bool, cond, List, bytes_eq, ◌==◌, ◌↔◌, AllPairs, Contains, Decides}
-use Rattle.std.specs.Ordering.{nat_cmp}
-use Rattle.std.specs.declared.cmp.Ordering.{Ordering}
+-- What a naming keeps.
+use Rattle.std.specs.Prelude.{◌≡◌, ◌≢◌, Decides}
 use Rattle.std.specs.declared.cmp.Ordering.TheVariants.{Less}
-use Rattle.std.specs.Cmp.Lexicographic.{slice_cmp}
 use Rattle.redo_model.specs.Names.{Naming}
 
 -- what a naming keeps: the test tells equal names, and the order is strict

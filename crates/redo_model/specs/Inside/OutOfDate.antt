@@ -1,5 +1,5 @@
--- Which targets are out of date, which names are stale, and which are sources.
-use Rattle.std.specs.Prelude.{◌≡◌, ◌≢◌, ◌⊎◌, List, [], ◌∷◌, Some, IsSome, IsTrue, IsNone, Contains, ⊤}
+-- The region of seeds, and records that differ at them alone.
+use Rattle.std.specs.Prelude.{◌≡◌, ◌⊎◌, List, Contains}
 use Rattle.redo_model.specs.State.{Records}
 use Rattle.redo_model.specs.OutOfDate.{IsTarget, Chain, Depends, HasRow}
 

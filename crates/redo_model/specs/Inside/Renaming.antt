@@ -1,7 +1,7 @@
 -- The same under other names. A renaming gives each number below `count` a name of its own: `name
 -- k`, and `number t` is the number whose name is t, if there is one.
-use Rattle.std.specs.Prelude.{◌≡◌, ℕ, ◌<◌, ◌≤◌, false, List, [], Option, Some, None, IsSome, IsTrue, map, ⊤, length, bytes_eq, slice_index_or}
-use Rattle.std.specs.List.{AllByRecursion, position}
+use Rattle.std.specs.Prelude.{◌≡◌, ℕ, ◌<◌, ◌≤◌, false, List, [], Option, Some, None, IsSome, IsTrue, length, bytes_eq, slice_index_or}
+use Rattle.std.specs.List.{position}
 use Rattle.std.specs.declared.cmp.Ordering.{Ordering}
 use Rattle.redo_model.specs.Names.{Text, Naming}
 use Rattle.redo_model.specs.State.{Records, Rows, Locks, State, idle}

@@ -1,5 +1,5 @@
--- What the database knows at one moment.
-use Rattle.std.specs.Prelude.{ℕ, Bool, true, false, not, List, Option, Some, None, is_some}
+-- Tests of states, as values of `Bool`.
+use Rattle.std.specs.Prelude.{Bool, true, false, not}
 use Rattle.redo_model.specs.State.{TargetState, Idle, Building, Built, Failed, Records, target_state}
 
 abbrev pub is_idle : TargetState → Bool

@@ -1,6 +1,6 @@
--- What a name is, and lists of distinct names.
-use Rattle.std.specs.Prelude.{◌≡◌, ℕ, ◌≤◌, Bool, true, false, ◌&&◌, ◌||◌, not, ◌==◌, nat_le, List, [], ◌∷◌, ◌++◌, length, if◌then◌else◌, bytes_eq, slice_index_or, codes}
-use Rattle.std.specs.List.{list_all, list_any, IsDistinct, AllByRecursion}
+-- What a list of names keeps, and how it grows.
+use Rattle.std.specs.Prelude.{◌≡◌, ℕ, ◌≤◌, List, ◌++◌, length, bytes_eq}
+use Rattle.std.specs.List.{IsDistinct}
 use Rattle.redo_names.specs.Names.{AreAllNames}
 
 -- the old names are a front of the new ones, so they keep their numbers

@@ -1,6 +1,5 @@
--- Why a text is not read as a history: each fault with its cause.
-use Rattle.std.specs.Prelude.{◌≡◌, ◌≢◌, ℕ, ◌+◌, ◌≤◌, ◌<◌, ◌⊎◌, List, [], ◌∷◌, ◌++◌, length, codes, decimal, Contains, Some, ⊤}
-use Rattle.std.specs.List.{flat_map}
+-- Why a line is not read as one of a history.
+use Rattle.std.specs.Prelude.{◌≡◌, ℕ, ◌+◌, List, ◌∷◌, ◌++◌, Contains, ⊤}
 use Rattle.redo_model.specs.Names.{Text}
 use Rattle.redo_replay.specs.declared.fault.HistoryFault.{HistoryFault}
 use Rattle.redo_replay.specs.declared.fault.HistoryFault.TheVariants.{Memory, BadHeader, Cut, BadSession, BadLine, BadReply}

@@ -1,6 +1,5 @@
--- Which texts are histories.
-use Rattle.std.specs.Prelude.{◌≡◌, ◌+◌, ◌<◌, ◌≤◌, List, [], ◌∷◌, ◌++◌, length, codes, decimal, ⊤}
-use Rattle.std.specs.List.{flat_map}
+-- What a line has to be, so that its text is read again.
+use Rattle.std.specs.Prelude.{◌≡◌, ◌<◌, ◌≤◌, List, length}
 use Rattle.redo_model.specs.Names.{Text}
 use Rattle.redo_model.specs.History.{Line}
 use Rattle.redo_text.specs.Grammar.{HasForm, IsShort, with_names}

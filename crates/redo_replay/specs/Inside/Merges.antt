@@ -1,6 +1,5 @@
--- What journals are merged to.
-use Rattle.std.specs.Prelude.{◌≡◌, ℕ, List, map}
-use Rattle.std.specs.Ordering.{nat_cmp}
+-- Journals that no joint order has.
+use Rattle.std.specs.Prelude.{ℕ, List}
 use Rattle.redo_model.specs.Placed.{PlacedLine}
 use Rattle.redo_model.specs.Journals.{IsJointOrder}
 use Rattle.redo_journal.specs.Plans.{PlanOf}

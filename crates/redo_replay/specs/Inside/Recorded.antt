@@ -1,6 +1,5 @@
 -- What a history records.
-use Rattle.std.specs.Prelude.{ℕ, List, length, map}
-use Rattle.std.specs.List.{AllByRecursion}
+use Rattle.std.specs.Prelude.{ℕ, List, map}
 use Rattle.redo_names.specs.Names.{text_at}
 use Rattle.redo_model.specs.Names.{Text}
 use Rattle.redo_model.specs.History.{Line}

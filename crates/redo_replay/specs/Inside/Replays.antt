@@ -1,10 +1,8 @@
--- What a replay reads and writes, and why it is refused.
-use Rattle.std.specs.Prelude.{◌≡◌, ◌≢◌, ◌<◌, ◌≤◌, Bool, List, ◌++◌, length, Option, Some, IfSome, IsTrue, ⊤}
-use Rattle.std.specs.Io.KnownBytes.{Appends}
+-- Faults of a history as faults of a replay.
 use Rattle.redo_replay.specs.declared.fault.HistoryFault.{HistoryFault}
 use Rattle.redo_replay.specs.declared.fault.HistoryFault.TheVariants as history_faults
 use Rattle.redo_replay.specs.declared.fault.ReplayFault.{ReplayFault}
-use Rattle.redo_replay.specs.declared.fault.ReplayFault.TheVariants.{Memory, History, Device, TooLong, Write}
+use Rattle.redo_replay.specs.declared.fault.ReplayFault.TheVariants.{Memory, History}
 
 -- want of memory has one name
 abbrev pub replay_fault : HistoryFault → ReplayFault

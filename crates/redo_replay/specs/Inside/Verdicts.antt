@@ -1,5 +1,5 @@
--- Whether a history's replies are those of the database.
-use Rattle.std.specs.Prelude.{◌≡◌, ◌≢◌, ℕ, ◌+◌, List, ◌∷◌, ◌++◌, length, codes, decimal, ⊤}
+-- Verdicts within the numbers of names.
+use Rattle.std.specs.Prelude.{ℕ, ⊤}
 use Rattle.redo_model.specs.Renaming.{IsReplyBelow}
 use Rattle.redo_terms.specs.Meaning.{reply_of}
 use Rattle.redo_replay.specs.declared.verdict.Verdict as declared

@@ -1,5 +1,5 @@
--- Why a run is refused: each fault with its cause.
-use Rattle.std.specs.Prelude.{◌≡◌, ℕ, ◌<◌, ◌≤◌, Bool, false, List, [], length, take, Option, None, IfSome, IsTrue, slice_index_or, ⊤}
+-- The faults of one file, and those of a plan.
+use Rattle.std.specs.Prelude.{◌≡◌, ℕ, Bool, List, Option, IfSome, IsTrue, ⊤}
 use Rattle.redo_model.specs.Names.{Text}
 use Rattle.redo_session.specs.declared.fault.TextFault.{TextFault}
 use Rattle.redo_session.specs.declared.fault.TextFault.TheVariants.{Memory, Read, TooManySessions, NoSession, Write, Device, TooLong}

@@ -1,5 +1,5 @@
--- What is read from files, one after another.
-use Rattle.std.specs.Prelude.{Bool, List, length, map, Option}
+-- Scripts within the numbers of names, and what they say.
+use Rattle.std.specs.Prelude.{List, length, map}
 use Rattle.std.specs.List.{AllByRecursion}
 use Rattle.redo_model.specs.Names.{Text}
 use Rattle.redo_model.specs.Command as commands

@@ -3,7 +3,7 @@ ghost use Rattle.std.specs.List.{list_all};
 ghost use Rattle.redo_model.specs.State.{Cell, is_building, target_state};
 ghost use Rattle.redo_model.specs.Command as commands;
 ghost use Rattle.redo_model.specs.Renaming.{AllBelow};
-ghost use Rattle.redo_ood.specs.Memo.{IsRight, WasRight, count_of as memo_count};
+ghost use Rattle.redo_ood.specs.Memo.{IsRight, WasRight, memo_count};
 ghost use Rattle.redo_rows.specs.Rows.{room_of, rows_count, with_rows};
 ghost use Rattle.redo_store.specs.Changes.{HasEffect, HasEffectOfAny, AreRowsAfter, records_with_file};
 ghost use Rattle.redo_store.specs.Stored.{records_of, count_of, HasBuildsLeft, KeepsNames, has_room_for};

@@ -1,5 +1,5 @@
--- What the values of the code mean: over numbers, and over the names that the numbers stand for.
-use Rattle.std.specs.Prelude.{ℕ, List}
+-- The kind of a command, and what a command means under the names of its numbers.
+use Rattle.std.specs.Prelude.{List}
 use Rattle.redo_names.specs.Names.{text_at}
 use Rattle.redo_model.specs.Names.{Text}
 use Rattle.redo_model.specs.Command as commands

@@ -1,5 +1,5 @@
--- Why a line is not read as a command, and a text not as a session file.
-use Rattle.std.specs.Prelude.{◌≡◌, ℕ, ◌+◌, List, ◌∷◌, ◌++◌, length, Some, ⊤}
+-- The fault of a line that is read alone, and that of a session file.
+use Rattle.std.specs.Prelude.{◌≡◌, List, Some, ⊤}
 use Rattle.redo_model.specs.Names.{Text}
 use Rattle.redo_text.specs.declared.fault.ReadFault.{ReadFault}
 use Rattle.redo_text.specs.declared.fault.ReadFault.TheVariants as faults

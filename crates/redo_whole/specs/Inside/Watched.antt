@@ -1,5 +1,5 @@
--- Readers and writers that remember a failure.
-use Rattle.std.specs.Prelude.{◌≡◌, ℕ, Bool, Option, List, ◌++◌}
+-- Bytes that grow by a front of what was to be sent.
+use Rattle.std.specs.Prelude.{◌≡◌, ℕ, Option, List, ◌++◌}
 use Rattle.std.specs.Io.KnownBytes.{Appends}
 
 -- known bytes grow by a front of these bytes
