@@ -1,6 +1,6 @@
 -- What the fields of the store show, and what they keep.
 use Rattle.std.specs.Prelude.{◌≡◌}
-use Rattle.redo_ood.specs.Memo as memo
+use Rattle.redo_ood.specs.Memo.{memo_count, IsRight}
 use Rattle.redo_store.specs.Orders.{AreRanks}
 use Rattle.redo_store.specs.Stored.{Stored, IsStored, records_of, count_of}
 use Rattle.redo_store.specs.declared.store.Store.TheInside.{Inside}
@@ -17,5 +17,5 @@ stored_of inside = record {
 pub record KeepsStored (inside : Inside) : Type 0 where
   pub stored : IsStored (stored_of inside)
   pub ranked : AreRanks inside.sorted.items inside.ranks.items
-  pub memo_for_each : memo.count_of inside.memo ≡ count_of (stored_of inside)
-  pub memo_right : memo.IsRight inside.memo (records_of (stored_of inside))
+  pub memo_for_each : memo_count inside.memo ≡ count_of (stored_of inside)
+  pub memo_right : IsRight inside.memo (records_of (stored_of inside))
