@@ -1,21 +1,16 @@
 -- What the seats and workers of the tests keep.
-use Rattle.std.specs.Prelude.{◌≡◌, ℕ, ◌+◌, ◌-◌, ◌<◌, ◌≤◌, List, [], ◌∷◌, length, ⊤}
+use Rattle.std.specs.Prelude.{ℕ, ◌-◌, ◌<◌, ◌≤◌, length}
 use Rattle.redo_journal.specs.Plans.{PlanOf, script_of}
 use Rattle.redo_board.specs.declared.board.Board.{Board}
 use Rattle.redo_board.specs.declared.seat.Seat.{Seat}
 use Rattle.redo_board.specs.declared.worker.Worker.{Worker}
 use Rattle.redo_board.specs.Shown.{HasSession, session_of, journal_of}
-use Rattle.redo_board.specs.Kept.{SitsAt, WorksAt}
+use Rattle.redo_board.specs.Kept.{SitsAt}
 
 -- a seat of the board, which has each session from the first on and below the end
 pub record HasFrom (p : PlanOf) (b : Board) (first end : ℕ) (seat : Seat) : Type 0 where
   pub sits : SitsAt p b seat
   pub each : (s : ℕ) → first ≤ s → s < end → HasSession s seat
-
--- workers of the sessions from this one on, one for each
-abbrev pub AreWorkers : PlanOf → Board → ℕ → List Worker → Type 0
-AreWorkers p b s [] = ⊤
-AreWorkers p b s (w ∷ ws) = WorksAt p b w × (session_of w ≡ s) × AreWorkers p b (s + 1) ws
 
 -- how many commands a worker has left
 abbrev pub left_by : PlanOf → Worker → ℕ

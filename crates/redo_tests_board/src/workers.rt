@@ -1,8 +1,7 @@
 //! Workers that try a refused step once more.
 ghost use Rattle.std.specs.Prelude.{◌≡◌, ◌+◌, ◌<◌, length, IfOk, IsTrue};
-ghost use Rattle.redo_board.specs.declared.board.Board.{Board as BoardOf};
 ghost use Rattle.redo_board.specs.Shown.{first_of, end_of, session_of};
-ghost use Rattle.redo_board.specs.Kept.{IsBoardOf, IsSeatOf, SitsAt, IsFresh, WorksAt};
+ghost use Rattle.redo_board.specs.Kept.{IsBoardOf, SitsAt, IsFresh, WorksAt};
 ghost use Rattle.redo_tests_board.specs.Workers.{HasFrom, left_by};
 
 use redo_board::{Board, Gate, Seat, Worker};
@@ -11,12 +10,16 @@ use std::alloc::{AllocError, Global};
 use std::process::Abort;
 
 /// The worker of a seat. Where it is refused, the seat comes back, and the next try succeeds.
-pub(crate) fn worker_of(alloc: Global, plan: &Plan, seat: Seat) -> Result<Worker, AllocError>
+pub(crate) fn worker_of(
+    alloc: Global,
+    _board: &Board,
+    plan: &Plan,
+    seat: Seat,
+) -> Result<Worker, AllocError>
     requires fresh { IsFresh seat × (end_of seat ≡ first_of seat + 1) }
-    requires plan { IsSeatOf plan.now seat × (first_of seat < length plan.now.scripts) }
+    requires sits { SitsAt plan.now _board.now seat × (first_of seat < length plan.now.scripts) }
     ensures session { IfOk result (λ worker. session_of worker ≡ first_of seat) }
-    ensures works { IfOk result (λ worker. (board : BoardOf) → SitsAt plan.now board seat
-        → WorksAt plan.now board worker) }
+    ensures works { IfOk result (WorksAt plan.now _board.now) }
 {
     match Worker::new(alloc, plan, seat) {
         Ok(worker) => Ok(worker),
@@ -71,7 +74,7 @@ pub(crate) fn work<G: Gate>(
     requires session { first_of seat < length plan.now.scripts }
     ensures { IfOk result (λ r. HasFrom plan.now board.now (first_of seat) (end_of seat) r.0) }
 {
-    let mut worker = worker_of(alloc, plan, seat)?;
+    let mut worker = worker_of(alloc, board, plan, seat)?;
     while step(rt, alloc, board, plan, gate, &mut worker)? {}
     Ok(worker.leave())
 }
