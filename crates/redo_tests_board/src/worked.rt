@@ -54,10 +54,7 @@ pub(crate) const LOST_TRY_HISTORY: &str = "history 8\n\
 /// first is held there until the second's file is told.
 pub(crate) fn lost_try(alloc: Global) -> Result<Holds, AllocError> {
     let asks = Moment::Ready(0, 6, 4);
-    let pairs = [
-        (Moment::Before(1, 0), asks),
-        (asks, Moment::After(1, 0)),
-    ];
+    let pairs = [(Moment::Before(1, 0), asks), (asks, Moment::After(1, 0))];
     Holds::new(alloc, &pairs)
 }
 
