@@ -1,5 +1,6 @@
 //! Gates that hold sessions back until others have come to some moment.
 use redo_board::Gate;
+use std::alloc::{AllocError, Global};
 use std::hint::spin_loop;
 use std::sync::atomic::{AtomicU64, Ordering};
 
@@ -16,7 +17,7 @@ pub(crate) enum Moment {
 
 /// Who comes to the first moment is held there until the second has come.
 #[derive(Drop)]
-pub(crate) struct Hold {
+struct Hold {
     at: Moment,
     until: Moment,
     has_come: AtomicU64,
@@ -24,7 +25,7 @@ pub(crate) struct Hold {
 }
 
 impl Hold {
-    pub(crate) fn new(at: Moment, until: Moment) -> Hold {
+    fn new(at: Moment, until: Moment) -> Hold {
         Hold {
             at,
             until,
@@ -53,11 +54,16 @@ pub(crate) struct Holds {
 }
 
 impl Holds {
-    pub(crate) fn new(holds: Vec<Hold>) -> Holds {
-        Holds {
+    /// Who comes to the first moment of a pair is held until the second.
+    pub(crate) fn new(alloc: Global, pairs: &[(Moment, Moment)]) -> Result<Holds, AllocError> {
+        let mut holds = Vec::new(alloc);
+        for (at, until) in pairs {
+            holds.push(Hold::new(*at, *until))?;
+        }
+        Ok(Holds {
             holds,
             ready: AtomicU64::new(0),
-        }
+        })
     }
 
     /// Whether each hold has held a session until its second moment had come.

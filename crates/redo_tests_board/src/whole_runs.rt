@@ -1,5 +1,5 @@
 //! Runs of whole plans, each session on a thread of its own.
-use crate::gates::{Hold, Holds, Moment};
+use crate::gates::{Holds, Moment};
 use crate::histories::replays;
 use crate::outcomes::{ran, tries_of};
 use crate::plans::plan_of;
@@ -59,11 +59,12 @@ fn busy_across_a_release(rt: HostRuntime) -> Result<(), RunFault> {
 /// The second session finds the lock held, and gets it after the release.
 #[test]
 fn merging(rt: HostRuntime) -> Result<(), RunFault> {
-    let gate = Holds::new(vec![in rt.alloc();
-        Hold::new(Moment::Before(1, 0), Moment::After(0, 0)),
-        Hold::new(Moment::Before(0, 1), Moment::After(1, 0)),
-        Hold::new(Moment::Before(1, 1), Moment::After(0, 1)),
-    ]?);
+    let pairs = [
+        (Moment::Before(1, 0), Moment::After(0, 0)),
+        (Moment::Before(0, 1), Moment::After(1, 0)),
+        (Moment::Before(1, 1), Moment::After(0, 1)),
+    ];
+    let gate = Holds::new(rt.alloc(), &pairs)?;
     let want = "history 4\n\
         1 lock t => granted 1\n\
         2 lock t => busy 1\n\
@@ -77,7 +78,7 @@ fn merging(rt: HostRuntime) -> Result<(), RunFault> {
 /// Sessions without a command.
 #[test]
 fn empty_input(rt: HostRuntime) -> Result<(), RunFault> {
-    let gate = Holds::new(Vec::new(rt.alloc()));
+    let gate = Holds::new(rt.alloc(), &[])?;
     has_history(&rt, &[""], &gate, "history 0\n")?;
     has_history(&rt, &["", ""], &gate, "history 0\n")?;
     let files = ["", "file a 1\n", ""];
@@ -89,12 +90,13 @@ fn empty_input(rt: HostRuntime) -> Result<(), RunFault> {
 /// the history all of the first come first.
 #[test]
 fn common_path_beside_own_lock(rt: HostRuntime) -> Result<(), RunFault> {
-    let gate = Holds::new(vec![in rt.alloc();
-        Hold::new(Moment::Before(1, 0), Moment::After(0, 1)),
-        Hold::new(Moment::Before(0, 2), Moment::After(1, 0)),
-        Hold::new(Moment::Before(1, 1), Moment::After(0, 5)),
-        Hold::new(Moment::Before(0, 6), Moment::After(1, 1)),
-    ]?);
+    let pairs = [
+        (Moment::Before(1, 0), Moment::After(0, 1)),
+        (Moment::Before(0, 2), Moment::After(1, 0)),
+        (Moment::Before(1, 1), Moment::After(0, 5)),
+        (Moment::Before(0, 6), Moment::After(1, 1)),
+    ];
+    let gate = Holds::new(rt.alloc(), &pairs)?;
     let want = "history 11\n\
         1 file a.c 10 => ok\n\
         1 lock a.o => granted 1\n\

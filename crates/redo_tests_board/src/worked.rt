@@ -1,5 +1,5 @@
 //! Runs whose history is written down: their files, their gates, and what comes of them.
-use crate::gates::{Hold, Holds, Moment};
+use crate::gates::{Holds, Moment};
 use std::alloc::{AllocError, Global};
 
 /// Two sessions of one command each.
@@ -13,8 +13,7 @@ pub(crate) const HISTORY_B: &str = "history 2\n1 file a 1 => ok\n2 file b 1 => o
 
 /// A session is held until the other one's command is done.
 pub(crate) fn held_until(alloc: Global, held: u8, other: u8) -> Result<Holds, AllocError> {
-    let hold = Hold::new(Moment::Before(held, 0), Moment::After(other, 0));
-    Ok(Holds::new(vec![in alloc; hold]?))
+    Holds::new(alloc, &[(Moment::Before(held, 0), Moment::After(other, 0))])
 }
 
 /// One session, which builds a target and asks for the lists.
@@ -55,10 +54,11 @@ pub(crate) const LOST_TRY_HISTORY: &str = "history 8\n\
 /// first is held there until the second's file is told.
 pub(crate) fn lost_try(alloc: Global) -> Result<Holds, AllocError> {
     let asks = Moment::Ready(0, 6, 4);
-    Ok(Holds::new(vec![in alloc;
-        Hold::new(Moment::Before(1, 0), asks),
-        Hold::new(asks, Moment::After(1, 0)),
-    ]?))
+    let pairs = [
+        (Moment::Before(1, 0), asks),
+        (asks, Moment::After(1, 0)),
+    ];
+    Holds::new(alloc, &pairs)
 }
 
 /// Three sessions that want one lock.
@@ -79,11 +79,12 @@ pub(crate) const BUSY_HISTORY: &str = "history 6\n\
 
 /// Each command is held until the one before it in that history is done.
 pub(crate) fn busy(alloc: Global) -> Result<Holds, AllocError> {
-    Ok(Holds::new(vec![in alloc;
-        Hold::new(Moment::Before(1, 0), Moment::After(0, 0)),
-        Hold::new(Moment::Before(0, 1), Moment::After(1, 0)),
-        Hold::new(Moment::Before(2, 0), Moment::After(0, 1)),
-        Hold::new(Moment::Before(1, 1), Moment::After(2, 0)),
-        Hold::new(Moment::Before(2, 1), Moment::After(1, 1)),
-    ]?))
+    let pairs = [
+        (Moment::Before(1, 0), Moment::After(0, 0)),
+        (Moment::Before(0, 1), Moment::After(1, 0)),
+        (Moment::Before(2, 0), Moment::After(0, 1)),
+        (Moment::Before(1, 1), Moment::After(2, 0)),
+        (Moment::Before(2, 1), Moment::After(1, 1)),
+    ];
+    Holds::new(alloc, &pairs)
 }
