@@ -6,12 +6,12 @@ use Rattle.redo_tests_board.proofs.leaving.leave_apart.Goals as goal
 pub leave_after-requires : goal.leave_after-requires
 leave_after-requires g c =
     let opened = c.in_ok-board.ensures in
-    (opened.board, c.in_ok-first.ensures.works c.in_ok-board.board c.split-left.ensures.left)
+    (opened.board, c.in_ok-first.ensures.works)
 
 pub leave_after-requires-2 : goal.leave_after-requires-2
 leave_after-requires-2 g c =
     let opened = c.in_ok-board.ensures in
-    (opened.board, c.in_ok-second.ensures.works c.in_ok-board.board c.split-left.ensures.right)
+    (opened.board, c.in_ok-second.ensures.works)
 
 pub close-rows-requires-clause-seat : goal.close-rows-requires-clause-seat
 close-rows-requires-clause-seat g c =

@@ -1,10 +1,10 @@
-use Rattle.std.proofs.Common.{rules, ℕ, length, ◌×◌, ◌∙◌, subst}
+use Rattle.std.proofs.Common.{rules, ℕ, length, ◌∙◌, subst}
 use Rattle.redo_board.specs.Shown.{first_of, end_of}
 use Rattle.redo_tests_board.specs.Workers.{HasFrom}
 use Rattle.redo_tests_board.proofs.threads.work_both.Goals as goal
 
 pub returns : goal.returns
-returns g t c =
+returns t c =
     let p = c.args.plan.now in
     let b = c.args.board.now in
     let n = length p.scripts in

@@ -6,7 +6,7 @@ use Rattle.redo_tests_board.proofs.SessionWorkers.{left_from}
 use Rattle.redo_tests_board.proofs.workers.work.Goals as goal
 
 pub loop-worker-init : goal.loop-worker-init
-loop-worker-init g c = (c.in_ok-worker.ensures.works c.args.board.now c.requires.board.1, refl)
+loop-worker-init g c = (c.in_ok-worker.ensures.works, refl)
 
 pub returns : goal.returns
 returns g c =
