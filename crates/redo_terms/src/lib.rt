@@ -11,5 +11,5 @@ mod stamp;
 pub use command::Command;
 pub use kind::Kind;
 pub use reply::{Line, Refusal, Reply};
-pub use script::{MOST_COMMANDS, Script};
+pub use script::Script;
 pub use stamp::{FileStamp, LONGEST_STAMP};

@@ -3,9 +3,6 @@ ghost use Rattle.std.specs.Prelude.{◌≡◌, ◌≤◌, length};
 use crate::command::Command;
 use std::marker::Model;
 
-/// How many commands a session file has at most.
-pub const MOST_COMMANDS: usize = 4096;
-
 /// The commands of one session, in order: at most 4,096.
 #[derive(Debug, Drop)]
 pub struct Script {

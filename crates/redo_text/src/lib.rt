@@ -25,7 +25,7 @@ pub use laws::{
 };
 pub use name_lists::MOST_LISTED_NAMES;
 pub use numbers::read_number;
-pub use read::{LONGEST_LINE, read_command};
+pub use read::{LONGEST_LINE, MOST_COMMANDS, read_command};
 pub use replies::read_reply;
 pub use scan::place_of;
 pub use session_file::read_script;

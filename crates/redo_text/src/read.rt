@@ -15,11 +15,14 @@ use crate::fault::{LineFault, ReadFault, Unread, at_line};
 use crate::forms::form_of;
 use crate::words::has_bad_byte;
 use redo_names::{MOST_NAMES, Names};
-use redo_terms::{Command, MOST_COMMANDS};
+use redo_terms::Command;
 use std::alloc::Global;
 
 /// How many bytes a line has at most, without its LF.
 pub const LONGEST_LINE: usize = 8192;
+
+/// How many commands a session file has at most.
+pub const MOST_COMMANDS: usize = 4096;
 
 /// The command that a line is, without its LF.
 #[tactic(auto, using(crate::proofs::Added::extends_same), unfolding(crate::specs::Inside::Reading::line_in))]
