@@ -6,8 +6,13 @@
 #![tactic(auto)]
 
 mod facts;
+mod forms;
 mod known;
 mod lists;
 mod plain;
+mod reader;
+mod runs;
 
 pub use plain::Plain;
+pub use reader::Fault;
+pub use runs::{run_of, verdict_of};
