@@ -171,3 +171,16 @@ pub(crate) fn with_header(alloc: Global, text: &[u8]) -> Result<Vec<u8>, AllocEr
     let end = text.iter().take_while(|byte| **byte != b'\n').count();
     spliced(alloc, text, 0, end, header.as_bytes())
 }
+
+/// A session file's lines, each as the line of a history that is answered `ok`.
+pub(crate) fn as_history(alloc: Global, file: &[u8]) -> Result<Vec<u8>, AllocError> {
+    let mut out = Vec::from_slice(alloc, b"\n")?;
+    for line in file.split(|byte| *byte == b'\n') {
+        if !line.is_empty() && !line.starts_with(b"#".as_slice()) {
+            out.extend_from_slice(b"1 ")?;
+            out.extend_from_slice(line)?;
+            out.extend_from_slice(b" => ok\n")?;
+        }
+    }
+    with_header(alloc, &out)
+}

@@ -1,8 +1,8 @@
 //! Damaged histories.
-use crate::damage::{badly_damaged, with_header};
+use crate::damage::{as_history, badly_damaged, with_header};
 use crate::judged::judge_history;
 use crate::random::Random;
-use crate::seeds::histories;
+use crate::seeds::{FILES, histories};
 use crate::tally::Tally;
 use std::test::Fail;
 
@@ -13,22 +13,32 @@ fn damaged_histories(rt: HostRuntime) -> Result<(), Fail> {
     let mut random = Random::new(3);
     let mut tally = Tally::new(alloc)?;
     let all = histories(&rt)?;
-    for _ in 0..30_000 {
+    for number in 0..20_000 {
         let Some(history) = all.get(random.below(all.len())) else {
             continue;
         };
         let mut damaged = badly_damaged(alloc, &mut random, history)?;
-        if random.below(3) > 0 {
+        if number % 4 > 0 {
             damaged = with_header(alloc, &damaged)?;
         }
-        let place = judge_history(&rt, alloc, &damaged)?;
-        tally.note(place);
+        tally.note(judge_history(&rt, alloc, &damaged)?);
     }
-    tally.check(
-        &rt,
-        30_000,
-        50,
-        &[0, 1, 2, 3, 4, 5, 6, 7, 8, 10, 11, 12, 13, 14],
-    );
+    tally.check(&rt, 20_000, 50, &[0, 1, 2, 3, 4, 5, 11, 12, 13, 14]);
+    Ok(())
+}
+
+/// The same of damaged session files that are told as histories.
+#[test]
+fn damaged_files_as_histories(rt: HostRuntime) -> Result<(), Fail> {
+    let alloc = rt.alloc();
+    let mut random = Random::new(4);
+    let mut tally = Tally::new(alloc)?;
+    for _ in 0..15_000 {
+        let file = FILES.get(random.below(FILES.len())).copied().unwrap_or("");
+        let damaged = badly_damaged(alloc, &mut random, file.as_bytes())?;
+        let told = as_history(alloc, &damaged)?;
+        tally.note(judge_history(&rt, alloc, &told)?);
+    }
+    tally.check(&rt, 15_000, 50, &[1, 2, 3, 4, 5, 6, 7, 8, 10]);
     Ok(())
 }
