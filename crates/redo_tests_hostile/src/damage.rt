@@ -42,7 +42,7 @@ const PIECES: [&str; 32] = [
 const LENGTHS: [usize; 6] = [64, 65, 255, 256, 8192, 8193];
 
 /// How often something is repeated. A list has at most 64 names.
-const TIMES: [usize; 8] = [1, 1, 2, 3, 61, 62, 63, 64];
+const TIMES: [usize; 8] = [1, 1, 2, 61, 62, 63, 64, 65];
 
 /// The bytes from one place up to another.
 fn part(text: &[u8], from: usize, to: usize) -> &[u8] {
@@ -183,4 +183,16 @@ pub(crate) fn as_history(alloc: Global, file: &[u8]) -> Result<Vec<u8>, AllocErr
         }
     }
     with_header(alloc, &out)
+}
+
+/// One of the texts, damaged.
+pub(crate) fn one_damaged(
+    alloc: Global,
+    random: &mut Random,
+    texts: &[Vec<u8>],
+) -> Result<Vec<u8>, AllocError> {
+    match texts.get(random.below(texts.len())) {
+        Some(text) => badly_damaged(alloc, random, text),
+        None => Ok(Vec::new(alloc)),
+    }
 }

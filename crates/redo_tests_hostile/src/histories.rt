@@ -1,8 +1,8 @@
 //! Damaged histories.
-use crate::damage::{as_history, badly_damaged, with_header};
+use crate::damage::{as_history, one_damaged, with_header};
 use crate::judged::judge_history;
 use crate::random::Random;
-use crate::seeds::{FILES, histories};
+use crate::seeds::{files, histories};
 use crate::tally::Tally;
 use std::test::Fail;
 
@@ -14,10 +14,7 @@ fn damaged_histories(rt: HostRuntime) -> Result<(), Fail> {
     let mut tally = Tally::new(alloc)?;
     let all = histories(&rt)?;
     for number in 0..20_000 {
-        let Some(history) = all.get(random.below(all.len())) else {
-            continue;
-        };
-        let mut damaged = badly_damaged(alloc, &mut random, history)?;
+        let mut damaged = one_damaged(alloc, &mut random, &all)?;
         if number % 4 > 0 {
             damaged = with_header(alloc, &damaged)?;
         }
@@ -33,9 +30,9 @@ fn damaged_files_as_histories(rt: HostRuntime) -> Result<(), Fail> {
     let alloc = rt.alloc();
     let mut random = Random::new(4);
     let mut tally = Tally::new(alloc)?;
+    let all = files(alloc)?;
     for _ in 0..15_000 {
-        let file = FILES.get(random.below(FILES.len())).copied().unwrap_or("");
-        let damaged = badly_damaged(alloc, &mut random, file.as_bytes())?;
+        let damaged = one_damaged(alloc, &mut random, &all)?;
         let told = as_history(alloc, &damaged)?;
         tally.note(judge_history(&rt, alloc, &told)?);
     }

@@ -4,8 +4,8 @@ use std::alloc::{AllocError, Global};
 use std::sync::Wait;
 use std::thread::Threads;
 
-/// Session files without a fault.
-pub(crate) const FILES: [&str; 6] = [
+/// Short session files without a fault.
+const FILES: [&str; 6] = [
     "file a.c 10\nlock a.o\nstart a.o\nifchange a.o a.c\ndone a.o 20\nunlock a.o\nood\ntargets\n\
     sources\n",
     "# Two objects and a program.\n\nfile main.c 1\nfile util.h 1\nlock main.o\nstart main.o\n\
@@ -38,10 +38,10 @@ const HISTORIES: [&str; 2] = [
 /// The history of a session file's run: half of the lines of its run text.
 fn history_of<R: Threads + Wait + Sync + AllocGlobal>(
     rt: &R,
-    file: &str,
+    file: &[u8],
 ) -> Result<Vec<u8>, AllocError> {
     let alloc = rt.alloc();
-    let text = match ran(rt, file.as_bytes())? {
+    let text = match ran(rt, file)? {
         Ok(text) => text,
         Err(_) => Vec::new(alloc),
     };
@@ -53,13 +53,49 @@ fn history_of<R: Threads + Wait + Sync + AllocGlobal>(
     Ok(history)
 }
 
+/// A session file in which a name, two file stamps and a list of names are as long as they may be.
+fn file_at_limits(alloc: Global) -> Result<Vec<u8>, AllocError> {
+    let stamp = Vec::from_elem(alloc, b's', 64)?;
+    let mut text = Vec::from_slice(alloc, b"lock t\nstart t\nlock ")?;
+    text.extend_from_slice(&Vec::from_elem(alloc, b'n', 255)?)?;
+    text.extend_from_slice(b"\nfile a ")?;
+    text.extend_from_slice(&stamp)?;
+    text.extend_from_slice(b"\nifchange t")?;
+    for number in 0..64 {
+        text.extend_from_slice(format!(in alloc; " x{number}")?.as_bytes())?;
+    }
+    text.extend_from_slice(b"\ndone t ")?;
+    text.extend_from_slice(&stamp)?;
+    text.extend_from_slice(b"\nood\n")?;
+    Ok(text)
+}
+
+/// A session file with a line as long as it may be.
+fn file_of_a_long_line(alloc: Global) -> Result<Vec<u8>, AllocError> {
+    let mut text = Vec::from_slice(alloc, b"lock t\nstart t\nstamp t ")?;
+    text.extend_from_slice(&Vec::from_elem(alloc, b'6', 8184)?)?;
+    text.extend_from_slice(b"\ndone t 1\nood\n")?;
+    Ok(text)
+}
+
+/// Session files without a fault.
+pub(crate) fn files(alloc: Global) -> Result<Vec<Vec<u8>>, AllocError> {
+    let mut all = Vec::new(alloc);
+    for file in FILES {
+        all.push(Vec::from_slice(alloc, file.as_bytes())?)?;
+    }
+    all.push(file_at_limits(alloc)?)?;
+    all.push(file_of_a_long_line(alloc)?)?;
+    Ok(all)
+}
+
 /// Histories without a fault.
 pub(crate) fn histories<R: Threads + Wait + Sync + AllocGlobal>(
     rt: &R,
 ) -> Result<Vec<Vec<u8>>, AllocError> {
     let alloc = rt.alloc();
     let mut all = Vec::new(alloc);
-    for file in FILES {
+    for file in &files(alloc)? {
         all.push(history_of(rt, file)?)?;
     }
     for history in HISTORIES {

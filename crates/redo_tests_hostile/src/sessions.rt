@@ -1,8 +1,8 @@
 //! Damaged session files.
-use crate::damage::badly_damaged;
+use crate::damage::{badly_damaged, one_damaged};
 use crate::judged::judge_file;
 use crate::random::Random;
-use crate::seeds::{FILES, long_file};
+use crate::seeds::{files, long_file};
 use crate::tally::Tally;
 use std::test::Fail;
 
@@ -12,9 +12,9 @@ fn damaged_session_files(rt: HostRuntime) -> Result<(), Fail> {
     let alloc = rt.alloc();
     let mut random = Random::new(1);
     let mut tally = Tally::new(alloc)?;
+    let all = files(alloc)?;
     for _ in 0..30_000 {
-        let file = FILES.get(random.below(FILES.len())).copied().unwrap_or("");
-        let damaged = badly_damaged(alloc, &mut random, file.as_bytes())?;
+        let damaged = one_damaged(alloc, &mut random, &all)?;
         judge_file(&rt, &damaged, &mut tally)?;
     }
     tally.check(&rt, 30_000, 50, &[0, 2, 3, 4, 5, 6, 7, 8, 10]);
@@ -35,6 +35,6 @@ fn damaged_long_session_files(rt: HostRuntime) -> Result<(), Fail> {
             judge_file(&rt, &damaged, &mut tally)?;
         }
     }
-    tally.check(&rt, 210, 20, &[0, 9]);
+    tally.check(&rt, 210, 10, &[0, 3, 4, 5, 9]);
     Ok(())
 }
