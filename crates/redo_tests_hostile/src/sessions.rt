@@ -21,20 +21,21 @@ fn damaged_session_files(rt: HostRuntime) -> Result<(), Fail> {
     Ok(())
 }
 
-/// The same of files with about as many commands as a file may have.
+/// The last of a file's commands, one more than there is room for.
+const LAST: &[u8] = b"lock c\nstart c\nstamp c 61\ndone c 1\nood\n";
+
+/// The same of files with about as many commands as a file may have, damaged near the end.
 #[test]
 fn damaged_long_session_files(rt: HostRuntime) -> Result<(), Fail> {
     let alloc = rt.alloc();
     let mut random = Random::new(2);
     let mut tally = Tally::new(alloc)?;
-    for commands in 4090..4100 {
-        let file = long_file(alloc, commands)?;
+    let front = long_file(alloc, 4092)?;
+    for _ in 0..400 {
+        let mut file = Vec::from_slice(alloc, &front)?;
+        file.extend_from_slice(&badly_damaged(alloc, &mut random, LAST)?)?;
         judge_file(&rt, &file, &mut tally)?;
-        for _ in 0..20 {
-            let damaged = badly_damaged(alloc, &mut random, &file)?;
-            judge_file(&rt, &damaged, &mut tally)?;
-        }
     }
-    tally.check(&rt, 210, 10, &[0, 3, 4, 5, 9]);
+    tally.check(&rt, 400, 20, &[0, 3, 4, 5, 9]);
     Ok(())
 }
