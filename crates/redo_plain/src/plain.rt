@@ -13,12 +13,20 @@ pub struct Plain {
 impl Plain {
     /// The database of which nothing was asked so far.
     pub fn new(alloc: Global, names: &Names) -> Result<Plain, AllocError> {
-        let mut all = Vec::new(alloc);
+        let mut texts = Vec::new(alloc);
         for n in 0..names.len() {
-            let text = Vec::from_slice(alloc, names.text(n))?;
-            all.push(Known::new(alloc, text))?;
+            texts.push(Vec::from_slice(alloc, names.text(n))?)?;
         }
-        Ok(Plain { names: all })
+        Plain::of(alloc, texts)
+    }
+
+    /// The same, over the names with these texts.
+    pub(crate) fn of(alloc: Global, texts: Vec<Vec<u8>>) -> Result<Plain, AllocError> {
+        let mut names = Vec::new(alloc);
+        for text in texts {
+            names.push(Known::new(alloc, text))?;
+        }
+        Ok(Plain { names })
     }
 
     /// The reply to a session's command, and its change. After want of memory the database is of no further use.

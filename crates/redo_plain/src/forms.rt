@@ -1,0 +1,161 @@
+//! The words of a line, by the rules of session files.
+use redo_command::{Kind, LineFault};
+
+/// What follows the word of a command.
+#[derive(Clone, Copy, PartialEq, Eq)]
+pub(crate) enum Shape {
+    Nothing,
+    Name,
+    NameAndNames,
+    NameAndStamp,
+    /// The stamp, or `-`.
+    NameAndEnd,
+    NameAndContent,
+}
+
+/// The commands.
+const FORMS: [(&str, Kind, Shape); 14] = [
+    ("file", Kind::File, Shape::NameAndStamp),
+    ("gone", Kind::Gone, Shape::Name),
+    ("lock", Kind::Lock, Shape::Name),
+    ("unlock", Kind::Unlock, Shape::Name),
+    ("start", Kind::Start, Shape::Name),
+    ("ifchange", Kind::IfChange, Shape::NameAndNames),
+    ("ifcreate", Kind::IfCreate, Shape::NameAndNames),
+    ("always", Kind::Always, Shape::Name),
+    ("stamp", Kind::Stamp, Shape::NameAndContent),
+    ("done", Kind::Done, Shape::NameAndEnd),
+    ("failed", Kind::Failed, Shape::Name),
+    ("ood", Kind::Ood, Shape::Nothing),
+    ("targets", Kind::Targets, Shape::Nothing),
+    ("sources", Kind::Sources, Shape::Nothing),
+];
+
+fn form_of(word: &[u8]) -> Option<(Kind, Shape)> {
+    for (text, kind, shape) in FORMS {
+        if text.as_bytes() == word {
+            return Some((kind, shape));
+        }
+    }
+    None
+}
+
+/// Whether the bytes are visible, from 1 to this many of them, and neither `-` nor `=>`.
+fn is_visible(word: &[u8], most: usize) -> bool {
+    let is_marked = word == b"-".as_slice() || word == b"=>".as_slice();
+    let is_short = !word.is_empty() && word.len() <= most;
+    is_short && !is_marked && word.iter().all(|byte| *byte > 32 && *byte < 127)
+}
+
+pub(crate) fn is_name(word: &[u8]) -> bool {
+    is_visible(word, 255) && !word.starts_with(b"#".as_slice())
+}
+
+fn is_stamp(word: &[u8]) -> bool {
+    is_visible(word, 64)
+}
+
+fn is_content(word: &[u8]) -> bool {
+    let is_digits = word.iter().all(|byte| byte.is_ascii_hexdigit());
+    word == b"-".as_slice() || !word.is_empty() && word.len() % 2 == 0 && is_digits
+}
+
+/// Whether so many words may follow.
+fn fits(shape: Shape, count: usize) -> bool {
+    match shape {
+        Shape::Nothing => count == 0,
+        Shape::Name => count == 1,
+        Shape::NameAndNames => count >= 2,
+        Shape::NameAndStamp | Shape::NameAndEnd | Shape::NameAndContent => count == 2,
+    }
+}
+
+/// What is wrong with a word that follows: the first is a name.
+fn word_fault(shape: Shape, is_first: bool, word: &[u8]) -> Option<LineFault> {
+    let (is_right, fault) = match shape {
+        Shape::NameAndStamp if !is_first => (is_stamp(word), LineFault::BadStamp),
+        Shape::NameAndEnd if !is_first => (
+            is_stamp(word) || word == b"-".as_slice(),
+            LineFault::BadStamp,
+        ),
+        Shape::NameAndContent if !is_first => (is_content(word), LineFault::BadHex),
+        _ => (is_name(word), LineFault::BadName),
+    };
+    if is_right { None } else { Some(fault) }
+}
+
+/// The kind of the command that these words are, or their first fault.
+pub(crate) fn kind_of(words: &[&[u8]]) -> Result<Kind, LineFault> {
+    let Some((head, rest)) = words.split_first() else {
+        return Err(LineFault::UnknownCommand);
+    };
+    let Some((kind, shape)) = form_of(head) else {
+        return Err(LineFault::UnknownCommand);
+    };
+    if !fits(shape, rest.len()) {
+        return Err(LineFault::WrongWords);
+    }
+    if shape == Shape::NameAndNames && rest.len() > 65 {
+        return Err(LineFault::TooManyNames);
+    }
+    for (at, word) in rest.iter().enumerate() {
+        if let Some(fault) = word_fault(shape, at == 0, word) {
+            return Err(fault);
+        }
+    }
+    Ok(kind)
+}
+
+/// The number that a text is, where it is at most this. No number begins with a zero but zero.
+pub(crate) fn number_of(text: &[u8], most: u64) -> Option<u64> {
+    let is_padded = text.len() > 1 && text.starts_with(b"0".as_slice());
+    let is_digits = text.iter().all(|byte| byte.is_ascii_digit());
+    if text.is_empty() || text.len() > 10 || is_padded || !is_digits {
+        return None;
+    }
+    let mut number = 0u64;
+    for byte in text {
+        let digit = u64::from(byte.saturating_sub(b'0'));
+        number = number.saturating_mul(10).saturating_add(digit);
+    }
+    if number <= most { Some(number) } else { None }
+}
+
+/// The names in the words of a reply; none where they are no reply.
+pub(crate) fn names_of_reply<'a, 'b>(words: &'b [&'a [u8]]) -> Option<&'b [&'a [u8]]> {
+    let (head, rest) = words.split_first()?;
+    let (last, front) = words.split_last()?;
+    let no_name = &words[words.len()..];
+    match *head {
+        b"ok" if rest.is_empty() => Some(no_name),
+        b"granted" | b"busy" if rest.len() == 1 && number_of(last, 4_294_967_295)? > 0 => {
+            Some(no_name)
+        }
+        b"stamped" if rest.len() == 1 && is_digest(last) => Some(no_name),
+        b"stale" if rest.is_empty() => None,
+        b"stale" | b"ood" | b"targets" | b"sources" if rest.iter().all(|word| is_name(word)) => {
+            Some(rest)
+        }
+        b"refused" if rest.len() == 1 && is_refusal(last) => Some(no_name),
+        b"refused" if front == [b"refused".as_slice(), b"exists".as_slice()].as_slice() => {
+            if is_name(last) {
+                Some(&words[2..])
+            } else {
+                None
+            }
+        }
+        _ => None,
+    }
+}
+
+fn is_digest(word: &[u8]) -> bool {
+    let is_low = word.iter().all(|byte| byte.is_ascii_digit() || (b'a'..=b'f').contains(byte));
+    word.len() == 40 && is_low
+}
+
+fn is_refusal(word: &[u8]) -> bool {
+    matches!(
+        str::from_utf8(word).unwrap_or(""),
+        "not-locked" | "building" | "not-building" | "self"
+    )
+}

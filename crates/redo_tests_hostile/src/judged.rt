@@ -1,0 +1,104 @@
+//! The program beside the plain reader.
+use crate::tally::{Tally, place_of};
+use redo_command::Watched;
+use redo_plain::{Fault, run_of, verdict_of};
+use redo_replay::{HistoryFault, ReplayFault, replay_text};
+use redo_session::{TextFault, run_texts};
+use std::alloc::{AllocError, Global};
+use std::process::Abort;
+use std::sync::Wait;
+use std::test::Fail;
+use std::thread::Threads;
+
+/// What the program says of a text: what it writes, or its fault; none for one that no text has.
+type Said = Result<Vec<u8>, Option<Fault>>;
+
+/// What a run of one session file says.
+pub(crate) fn ran<R: Threads + Wait + Sync + AllocGlobal>(
+    rt: &R,
+    file: &[u8],
+) -> Result<Said, AllocError> {
+    let alloc = rt.alloc();
+    let mut out = Vec::new(alloc);
+    let mut files = [Watched::new(file)];
+    match run_texts(rt, alloc, &mut files, &mut Watched::new(&mut out)) {
+        Ok(()) => Ok(Ok(out)),
+        Err(TextFault::Memory) => Err(AllocError),
+        Err(
+            TextFault::Read {
+                file: 0,
+                line,
+                fault,
+            },
+        ) if out.is_empty() => Ok(Err(Some(Fault::Line(line, fault)))),
+        Err(_) => Ok(Err(None)),
+    }
+}
+
+/// The same fault as the plain reader names it.
+fn plain_fault(fault: HistoryFault) -> Fault {
+    match fault {
+        HistoryFault::Memory => Fault::Memory,
+        HistoryFault::BadHeader => Fault::BadHeader,
+        HistoryFault::Cut => Fault::Cut,
+        HistoryFault::BadSession(line) => Fault::BadSession(line),
+        HistoryFault::BadLine(line, fault) => Fault::Line(line, fault),
+        HistoryFault::BadReply(line) => Fault::BadReply(line),
+    }
+}
+
+/// What a replay says.
+fn replayed(alloc: Global, history: &[u8]) -> Result<Said, AllocError> {
+    let mut out = Vec::new(alloc);
+    let mut input = Watched::new(history);
+    match replay_text(alloc, &mut input, &mut Watched::new(&mut out)) {
+        Ok(_) => Ok(Ok(out)),
+        Err(ReplayFault::Memory) => Err(AllocError),
+        Err(ReplayFault::History(fault)) if out.is_empty() => Ok(Err(Some(plain_fault(fault)))),
+        Err(_) => Ok(Err(None)),
+    }
+}
+
+/// The program says what the plain reader says.
+fn agree(rt: &impl Abort, text: &[u8], said: &Said, plain: &Result<Vec<u8>, Fault>) {
+    let is_same = match (said, plain) {
+        (Ok(said), Ok(plain)) => said.as_slice() == plain.as_slice(),
+        (Err(said), Err(plain)) => *said == Some(*plain),
+        _ => false,
+    };
+    let text = str::from_utf8(text).unwrap_or("not UTF-8");
+    assert!(rt;
+        is_same,
+        "{text:?}\nthe program: {said:?}\nthe plain reader: {plain:?}"
+    );
+}
+
+/// A history has the verdict or the fault that the plain reader gives. Answers its place.
+pub(crate) fn judge_history(
+    rt: &impl Abort,
+    alloc: Global,
+    history: &[u8],
+) -> Result<usize, AllocError> {
+    let said = replayed(alloc, history)?;
+    let plain = verdict_of(alloc, history);
+    agree(rt, history, &said, &plain);
+    Ok(place_of(&plain))
+}
+
+/// A session file has the run text or the fault that the plain reader gives, and its run text replays as the same.
+pub(crate) fn judge_file<R: Threads + Wait + Sync + Abort + AllocGlobal>(
+    rt: &R,
+    file: &[u8],
+    tally: &mut Tally,
+) -> Result<(), Fail> {
+    let alloc = rt.alloc();
+    let said = ran(rt, file)?;
+    let plain = run_of(alloc, file);
+    agree(rt, file, &said, &plain);
+    if let Ok(text) = &said {
+        let place = judge_history(rt, alloc, text)?;
+        assert_eq!(rt; place, crate::tally::ACCEPTED, "{text:?}");
+    }
+    tally.note(place_of(&plain));
+    Ok(())
+}

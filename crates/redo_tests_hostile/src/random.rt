@@ -1,0 +1,35 @@
+//! Numbers that look like chance, the same for the same seed.
+
+/// A generator of numbers: the state moves on by a fixed step, and each number is the state, mixed.
+#[derive(Drop)]
+pub(crate) struct Random {
+    state: u64,
+}
+
+impl Random {
+    pub(crate) fn new(seed: u64) -> Random {
+        Random { state: seed }
+    }
+
+    fn number(&mut self) -> u64 {
+        self.state = self.state.wrapping_add(0x9e37_79b9_7f4a_7c15);
+        let mut mixed = self.state;
+        mixed = (mixed ^ (mixed >> 30)).wrapping_mul(0xbf58_476d_1ce4_e5b9);
+        mixed = (mixed ^ (mixed >> 27)).wrapping_mul(0x94d0_49bb_1331_11eb);
+        mixed ^ (mixed >> 31)
+    }
+
+    /// A number below the count; 0 where that is 0.
+    pub(crate) fn below(&mut self, count: usize) -> usize {
+        if count == 0 {
+            return 0;
+        }
+        (self.number() % count as u64) as usize
+    }
+
+    /// One of these numbers.
+    pub(crate) fn one_of(&mut self, numbers: &[usize]) -> usize {
+        let at = self.below(numbers.len());
+        numbers.get(at).copied().unwrap_or(0)
+    }
+}

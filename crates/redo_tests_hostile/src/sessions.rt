@@ -1,0 +1,41 @@
+//! Damaged session files.
+use crate::damage::{badly_damaged, one_damaged};
+use crate::judged::judge_file;
+use crate::random::Random;
+use crate::seeds::{files, long_file};
+use crate::tally::Tally;
+use std::test::Fail;
+
+/// Each file runs, and its history replays, or it has the fault that the plain reader names.
+#[test]
+fn damaged_session_files(rt: HostRuntime) -> Result<(), Fail> {
+    let alloc = rt.alloc();
+    let mut random = Random::new(1);
+    let mut tally = Tally::new(alloc)?;
+    let all = files(alloc)?;
+    for _ in 0..30_000 {
+        let damaged = one_damaged(alloc, &mut random, &all)?;
+        judge_file(&rt, &damaged, &mut tally)?;
+    }
+    tally.check(&rt, 30_000, 50, &[0, 2, 3, 4, 5, 6, 7, 8, 10]);
+    Ok(())
+}
+
+/// The last of a file's commands, one more than there is room for.
+const LAST: &[u8] = b"lock c\nstart c\nstamp c 61\ndone c 1\nood\n";
+
+/// The same of files with about as many commands as a file may have, damaged near the end.
+#[test]
+fn damaged_long_session_files(rt: HostRuntime) -> Result<(), Fail> {
+    let alloc = rt.alloc();
+    let mut random = Random::new(2);
+    let mut tally = Tally::new(alloc)?;
+    let front = long_file(alloc, 4092)?;
+    for _ in 0..400 {
+        let mut file = Vec::from_slice(alloc, &front)?;
+        file.extend_from_slice(&badly_damaged(alloc, &mut random, LAST)?)?;
+        judge_file(&rt, &file, &mut tally)?;
+    }
+    tally.check(&rt, 400, 20, &[0, 3, 4, 5, 9]);
+    Ok(())
+}
