@@ -1,0 +1,59 @@
+"""Runs with one request for memory, or the start of one thread, refused."""
+import os
+import subprocess
+import tempfile
+
+TOP = os.path.dirname(os.path.dirname(os.path.abspath(__file__)))
+# more requests than any run here makes
+MOST = 100000
+
+
+def built(work):
+    """The library that refuses, built into this folder."""
+    library = os.path.join(work, "refusing.so")
+    source = os.path.join(TOP, "tests", "refusing.c")
+    subprocess.run(["cc", "-shared", "-fPIC", "-O1", "-ftls-model=initial-exec", "-o", library, source], check=True)
+    return library
+
+
+class Sweep:
+    """A run with its first request refused, its second one, and so on, until a run meets no refusal.
+
+    `run` is called with the environment. It answers what is wrong with the run, and how often the run has told of a
+    refusal by what it answered; a test says it in the library's report."""
+
+    def __init__(self, library, variable, run):
+        self.library, self.variable, self.run = library, variable, run
+        self.told = self.spared = 0
+        self.wrong = []
+
+    def step(self, at, report):
+        """One run. Answers whether it met the refusal."""
+        wanted = {self.variable: str(at), "FAIL_REPORT": report, "LD_PRELOAD": self.library}
+        fault, answered = self.run({**os.environ, **wanted})
+        try:
+            with open(report) as counts:
+                refused, told, spared, running = map(int, counts.read().split())
+        except (FileNotFoundError, ValueError):
+            self.wrong.append(f"request {at}: no report; {fault}")
+            return True
+        os.remove(report)
+        told += answered
+        if running:
+            fault = fault or f"{running} threads not joined"
+        if (told, min(spared, 1)) not in ([(0, 1), (1, 0)] if refused else [(0, 0)]):
+            fault = fault or f"{refused} refused, {told} told, {spared} spared"
+        if fault:
+            self.wrong.append(f"request {at}: {fault}")
+        self.told += told
+        self.spared += min(spared, 1)
+        return bool(refused)
+
+    def all(self):
+        """All runs. The last one meets no refusal."""
+        with tempfile.TemporaryDirectory() as work:
+            for at in range(1, MOST):
+                if not self.step(at, os.path.join(work, "report")):
+                    return self
+        self.wrong.append("no run without a refusal")
+        return self
