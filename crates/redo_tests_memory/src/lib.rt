@@ -1,7 +1,15 @@
-//! The tests of refused memory: each passes, too, where any one request for memory is refused.
+//! The tests of refused memory, each of which passes, too, where any one request is refused; and of devices that fail.
 #![tactic(auto)]
 
 #[cfg(test)]
+mod copies;
+#[cfg(test)]
+mod devices;
+#[cfg(test)]
+mod failing;
+#[cfg(test)]
+mod names;
+#[cfg(test)]
 mod told;
 #[cfg(test)]
-mod texts;
+mod wholes;

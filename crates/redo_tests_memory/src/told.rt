@@ -25,4 +25,5 @@ macro_rules! again {
         }
     };
 }
+
 pub(crate) use again;
