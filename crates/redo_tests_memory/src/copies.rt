@@ -28,14 +28,15 @@ const REPLIES: &str = "ok\ngranted 1\nbusy 4294967295\nstale a.c b.c\n\
 
 /// Whether the names are the first of these.
 fn are_first(names: &Names, texts: &[&str]) -> bool {
-    let mut count = 0;
-    for (number, text) in (0..names.len()).zip(texts) {
+    for number in 0..names.len() {
+        let Some(text) = texts.get(number as usize) else {
+            return false;
+        };
         if names.text(number) != text.as_bytes() {
             return false;
         }
-        count = number + 1;
     }
-    names.len() == count
+    true
 }
 
 /// A copy of the command has this text.

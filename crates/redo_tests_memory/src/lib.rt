@@ -4,11 +4,17 @@
 #[cfg(test)]
 mod copies;
 #[cfg(test)]
+mod databases;
+#[cfg(test)]
 mod devices;
 #[cfg(test)]
 mod failing;
 #[cfg(test)]
+mod histories;
+#[cfg(test)]
 mod names;
+#[cfg(test)]
+mod runs;
 #[cfg(test)]
 mod told;
 #[cfg(test)]

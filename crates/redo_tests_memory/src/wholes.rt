@@ -37,7 +37,7 @@ fn wholes(rt: HostRuntime) -> Result<(), Fail> {
     for bytes in [b"abcd".as_slice(), b"", &BYTES] {
         let limit = bytes.len();
         let answer = again!(&rt, alloc, AllocError, read(alloc, bytes, limit, 99));
-        assert!(&rt; matches!(answer, Ok(whole) if whole.as_slice() == bytes));
+        assert!(&rt; matches!(&answer, Ok(whole) if whole.as_slice() == bytes));
     }
     for bytes in [b"abcde".as_slice(), &BYTES] {
         let answer = again!(
@@ -46,7 +46,7 @@ fn wholes(rt: HostRuntime) -> Result<(), Fail> {
             AllocError,
             read(alloc, bytes, bytes.len() - 1, 99)
         );
-        assert!(&rt; matches!(answer, Err(WholeFault::TooLong)));
+        assert!(&rt; matches!(&answer, Err(WholeFault::TooLong)));
     }
     for fails_at in [0, 1, 7, 8] {
         let answer = again!(
@@ -55,7 +55,7 @@ fn wholes(rt: HostRuntime) -> Result<(), Fail> {
             AllocError,
             read(alloc, &BYTES, 70_000, fails_at)
         );
-        assert!(&rt; matches!(answer, Err(WholeFault::Device)));
+        assert!(&rt; matches!(&answer, Err(WholeFault::Device)));
     }
     Ok(())
 }
