@@ -2,6 +2,8 @@
 #![tactic(auto)]
 
 #[cfg(test)]
+mod drawn;
+#[cfg(test)]
 mod gates;
 #[cfg(test)]
 mod histories;
@@ -14,6 +16,8 @@ mod outcomes;
 #[cfg(test)]
 mod plans;
 #[cfg(test)]
+mod random;
+#[cfg(test)]
 mod refusals;
 #[cfg(test)]
 mod runs;
@@ -23,6 +27,10 @@ mod schedules;
 mod seats;
 #[cfg(test)]
 mod threads;
+#[cfg(test)]
+mod told;
+#[cfg(test)]
+mod tries;
 #[cfg(test)]
 mod two_threads;
 #[cfg(test)]
