@@ -2,7 +2,7 @@
 // each one of more bytes than FAIL_ABOVE, and the start of the thread whose number is FAIL_START. At the end the file
 // FAIL_REPORT has four counts: what was refused, what was told, what was spared, and the threads that weren't joined.
 // A test says that it was told of a refusal by a request for as many bytes as MARK, which is never refused. Spared is a
-// refused request after which the same thread asks for less at once.
+// refused request after which the same thread at once asks again, for no more.
 #define _GNU_SOURCE
 #include <dlfcn.h>
 #include <errno.h>
@@ -64,7 +64,7 @@ static int is_refused(size_t bytes) {
         atomic_fetch_add(&told, 1);
         return 0;
     }
-    if (bytes < last_refused) atomic_fetch_add(&spared, 1);
+    if (last_refused && bytes <= last_refused) atomic_fetch_add(&spared, 1);
     last_refused = 0;
     int is_its_turn = fail_at && atomic_fetch_add(&requests, 1) + 1 == fail_at;
     if (!is_its_turn && !(fail_above && bytes > fail_above)) return 0;

@@ -1,19 +1,10 @@
 """Runs with one request for memory, or the start of one thread, refused."""
 import os
-import subprocess
 import tempfile
 
 TOP = os.path.dirname(os.path.dirname(os.path.abspath(__file__)))
 # more requests than any run here makes
 MOST = 100000
-
-
-def built(work):
-    """The library that refuses, built into this folder."""
-    library = os.path.join(work, "refusing.so")
-    source = os.path.join(TOP, "tests", "refusing.c")
-    subprocess.run(["cc", "-shared", "-fPIC", "-O1", "-ftls-model=initial-exec", "-o", library, source], check=True)
-    return library
 
 
 class Sweep:
