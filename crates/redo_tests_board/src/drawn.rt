@@ -30,10 +30,10 @@ const COMMANDS: [&str; 16] = [
     "sources",
 ];
 
-/// A session file of so many lines at most.
-fn file_of(alloc: Global, random: &mut Random, most: usize) -> Result<String, AllocError> {
+/// A session file of so many lines.
+fn file_of(alloc: Global, random: &mut Random, lines: usize) -> Result<String, AllocError> {
     let mut file = String::new(alloc);
-    for _ in 0..most {
+    for _ in 0..lines {
         let command = COMMANDS[random.below(16)];
         writeln!(file, "{command}")?;
     }
@@ -45,20 +45,20 @@ fn drawn_plan(
     rt: &impl Abort,
     alloc: Global,
     random: &mut Random,
-    most: usize,
+    lines: usize,
 ) -> Result<Plan, AllocError> {
-    let first = file_of(alloc, random, most)?;
-    let second = file_of(alloc, random, most)?;
-    let third = file_of(alloc, random, most / 2)?;
-    let fourth = file_of(alloc, random, most / 3)?;
-    plan_of(rt, alloc, &[&first, &second, &third, &fourth])
+    let first = file_of(alloc, random, lines)?;
+    let second = file_of(alloc, random, lines)?;
+    let third = file_of(alloc, random, lines / 2)?;
+    let fourth = file_of(alloc, random, lines / 3)?;
+    plan_of(rt, alloc, &[first.as_str(), second.as_str(), third.as_str(), fourth.as_str()])
 }
 
 /// Brings the turns into another order.
 fn shuffle(rt: &impl Abort, random: &mut Random, turns: &mut [usize]) {
     for at in 0..turns.len() {
         let other = random.below(at + 1);
-        assert!(rt; other < turns.len());
+        assert!(rt; at < turns.len() && other < turns.len());
         turns.swap(at, other);
     }
 }

@@ -24,7 +24,7 @@ fn planned(rt: &impl Abort, alloc: Global, files: &[&str]) -> Result<Plan, Alloc
     match plan_of(rt, alloc, files) {
         Ok(plan) => Ok(plan),
         Err(_) => {
-            tell(alloc)?;
+            tell(alloc);
             plan_of(rt, alloc, files)
         }
     }
@@ -39,7 +39,7 @@ fn opened(alloc: Global, plan: &Plan) -> Result<(Board, Seat), AllocError>
     match Board::open(alloc, plan) {
         Ok(opened) => Ok(opened),
         Err(_) => {
-            tell(alloc)?;
+            tell(alloc);
             Board::open(alloc, plan)
         }
     }
@@ -56,7 +56,7 @@ fn check_history(
     let history = match history_of(rt, alloc, plan, journals) {
         Ok(history) => history,
         Err(_) => {
-            tell(alloc)?;
+            tell(alloc);
             history_of(rt, alloc, plan, journals)?
         }
     };
@@ -81,7 +81,7 @@ fn gated(alloc: Global) -> Result<Holds, AllocError> {
     match lost_try(alloc) {
         Ok(gate) => Ok(gate),
         Err(_) => {
-            tell(alloc)?;
+            tell(alloc);
             lost_try(alloc)
         }
     }
@@ -112,7 +112,7 @@ fn refused_after_the_lost_row(rt: HostRuntime) -> Result<(), Fail> {
         answer => {
             // without a thread of its own, a session was not told, and waited in vain
             if answer.is_err() {
-                tell(alloc)?;
+                tell(alloc);
             }
             lost_journals(&rt, alloc, &plan)?.ok_or("a session waited too long")?
         }
@@ -137,14 +137,14 @@ fn run_with_each_request_refused(rt: HostRuntime) -> Result<(), Fail> {
     let (outcome, history) = match ran(&rt, alloc, &plan, &Open) {
         Ok(left) => left,
         Err(RunFault::Memory) => {
-            tell(alloc)?;
+            tell(alloc);
             ran(&rt, alloc, &plan, &Open)?
         }
     };
     match is_right(&rt, alloc, &plan, &TWO_SESSIONS, &outcome, &history) {
         Ok(()) => Ok(()),
         Err(AllocError) => {
-            tell(alloc)?;
+            tell(alloc);
             Ok(is_right(&rt, alloc, &plan, &TWO_SESSIONS, &outcome, &history)?)
         }
     }

@@ -22,7 +22,7 @@ pub(crate) fn worker_of(alloc: Global, plan: &Plan, seat: Seat) -> Result<Worker
     match Worker::new(alloc, plan, seat) {
         Ok(worker) => Ok(worker),
         Err(seat) => {
-            tell(alloc)?;
+            tell(alloc);
             match Worker::new(alloc, plan, seat) {
                 Ok(worker) => Ok(worker),
                 Err(_) => Err(AllocError),
@@ -55,7 +55,7 @@ pub(crate) fn step<G: Gate>(
     match worker.step(alloc, board, plan, gate) {
         Ok(made) => Ok(made),
         Err(_) => {
-            tell(alloc)?;
+            tell(alloc);
             assert!(rt; last_of(worker) == last);
             worker.step(alloc, board, plan, gate)
         }

@@ -49,47 +49,47 @@ fn two_names(rt: &impl Abort, alloc: Global, texts: [&str; 2]) -> Result<Names, 
     Ok(names)
 }
 
-/// A line of a history: what the session asks is answered so.
-fn check_line(
-    rt: &impl Abort,
-    alloc: Global,
-    redo: &mut Redo,
-    names: &mut Names,
-    line: &str,
-) -> Result<(), Fail>
-    requires { tables_count redo.old ≡ 2 }
-    ensures { tables_count redo.new ≡ 2 }
-{
-    let (asked, want) = line.split_once(" => ").ok_or("a line")?;
-    let session = if asked.starts_with("1 ") { 0 } else { 1 };
-    let text = asked[2..].as_bytes();
-    let command = again!(
-        rt,
-        alloc,
-        ReadFault::Memory,
-        read_command(alloc, text, names)
-    );
-    let calls = redo.calls();
-    assert!(rt; names.len() == 2 && calls < 100);
-    let reply = again!(
-        rt,
-        alloc,
-        AllocError,
-        redo.call(alloc, session, &command),
-        redo.calls() == calls
-    );
-    let text = again!(rt, alloc, AllocError, reply_text(alloc, &reply, names));
-    assert_eq!(rt; text.as_slice(), want.as_bytes(), "{line:?}");
-    Ok(())
+/// The parts of a line of a history: whether it is the second session's, its command and its reply.
+fn parts_of(line: &str) -> Option<(bool, &str, &str)> {
+    let (asked, reply) = line.split_once(" => ")?;
+    let (session, command) = asked.split_once(' ')?;
+    Some((session == "2", command, reply))
+}
+
+/// The database of two names.
+#[derive(Drop)]
+struct Asked {
+    redo: Redo,
+    names: Names,
+    ghost count: { tables_count redo ≡ 2 },
+}
+
+impl Asked {
+    /// A line of a history: what the session asks is answered so.
+    fn check_line(&mut self, rt: &impl Abort, alloc: Global, line: &str) -> Result<(), Fail> {
+        let (is_second, text, want) = parts_of(line).ok_or("a line")?;
+        let text = text.as_bytes();
+        let names = &mut self.names;
+        let command = again!(rt, alloc, ReadFault::Memory, read_command(alloc, text, names));
+        let calls = self.redo.calls();
+        assert!(rt; self.names.len() == 2 && calls < 100);
+        let session = u8::from(is_second);
+        let reply = again!(rt, alloc, AllocError, self.redo.call(alloc, session, &command),
+            self.redo.calls() == calls);
+        let text = again!(rt, alloc, AllocError, reply_text(alloc, &reply, &self.names));
+        assert_eq!(rt; text.as_slice(), want.as_bytes(), "{line:?}");
+        Ok(())
+    }
 }
 
 fn check_lines(rt: &impl Abort, alloc: Global, texts: [&str; 2], lines: &str) -> Result<(), Fail> {
-    let mut names = two_names(rt, alloc, texts)?;
-    let mut redo = again!(rt, alloc, AllocError, Redo::new(alloc, &names));
+    let names = two_names(rt, alloc, texts)?;
+    let redo = again!(rt, alloc, AllocError, Redo::new(alloc, &names));
+    let mut asked = Asked { redo, names };
     for line in lines.lines() {
-        check_line(rt, alloc, &mut redo, &mut names, line)?;
+        asked.check_line(rt, alloc, line)?;
     }
-    assert_eq!(rt; redo.calls() as usize, lines.lines().count());
+    assert_eq!(rt; asked.redo.calls() as usize, lines.lines().count());
     Ok(())
 }
 
@@ -107,66 +107,58 @@ fn is_lock(command: &Command) -> bool
     matches!(command, Command::Lock(_))
 }
 
-/// A line of a history of one session, which holds the target; room is made first, or with the change.
-fn check_stored(
-    rt: &impl Abort,
-    alloc: Global,
-    store: &mut Store,
-    names: &mut Names,
-    line: &str,
+/// The store of two names.
+#[derive(Drop)]
+struct Stored {
+    store: Store,
+    names: Names,
     is_reserved: bool,
-) -> Result<(), Fail>
-    requires { count_of store.old ≡ 2 }
-    ensures { count_of store.new ≡ 2 }
-{
-    let (asked, want) = line.split_once(" => ").ok_or("a line")?;
-    let text = asked[2..].as_bytes();
-    let command = again!(
-        rt,
-        alloc,
-        ReadFault::Memory,
-        read_command(alloc, text, names)
-    );
-    let applied = store.applied();
-    assert!(rt; names.len() == 2 && applied < 100);
-    if is_lock(&command) {
-        return Ok(());
-    }
-    if is_reserved {
-        again!(
-            rt,
-            alloc,
-            AllocError,
-            store.reserve(&command),
-            store.applied() == applied
-        );
-        assert!(rt; store.has_room(&command));
-    }
-    let reply = again!(rt, alloc, AllocError, store.reply(alloc, 0, &command, true));
-    let text = again!(rt, alloc, AllocError, reply_text(alloc, &reply, names));
-    assert_eq!(rt; text.as_slice(), want.as_bytes(), "{line:?}");
-    assert!(rt; store.applied() < 100);
-    again!(
-        rt,
-        alloc,
-        AllocError,
-        store.apply(0, &command, true),
-        store.applied() == applied
-    );
-    Ok(())
+    ghost count: { count_of store ≡ 2 },
 }
 
-fn check_all_stored(
+impl Stored {
+    /// A line of a history of one session, which holds the target. Room is made first, or with the change.
+    fn check_line(&mut self, rt: &impl Abort, alloc: Global, line: &str) -> Result<(), Fail> {
+        let (_, text, want) = parts_of(line).ok_or("a line")?;
+        let text = text.as_bytes();
+        let names = &mut self.names;
+        let command = again!(rt, alloc, ReadFault::Memory, read_command(alloc, text, names));
+        let applied = self.store.applied();
+        assert!(rt; self.names.len() == 2 && applied < 100);
+        if is_lock(&command) {
+            return Ok(());
+        }
+        if self.is_reserved {
+            again!(rt, alloc, AllocError, self.store.reserve(&command),
+                self.store.applied() == applied);
+            assert!(rt; self.store.has_room(&command));
+        }
+        let reply = again!(rt, alloc, AllocError, self.store.reply(alloc, 0, &command, true));
+        let text = again!(rt, alloc, AllocError, reply_text(alloc, &reply, &self.names));
+        assert_eq!(rt; text.as_slice(), want.as_bytes(), "{line:?}");
+        assert!(rt; self.store.applied() == applied);
+        again!(rt, alloc, AllocError, self.store.apply(0, &command, true),
+            self.store.applied() == applied);
+        Ok(())
+    }
+}
+
+fn check_stored(
     rt: &impl Abort,
     alloc: Global,
     number: usize,
     is_reserved: bool,
 ) -> Result<(), Fail> {
     assert!(rt; number < 3);
-    let mut names = two_names(rt, alloc, NAMES[number])?;
-    let mut store = again!(rt, alloc, AllocError, Store::new(alloc, &names));
+    let names = two_names(rt, alloc, NAMES[number])?;
+    let store = again!(rt, alloc, AllocError, Store::new(alloc, &names));
+    let mut stored = Stored {
+        store,
+        names,
+        is_reserved,
+    };
     for line in HISTORIES[number].lines() {
-        check_stored(rt, alloc, &mut store, &mut names, line, is_reserved)?;
+        stored.check_line(rt, alloc, line)?;
     }
     Ok(())
 }
@@ -174,8 +166,8 @@ fn check_all_stored(
 #[test]
 fn stores(rt: HostRuntime) -> Result<(), Fail> {
     for is_reserved in [false, true] {
-        check_all_stored(&rt, rt.alloc(), 1, is_reserved)?;
-        check_all_stored(&rt, rt.alloc(), 2, is_reserved)?;
+        check_stored(&rt, rt.alloc(), 1, is_reserved)?;
+        check_stored(&rt, rt.alloc(), 2, is_reserved)?;
     }
     Ok(())
 }

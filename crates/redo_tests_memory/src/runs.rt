@@ -76,7 +76,7 @@ fn run_of<R: Threads + Wait + Abort + Sync>(
     rt: &R,
     alloc: Global,
     files: &[&str],
-) -> Result<Vec<u8>, Fail> {
+) -> Result<FaultyWriter, Fail> {
     let mut writer = writer(alloc, ALL, NEVER);
     again!(rt, alloc, AllocError, writer.taken.reserve(9_999));
     again!(
@@ -86,24 +86,24 @@ fn run_of<R: Threads + Wait + Abort + Sync>(
         written(rt, alloc, files, &mut writer),
         writer.taken.is_empty()
     );
-    Ok(writer.taken)
+    Ok(writer)
 }
 
 #[test]
 fn run_of_one(rt: HostRuntime) -> Result<(), Fail> {
-    let text = run_of(&rt, rt.alloc(), &[FILE])?;
-    assert!(&rt; is_right(&text));
+    let writer = run_of(&rt, rt.alloc(), &[FILE])?;
+    assert!(&rt; is_right(&writer.taken));
     Ok(())
 }
 
 #[test]
 fn run_of_two(rt: HostRuntime) -> Result<(), Fail> {
-    let text = run_of(&rt, rt.alloc(), &[FILE; 2])?;
-    check_verdict(&rt, rt.alloc(), str::from_utf8(&text)?, "same 18\n")
+    let writer = run_of(&rt, rt.alloc(), &[FILE; 2])?;
+    check_verdict(&rt, rt.alloc(), str::from_utf8(&writer.taken)?, "same 18\n")
 }
 
 #[test]
 fn run_of_eight(rt: HostRuntime) -> Result<(), Fail> {
-    let text = run_of(&rt, rt.alloc(), &[FILE; 8])?;
-    check_verdict(&rt, rt.alloc(), str::from_utf8(&text)?, "same 72\n")
+    let writer = run_of(&rt, rt.alloc(), &[FILE; 8])?;
+    check_verdict(&rt, rt.alloc(), str::from_utf8(&writer.taken)?, "same 72\n")
 }

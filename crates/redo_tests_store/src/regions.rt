@@ -33,7 +33,7 @@ fn no_memo(alloc: Global) -> Result<Ood, AllocError>
     match Ood::new(alloc, NAMES) {
         Ok(ood) => Ok(ood),
         Err(_) => {
-            tell(alloc)?;
+            tell(alloc);
             Ood::new(alloc, NAMES)
         }
     }
@@ -44,7 +44,7 @@ fn list(alloc: Global, ood: &Ood) -> Result<Vec<u32>, AllocError> {
     match ood.list(alloc) {
         Ok(targets) => Ok(targets),
         Err(_) => {
-            tell(alloc)?;
+            tell(alloc);
             ood.list(alloc)
         }
     }
@@ -179,7 +179,7 @@ fn appearance(rt: HostRuntime) -> Result<(), AllocError> {
     let mut graph = match Graph::new(alloc) {
         Ok(graph) => graph,
         Err(_) => {
-            tell(alloc)?;
+            tell(alloc);
             Graph::new(alloc)?
         }
     };
