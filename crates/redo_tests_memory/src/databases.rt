@@ -70,13 +70,28 @@ impl Asked {
         let (is_second, text, want) = parts_of(line).ok_or("a line")?;
         let text = text.as_bytes();
         let names = &mut self.names;
-        let command = again!(rt, alloc, ReadFault::Memory, read_command(alloc, text, names));
+        let command = again!(
+            rt,
+            alloc,
+            ReadFault::Memory,
+            read_command(alloc, text, names)
+        );
         let calls = self.redo.calls();
         assert!(rt; self.names.len() == 2 && calls < 100);
         let session = u8::from(is_second);
-        let reply = again!(rt, alloc, AllocError, self.redo.call(alloc, session, &command),
-            self.redo.calls() == calls);
-        let text = again!(rt, alloc, AllocError, reply_text(alloc, &reply, &self.names));
+        let reply = again!(
+            rt,
+            alloc,
+            AllocError,
+            self.redo.call(alloc, session, &command),
+            self.redo.calls() == calls
+        );
+        let text = again!(
+            rt,
+            alloc,
+            AllocError,
+            reply_text(alloc, &reply, &self.names)
+        );
         assert_eq!(rt; text.as_slice(), want.as_bytes(), "{line:?}");
         Ok(())
     }
@@ -122,23 +137,48 @@ impl Stored {
         let (_, text, want) = parts_of(line).ok_or("a line")?;
         let text = text.as_bytes();
         let names = &mut self.names;
-        let command = again!(rt, alloc, ReadFault::Memory, read_command(alloc, text, names));
+        let command = again!(
+            rt,
+            alloc,
+            ReadFault::Memory,
+            read_command(alloc, text, names)
+        );
         let applied = self.store.applied();
         assert!(rt; self.names.len() == 2 && applied < 100);
         if is_lock(&command) {
             return Ok(());
         }
         if self.is_reserved {
-            again!(rt, alloc, AllocError, self.store.reserve(&command),
-                self.store.applied() == applied);
+            again!(
+                rt,
+                alloc,
+                AllocError,
+                self.store.reserve(&command),
+                self.store.applied() == applied
+            );
             assert!(rt; self.store.has_room(&command));
         }
-        let reply = again!(rt, alloc, AllocError, self.store.reply(alloc, 0, &command, true));
-        let text = again!(rt, alloc, AllocError, reply_text(alloc, &reply, &self.names));
+        let reply = again!(
+            rt,
+            alloc,
+            AllocError,
+            self.store.reply(alloc, 0, &command, true)
+        );
+        let text = again!(
+            rt,
+            alloc,
+            AllocError,
+            reply_text(alloc, &reply, &self.names)
+        );
         assert_eq!(rt; text.as_slice(), want.as_bytes(), "{line:?}");
         assert!(rt; self.store.applied() == applied);
-        again!(rt, alloc, AllocError, self.store.apply(0, &command, true),
-            self.store.applied() == applied);
+        again!(
+            rt,
+            alloc,
+            AllocError,
+            self.store.apply(0, &command, true),
+            self.store.applied() == applied
+        );
         Ok(())
     }
 }
