@@ -51,7 +51,16 @@ fn drawn_plan(
     let second = file_of(alloc, random, lines)?;
     let third = file_of(alloc, random, lines / 2)?;
     let fourth = file_of(alloc, random, lines / 3)?;
-    plan_of(rt, alloc, &[first.as_str(), second.as_str(), third.as_str(), fourth.as_str()])
+    plan_of(
+        rt,
+        alloc,
+        &[
+            first.as_str(),
+            second.as_str(),
+            third.as_str(),
+            fourth.as_str(),
+        ],
+    )
 }
 
 /// Brings the turns into another order.

@@ -8,6 +8,7 @@ use std::sync::atomic::{AtomicU64, Ordering};
 
 /// More sessions, and more commands of each, than the plans here have.
 const SESSIONS: usize = 4;
+
 const LINES: usize = 64;
 
 /// A gate that counts how often each command was ready.
@@ -106,7 +107,13 @@ pub(crate) fn check_tries(rt: &impl Abort, lines: &[Line], journals: &[Journal],
     for line in lines {
         let session = line.session as usize;
         assert!(rt; session < journals.len());
-        pass(rt, gate, &journals[session], &mut passed[session], &mut rows);
+        pass(
+            rt,
+            gate,
+            &journals[session],
+            &mut passed[session],
+            &mut rows,
+        );
     }
     for (journal, passed) in journals.iter().zip(&passed) {
         assert_eq!(rt; passed.entries, journal.entries.len());
