@@ -91,8 +91,8 @@ fn drawn_schedules(rt: HostRuntime) -> Result<(), Fail> {
 fn drawn_runs(rt: HostRuntime) -> Result<(), Fail> {
     let alloc = rt.alloc();
     let mut random = Random::new(2);
-    for _ in 0..1_000 {
-        let plan = drawn_plan(&rt, alloc, &mut random, 60)?;
+    for _ in 0..200 {
+        let plan = drawn_plan(&rt, alloc, &mut random, 30)?;
         let gate = Tries::new(alloc)?;
         let outcome = run(&rt, alloc, &plan, &gate)?;
         check_tries(&rt, &outcome.history, &outcome.journals, &gate);

@@ -9,7 +9,7 @@ use std::sync::atomic::{AtomicU64, Ordering};
 /// More sessions, and more commands of each, than the plans here have.
 const SESSIONS: usize = 4;
 
-const LINES: usize = 64;
+const LINES: usize = 32;
 
 /// A gate that counts how often each command was ready.
 #[derive(Drop)]
