@@ -5,8 +5,8 @@ ghost use Rattle.redo_terms.specs.Meaning.{command_of, reply_of};
 
 use crate::told::again;
 use redo_command::{
-    Command, Kind, ReadFault, Reply, ReplyFault, command_text, read_command, read_reply, read_script,
-    reply_text,
+    Command, Kind, ReadFault, Reply, ReplyFault, command_text, read_command, read_reply,
+    read_script, reply_text,
 };
 use redo_names::Names;
 use std::alloc::{AllocError, Global};
