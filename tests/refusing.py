@@ -11,10 +11,10 @@ class Sweep:
     """A run with its first request refused, its second one, and so on, until a run meets no refusal.
 
     `run` is called with the environment. It answers what is wrong with the run, and how often the run has told of a
-    refusal by what it answered; a test says it in the library's report."""
+    refusal by what it answered; a test says it in the library's report, or tells nothing and has only to pass."""
 
-    def __init__(self, library, variable, run):
-        self.library, self.variable, self.run = library, variable, run
+    def __init__(self, library, variable, run, tells=True):
+        self.library, self.variable, self.run, self.tells = library, variable, run, tells
         self.told = self.spared = 0
         self.wrong = []
 
@@ -32,12 +32,12 @@ class Sweep:
         told += answered
         if running:
             fault = fault or f"{running} threads not joined"
-        if (told, min(spared, 1)) not in ([(0, 1), (1, 0)] if refused else [(0, 0)]):
+        if self.tells and (told, min(spared, 1)) not in ([(0, 1), (1, 0)] if refused else [(0, 0)]):
             fault = fault or f"{refused} refused, {told} told, {spared} spared"
         if fault:
             self.wrong.append(f"request {at}: {fault}")
-        self.told += told
-        self.spared += min(spared, 1)
+        self.told += told if self.tells else refused
+        self.spared += min(spared, 1) if self.tells else 0
         return bool(refused)
 
     def all(self):

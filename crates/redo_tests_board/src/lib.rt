@@ -2,8 +2,6 @@
 #![tactic(auto)]
 
 #[cfg(test)]
-mod drawn;
-#[cfg(test)]
 mod gates;
 #[cfg(test)]
 mod histories;
@@ -16,8 +14,6 @@ mod outcomes;
 #[cfg(test)]
 mod plans;
 #[cfg(test)]
-mod random;
-#[cfg(test)]
 mod refusals;
 #[cfg(test)]
 mod runs;
@@ -27,10 +23,6 @@ mod schedules;
 mod seats;
 #[cfg(test)]
 mod threads;
-#[cfg(test)]
-mod told;
-#[cfg(test)]
-mod tries;
 #[cfg(test)]
 mod two_threads;
 #[cfg(test)]

@@ -8,7 +8,6 @@ use crate::outcomes::{is_right, ran};
 use crate::plans::plan_of;
 use crate::seats::close;
 use crate::threads::journals_of;
-use crate::told::tell;
 use crate::worked::{COMMON_PATH, COMMON_PATH_HISTORY, LOST_TRY, LOST_TRY_HISTORY, lost_try};
 use crate::workers::work;
 use redo_board::{Board, Open, Seat};
@@ -23,10 +22,7 @@ use std::thread::Threads;
 fn planned(rt: &impl Abort, alloc: Global, files: &[&str]) -> Result<Plan, AllocError> {
     match plan_of(rt, alloc, files) {
         Ok(plan) => Ok(plan),
-        Err(_) => {
-            tell(alloc);
-            plan_of(rt, alloc, files)
-        }
+        Err(_) => plan_of(rt, alloc, files),
     }
 }
 
@@ -38,10 +34,7 @@ fn opened(alloc: Global, plan: &Plan) -> Result<(Board, Seat), AllocError>
 {
     match Board::open(alloc, plan) {
         Ok(opened) => Ok(opened),
-        Err(_) => {
-            tell(alloc);
-            Board::open(alloc, plan)
-        }
+        Err(_) => Board::open(alloc, plan),
     }
 }
 
@@ -55,10 +48,7 @@ fn check_history(
 ) -> Result<(), Fail> {
     let history = match history_of(rt, alloc, plan, journals) {
         Ok(history) => history,
-        Err(_) => {
-            tell(alloc);
-            history_of(rt, alloc, plan, journals)?
-        }
+        Err(_) => history_of(rt, alloc, plan, journals)?,
     };
     assert_eq!(rt; str::from_utf8(&history)?, want);
     Ok(())
@@ -80,10 +70,7 @@ fn every_request_refused(rt: HostRuntime) -> Result<(), Fail> {
 fn gated(alloc: Global) -> Result<Holds, AllocError> {
     match lost_try(alloc) {
         Ok(gate) => Ok(gate),
-        Err(_) => {
-            tell(alloc);
-            lost_try(alloc)
-        }
+        Err(_) => lost_try(alloc),
     }
 }
 
@@ -109,13 +96,7 @@ fn refused_after_the_lost_row(rt: HostRuntime) -> Result<(), Fail> {
     let plan = planned(&rt, alloc, &LOST_TRY)?;
     let journals = match lost_journals(&rt, alloc, &plan) {
         Ok(Some(journals)) => journals,
-        answer => {
-            // without a thread of its own, a session was not told, and waited in vain
-            if answer.is_err() {
-                tell(alloc);
-            }
-            lost_journals(&rt, alloc, &plan)?.ok_or("a session waited too long")?
-        }
+        _ => lost_journals(&rt, alloc, &plan)?.ok_or("a session waited too long")?,
     };
     let tries = journals.iter().map(|journal| journal.tries);
     assert!(rt; tries.eq([6, 5]));
@@ -136,16 +117,10 @@ fn run_with_each_request_refused(rt: HostRuntime) -> Result<(), Fail> {
     let plan = planned(&rt, alloc, &TWO_SESSIONS)?;
     let (outcome, history) = match ran(&rt, alloc, &plan, &Open) {
         Ok(left) => left,
-        Err(RunFault::Memory) => {
-            tell(alloc);
-            ran(&rt, alloc, &plan, &Open)?
-        }
+        Err(RunFault::Memory) => ran(&rt, alloc, &plan, &Open)?,
     };
     match is_right(&rt, alloc, &plan, &TWO_SESSIONS, &outcome, &history) {
         Ok(()) => Ok(()),
-        Err(AllocError) => {
-            tell(alloc);
-            Ok(is_right(&rt, alloc, &plan, &TWO_SESSIONS, &outcome, &history)?)
-        }
+        Err(AllocError) => Ok(is_right(&rt, alloc, &plan, &TWO_SESSIONS, &outcome, &history)?),
     }
 }

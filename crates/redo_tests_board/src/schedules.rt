@@ -3,13 +3,12 @@ ghost use Rattle.std.specs.Prelude.{◌≡◌, ◌<◌, length, IfOk};
 ghost use Rattle.redo_board.specs.Kept.{IsBoardOf, SitsAt, IsFreshOf};
 ghost use Rattle.redo_tests_board.specs.Workers.{AreWorkers};
 
-use crate::histories::{history_of, merged, replays, rows_in};
+use crate::histories::{history_of, replays, rows_in};
 use crate::order::{advance, first_schedule};
 use crate::plans::plan_of;
 use crate::seats::{close, meet, split};
-use crate::tries::{Tries, check_tries};
 use crate::workers::worker_of;
-use redo_board::{Board, Seat, Worker};
+use redo_board::{Board, Open, Seat, Worker};
 use redo_journal::{Journal, Plan};
 use std::alloc::{AllocError, Global};
 use std::process::Abort;
@@ -75,7 +74,6 @@ fn take_turn(
     alloc: Global,
     board: &Board,
     plan: &Plan,
-    gate: &Tries,
     workers: &mut [Worker],
     turn: usize,
 ) -> Result<bool, AllocError>
@@ -85,7 +83,7 @@ fn take_turn(
     ensures workers { AreWorkers plan.now board.now 0 workers.new }
     ensures count { length workers.new ≡ length workers.old }
 {
-    workers[turn].step(alloc, board, plan, gate)
+    workers[turn].step(alloc, board, plan, &Open)
 }
 
 /// Takes the steps in this order.
@@ -94,7 +92,6 @@ fn take_turns(
     alloc: Global,
     board: &Board,
     plan: &Plan,
-    gate: &Tries,
     workers: &mut [Worker],
     turns: &[usize],
 ) -> Result<(), Fail>
@@ -105,7 +102,7 @@ fn take_turns(
 {
     for &turn in turns {
         assert!(rt; turn < workers.len());
-        assert!(rt; take_turn(alloc, board, plan, gate, workers, turn)?);
+        assert!(rt; take_turn(alloc, board, plan, workers, turn)?);
     }
     Ok(())
 }
@@ -136,8 +133,8 @@ fn journals_of(
     Ok(journals)
 }
 
-/// The history of this schedule is legal, and each command tries what it should.
-pub(crate) fn check_schedule(
+/// The history of this schedule is legal.
+fn check_schedule(
     rt: &impl Abort,
     alloc: Global,
     plan: &Plan,
@@ -145,10 +142,8 @@ pub(crate) fn check_schedule(
 ) -> Result<(), Fail> {
     let (board, seat) = Board::open(alloc, plan)?;
     let mut workers = workers_of(alloc, &board, plan, seat)?;
-    let gate = Tries::new(alloc)?;
-    take_turns(rt, alloc, &board, plan, &gate, &mut workers, turns)?;
+    take_turns(rt, alloc, &board, plan, &mut workers, turns)?;
     let journals = journals_of(rt, alloc, board, plan, workers)?;
-    check_tries(rt, &merged(rt, alloc, plan, &journals)?, &journals, &gate);
     let history = history_of(rt, alloc, plan, &journals)?;
     replays(rt, alloc, &history, turns.len())?;
     Ok(())

@@ -76,47 +76,18 @@ fn merging(rt: HostRuntime) -> Result<(), Fail> {
     Ok(())
 }
 
-/// How many bytes are asked for where it is said that a call was told of a refusal.
-const MARK: usize = 54_321;
-
-/// Says that a call was told of a refusal.
-fn tell(alloc: Global) {
-    let _mark: Result<Vec<u8>, _> = Vec::with_capacity(alloc, MARK);
-}
-
 /// Passes with each request for memory refused in turn, too: it is then met in one of these calls,
 /// and the next try succeeds.
 #[test]
 fn refused_memory(rt: HostRuntime) -> Result<(), Fail> {
     let alloc = rt.alloc();
-    let plan = match read_plan(alloc, &TEXTS) {
-        Ok(plan) => plan?,
-        Err(_) => {
-            tell(alloc);
-            read_plan(alloc, &TEXTS)??
-        }
-    };
-    let told = match two_sessions(alloc, 1) {
-        Ok(told) => told,
-        Err(_) => {
-            tell(alloc);
-            two_sessions(alloc, 1)?
-        }
-    };
-    let journals = match journals_of(alloc, &told) {
-        Ok(journals) => journals,
-        Err(_) => {
-            tell(alloc);
-            journals_of(alloc, &told)?
-        }
-    };
+    let plan = read_plan(alloc, &TEXTS).or_else(|_| read_plan(alloc, &TEXTS))??;
+    let told = two_sessions(alloc, 1).or_else(|_| two_sessions(alloc, 1))?;
+    let journals = journals_of(alloc, &told).or_else(|_| journals_of(alloc, &told))?;
     assert!(rt; are_journals(&plan, &journals));
     let lines = match merge(alloc, &plan, &journals) {
         Ok(lines) => lines,
-        Err(AllocError) => {
-            tell(alloc);
-            merge(alloc, &plan, &journals)?
-        }
+        Err(AllocError) => merge(alloc, &plan, &journals)?,
     };
     assert!(rt;
         matches!(&lines, Some(lines) if are_the_four(lines)),

@@ -1,12 +1,11 @@
 //! How many names the region of a change has.
 ghost use Rattle.std.specs.Prelude.{◌≡◌, ◌<◌, length, IfOk};
-ghost use Rattle.redo_model.specs.State.{empty, is_building};
+ghost use Rattle.redo_model.specs.State.{is_building};
 ghost use Rattle.redo_records.specs.Cells.{cell_at};
 ghost use Rattle.redo_rows.specs.Rows.{rows_count, with_rows};
 ghost use Rattle.redo_ood.specs.Memo.{memo_count, IsRight};
 ghost use Rattle.redo_tests_store.specs.declared.regions.TheConstants.{NAMES};
 
-use crate::rows::{reserve, tell};
 use redo_command::FileStamp;
 use redo_ood::Ood;
 use redo_records::{Records, State, digest_of};
@@ -23,31 +22,6 @@ struct Graph {
     rows: DepRows,
     ghost records_count: { length records ≡ NAMES },
     ghost rows_count: { rows_count rows ≡ NAMES },
-}
-
-/// A memo in which nothing is out of date. Where a request for memory is refused, the next try succeeds.
-fn no_memo(alloc: Global) -> Result<Ood, AllocError>
-    ensures count { IfOk result (λ ood. memo_count ood ≡ NAMES) }
-    ensures right { IfOk result (λ ood. IsRight ood empty.records) }
-{
-    match Ood::new(alloc, NAMES) {
-        Ok(ood) => Ok(ood),
-        Err(_) => {
-            tell(alloc);
-            Ood::new(alloc, NAMES)
-        }
-    }
-}
-
-/// The targets that are out of date. Where a request for memory is refused, the next try succeeds.
-fn list(alloc: Global, ood: &Ood) -> Result<Vec<u32>, AllocError> {
-    match ood.list(alloc) {
-        Ok(targets) => Ok(targets),
-        Err(_) => {
-            tell(alloc);
-            ood.list(alloc)
-        }
-    }
 }
 
 impl Graph {
@@ -115,7 +89,7 @@ impl Graph {
         ensures right { IfOk result (λ ood.
             IsRight ood (with_rows self.now.records self.now.rows)) }
     {
-        let mut ood = no_memo(alloc)?;
+        let mut ood = Ood::new(alloc, NAMES)?;
         ood.refresh(&self.records, &self.rows, &[0, 1, 2, 3]);
         Ok(ood)
     }
@@ -132,10 +106,10 @@ impl Graph {
         requires { n < NAMES }
     {
         let mut ood = self.memo(alloc)?;
-        assert!(rt; list(alloc, &ood)?.is_empty());
+        assert!(rt; ood.list(alloc)?.is_empty());
         self.records.set_file(n, FileStamp::new(b"2"));
         assert!(rt; ood.refresh(&self.records, &self.rows, &[n]) == region);
-        assert!(rt; list(alloc, &ood)?.as_slice() == out);
+        assert!(rt; ood.list(alloc)?.as_slice() == out);
         Ok(())
     }
 
@@ -151,12 +125,12 @@ impl Graph {
         requires { t < NAMES }
     {
         let mut ood = self.memo(alloc)?;
-        assert!(rt; list(alloc, &ood)?.is_empty());
+        assert!(rt; ood.list(alloc)?.is_empty());
         assert!(rt; !self.is_building(t));
         self.records.start(0, t);
         self.rows.clear(t);
         assert!(rt; ood.refresh(&self.records, &self.rows, &[t]) == region);
-        assert!(rt; list(alloc, &ood)?.as_slice() == out);
+        assert!(rt; ood.list(alloc)?.as_slice() == out);
         Ok(())
     }
 }
@@ -172,19 +146,12 @@ fn chain(rt: HostRuntime) -> Result<(), AllocError> {
     graph.change_file(&rt, rt.alloc(), 0, 4, &[1, 2, 3])
 }
 
-/// 1 needs 0 not to have a file. Passes with each request for memory refused in turn, too.
+/// 1 needs 0 not to have a file.
 #[test]
 fn appearance(rt: HostRuntime) -> Result<(), AllocError> {
-    let alloc = rt.alloc();
-    let mut graph = match Graph::new(alloc) {
-        Ok(graph) => graph,
-        Err(_) => {
-            tell(alloc);
-            Graph::new(alloc)?
-        }
-    };
+    let mut graph = Graph::new(rt.alloc())?;
     graph.start(&rt, 1);
-    reserve(alloc, &mut graph.rows, 1, &[0])?;
+    graph.rows.reserve(1, &[0])?;
     assert!(rt; graph.rows.has_room(1, 0));
     graph.rows.put_created(1, 0);
     graph.finish(&rt, 1, true);

@@ -10,44 +10,25 @@ use std::process::Abort;
 
 const NAMES: u32 = 4;
 
-/// How many bytes are asked for where it is said that a call was told of a refusal.
-const MARK: usize = 54_321;
-
-/// Says that a call was told of a refusal.
-pub(crate) fn tell(alloc: Global) {
-    let _mark: Result<Vec<u8>, _> = Vec::with_capacity(alloc, MARK);
-}
-
 /// No rows. Where a request for memory is refused, the next try succeeds.
 fn no_rows(alloc: Global) -> Result<DepRows, AllocError>
     ensures { IfOk result (λ rows. rows_count rows ≡ NAMES) }
 {
     match DepRows::new(alloc, NAMES) {
         Ok(rows) => Ok(rows),
-        Err(_) => {
-            tell(alloc);
-            DepRows::new(alloc, NAMES)
-        }
+        Err(_) => DepRows::new(alloc, NAMES),
     }
 }
 
 /// Room for rows on these names. Where a request for memory is refused, the next try succeeds.
-pub(crate) fn reserve(
-    alloc: Global,
-    rows: &mut DepRows,
-    t: u32,
-    names: &[u32],
-) -> Result<(), AllocError>
+fn reserve(rows: &mut DepRows, t: u32, names: &[u32]) -> Result<(), AllocError>
     requires target { t < rows_count rows.old }
     requires names { AllBelow (rows_count rows.old) names.now }
     ensures { rows_count rows.new ≡ rows_count rows.old }
 {
     match rows.reserve(t, names) {
         Ok(()) => Ok(()),
-        Err(_) => {
-            tell(alloc);
-            rows.reserve(t, names)
-        }
+        Err(_) => rows.reserve(t, names),
     }
 }
 
@@ -62,12 +43,12 @@ fn put_change(rt: &impl Abort, rows: &mut DepRows, t: u32, n: u32, mark: Mark)
 }
 
 /// Room for some rows, and those rows.
-fn put_rows(rt: &impl Abort, alloc: Global, rows: &mut DepRows) -> Result<(), AllocError>
+fn put_rows(rt: &impl Abort, rows: &mut DepRows) -> Result<(), AllocError>
     requires { rows_count rows.old ≡ NAMES }
     ensures { rows_count rows.new ≡ NAMES }
 {
-    reserve(alloc, rows, 0, &[1, 2])?;
-    reserve(alloc, rows, 3, &[1])?;
+    reserve(rows, 0, &[1, 2])?;
+    reserve(rows, 3, &[1])?;
     put_change(rt, rows, 0, 1, Mark::Absent);
     assert!(rt; rows.has_room(0, 2));
     rows.put_created(0, 2);
@@ -103,12 +84,11 @@ fn check_rest(rt: &impl Abort, rows: &DepRows)
 }
 
 /// Room for more rows. Where it is refused, all rows and all room are as they were, and the next try succeeds.
-fn more_room(rt: &impl Abort, alloc: Global, rows: &mut DepRows) -> Result<(), AllocError>
+fn more_room(rt: &impl Abort, rows: &mut DepRows) -> Result<(), AllocError>
     requires { rows_count rows.old ≡ NAMES }
     ensures { rows_count rows.new ≡ NAMES }
 {
     if rows.reserve(3, &[0, 1, 2]).is_err() {
-        tell(alloc);
         check_rows(rt, rows);
         assert!(rt; rows.has_room(0, 1) && rows.has_room(0, 2) && rows.has_room(3, 1));
         rows.reserve(3, &[0, 1, 2])?;
@@ -121,9 +101,9 @@ fn more_room(rt: &impl Abort, alloc: Global, rows: &mut DepRows) -> Result<(), A
 #[test]
 fn inverse_rows(rt: HostRuntime) -> Result<(), AllocError> {
     let mut rows = no_rows(rt.alloc())?;
-    put_rows(&rt, rt.alloc(), &mut rows)?;
+    put_rows(&rt, &mut rows)?;
     check_rows(&rt, &rows);
-    more_room(&rt, rt.alloc(), &mut rows)?;
+    more_room(&rt, &mut rows)?;
     rows.clear(0);
     check_rest(&rt, &rows);
     assert!(rt; rows.has_room(3, 0) && rows.has_room(3, 2));
