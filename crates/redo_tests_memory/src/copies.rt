@@ -1,0 +1,146 @@
+//! Commands and replies: read, copied, and written.
+ghost use Rattle.std.specs.Prelude.{length};
+ghost use Rattle.redo_model.specs.Renaming.{IsBelow, IsReplyBelow};
+ghost use Rattle.redo_terms.specs.Meaning.{command_of, reply_of};
+
+use crate::told::again;
+use redo_command::{
+    Command, Kind, ReadFault, Reply, ReplyFault, command_text, read_command, read_reply,
+    read_script, reply_text,
+};
+use redo_names::Names;
+use std::alloc::{AllocError, Global};
+use std::process::Abort;
+use std::test::Fail;
+
+/// A session file with each form of a command.
+const COMMANDS: &str = "file a.c 10\ngone b.c\nlock a.o\nunlock a.o\nstart a.o\n\
+    ifchange a.o a.c b.c lib\nifcreate a.o config x y z a.c\nalways a.o\nstamp a.o 616263\n\
+    done a.o 20\nfailed a.o\nood\ntargets\nsources\n";
+
+/// The forms.
+const KINDS: [Kind; 14] = [
+    Kind::File,
+    Kind::Gone,
+    Kind::Lock,
+    Kind::Unlock,
+    Kind::Start,
+    Kind::IfChange,
+    Kind::IfCreate,
+    Kind::Always,
+    Kind::Stamp,
+    Kind::Done,
+    Kind::Failed,
+    Kind::Ood,
+    Kind::Targets,
+    Kind::Sources,
+];
+
+/// Their names, as they come.
+const NAMES: [&str; 8] = ["a.c", "b.c", "a.o", "lib", "config", "x", "y", "z"];
+
+/// Each form of a reply, but for most refusals. Their names come in another order.
+const REPLIES: &str = "ok\ngranted 1\nbusy 4294967295\nstale a.c b.c\n\
+    stamped a9993e364706816aba3e25717850c26c9cd0d89d\nood a.o lib\ntargets a.o lib config x y z\n\
+    sources a.c b.c\nrefused self\nrefused exists z\n";
+
+/// Whether the names are the first of these.
+fn are_first(names: &Names, texts: &[&str]) -> bool {
+    for number in 0..names.len() {
+        let Some(text) = texts.get(number as usize) else {
+            return false;
+        };
+        if names.text(number) != text.as_bytes() {
+            return false;
+        }
+    }
+    true
+}
+
+/// A copy of the command has this text.
+fn check_command(
+    rt: &impl Abort,
+    alloc: Global,
+    command: &Command,
+    names: &Names,
+    want: &str,
+) -> Result<(), AllocError>
+    requires { IsBelow (length names.now) (command_of command.now) }
+{
+    let copy = again!(rt, alloc, AllocError, command.copy(alloc));
+    let text = again!(rt, alloc, AllocError, command_text(alloc, &copy, names));
+    assert_eq!(rt; text.as_slice(), want.as_bytes());
+    Ok(())
+}
+
+/// A copy of the reply has this text.
+fn check_reply(
+    rt: &impl Abort,
+    alloc: Global,
+    reply: &Reply,
+    names: &Names,
+    want: &str,
+) -> Result<(), AllocError>
+    requires { IsReplyBelow (length names.now) (reply_of reply.now) }
+{
+    let copy = again!(rt, alloc, AllocError, reply.copy(alloc));
+    let text = again!(rt, alloc, AllocError, reply_text(alloc, &copy, names));
+    assert_eq!(rt; text.as_slice(), want.as_bytes());
+    Ok(())
+}
+
+#[test]
+fn commands(rt: HostRuntime) -> Result<(), Fail> {
+    let alloc = rt.alloc();
+    let mut names = Names::new(alloc);
+    for line in COMMANDS.lines() {
+        let text = line.as_bytes();
+        let command = again!(
+            &rt,
+            alloc,
+            ReadFault::Memory,
+            read_command(alloc, text, &mut names),
+            are_first(&names, &NAMES)
+        );
+        check_command(&rt, alloc, &command, &names, line)?;
+    }
+    assert!(&rt; names.len() == 8 && are_first(&names, &NAMES));
+    Ok(())
+}
+
+#[test]
+fn replies(rt: HostRuntime) -> Result<(), Fail> {
+    let alloc = rt.alloc();
+    let mut names = Names::new(alloc);
+    for line in REPLIES.lines() {
+        let text = line.as_bytes();
+        let reply = again!(
+            &rt,
+            alloc,
+            ReplyFault::Memory,
+            read_reply(alloc, text, &mut names),
+            are_first(&names, &NAMES)
+        );
+        check_reply(&rt, alloc, &reply, &names, line)?;
+    }
+    assert!(&rt; names.len() == 8 && are_first(&names, &NAMES));
+    Ok(())
+}
+
+#[test]
+fn scripts(rt: HostRuntime) -> Result<(), Fail> {
+    let alloc = rt.alloc();
+    let mut names = Names::new(alloc);
+    let text = COMMANDS.as_bytes();
+    let script = again!(
+        &rt,
+        alloc,
+        ReadFault::Memory,
+        read_script(alloc, text, &mut names),
+        are_first(&names, &NAMES)
+    );
+    let kinds = script.commands().iter().map(|command| command.kind());
+    assert!(&rt; kinds.eq(KINDS));
+    assert!(&rt; names.len() == 8 && are_first(&names, &NAMES));
+    Ok(())
+}

@@ -1,0 +1,111 @@
+//! Histories that are read, replayed and written.
+use crate::failing::{ALL, NEVER, writer};
+use crate::told::again;
+use redo_command::{LineFault, Watched};
+use redo_replay::{
+    History, HistoryFault, ReplayFault, history_text, read_history, replay, replay_text,
+    verdict_text,
+};
+use std::alloc::{AllocError, Global};
+use std::process::Abort;
+use std::test::Fail;
+
+/// What one session is told.
+pub(crate) const HISTORY: &str = "history 9\n1 file a.c 10 => ok\n1 lock a.o => granted 1\n\
+    1 start a.o => ok\n1 ifchange a.o a.c => ok\n1 done a.o 20 => ok\n1 unlock a.o => ok\n\
+    1 ood => ood\n1 targets => targets a.o\n1 sources => sources a.c\n";
+
+/// A wrong reply, and a right one of the other kinds.
+const WRONG_REPLY: &str = "history 2\n1 file a.c 10 => ok\n1 lock a.o => granted 2\n";
+
+const WRONG_LIST: &str =
+    "history 3\n1 file a 1 => ok\n1 lock t => granted 1\n1 targets => targets a\n";
+
+/// The text is read as a history; a fault is another than want of memory.
+fn read(alloc: Global, text: &str) -> Result<Result<History, HistoryFault>, AllocError> {
+    match read_history(alloc, text.as_bytes()) {
+        Err(HistoryFault::Memory) => Err(AllocError),
+        answer => Ok(answer),
+    }
+}
+
+/// The verdict on the text is written, alone and by a replay of the text; the history is written as it was read.
+pub(crate) fn check_verdict(
+    rt: &impl Abort,
+    alloc: Global,
+    text: &str,
+    want: &str,
+) -> Result<(), Fail> {
+    let history = again!(rt, alloc, AllocError, read(alloc, text))?;
+    let verdict = again!(rt, alloc, AllocError, replay(alloc, &history));
+    let said = again!(
+        rt,
+        alloc,
+        AllocError,
+        verdict_text(alloc, &verdict, history.names())
+    );
+    assert_eq!(rt; said.as_slice(), want.as_bytes());
+    let lines = history.lines();
+    let told = again!(
+        rt,
+        alloc,
+        AllocError,
+        history_text(alloc, lines, history.names())
+    );
+    assert!(rt; text.as_bytes().starts_with(told.as_slice()));
+    Ok(())
+}
+
+fn check_replay(rt: &impl Abort, alloc: Global, text: &str, want: &str) -> Result<(), Fail> {
+    let mut writer = writer(alloc, ALL, NEVER);
+    again!(rt, alloc, AllocError, writer.taken.reserve(100));
+    let input = text.as_bytes();
+    again!(
+        rt,
+        alloc,
+        ReplayFault::Memory,
+        replay_text(
+            alloc,
+            &mut Watched::new(input),
+            &mut Watched::new(&mut writer)
+        ),
+        writer.taken.is_empty()
+    );
+    assert_eq!(rt; writer.taken.as_slice(), want.as_bytes());
+    Ok(())
+}
+
+#[test]
+fn histories(rt: HostRuntime) -> Result<(), Fail> {
+    for (text, want) in [
+        (HISTORY, "same 9\n"),
+        (WRONG_REPLY, "differs 2 granted 1\n"),
+        (WRONG_LIST, "differs 3 targets\n"),
+    ] {
+        check_verdict(&rt, rt.alloc(), text, want)?;
+        check_replay(&rt, rt.alloc(), text, want)?;
+    }
+    Ok(())
+}
+
+#[test]
+fn faults(rt: HostRuntime) -> Result<(), Fail> {
+    let alloc = rt.alloc();
+    for (text, want) in [
+        ("", HistoryFault::BadHeader),
+        (
+            "history 3\n1 file a 1 => ok\n1 ood => ood\n",
+            HistoryFault::Cut,
+        ),
+        ("history 1\n65 ood => ood\n", HistoryFault::BadSession(1)),
+        ("history 1\n1 ood => fine\n", HistoryFault::BadReply(1)),
+        (
+            "history 1\n1 lock => ok\n",
+            HistoryFault::BadLine(1, LineFault::WrongWords),
+        ),
+    ] {
+        let answer = again!(&rt, alloc, AllocError, read(alloc, text));
+        assert_eq!(&rt; answer.err(), Some(want));
+    }
+    Ok(())
+}

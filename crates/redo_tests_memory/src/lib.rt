@@ -1,0 +1,21 @@
+//! The tests of refused memory, each of which passes, too, where any one request is refused; and of devices that fail.
+#![tactic(auto)]
+
+#[cfg(test)]
+mod copies;
+#[cfg(test)]
+mod databases;
+#[cfg(test)]
+mod devices;
+#[cfg(test)]
+mod failing;
+#[cfg(test)]
+mod histories;
+#[cfg(test)]
+mod names;
+#[cfg(test)]
+mod runs;
+#[cfg(test)]
+mod told;
+#[cfg(test)]
+mod wholes;

@@ -1,0 +1,109 @@
+//! Runs of one file, of two and of eight.
+use crate::devices::FaultyWriter;
+use crate::failing::{ALL, NEVER, writer};
+use crate::histories::{HISTORY, check_verdict};
+use crate::told::again;
+use redo_board::Open;
+use redo_command::Watched;
+use redo_journal::Plan;
+use redo_names::Names;
+use redo_session::{RunFault, TextFault, read_files, run, run_text, run_texts};
+use std::alloc::{AllocError, Global};
+use std::process::Abort;
+use std::sync::Wait;
+use std::test::Fail;
+use std::thread::Threads;
+
+/// The file of one session, and what stands after the history in its run text.
+const FILE: &str = "file a.c 10\nlock a.o\nstart a.o\nifchange a.o a.c\ndone a.o 20\nunlock a.o\n\
+    ood\ntargets\nsources\n";
+
+const PART: &str = "session 1 9\nfile a.c 10 => ok\nlock a.o => granted 1\nstart a.o => ok\n\
+    ifchange a.o a.c => ok\ndone a.o 20 => ok\nunlock a.o => ok\nood => ood\n\
+    targets => targets a.o\nsources => sources a.c\n";
+
+/// The text of this file's run.
+fn is_right(text: &[u8]) -> bool {
+    let (history, part) = text.split_at(text.len().min(HISTORY.len()));
+    history == HISTORY.as_bytes() && part == PART.as_bytes()
+}
+
+fn readers<'a>(alloc: Global, files: &[&'a str]) -> Result<Vec<Watched<&'a [u8]>>, AllocError> {
+    let mut readers = Vec::new(alloc);
+    for file in files {
+        readers.push(Watched::new(file.as_bytes()))?;
+    }
+    Ok(readers)
+}
+
+/// The plan of these files.
+fn planned(rt: &impl Abort, alloc: Global, files: &[&str]) -> Result<Plan, AllocError> {
+    let mut names = Names::new(alloc);
+    let mut readers = readers(alloc, files)?;
+    match read_files(alloc, &mut readers, &mut names) {
+        Ok(scripts) => Ok(Plan::new(scripts, names).expect(rt, "a plan")),
+        Err(TextFault::Memory) => Err(AllocError),
+        Err(fault) => panic!(rt; "{fault}"),
+    }
+}
+
+/// The run of one file, and its text.
+#[test]
+fn one_run(rt: HostRuntime) -> Result<(), Fail> {
+    let alloc = rt.alloc();
+    let plan = again!(&rt, alloc, AllocError, planned(&rt, alloc, &[FILE]));
+    let outcome = again!(&rt, alloc, RunFault::Memory, run(&rt, alloc, &plan, &Open));
+    let text = again!(&rt, alloc, AllocError, run_text(alloc, &plan, &outcome));
+    assert!(&rt; is_right(&text));
+    Ok(())
+}
+
+/// A run of these files. The writer has room.
+fn written<R: Threads + Wait + Sync>(
+    rt: &R,
+    alloc: Global,
+    files: &[&str],
+    writer: &mut FaultyWriter,
+) -> Result<(), TextFault> {
+    let Ok(mut readers) = readers(alloc, files) else {
+        return Err(TextFault::Memory);
+    };
+    run_texts(rt, alloc, &mut readers, &mut Watched::new(writer))
+}
+
+/// The run text of these files, of which nothing is written where memory is refused.
+fn run_of<R: Threads + Wait + Abort + Sync>(
+    rt: &R,
+    alloc: Global,
+    files: &[&str],
+) -> Result<FaultyWriter, Fail> {
+    let mut writer = writer(alloc, ALL, NEVER);
+    again!(rt, alloc, AllocError, writer.taken.reserve(9_999));
+    again!(
+        rt,
+        alloc,
+        TextFault::Memory,
+        written(rt, alloc, files, &mut writer),
+        writer.taken.is_empty()
+    );
+    Ok(writer)
+}
+
+#[test]
+fn run_of_one(rt: HostRuntime) -> Result<(), Fail> {
+    let writer = run_of(&rt, rt.alloc(), &[FILE])?;
+    assert!(&rt; is_right(&writer.taken));
+    Ok(())
+}
+
+#[test]
+fn run_of_two(rt: HostRuntime) -> Result<(), Fail> {
+    let writer = run_of(&rt, rt.alloc(), &[FILE; 2])?;
+    check_verdict(&rt, rt.alloc(), str::from_utf8(&writer.taken)?, "same 18\n")
+}
+
+#[test]
+fn run_of_eight(rt: HostRuntime) -> Result<(), Fail> {
+    let writer = run_of(&rt, rt.alloc(), &[FILE; 8])?;
+    check_verdict(&rt, rt.alloc(), str::from_utf8(&writer.taken)?, "same 72\n")
+}

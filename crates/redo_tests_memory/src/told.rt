@@ -1,0 +1,29 @@
+//! Calls that are tried once more, and how it is said that they were told of a refusal.
+use std::alloc::Global;
+use std::process::Abort;
+
+/// How many bytes are asked for where it is said that a call was told of a refusal.
+const MARK: usize = 54_321;
+
+/// Says that a call was told of a refusal.
+pub(crate) fn tell(rt: &impl Abort, alloc: Global) {
+    let mark: Result<Vec<u8>, _> = Vec::with_capacity(alloc, MARK);
+    assert!(rt; mark.is_ok());
+}
+
+/// The value of a call. Where it is told of a refusal, these conditions hold, and the next try gives the value.
+macro_rules! again {
+    ($rt:expr, $alloc:expr, $memory:pat, $call:expr $(, $stands:expr)*) => {
+        match $call {
+            Ok(value) => value,
+            Err(fault) => {
+                assert!($rt; matches!(fault, $memory));
+                $crate::told::tell($rt, $alloc);
+                $(assert!($rt; $stands);)*
+                $call?
+            }
+        }
+    };
+}
+
+pub(crate) use again;

@@ -1,0 +1,50 @@
+"""Runs with one request for memory, or the start of one thread, refused."""
+import os
+import tempfile
+
+TOP = os.path.dirname(os.path.dirname(os.path.abspath(__file__)))
+# more requests than any run here makes
+MOST = 100000
+
+
+class Sweep:
+    """A run with its first request refused, its second one, and so on, until a run meets no refusal.
+
+    `run` is called with the environment. It answers what is wrong with the run, and how often the run has told of a
+    refusal by what it answered; a test says it in the library's report, or tells nothing and has only to pass."""
+
+    def __init__(self, library, variable, run, tells=True):
+        self.library, self.variable, self.run, self.tells = library, variable, run, tells
+        self.told = self.spared = 0
+        self.wrong = []
+
+    def step(self, at, report):
+        """One run. Answers whether it met the refusal."""
+        wanted = {self.variable: str(at), "FAIL_REPORT": report, "LD_PRELOAD": self.library}
+        fault, answered = self.run({**os.environ, **wanted})
+        try:
+            with open(report) as counts:
+                refused, told, spared, running = map(int, counts.read().split())
+        except (FileNotFoundError, ValueError):
+            self.wrong.append(f"request {at}: no report; {fault}")
+            return True
+        os.remove(report)
+        told += answered
+        if running:
+            fault = fault or f"{running} threads not joined"
+        if self.tells and (told, min(spared, 1)) not in ([(0, 1), (1, 0)] if refused else [(0, 0)]):
+            fault = fault or f"{refused} refused, {told} told, {spared} spared"
+        if fault:
+            self.wrong.append(f"request {at}: {fault}")
+        self.told += told if self.tells else refused
+        self.spared += min(spared, 1) if self.tells else 0
+        return bool(refused)
+
+    def all(self):
+        """All runs. The last one meets no refusal."""
+        with tempfile.TemporaryDirectory() as work:
+            for at in range(1, MOST):
+                if not self.step(at, os.path.join(work, "report")):
+                    return self
+        self.wrong.append("no run without a refusal")
+        return self
