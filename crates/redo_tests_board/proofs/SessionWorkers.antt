@@ -11,7 +11,7 @@ use Rattle.redo_board.specs.Core.{Line}
 use Rattle.redo_board.specs.Views.{Part}
 use Rattle.redo_board.specs.Rule.{HasPart}
 use Rattle.redo_board.specs.Shown.{IsForAll, parts_of, session_of, journal_of}
-use Rattle.redo_board.specs.Kept.{SitsAt, WorksAt}
+use Rattle.redo_board.specs.Kept.{SitsAt}
 use Rattle.redo_board.specs.Outcomes.{Leaves}
 use Rattle.redo_tests_board.specs.Workers.{HasFrom}
 

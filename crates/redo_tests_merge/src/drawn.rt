@@ -47,7 +47,10 @@ fn drawn_plan(alloc: Global, random: &mut Random) -> Result<Plan, Fail> {
         let lines = random.below(most_lines(sessions, session)) + 1;
         texts.push(text_of(alloc, random, lines)?)?;
     }
-    let files: Vec<&str> = texts.iter().map(|text| text.as_str()).collect(alloc)?;
+    let mut files: Vec<&str> = Vec::new(alloc);
+    for text in &texts {
+        files.push(text.as_str())?;
+    }
     plan_of(alloc, &files)
 }
 

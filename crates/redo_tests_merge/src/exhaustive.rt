@@ -40,7 +40,7 @@ fn check_moved<R: Abort + AllocGlobal>(
         let names = drawn.plan.names().len() as usize;
         let mut standing = Standing::new(alloc, drawn.told.len(), names)?;
         let is_order = is_placed(&drawn.told, &order, &mut standing);
-        assert!(rt; !is_order || first <= order.as_slice(), "{order:?}");
+        assert!(rt; !is_order || first <= order.as_slice());
     }
     Ok(())
 }
@@ -53,7 +53,7 @@ fn check_drawn<R: Abort + AllocGlobal>(
 ) -> Result<(), Fail> {
     let drawn = draw(rt.alloc(), random)?;
     let first = check(rt, &drawn.plan, &drawn.told, tally)?.ok_or("an order")?;
-    assert!(rt; first <= drawn.order, "{first:?}");
+    assert!(rt; first <= drawn.order);
     for at in 1..drawn.order.len() {
         check_moved(rt, &drawn, &first, at, tally)?;
     }
@@ -71,8 +71,8 @@ fn every_order(rt: HostRuntime) -> Result<(), Fail> {
     for _ in 0..HISTORIES {
         check_drawn(&rt, &mut random, &mut tally)?;
     }
-    assert!(rt; tally.some >= 5000 && tally.none >= 5000, "{tally:?}");
-    assert!(rt; tally.some.wrapping_add(tally.none) >= 20000, "{tally:?}");
+    assert!(rt; tally.some >= 5000 && tally.none >= 5000);
+    assert!(rt; tally.some.wrapping_add(tally.none) >= 20000);
     Ok(())
 }
 
@@ -89,10 +89,7 @@ fn first_order(rt: HostRuntime) -> Result<(), Fail> {
             firsts = firsts.wrapping_add(1);
         }
     }
-    assert!(rt;
-        tally.some == HISTORIES && firsts >= 500 && firsts < HISTORIES,
-        "{firsts}"
-    );
+    assert!(rt; tally.some == HISTORIES && firsts >= 500 && firsts < HISTORIES);
     Ok(())
 }
 
@@ -109,6 +106,6 @@ fn whole_journals(rt: HostRuntime) -> Result<(), Fail> {
             check(&rt, &drawn.plan, &told, &mut tally)?;
         }
     }
-    assert!(rt; tally.some >= 500 && tally.none >= 500, "{tally:?}");
+    assert!(rt; tally.some >= 500 && tally.none >= 500);
     Ok(())
 }

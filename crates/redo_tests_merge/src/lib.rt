@@ -20,6 +20,4 @@ mod random;
 #[cfg(test)]
 mod rules;
 #[cfg(test)]
-mod sessions;
-#[cfg(test)]
 mod told;

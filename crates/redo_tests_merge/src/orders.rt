@@ -1,5 +1,5 @@
 //! All orders of the lines of some sessions: lists of the sessions, each as often as it has lines.
-ghost use Rattle.std.specs.Prelude.{◌≡◌, ◌+◌, ◌<◌, length, IfSome};
+ghost use Rattle.std.specs.Prelude.{◌+◌, ◌<◌, length, IfSome};
 
 use crate::rules::{Standing, all_fit, is_placed};
 use crate::told::Told;

@@ -5,7 +5,7 @@ use redo_journal::{Entry, Journal, Place, Plan};
 use std::alloc::{AllocError, Global};
 
 /// The replies in these tests.
-#[derive(Clone, Copy, Debug, PartialEq, Eq)]
+#[derive(Clone, Copy, PartialEq, Eq)]
 pub(crate) enum Answer {
     Okay,
     Granted(u32),
@@ -14,7 +14,7 @@ pub(crate) enum Answer {
 }
 
 /// What was answered to a command, and where.
-#[derive(Clone, Copy, Debug)]
+#[derive(Clone, Copy)]
 pub(crate) struct Told {
     pub(crate) answer: Answer,
     pub(crate) place: Place,
@@ -83,15 +83,23 @@ fn is_line(plan: &Plan, session: u8, number: usize, told: Told, line: &Line) -> 
 
 /// How often the session stands in the order.
 pub(crate) fn count_of(order: &[u8], session: u8) -> usize {
-    order.iter().filter(|other| **other == session).count()
+    let mut count: usize = 0;
+    for other in order {
+        if *other == session {
+            count = count.wrapping_add(1);
+        }
+    }
+    count
 }
 
 /// Whether the lines are what was told, in this order of the sessions.
 pub(crate) fn are_lines(plan: &Plan, told: &[Vec<Told>], order: &[u8], lines: &[Line]) -> bool {
     for (at, session) in order.iter().enumerate() {
         let number = count_of(&order[..at], *session);
-        let own = told.get(*session as usize).and_then(|own| own.get(number));
-        let (Some(one), Some(line)) = (own, lines.get(at)) else {
+        let (Some(own), Some(line)) = (told.get(*session as usize), lines.get(at)) else {
+            return false;
+        };
+        let Some(one) = own.get(number) else {
             return false;
         };
         if !is_line(plan, *session, number, *one, line) {
