@@ -1,9 +1,8 @@
-pub mod Stamp
-pub mod Meaning
-pub mod Texts
-pub mod Histories
-pub mod Grammar
-pub mod Reading
-pub mod Replies
-pub mod ReplyReading
-pub mod Watched
+pub use Rattle.redo_terms.specs.Stamp
+pub use Rattle.redo_terms.specs.Meaning
+pub use Rattle.redo_text.specs.Texts
+pub use Rattle.redo_text.specs.Grammar
+pub use Rattle.redo_text.specs.Reading
+pub use Rattle.redo_text.specs.Replies
+pub use Rattle.redo_text.specs.ReplyReading
+pub use Rattle.redo_whole.specs.Watched

@@ -2,7 +2,7 @@
 use Rattle.std.specs.Prelude.{◌<◌, ◌≤◌, length, map}
 use Rattle.std.specs.List.{AllByRecursion}
 use Rattle.redo_model.specs.Renaming.{IsLineBelow}
-use Rattle.redo_command.specs.Meaning.{line_of}
+use Rattle.redo_terms.specs.Meaning.{line_of}
 use Rattle.redo_replay.specs.Recorded.{Recorded}
 use Rattle.redo_replay.specs.declared.history.TheConstants.{MOST_LINES, MOST_SESSIONS}
 use Rattle.redo_replay.specs.declared.history.History.TheInside.{Inside}

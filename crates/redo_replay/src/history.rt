@@ -2,7 +2,7 @@ ghost use Rattle.std.specs.Prelude.{◌≡◌, ◌<◌, ◌≤◌, length, map};
 ghost use Rattle.std.specs.List.{AllByRecursion};
 ghost use Rattle.redo_names.specs.Names.{AreNames};
 ghost use Rattle.redo_model.specs.Renaming.{IsLineBelow};
-ghost use Rattle.redo_command.specs.Meaning.{line_of};
+ghost use Rattle.redo_terms.specs.Meaning.{line_of};
 
 use redo_command::Line;
 use redo_names::Names;

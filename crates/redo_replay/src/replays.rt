@@ -3,7 +3,7 @@ ghost use Rattle.std.specs.List.{AllByRecursion};
 ghost use Rattle.redo_model.specs.Names.{texts};
 ghost use Rattle.redo_model.specs.History.{Legal};
 ghost use Rattle.redo_model.specs.Renaming.{IsLineBelow};
-ghost use Rattle.redo_command.specs.Meaning.{line_of, line_at};
+ghost use Rattle.redo_terms.specs.Meaning.{line_of, line_at};
 ghost use Rattle.redo_replay.specs.Recorded.{lines_of};
 ghost use Rattle.redo_replay.specs.Verdicts.{IsSame, IsVerdict, IsVerdictBelow, verdict_at};
 

@@ -2,7 +2,7 @@ ghost use Rattle.std.specs.Prelude.{◌≡◌, ◌≢◌, ◌↔◌, ◌⊎◌, 
 ghost use Rattle.std.specs.Io.KnownBytes.{Keeps};
 ghost use Rattle.redo_model.specs.Names.{Text, texts};
 ghost use Rattle.redo_model.specs.History.{Line, Legal};
-ghost use Rattle.redo_command.specs.Watched.{is_faulted, inner_of};
+ghost use Rattle.redo_whole.specs.Watched.{is_faulted, inner_of};
 ghost use Rattle.redo_replay.specs.Recorded.{lines_of};
 ghost use Rattle.redo_replay.specs.Verdicts.{IsSame};
 ghost use Rattle.redo_replay.specs.Replays.{IsReadAs, HasVerdict, WritesVerdict, WritesPart, IsCause, IsDeviceFault};

@@ -4,8 +4,8 @@ use Rattle.std.specs.List.{AllByRecursion, flat_map}
 use Rattle.redo_names.specs.declared.names.TheConstants.{MOST_NAMES}
 use Rattle.redo_model.specs.Names.{Text}
 use Rattle.redo_model.specs.Command.{Command, names_in}
-use Rattle.redo_command.specs.declared.read.TheConstants.{MOST_COMMANDS}
-use Rattle.redo_command.specs.Grammar.{IsScript}
+use Rattle.redo_terms.specs.declared.script.TheConstants.{MOST_COMMANDS}
+use Rattle.redo_text.specs.Grammar.{IsScript}
 use Rattle.redo_session.specs.Runs.{AreAccepted}
 use Rattle.redo_session.proofs.CommandsSaid.{IsSaid, commands_said}
 use Rattle.redo_session.proofs.KnownNames.{IsKnown, AreKnown, known-with_names, added_are_known}

@@ -2,7 +2,7 @@
 use Rattle.std.specs.Prelude.{◌≡◌, ℕ, ◌<◌, ◌≤◌, Bool, false, List, [], length, take, Option, None, IfSome, IsTrue, slice_index_or, ⊤}
 use Rattle.redo_model.specs.Names.{Text}
 use Rattle.redo_model.specs.Command.{Command}
-use Rattle.redo_command.specs.Reading.{IsFirstFault}
+use Rattle.redo_text.specs.Reading.{IsFirstFault}
 use Rattle.redo_session.specs.Runs.{AreAccepted, AreSessions}
 use Rattle.redo_session.specs.declared.fault.TextFault.{TextFault}
 use Rattle.redo_session.specs.declared.fault.TextFault.TheVariants.{Memory, Read, TooManySessions, NoSession, Write, Device, TooLong}

@@ -2,8 +2,9 @@ ghost use Rattle.std.specs.Prelude.{◌≡◌, ◌+◌, ◌++◌, length, map, c
 ghost use Rattle.std.specs.List.{AllByRecursion, flat_map};
 ghost use Rattle.redo_model.specs.History.{part_of};
 ghost use Rattle.redo_model.specs.Renaming.{IsLineBelow};
-ghost use Rattle.redo_command.specs.Meaning.{line_of, line_at};
-ghost use Rattle.redo_command.specs.Histories.{ended, answer_text_of, session_text_of, run_text_of, sessions_below};
+ghost use Rattle.redo_terms.specs.Meaning.{line_of, line_at};
+ghost use Rattle.redo_replay.specs.Histories.{ended, answer_text_of};
+ghost use Rattle.redo_session.specs.RunTexts.{session_text_of, run_text_of, sessions_below};
 
 use crate::runs::Outcome;
 use redo_command::Line;

@@ -1,7 +1,7 @@
 ghost use Rattle.std.specs.Prelude.{length, map, IfOk};
 ghost use Rattle.std.specs.List.{AllByRecursion};
 ghost use Rattle.redo_model.specs.Renaming.{IsLineBelow};
-ghost use Rattle.redo_command.specs.Meaning.{line_of, line_at};
+ghost use Rattle.redo_terms.specs.Meaning.{line_of, line_at};
 ghost use Rattle.redo_replay.specs.Merges.{AreMerged};
 ghost use Rattle.redo_session.specs.Runs.{IsRun};
 ghost use Rattle.redo_session.specs.Outcomes.{scripts_named, AreWhole, SeenStands};

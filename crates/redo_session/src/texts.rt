@@ -1,6 +1,6 @@
 ghost use Rattle.std.specs.Prelude.{◌≡◌, ◌≢◌, ◌↔◌, ◌⊎◌, ◌<◌, ◌≤◌, [], false, true, length, map, Any, All, IfOk, IfErr, OnOk, IsErrOf, IsErrAnd};
 ghost use Rattle.std.specs.Io.KnownBytes.{Keeps};
-ghost use Rattle.redo_command.specs.Watched.{is_faulted, inner_of};
+ghost use Rattle.redo_whole.specs.Watched.{is_faulted, inner_of};
 ghost use Rattle.redo_session.specs.Runs.{IsRunText, RunsAs, WritesRun, WritesPart, AreKnownSessions};
 ghost use Rattle.redo_session.specs.Files.{bytes_of_files, flags_of_files, scripts_at, AreScriptsBelow};
 ghost use Rattle.redo_session.specs.Faults.{IsCause, IsDeviceFault};

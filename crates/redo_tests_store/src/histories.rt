@@ -1,7 +1,7 @@
 //! Histories of commands drawn at random, with one wrong reply.
 ghost use Rattle.std.specs.Prelude.{◌≡◌, length};
 ghost use Rattle.redo_model.specs.Renaming.{IsBelow, IsReplyBelow};
-ghost use Rattle.redo_command.specs.Meaning.{command_of, reply_of};
+ghost use Rattle.redo_terms.specs.Meaning.{command_of, reply_of};
 
 use crate::compared::{Compared, all_names};
 use crate::random::{NAMES, Random};

@@ -2,7 +2,7 @@
 ghost use Rattle.std.specs.Prelude.{◌≡◌, None, IfOk};
 ghost use Rattle.redo_model.specs.Command.{asked_lock};
 ghost use Rattle.redo_model.specs.Renaming.{IsBelow};
-ghost use Rattle.redo_command.specs.Meaning.{command_of};
+ghost use Rattle.redo_terms.specs.Meaning.{command_of};
 ghost use Rattle.redo_store.specs.Stored.{applied_of, count_of};
 
 use crate::answers::{Answer, answer_of, names_of};

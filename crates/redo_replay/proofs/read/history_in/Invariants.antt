@@ -1,6 +1,6 @@
 use Rattle.std.proofs.Common.{◌≡◌, ◌+◌, ◌<◌, length}
 use Rattle.std.specs.List.{AllByRecursion}
-use Rattle.redo_command.specs.declared.reply.Line.{Line}
+use Rattle.redo_terms.specs.declared.reply.Line.{Line}
 use Rattle.redo_replay.specs.declared.history.TheConstants.{MOST_SESSIONS}
 use Rattle.redo_replay.proofs.Replayed.{AreLinesBelow}
 use Rattle.redo_replay.proofs.HistorySteps.{IsReadSoFar}

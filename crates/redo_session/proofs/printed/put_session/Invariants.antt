@@ -1,8 +1,8 @@
 use Rattle.std.proofs.Common.{◌≡◌, ◌+◌, ◌++◌, length, map, codes, decimal, take}
 use Rattle.std.specs.List.{flat_map}
 use Rattle.redo_model.specs.History.{part_of}
-use Rattle.redo_command.specs.Meaning.{line_at}
-use Rattle.redo_command.specs.Histories.{ended, answer_text_of}
+use Rattle.redo_terms.specs.Meaning.{line_at}
+use Rattle.redo_replay.specs.Histories.{ended, answer_text_of}
 use Rattle.redo_session.proofs.printed.put_session.Given as goal
 
 -- the header counts all lines of the session
