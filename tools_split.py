@@ -192,7 +192,7 @@ def cut_script(tree):
     methods = once(methods, "impl Script {\n", """impl Script {
     /// The script of these commands.
     pub fn new(commands: Vec<Command>) -> Script
-        requires few { length commands.items ≤ MOST_COMMANDS }
+        requires { length commands.items ≤ MOST_COMMANDS }
         ensures commands { result ≡ commands.items }
     {
         Script { commands }
@@ -232,7 +232,22 @@ def cut_script(tree):
     text = tree.now[answers]
     if text.count("invariant_of-result") != 3:
         stop(f"{answers}: invariant_of-result isn't answered there once")
-    tree.now[answers] = text.replace("invariant_of-result", "new-requires-few")
+    text = text.replace("invariant_of-result", "new-requires")
+    # what the last line says is wanted before the call of Script::new and after it
+    found = re.search(r"(?m)^whole : \(c : goal\.In_default-after\)(.*)\nwhole c =\n((?:[ \t]+.*\n)+)", text)
+    if not found:
+        stop(f"{answers}: there is no lemma whole as this script knows it")
+    said, body = found[1], found[2].rstrip("\n").split("\n")
+    said = once(said, "c.take_line.new.commands.items", "c.new.result", answers)
+    body[-1] = f"    rw c.new.ensures.commands ({body[-1].strip()})"
+    body = "\n".join(body) + "\n"
+    text = text.replace(found[0], found[0] + f"\nread_whole : (c : goal.After-new){said}\nread_whole c =\n{body}")
+    for goal in ["returns-in_default-after-clause-read", "returns-in_default-after-clause-only"]:
+        found = re.search(rf"(?m)^{goal} c.*=.*(?:\n[ \t]+.*)*", text)
+        if not found or found[0].count("whole c") != 1:
+            stop(f"{answers}: {goal} isn't answered by whole")
+        text = text.replace(found[0], found[0].replace("whole c", "read_whole c"))
+    tree.now[answers] = text
     # the edits of the reader
     for path in sorted(tree.now):
         if path.startswith(f"crates/{FROM}/must-fail/") and "file: src/script.rt" in tree.now[path]:

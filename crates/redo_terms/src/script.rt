@@ -27,7 +27,7 @@ impl Model for Script {
 impl Script {
     /// The script of these commands.
     pub fn new(commands: Vec<Command>) -> Script
-        requires few { length commands.items ≤ MOST_COMMANDS }
+        requires { length commands.items ≤ MOST_COMMANDS }
         ensures commands { result ≡ commands.items }
     {
         Script { commands }

@@ -30,14 +30,19 @@ whole c =
     let only : lines_of c.lines.rest.now ≡ c.cut.result.0.now ∷ [] = rw c.in_default-after.is at c.cut.ensures in
     last_read _ _ c.lines.rest.now c.cut.result.0.now c.lines.number _ _ _ _ c.lines.invariant.so_far only c.in_default.ensures.taken
 
+read_whole : (c : goal.After-new) → IsScript c.args.names.now c.args.text.now (map (command_at c.take_line.new.names) c.new.result) c.take_line.new.names
+read_whole c =
+    let only : lines_of c.lines.rest.now ≡ c.cut.result.0.now ∷ [] = rw c.in_default-after.is at c.cut.ensures in
+    rw c.new.ensures.commands (last_read _ _ c.lines.rest.now c.cut.result.0.now c.lines.number _ _ _ _ c.lines.invariant.so_far only c.in_default.ensures.taken)
+
 pub returns-in_default-after-clause-read : goal.returns-in_default-after-clause-read
-returns-in_default-after-clause-read c = whole c
+returns-in_default-after-clause-read c = read_whole c
 
 pub returns-in_default-after-clause-only : goal.returns-in_default-after-clause-only
-returns-in_default-after-clause-only c cs after script = inr (scripts_agree c.args.names.now (lines_of c.args.text.now) _ c.take_line.new.names cs after (whole c) script)
+returns-in_default-after-clause-only c cs after script = inr (scripts_agree c.args.names.now (lines_of c.args.text.now) _ c.take_line.new.names cs after (read_whole c) script)
 
-pub new-requires-few : goal.new-requires-few
-new-requires-few c =
+pub new-requires : goal.new-requires
+new-requires c =
     let few : length c.take_line.new.commands.items ≤ MOST_COMMANDS = subst (λ (n : ℕ). n ≤ MOST_COMMANDS) (length-map c.take_line.new.commands.items (command_at c.take_line.new.names)) (whole c).few in
     few
 
