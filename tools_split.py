@@ -234,14 +234,13 @@ def cut_script(tree):
         stop(f"{answers}: invariant_of-result isn't answered there once")
     text = text.replace("invariant_of-result", "new-requires")
     # what the last line says is wanted before the call of Script::new and after it
-    found = re.search(r"(?m)^whole : \(c : goal\.In_default-after\)(.*)\nwhole c =\n((?:[ \t]+.*\n)+)", text)
+    found = re.search(r"(?ms)^whole : \(c : goal\.In_default-after\)(.*?)\nwhole c =\n(.*?)(\s+)(last_read\b.*?)\n\n", text)
     if not found:
         stop(f"{answers}: there is no lemma whole as this script knows it")
-    said, body = found[1], found[2].rstrip("\n").split("\n")
-    said = once(said, "c.take_line.new.commands.items", "c.new.result", answers)
-    body[-1] = f"    rw c.new.ensures.commands ({body[-1].strip()})"
-    body = "\n".join(body) + "\n"
-    text = text.replace(found[0], found[0] + f"\nread_whole : (c : goal.After-new){said}\nread_whole c =\n{body}")
+    said = once(found[1], "c.take_line.new.commands.items", "c.new.result", answers)
+    space = "\n    " if "\n" in found[4] else " "
+    text = text.replace(found[0], found[0] + f"read_whole : (c : goal.After-new){said}\nread_whole c =\n{found[2]}"
+                        f"{found[3]}rw c.new.ensures.commands{space}({found[4]})\n\n")
     for goal in ["returns-in_default-after-clause-read", "returns-in_default-after-clause-only"]:
         found = re.search(rf"(?m)^{goal} c.*=.*(?:\n[ \t]+.*)*", text)
         if not found or found[0].count("whole c") != 1:
@@ -250,10 +249,14 @@ def cut_script(tree):
     tree.now[answers] = text
     # the edits of the reader
     for path in sorted(tree.now):
-        if path.startswith(f"crates/{FROM}/must-fail/") and "file: src/script.rt" in tree.now[path]:
-            olds = re.findall(r"(?m)^old: (.*)$", tree.now[path])
-            if not all(old in tree.now[src + "script.rt"] for old in olds):
-                tree.now[path] = tree.now[path].replace("file: src/script.rt", f"file: src/{READER}.rt")
+        file = re.search(r"(?m)^file: src/(script|read)\.rt$", tree.now[path])
+        if not path.startswith(f"crates/{FROM}/must-fail/") or not file:
+            continue
+        olds = re.findall(r"(?m)^old: (.*)$", tree.now[path])
+        for home in [file[1], "script", READER, "read"]:
+            if all(tree.now[src + home + ".rt"].count(old) == 1 for old in olds):
+                tree.now[path] = tree.now[path].replace(file[0], f"file: src/{home}.rt")
+                break
     # lib.rt
     lib = tree.now[src + "lib.rt"]
     lib = once(lib, "mod script;\n", f"mod script;\nmod {READER};\n", src + "lib.rt")
@@ -722,39 +725,59 @@ class Move:
     def docs(self):
         """Paths in documents, where they stand as they did; what is left is printed."""
         tree = self.tree
-        changes = {
-            "README.md": [
-                ("| `redo_command` | Commands and replies, how they are read and printed, and the reading and writing of whole files. |\n",
-                 "| `redo_terms` | What commands and replies are: their cases, the table of the commands, file stamps. |\n"
-                 "| `redo_text` | How commands and replies are read and printed. |\n"
-                 "| `redo_whole` | The reading and writing of whole files. |\n"
-                 "| `redo_command` | These three in one, for callers; it holds nothing of its own. |\n"),
-            ],
-            "docs/RULES.md": [("`crates/redo_command/specs`", "`crates/redo_text/specs`")],
-            "docs/DECISIONS.md": [
-                ("the macro `cases!` of `redo_command`", "the macro `cases!` of `redo_terms`"),
-                ("`take_line` of `redo_command`", "`take_line` of `redo_text`"),
-                ("`place_of` of `redo_command`", "`place_of` of `redo_text`"),
-            ],
-            "docs/PROMISES.md": [
-                ("`history_text_of` of `redo_command`'s `specs/Histories.antt`", "`history_text_of` of its `specs/Histories.antt`"),
-                ("`run_text_of` of\n`redo_command`'s `specs/Histories.antt`", "`run_text_of` of\nits `specs/RunTexts.antt`"),
-            ],
-        }
+        changes = [
+            # README
+            ("| `redo_command` | Commands and replies, how they are read and printed, and the reading and writing of whole files. |",
+             "| `redo_terms` | What commands and replies are: their cases, the table of the commands, file stamps. |\n"
+             "| `redo_text` | How commands and replies are read and printed. |\n"
+             "| `redo_whole` | The reading and writing of whole files. |\n"
+             "| `redo_command` | These three in one, for callers; it holds nothing of its own. |"),
+            # RULES
+            ("`crates/redo_command/specs`", "`crates/redo_text/specs`"),
+            # DECISIONS
+            ("the macro `cases!` of `redo_command`", "the macro `cases!` of `redo_terms`"),
+            ("`take_line` of `redo_command`", "`take_line` of `redo_text`"),
+            ("`place_of` of `redo_command`", "`place_of` of `redo_text`"),
+            # PROMISES
+            ("### Texts: `redo_command`",
+             "### Texts: `redo_terms`, `redo_text` and `redo_whole`, which `redo_command` passes on"),
+            ("`history_text_of` of `redo_command`'s `specs/Histories.antt`", "`history_text_of` of its `specs/Histories.antt`"),
+            ("`run_text_of` of `redo_command`'s `specs/Histories.antt`", "`run_text_of` of its `specs/RunTexts.antt`"),
+            # BELIEVE
+            ("| `redo_command/specs/Histories.antt` | 17 | The text of a history, and of a run. |",
+             "| `redo_replay/specs/Histories.antt` | 10 | The text of a history. |\n"
+             "| `redo_session/specs/RunTexts.antt` | 7 | The text of a run. |"),
+            # ARCHITECTURE
+            ("| `redo_command` | the bytes |", "| `redo_text` | the bytes |"),
+            # CONTRIBUTING
+            ("of bytes and words in `redo_command`", "of bytes and words in `redo_text`"),
+            ("The definition in `redo_model` or `redo_command`.", "The definition in `redo_model` or `redo_text`."),
+            ("`redo_command`: the case of `Command` and `Kind`; its row in the table `cases!` of `src/cases.rt`; its form in\n"
+             "   `src/forms.rt`, its text in `src/text.rt` and `specs/Texts.antt`, what it is in `specs/Meaning.antt`. The table gives\n"
+             "   the keyword",
+             "`redo_terms`: the case of `Command` and `Kind`; its row in the table `cases!` of `src/cases.rt`; what it is in\n"
+             "   `specs/Meaning.antt`. `redo_text`: its form in `src/forms.rt`, its text in `src/text.rt` and `specs/Texts.antt`. The\n"
+             "   table gives the keyword"),
+        ]
+        paths = [p for p in sorted(tree.now) if p.endswith(".md")]
+        for old, new in changes:
+            pattern = r"\s+".join(re.escape(word) for word in old.split())
+            found = [(p, m) for p in paths for m in re.finditer(pattern, tree.now[p])]
+            if len(found) == 1:
+                path, m = found[0]
+                if "\n" in m[0] and "\n" not in new:
+                    new = "\n".join(new.rsplit(" ", 1))
+                tree.now[path] = tree.now[path][:m.start()] + new + tree.now[path][m.end():]
+        went = {old[len("crates/"):]: new[len("crates/"):] for new, old in tree.moved.items()}
+        for path in paths:
+            tree.now[path] = re.sub(rf"{FROM}/(?:src|specs|proofs|must-fail)/[\w/]+\.\w+",
+                                    lambda m: went.get(m[0], m[0]), tree.now[path])
         self.by_hand = []
-        for path, pairs in changes.items():
-            for old, new in pairs:
-                if tree.now.get(path, "").count(old) == 1:
-                    tree.now[path] = tree.now[path].replace(old, new)
-                else:
-                    self.by_hand.append(f"{path}: stands {tree.now.get(path, '').count(old)} times and not once: {old.strip()!r}")
         for path, text in sorted(tree.now.items()):
             if path.startswith("crates/") and path.endswith((".rt", ".antt", ".edit")) or path in ["crates.txt", "tools_split.py"]:
                 continue
             for k, line in enumerate(text.split("\n")):
                 if FROM in line:
-                    self.by_hand.append(f"{path}:{k + 1}: {line.strip()[:110]}")
-                elif re.search(r"specs/Histories\.antt", line) and "its `specs" not in line:
                     self.by_hand.append(f"{path}:{k + 1}: {line.strip()[:110]}")
 
 
