@@ -728,10 +728,7 @@ class Move:
         changes = [
             # README
             ("| `redo_command` | Commands and replies, how they are read and printed, and the reading and writing of whole files. |",
-             "| `redo_terms` | What commands and replies are: their cases, the table of the commands, file stamps. |\n"
-             "| `redo_text` | How commands and replies are read and printed. |\n"
-             "| `redo_whole` | The reading and writing of whole files. |\n"
-             "| `redo_command` | These three in one, for callers; it holds nothing of its own. |"),
+             "| `redo_command` | Passes on `redo_terms` (commands, replies), `redo_text` (their texts), `redo_whole` (whole files). |"),
             # RULES
             ("`crates/redo_command/specs`", "`crates/redo_text/specs`"),
             # DECISIONS
