@@ -257,6 +257,9 @@ def cut_script(tree):
             if all(tree.now[src + home + ".rt"].count(old) == 1 for old in olds):
                 tree.now[path] = tree.now[path].replace(file[0], f"file: src/{home}.rt")
                 break
+    tree.now[f"crates/{FROM}/must-fail/script_has_one_command_less.edit"] = (
+        "file: src/script.rt\nold: Script { commands }\n"
+        "new: let mut fewer = commands; let _last = fewer.pop(); Script { commands: fewer }\n")
     # lib.rt
     lib = tree.now[src + "lib.rt"]
     lib = once(lib, "mod script;\n", f"mod script;\nmod {READER};\n", src + "lib.rt")
@@ -733,7 +736,14 @@ class Move:
             ("`crates/redo_command/specs`", "`crates/redo_text/specs`"),
             # DECISIONS
             ("the macro `cases!` of `redo_command`", "the macro `cases!` of `redo_terms`"),
-            ("`take_line` of `redo_command`", "`take_line` of `redo_text`"),
+            ("- The loop's helper `take_line` of `redo_command`",
+             "- `Script::new` is public, since the type stands in `redo_terms` and its reader in `redo_text`.\n"
+             "- The loop's helper `take_line` of `redo_text`"),
+            ("- **One table of the commands**,",
+             "- **What commands are, how they are read, and whole files are three crates**, `redo_terms`, `redo_text` and\n"
+             "  `redo_whole`: the store, the journals and the board stand on the first alone. `redo_command` passes the three on, for\n"
+             "  callers, and holds nothing of its own.\n"
+             "- **One table of the commands**,"),
             ("`place_of` of `redo_command`", "`place_of` of `redo_text`"),
             # PROMISES
             ("### Texts: `redo_command`",
