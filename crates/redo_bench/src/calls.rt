@@ -2,7 +2,7 @@ ghost use Rattle.std.specs.Prelude.{◌≡◌, ◌<◌, length, map};
 ghost use Rattle.redo_model.specs.Renaming.{IsBelow};
 ghost use Rattle.redo_command.specs.Meaning.{command_of};
 ghost use Rattle.redo_journal.specs.Plans.{IsPlan, script_of};
-ghost use Rattle.redo_store.specs.Tables.{count_of};
+ghost use Rattle.redo_store.specs.Tables.{tables_count};
 
 use crate::plans::plan_of;
 use anyhow::{Result, bail};
@@ -44,8 +44,8 @@ fn command_at(plan: &Plan, session: usize, number: usize) -> &Command
 
 /// Calls with the command of this number of each session in turn; answers how many need a row.
 fn round(alloc: Global, plan: &Plan, redo: &mut Redo, number: usize) -> Result<u64>
-    requires { count_of redo.old ≡ length plan.now.names }
-    ensures { count_of redo.new ≡ length plan.now.names }
+    requires { tables_count redo.old ≡ length plan.now.names }
+    ensures { tables_count redo.new ≡ length plan.now.names }
 {
     let mut rows: u64 = 0;
     for session in 0..plan.scripts().len() {

@@ -1,5 +1,5 @@
 ghost use Rattle.std.specs.Prelude.{◌≡◌};
-ghost use Rattle.redo_rows.specs.Rows.{count_of};
+ghost use Rattle.redo_rows.specs.Rows.{rows_count};
 
 use redo_rows::DepRows;
 
@@ -14,7 +14,7 @@ fn sum_of(numbers: &[u32]) -> u64 {
 
 /// A checksum of what is asked of each name.
 pub fn checksum(rows: &DepRows, count: u32) -> u64
-    requires { count_of rows.now ≡ count }
+    requires { rows_count rows.now ≡ count }
 {
     let mut sum: u64 = 0;
     for n in 0..count {

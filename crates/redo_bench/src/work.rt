@@ -1,6 +1,6 @@
 ghost use Rattle.std.specs.Prelude.{ℕ, ◌≡◌, ◌<◌, IsTrue, Contains};
 ghost use Rattle.redo_model.specs.Renaming.{AllBelow};
-ghost use Rattle.redo_rows.specs.Rows.{count_of, room_of};
+ghost use Rattle.redo_rows.specs.Rows.{rows_count, room_of};
 
 use crate::pattern::{Shape, mark_of, put_names};
 use crate::sums::checksum;
@@ -9,11 +9,11 @@ use std::alloc::{AllocError, Global};
 
 /// Every fifth row is a created row, the others are change rows.
 fn put_row(rows: &mut DepRows, t: u32, n: u32, place: usize)
-    requires target { t < count_of rows.old }
-    requires name { n < count_of rows.old }
+    requires target { t < rows_count rows.old }
+    requires name { n < rows_count rows.old }
     requires room { IsTrue (room_of rows.old t n) }
     ensures room { (u k : ℕ) → room_of rows.new u k ≡ room_of rows.old u k }
-    ensures count { count_of rows.new ≡ count_of rows.old }
+    ensures count { rows_count rows.new ≡ rows_count rows.old }
 {
     if place % 5 == 4 {
         rows.put_created(t, n);
@@ -25,10 +25,10 @@ fn put_row(rows: &mut DepRows, t: u32, n: u32, place: usize)
 /// Puts a target's rows.
 #[tactic(auto, using(crate::proofs::Below::all_below_at))]
 fn put_rows(rows: &mut DepRows, t: u32, names: &[u32])
-    requires target { t < count_of rows.old }
-    requires names { AllBelow (count_of rows.old) names.now }
+    requires target { t < rows_count rows.old }
+    requires names { AllBelow (rows_count rows.old) names.now }
     requires room { (n : ℕ) → Contains names.now n → IsTrue (room_of rows.old t n) }
-    ensures count { count_of rows.new ≡ count_of rows.old }
+    ensures count { rows_count rows.new ≡ rows_count rows.old }
 {
     for (place, &n) in names.iter().enumerate() {
         put_row(rows, t, n, place);
@@ -43,10 +43,10 @@ fn build(
     count: u32,
     t: u32,
 ) -> Result<(), AllocError>
-    requires count { count_of rows.old ≡ count }
+    requires count { rows_count rows.old ≡ count }
     requires some { 1 < count }
     requires target { t < count }
-    ensures count { count_of rows.new ≡ count }
+    ensures count { rows_count rows.new ≡ count }
 {
     put_names(names, shape, count, t)?;
     rows.reserve(t, names.as_slice())?;
@@ -62,10 +62,10 @@ fn build_each(
     count: u32,
     step: u32,
 ) -> Result<(), AllocError>
-    requires count { count_of rows.old ≡ count }
+    requires count { rows_count rows.old ≡ count }
     requires some { 1 < count }
     requires step { 0 < step }
-    ensures count { count_of rows.new ≡ count }
+    ensures count { rows_count rows.new ≡ count }
 {
     for t in 0..count {
         if t % step == 0 {
@@ -77,9 +77,9 @@ fn build_each(
 
 /// Clears each target whose number the step divides.
 fn clear_each(rows: &mut DepRows, count: u32, step: u32)
-    requires count { count_of rows.old ≡ count }
+    requires count { rows_count rows.old ≡ count }
     requires step { 0 < step }
-    ensures count { count_of rows.new ≡ count }
+    ensures count { rows_count rows.new ≡ count }
 {
     for t in 0..count {
         if t % step == 0 {

@@ -46,16 +46,16 @@ refusal_is_visible NotBuilding form = (refl, tt)
 refusal_is_visible Itself form = (refl, tt)
 refusal_is_visible (Exists n) form = (refl, (name_is_visible n form, tt))
 
-abbrev kind_of : Reply Text → ReplyKind
-kind_of Okay = kinds.Okay
-kind_of (Granted g) = kinds.Granted
-kind_of (Busy g) = kinds.Busy
-kind_of (Stale ns) = kinds.Stale
-kind_of (Stamped digest) = kinds.Stamped
-kind_of (Ood ns) = kinds.Ood
-kind_of (Targets ns) = kinds.Targets
-kind_of (Sources ns) = kinds.Sources
-kind_of (Refused refusal) = kinds.Refused
+abbrev reply_kind_for : Reply Text → ReplyKind
+reply_kind_for Okay = kinds.Okay
+reply_kind_for (Granted g) = kinds.Granted
+reply_kind_for (Busy g) = kinds.Busy
+reply_kind_for (Stale ns) = kinds.Stale
+reply_kind_for (Stamped digest) = kinds.Stamped
+reply_kind_for (Ood ns) = kinds.Ood
+reply_kind_for (Targets ns) = kinds.Targets
+reply_kind_for (Sources ns) = kinds.Sources
+reply_kind_for (Refused refusal) = kinds.Refused
 
 abbrev args_of : Reply Text → List Text
 args_of Okay = []
@@ -69,7 +69,7 @@ args_of (Sources ns) = ns
 args_of (Refused refusal) = refusal_words refusal
 
 -- each reply is said by its words
-said : (reply : Reply Text) → HasReplyForm reply → IsSaidBy (kind_of reply) (args_of reply) reply
+said : (reply : Reply Text) → HasReplyForm reply → IsSaidBy (reply_kind_for reply) (args_of reply) reply
 unfolding reply_args_in
 said Okay form = record { text = refl; visible = tt; reads = refl }
 said (Granted g) form = let e = grant_read g form in record { text = refl; visible = (grant_is_visible g form, tt); reads = rw e refl }
@@ -109,9 +109,9 @@ words_read : (text : Text) (reply : Reply Text) → IsReplyText text reply → r
 unfolding reply_words_in
 words_read text reply is =
     let from = said reply is.0 in
-    let word = reply_word (kind_of reply) in
-    let words : words_of text ≡ word ∷ args_of reply = ap words_of (is.1 ∙ from.text) ∙ words_of-spaced word (args_of reply) (word_is_visible (kind_of reply)) from.visible in
-    let named = kind_is_named (kind_of reply) in
+    let word = reply_word (reply_kind_for reply) in
+    let words : words_of text ≡ word ∷ args_of reply = ap words_of (is.1 ∙ from.text) ∙ words_of-spaced word (args_of reply) (word_is_visible (reply_kind_for reply)) from.visible in
+    let named = kind_is_named (reply_kind_for reply) in
     rw (words, named) from.reads
 
 -- a reply's text whose names fit is read

@@ -10,9 +10,9 @@
 /// - the answer where it is accepted: `okay`; `grant`, whether the lock is the session's, and the number of its grant;
 ///   `stale`, which of the names after the target are stale, or that none is; `digest`, that of the content; `ood`, the
 ///   targets that have a file and are out of date; `targets`, those that have a file; `sources`, the sources;
-/// - what it then changes: `set_file` and `clear_file` the name's file; `start`, `stamp`, `finish` and `fail` the
-///   target's build; `put_changes` and `put_created` its rows on the names after it, `put_always` that it is always out
-///   of date; `nothing`.
+/// - what it then changes: `set_file` and `clear_file` the name's file; `start`, `stamp`, `done` and `failed`
+///   the target's build; `put_changes` and `put_created` its rows on the names after it, `put_always` that it is
+///   always out of date; `nothing`.
 #[macro_export]
 macro_rules! cases {
     ($then:ident $($args:tt)*) => {
@@ -27,8 +27,8 @@ macro_rules! cases {
             (IfCreate(t, names), b"ifcreate", [own_build NotBuilding, others Itself, missing Exists], okay, put_created)
             (Always(t), b"always", [own_build NotBuilding], okay, put_always)
             (Stamp(t, content), b"stamp", [own_build NotBuilding], digest, stamp)
-            (Done(t, stamp), b"done", [own_build NotBuilding], okay, finish)
-            (Failed(t), b"failed", [own_build NotBuilding], okay, fail)
+            (Done(t, stamp), b"done", [own_build NotBuilding], okay, done)
+            (Failed(t), b"failed", [own_build NotBuilding], okay, failed)
             (Ood, b"ood", [], ood, nothing)
             (Targets, b"targets", [], targets, nothing)
             (Sources, b"sources", [], sources, nothing)

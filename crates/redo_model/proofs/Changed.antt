@@ -5,7 +5,7 @@ use Rattle.redo_model.specs.State.{State, empty}
 use Rattle.redo_model.specs.Reply.{Reply}
 use Rattle.redo_model.specs.Step.{after}
 use Rattle.redo_model.specs.History.{Line, Legal, LegalFrom}
-use Rattle.redo_model.specs.Rows.{with_reply}
+use Rattle.redo_model.specs.Worked.{with_reply}
 use Rattle.redo_model.proofs.Unique.{one_answer}
 use Rattle.redo_model.proofs.Texts.{texts_are_names}
 
@@ -15,12 +15,17 @@ reply_on k [] = None
 reply_on zero (line ∷ lines) = Some line.reply
 reply_on (suc k) (line ∷ lines) = reply_on k lines
 
-same_reply_from : (st : State Text) (k : ℕ) (right wrong : Reply Text) (lines : List (Line Text)) → reply_on k lines ≡ Some right → LegalFrom texts st lines → LegalFrom texts st (with_reply k wrong lines) → right ≡ wrong
+same_reply_from : (st : State Text) (k : ℕ) (right wrong : Reply Text) (lines : List (Line Text))
+    → reply_on k lines ≡ Some right → LegalFrom texts st lines
+    → LegalFrom texts st (with_reply k wrong lines) → right ≡ wrong
 same_reply_from st k right wrong [] is h g = absurd (cc)
 same_reply_from st zero right wrong (line ∷ lines) is h g =
-    let e : line.reply ≡ wrong = one_answer texts_are_names st line.session line.command line.reply wrong h.0 g.0 in
+    let e : line.reply ≡ wrong =
+    one_answer texts_are_names st line.session line.command line.reply wrong h.0 g.0 in
     cc
-same_reply_from st (suc k) right wrong (line ∷ lines) is h g = same_reply_from (after texts st line.session line.command) k right wrong lines is h.1 g.1
+same_reply_from st (suc k) right wrong (line ∷ lines) is h g =
+    same_reply_from (after texts st line.session line.command) k right wrong lines is h.1 g.1
 
-pub same_reply : (k : ℕ) (right wrong : Reply Text) (lines : List (Line Text)) → reply_on k lines ≡ Some right → Legal texts lines → Legal texts (with_reply k wrong lines) → right ≡ wrong
+pub same_reply : (k : ℕ) (right wrong : Reply Text) (lines : List (Line Text)) → reply_on k lines
+    ≡ Some right → Legal texts lines → Legal texts (with_reply k wrong lines) → right ≡ wrong
 same_reply = same_reply_from empty

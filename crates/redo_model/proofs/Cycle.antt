@@ -7,7 +7,7 @@ use Rattle.redo_model.specs.State.{Records, Digest, empty}
 use Rattle.redo_model.specs.OutOfDate.{HasFile, HasReason, Depends, OutOfDate, IsStale}
 use Rattle.redo_model.specs.Reply.{Stamped}
 use Rattle.redo_model.specs.History.{Legal, left_by}
-use Rattle.redo_model.specs.Rows.{cycle}
+use Rattle.redo_model.specs.Worked.{cycle}
 use Rattle.redo_model.proofs.Texts.{texts_are_names}
 use Rattle.redo_model.proofs.Digests.{digest_of_abc, digest_of_nothing}
 use Rattle.redo_model.proofs.Answered.{◌▸◌}
@@ -25,12 +25,14 @@ after k = (left_by texts empty (take k cycle)).records
 
 -- before the cycle is closed a depends on nothing
 a_without_reason : HasReason (after 7) a → ⊥
-a_without_reason = built_without_reason (after 7) a refl refl refl (λ n row file. cc) (λ n mark row. absurd (cc))
+a_without_reason =
+    built_without_reason (after 7) a refl refl refl (λ n row file. cc) (λ n mark row. absurd (cc))
 
 a_up_to_date : OutOfDate (after 7) a → ⊥
 a_up_to_date (ns, chain) =
     calm_up_to_date (after 7) (λ t. a ≡ t)
-    (λ t n is step. absurd (subst (λ u. Depends (after 7) u n → ⊥) is (λ h. let row = h.1 in cc) step))
+    (λ t n is step. absurd
+    (subst (λ u. Depends (after 7) u n → ⊥) is (λ h. let row = h.1 in cc) step))
     (λ t is. subst (λ u. HasReason (after 7) u → ⊥) is a_without_reason)
     ns a refl chain
 
@@ -53,7 +55,9 @@ no_reason_at_13 =
     (λ n e f. idle_without_reason (after 13) n (rw e (rw f refl)))
 
 up_to_date_at_13 : IsListed texts (λ t. HasFile (after 13) t × OutOfDate (after 13) t) []
-up_to_date_at_13 = nothing_listed texts_are_names (λ t h. up_to_date_without_reasons (after 13) no_reason_at_13 t h.1)
+up_to_date_at_13 =
+    nothing_listed texts_are_names
+    (λ t h. up_to_date_without_reasons (after 13) no_reason_at_13 t h.1)
 
 no_reason_at_21 : (t : Text) → HasReason (after 21) t → ⊥
 no_reason_at_21 =
@@ -63,12 +67,18 @@ no_reason_at_21 =
     (λ n e f. idle_without_reason (after 21) n (rw e (rw f refl)))
 
 up_to_date_at_21 : IsListed texts (λ t. HasFile (after 21) t × OutOfDate (after 21) t) []
-up_to_date_at_21 = nothing_listed texts_are_names (λ t h. up_to_date_without_reasons (after 21) no_reason_at_21 t h.1)
+up_to_date_at_21 =
+    nothing_listed texts_are_names
+    (λ t h. up_to_date_without_reasons (after 21) no_reason_at_21 t h.1)
 
 both_out : IsListed texts (λ t. HasFile (after 16) t × OutOfDate (after 16) t) (a ∷ b ∷ [])
 both_out =
-    two_listed texts_are_names a b refl (refl, ([], tt)) (refl, ([], inr (inr (inr (a, Digest (sha1 (codes "abc")), refl, λ e. cc)))))
-    (at_two texts_are_names a b (λ t. HasFile (after 16) t × OutOfDate (after 16) t → (a ≡ t) ⊎ (b ≡ t))
+    two_listed texts_are_names a b refl (refl, ([], tt)) (
+      refl,
+      ([], inr (inr (inr (a, Digest (sha1 (codes "abc")), refl, λ e. cc)))),
+    )
+    (at_two texts_are_names a b
+    (λ t. HasFile (after 16) t × OutOfDate (after 16) t → (a ≡ t) ⊎ (b ≡ t))
     (λ h. inl refl)
     (λ h. inr refl)
     (λ n e f h. let file = rw (e, f) at h.0 in absurd (cc)))

@@ -7,51 +7,72 @@ use Rattle.redo_model.specs.Names.{Naming, Ascending, IsListed, IsNaming}
 use Rattle.redo_model.proofs.Members.{contains_first, contains_later, contains_cases, contains_none}
 
 module _ {N : Type 0} {naming : Naming N} (law : IsNaming naming) where
-  first_before : (x : N) (xs : List N) → Ascending naming (x ∷ xs) → (n : N) → Contains xs n → naming.order x n ≡ Less
-  first_before x xs up n (k, below, is) = subst (λ m. naming.order x m ≡ Less) is (up 0 (suc k) n (omega arith) (omega arith))
+  first_before : (x : N) (xs : List N) → Ascending naming (x ∷ xs) → (n : N) → Contains xs n
+      → naming.order x n ≡ Less
+  first_before x xs up n (k, below, is) =
+      subst (λ m. naming.order x m ≡ Less) is (up 0 (suc k) n (omega arith) (omega arith))
 
   rest_ascending : (x : N) (xs : List N) → Ascending naming (x ∷ xs) → Ascending naming xs
   rest_ascending x xs up i j d before below = up (suc i) (suc j) d (omega arith) (omega arith)
 
-  same_first : (x y : N) (xs ys : List N) → Ascending naming (x ∷ xs) → Ascending naming (y ∷ ys) → Contains (y ∷ ys) x → Contains (x ∷ xs) y → x ≡ y
+  same_first : (x y : N) (xs ys : List N) → Ascending naming (x ∷ xs) → Ascending naming (y ∷ ys)
+      → Contains (y ∷ ys) x → Contains (x ∷ xs) y → x ≡ y
   same_first x y xs ys ux uy xin yin =
       elim (contains_cases y ys x xin) [
         | inl e ↦ sym e
         | inr h ↦ elim (contains_cases x xs y yin) [
           | inl e ↦ e
-          | inr k ↦ absurd (law.irreflexive x (law.transitive x y x (first_before x xs ux y k) (first_before y ys uy x h)))
+          | inr k ↦ absurd (law.irreflexive x
+              (law.transitive x y x (first_before x xs ux y k) (first_before y ys uy x h)))
         ]
       ]
 
   -- a name of the one rest is in the other
-  in_rest : (x y : N) (xs ys : List N) → x ≡ y → Ascending naming (x ∷ xs) → ((n : N) → Contains (x ∷ xs) n → Contains (y ∷ ys) n) → (n : N) → Contains xs n → Contains ys n
+  in_rest : (x y : N) (xs ys : List N) → x ≡ y → Ascending naming (x ∷ xs)
+      → ((n : N) → Contains (x ∷ xs) n → Contains (y ∷ ys) n) → (n : N) → Contains xs n
+      → Contains ys n
   in_rest x y xs ys e ux to n h =
       elim (contains_cases y ys n (to n (contains_later x xs n h))) [
-        | inl f ↦ absurd (law.irreflexive x (subst (λ m. naming.order x m ≡ Less) (sym (e ∙ f)) (first_before x xs ux n h)))
+        | inl f ↦ absurd (law.irreflexive x
+            (subst (λ m. naming.order x m ≡ Less) (sym (e ∙ f)) (first_before x xs ux n h)))
         | inr k ↦ k
       ]
 
-  pub same_ascending : (xs ys : List N) → Ascending naming xs → Ascending naming ys → ((n : N) → Contains xs n ↔ Contains ys n) → xs ≡ ys
+  pub same_ascending : (xs ys : List N) → Ascending naming xs → Ascending naming ys
+      → ((n : N) → Contains xs n ↔ Contains ys n) → xs ≡ ys
   same_ascending [] [] ux uy both = refl
-  same_ascending [] (y ∷ ys) ux uy both = absurd (contains_none y ((both y).1 (contains_first y ys)))
-  same_ascending (x ∷ xs) [] ux uy both = absurd (contains_none x ((both x).0 (contains_first x xs)))
+  same_ascending [] (y ∷ ys) ux uy both =
+      absurd (contains_none y ((both y).1 (contains_first y ys)))
+  same_ascending (x ∷ xs) [] ux uy both =
+      absurd (contains_none x ((both x).0 (contains_first x xs)))
   same_ascending (x ∷ xs) (y ∷ ys) ux uy both =
-      let e : x ≡ y = same_first x y xs ys ux uy ((both x).0 (contains_first x xs)) ((both y).1 (contains_first y ys)) in
-      let f : xs ≡ ys = same_ascending xs ys (rest_ascending x xs ux) (rest_ascending y ys uy) (λ n.
-      (in_rest x y xs ys e ux (λ m. (both m).0) n, in_rest y x ys xs (sym e) uy (λ m. (both m).1) n)) in
+      let e : x ≡ y =
+      same_first x y xs ys ux uy ((both x).0 (contains_first x xs))
+      ((both y).1 (contains_first y ys)) in
+      let f : xs ≡ ys =
+      same_ascending xs ys (rest_ascending x xs ux) (rest_ascending y ys uy) (λ n. (
+        in_rest x y xs ys e ux (λ m. (both m).0) n,
+        in_rest y x ys xs (sym e) uy (λ m. (both m).1) n,
+      )) in
       λ i. e i ∷ f i
 
   -- the list of the names with P is one
-  pub one_list : {P : N → Type 0} (xs ys : List N) → IsListed naming P xs → IsListed naming P ys → xs ≡ ys
-  one_list xs ys p q = same_ascending xs ys p.0 q.0 (λ n. (λ h. (q.1 n).1 ((p.1 n).0 h), λ h. (p.1 n).1 ((q.1 n).0 h)))
+  pub one_list : {P : N → Type 0} (xs ys : List N) → IsListed naming P xs → IsListed naming P ys
+      → xs ≡ ys
+  one_list xs ys p q =
+      same_ascending xs ys p.0 q.0
+      (λ n. (λ h. (q.1 n).1 ((p.1 n).0 h), λ h. (p.1 n).1 ((q.1 n).0 h)))
 
 module _ {X : Type 0} (test : X → Bool) where
-  contains_cond : (b : Bool) (x : X) (xs : List X) (n : X) → Contains (cond b (x ∷ xs) xs) n → ((x ≡ n) × (b ≡ true)) ⊎ Contains xs n
-  contains_cond true x xs n h = elim (contains_cases x xs n h) [ inl e ↦ inl (e, refl) | inr k ↦ inr k ]
+  contains_cond : (b : Bool) (x : X) (xs : List X) (n : X) → Contains (cond b (x ∷ xs) xs) n
+      → ((x ≡ n) × (b ≡ true)) ⊎ Contains xs n
+  contains_cond true x xs n h =
+      elim (contains_cases x xs n h) [ inl e ↦ inl (e, refl) | inr k ↦ inr k ]
   contains_cond false x xs n h = inr h
 
   -- what a filter keeps
-  pub contains_from_filter : (xs : List X) (n : X) → Contains (filter test xs) n → Contains xs n × (test n ≡ true)
+  pub contains_from_filter : (xs : List X) (n : X) → Contains (filter test xs) n
+      → Contains xs n × (test n ≡ true)
   contains_from_filter [] n h = absurd (contains_none n h)
   contains_from_filter (x ∷ xs) n h =
       elim (contains_cond (test x) x (filter test xs) n h) [
@@ -59,21 +80,30 @@ module _ {X : Type 0} (test : X → Bool) where
         | inr k ↦ let r = contains_from_filter xs n k in (contains_later x xs n r.0, r.1)
       ]
 
-  contains_kept : (b : Bool) (x : X) (xs : List X) (n : X) → Contains xs n → Contains (cond b (x ∷ xs) xs) n
+  contains_kept : (b : Bool) (x : X) (xs : List X) (n : X) → Contains xs n
+      → Contains (cond b (x ∷ xs) xs) n
   contains_kept true x xs n h = contains_later x xs n h
   contains_kept false x xs n h = h
 
-  pub contains_filter : (xs : List X) (n : X) → Contains xs n → test n ≡ true → Contains (filter test xs) n
+  pub contains_filter : (xs : List X) (n : X) → Contains xs n → test n ≡ true
+      → Contains (filter test xs) n
   contains_filter [] n h p = absurd (contains_none n h)
   contains_filter (x ∷ xs) n h p =
       elim (contains_cases x xs n h) [
-        | inl e ↦ subst (λ b. Contains (cond b (x ∷ filter test xs) (filter test xs)) n) (sym (ap test e ∙ p)) (subst (Contains (x ∷ filter test xs)) e (contains_first x (filter test xs)))
+        | inl e ↦ subst (λ b. Contains (cond b (x ∷ filter test xs) (filter test xs)) n)
+            (sym (ap test e ∙ p))
+            (subst (Contains (x ∷ filter test xs)) e (contains_first x (filter test xs)))
         | inr k ↦ contains_kept (test x) x (filter test xs) n (contains_filter xs n k p)
       ]
 
 -- the names among those with P that pass the test, where that tells Q
-pub IsListed-filter : {N : Type 0} (naming : Naming N) (P Q : N → Type 0) (test : N → Bool) (xs : List N) → IsListed naming P xs → ((n : N) → Q n → P n × (test n ≡ true)) → ((n : N) → test n ≡ true → Q n) → IsListed naming Q (filter test xs)
+pub IsListed-filter : {N : Type 0} (naming : Naming N) (P Q : N → Type 0) (test : N
+    → Bool) (xs : List N) → IsListed naming P xs → ((n : N) → Q n → P n × (test n ≡ true))
+    → ((n : N) → test n ≡ true → Q n) → IsListed naming Q (filter test xs)
 IsListed-filter naming P Q test xs h to from = (
   AllPairs-filter (λ m n. naming.order m n ≡ Less) test xs h.0,
-  λ n. (λ k. from n (contains_from_filter test xs n k).1, λ q. let p = to n q in contains_filter test xs n ((h.1 n).1 p.0) p.1),
+  λ n. (
+    λ k. from n (contains_from_filter test xs n k).1,
+    λ q. let p = to n q in contains_filter test xs n ((h.1 n).1 p.0) p.1,
+  ),
 )

@@ -7,24 +7,28 @@ use Rattle.std.specs.List.{AllPairs, Contains}
 pub contains_first : {X : Type 0} (x : X) (xs : List X) → Contains (x ∷ xs) x
 contains_first x xs = (0, omega arith, refl)
 
-pub contains_later : {X : Type 0} (x : X) (xs : List X) (n : X) → Contains xs n → Contains (x ∷ xs) n
+pub contains_later : {X : Type 0} (x : X) (xs : List X) (n : X) → Contains xs n
+    → Contains (x ∷ xs) n
 contains_later x xs n (k, below, is) = (suc k, omega arith, is)
 
-pub contains_cases : {X : Type 0} (x : X) (xs : List X) (n : X) → Contains (x ∷ xs) n → (x ≡ n) ⊎ Contains xs n
+pub contains_cases : {X : Type 0} (x : X) (xs : List X) (n : X) → Contains (x ∷ xs) n
+    → (x ≡ n) ⊎ Contains xs n
 contains_cases x xs n (zero, below, is) = inl is
 contains_cases x xs n (suc k, below, is) = inr (k, omega arith, is)
 
 pub contains_none : {X : Type 0} (n : X) → Contains [] n → ⊥
 contains_none n (k, below, is) = absurd (omega arith)
 
-pub contains_map : {X Y : Type 0} (f : X → Y) (xs : List X) (x : X) → Contains xs x → Contains (map f xs) (f x)
+pub contains_map : {X Y : Type 0} (f : X → Y) (xs : List X) (x : X) → Contains xs x
+    → Contains (map f xs) (f x)
 contains_map f [] x h = absurd (contains_none x h)
 contains_map f (y ∷ xs) x h = elim (contains_cases y xs x h) [
   | inl e ↦ subst (λ z. Contains (f y ∷ map f xs) (f z)) e (contains_first (f y) (map f xs))
   | inr k ↦ contains_later (f y) (map f xs) (f x) (contains_map f xs x k)
 ]
 
-pub contains_from_map : {X Y : Type 0} (f : X → Y) (xs : List X) (y : Y) → Contains (map f xs) y → (x : X) × Contains xs x × (f x ≡ y)
+pub contains_from_map : {X Y : Type 0} (f : X → Y) (xs : List X) (y : Y) → Contains (map f xs) y
+    → (x : X) × Contains xs x × (f x ≡ y)
 contains_from_map f [] y h = absurd (contains_none y h)
 contains_from_map f (x ∷ xs) y h = elim (contains_cases (f x) (map f xs) y h) [
   | inl e ↦ (x, contains_first x xs, e)
@@ -32,11 +36,14 @@ contains_from_map f (x ∷ xs) y h = elim (contains_cases (f x) (map f xs) y h) 
 ]
 
 -- a relation of members that their images keep
-pub pairs_map : {X Y : Type 0} (R : X → X → Type 0) (S : Y → Y → Type 0) (f : X → Y) (xs : List X) → ((x y : X) → Contains xs x → Contains xs y → R x y → S (f x) (f y)) → AllPairs R xs → AllPairs S (map f xs)
+pub pairs_map : {X Y : Type 0} (R : X → X → Type 0) (S : Y → Y → Type 0) (f : X → Y) (xs : List X)
+    → ((x y : X) → Contains xs x → Contains xs y → R x y → S (f x) (f y)) → AllPairs R xs
+    → AllPairs S (map f xs)
 pairs_map R S f [] kept h i j d before below = absurd (omega arith)
 pairs_map R S f (x ∷ xs) kept h i j d before below =
     let l : length (map f (x ∷ xs)) ≡ length (x ∷ xs) = length-map (x ∷ xs) f in
     let bi : i < length (x ∷ xs) = omega arith in
     let bj : j < length (x ∷ xs) = omega arith in
     rw (get_or-map f (x ∷ xs) i x d bi, get_or-map f (x ∷ xs) j x d bj)
-    (kept (get_or (x ∷ xs) i x) (get_or (x ∷ xs) j x) (Contains-get_or (x ∷ xs) i x bi) (Contains-get_or (x ∷ xs) j x bj) (h i j x before bj))
+    (kept (get_or (x ∷ xs) i x) (get_or (x ∷ xs) j x) (Contains-get_or (x ∷ xs) i x bi)
+    (Contains-get_or (x ∷ xs) j x bj) (h i j x before bj))

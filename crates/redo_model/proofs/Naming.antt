@@ -12,18 +12,23 @@ use Rattle.redo_model.specs.Names.{Text}
 use Rattle.redo_model.specs.Renaming.{IsRenaming, numbering}
 
 -- each of distinct texts has its place as its position
-position_of_name : (names : List Text) (k : ℕ) → IsDistinct bytes_eq names → k < length names → position (bytes_eq (get_or names k [])) names ≡ Some k
+position_of_name : (names : List Text) (k : ℕ) → IsDistinct bytes_eq names → k < length names
+    → position (bytes_eq (get_or names k [])) names ≡ Some k
 position_of_name names k distinct below =
     let place : position_or_len (bytes_eq (get_or names k [])) names ≡ k =
     position_or_len_is (bytes_eq (get_or names k [])) names k [] (omega arith)
     (λ j before. false_from_ne_true (bytes_eq (get_or names k []) (get_or names j []))
-    (λ e. AllPairs-from_IsDistinct bytes_decides names distinct j k [] before below (sym ((bytes_decides (get_or names k []) (get_or names j [])).0 e))))
+    (λ e. AllPairs-from_IsDistinct bytes_decides names distinct j k [] before below
+    (sym ((bytes_decides (get_or names k []) (get_or names j [])).0 e))))
     (λ b. (bytes_decides (get_or names k []) (get_or names k [])).1 refl) in
-    ap (λ i. cond (nat_lt i (length names)) (Some i) None) place ∙ ap (λ b. cond b (Some k) None) ((Decides-ltb k (length names)).1 below)
+    ap (λ i. cond (nat_lt i (length names)) (Some i) None) place
+    ∙ ap (λ b. cond b (Some k) None) ((Decides-ltb k (length names)).1 below)
 
-pub numbering_is_renaming : (names : List Text) → IsDistinct bytes_eq names → IsRenaming (numbering names)
+pub numbering_is_renaming : (names : List Text) → IsDistinct bytes_eq names
+    → IsRenaming (numbering names)
 numbering_is_renaming names distinct = record {
   back = λ k below. position_of_name names k distinct below;
   below = λ t k e. (position-Some (bytes_eq t) names k [] e).0;
-  forth = λ t k e. sym ((bytes_decides t (get_or names k [])).0 (position-Some (bytes_eq t) names k [] e).1);
+  forth = λ t k e. sym
+      ((bytes_decides t (get_or names k [])).0 (position-Some (bytes_eq t) names k [] e).1);
 }

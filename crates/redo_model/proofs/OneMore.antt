@@ -6,15 +6,23 @@ use Rattle.redo_model.specs.Step.{Answers, after}
 use Rattle.redo_model.specs.History.{Line, left_by, LegalFrom}
 
 module _ {N : Type 0} (naming : Naming N) where
-  pub left_by-append : (st : State N) (lines : List (Line N)) (more : List (Line N)) → left_by naming st (lines ++ more) ≡ left_by naming (left_by naming st lines) more
+  pub left_by-append : (st : State N) (lines : List (Line N)) (more : List (Line N))
+      → left_by naming st (lines ++ more) ≡ left_by naming (left_by naming st lines) more
   left_by-append st [] more = refl
-  left_by-append st (line ∷ lines) more = left_by-append (after naming st line.session line.command) lines more
+  left_by-append st (line ∷ lines) more =
+      left_by-append (after naming st line.session line.command) lines more
 
-  pub legal_more : (st : State N) (lines : List (Line N)) (line : Line N) → LegalFrom naming st lines → Answers naming (left_by naming st lines) line.session line.command line.reply → LegalFrom naming st (lines ++ line ∷ [])
+  pub legal_more : (st : State N) (lines : List (Line N)) (line : Line N)
+      → LegalFrom naming st lines
+      → Answers naming (left_by naming st lines) line.session line.command line.reply
+      → LegalFrom naming st (lines ++ line ∷ [])
   legal_more st [] line h a = (a, tt)
-  legal_more st (first ∷ lines) line h a = (h.0, legal_more (after naming st first.session first.command) lines line h.1 a)
+  legal_more st (first ∷ lines) line h a =
+      (h.0, legal_more (after naming st first.session first.command) lines line h.1 a)
 
-  pub legal_front : (st : State N) (lines : List (Line N)) (line : Line N) → LegalFrom naming st (lines ++ line ∷ []) → LegalFrom naming st lines × Answers naming (left_by naming st lines) line.session line.command line.reply
+  pub legal_front : (st : State N) (lines : List (Line N)) (line : Line N)
+      → LegalFrom naming st (lines ++ line ∷ []) → LegalFrom naming st lines
+      × Answers naming (left_by naming st lines) line.session line.command line.reply
   legal_front st [] line h = (tt, h.0)
   legal_front st (first ∷ lines) line h =
       let rest = legal_front (after naming st first.session first.command) lines line h.1 in

@@ -25,7 +25,9 @@ module _ {N : Type 0} (naming : Naming N) where
   -- each line's reply is the database's at its point
   abbrev pub LegalFrom : State N → List (Line N) → Type 0
   LegalFrom st [] = Unit {0}
-  LegalFrom st (line ∷ lines) = Answers naming st line.session line.command line.reply × LegalFrom (after naming st line.session line.command) lines
+  LegalFrom st (line ∷ lines) =
+      Answers naming st line.session line.command line.reply
+      × LegalFrom (after naming st line.session line.command) lines
 
   -- legal from the start, where nothing is known
   abbrev pub Legal : List (Line N) → Type 0

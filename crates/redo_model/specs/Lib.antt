@@ -10,5 +10,5 @@ pub mod Journals
 pub mod Seen
 pub mod Words
 pub mod Renaming
-pub mod Rows
+pub mod Worked
 pub mod Merging

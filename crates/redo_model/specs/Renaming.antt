@@ -1,5 +1,5 @@
--- The same under other names. A renaming gives each number below `count` a name of its own: `name k`, and
--- `number t` is the number whose name is t, if there is one.
+-- The same under other names. A renaming gives each number below `count` a name of its own: `name
+-- k`, and `number t` is the number whose name is t, if there is one.
 use Rattle.std.specs.Prelude.{◌≡◌, ℕ, ◌<◌, ◌≤◌, false, List, [], Option, Some, None, IsSome, IsTrue, map, ⊤, length, bytes_eq, slice_index_or}
 use Rattle.std.specs.List.{AllByRecursion, position}
 use Rattle.std.specs.declared.cmp.Ordering.{Ordering}
@@ -22,8 +22,10 @@ pub record IsRenaming {M : Type 0} (to : Renaming M) : Type 0 where
   pub forth : (t : M) (k : ℕ) → to.number t ≡ Some k → to.name k ≡ t
 
 -- the numbers are ordered as their names are
-pub record OrdersAlike {M : Type 0} (to : Renaming M) (naming : Naming M) (order : ℕ → ℕ → Ordering) : Type 0 where
-  pub alike : (k m : ℕ) → k < to.count → m < to.count → order k m ≡ naming.order (to.name k) (to.name m)
+pub record OrdersAlike {M : Type 0} (to : Renaming M) (naming : Naming M)
+    (order : ℕ → ℕ → Ordering) : Type 0 where
+  pub alike : (k m : ℕ) → k < to.count → m < to.count
+      → order k m ≡ naming.order (to.name k) (to.name m)
 
 -- what f has at a number, and d where there is none
 abbrev pub value_at : {X : Type 0} → X → (ℕ → X) → Option ℕ → X
@@ -66,21 +68,33 @@ module _ {N M : Type 0} (name : N → M) where
   named_reply (Refused refusal) = Refused (named_refusal refusal)
 
   abbrev pub named_line : Line N → Line M
-  named_line line = record { session = line.session; command = named_command line.command; reply = named_reply line.reply }
+  named_line line = record {
+    session = line.session;
+    command = named_command line.command;
+    reply = named_reply line.reply;
+  }
 
 module _ {M : Type 0} (to : Renaming M) where
   abbrev pub named_rows : Rows ℕ → Rows M
   named_rows rows = record {
-    change = λ t. value_at (λ n. None) (λ k n. value_at None (rows.change k) (to.number n)) (to.number t);
-    created = λ t. value_at (λ n. false) (λ k n. value_at false (rows.created k) (to.number n)) (to.number t);
+    change = λ t. value_at (λ n. None) (λ k n. value_at None (rows.change k) (to.number n))
+        (to.number t);
+    created = λ t. value_at (λ n. false) (λ k n. value_at false (rows.created k) (to.number n))
+        (to.number t);
     always = λ t. value_at false rows.always (to.number t);
   }
 
   abbrev pub named_records : Records ℕ → Records M
-  named_records r = record { cell = λ t. value_at idle r.cell (to.number t); rows = named_rows r.rows }
+  named_records r = record {
+    cell = λ t. value_at idle r.cell (to.number t);
+    rows = named_rows r.rows;
+  }
 
   abbrev pub named_locks : Locks ℕ → Locks M
-  named_locks locks = record { holder = λ t. value_at None locks.holder (to.number t); grants = λ t. value_at 0 locks.grants (to.number t) }
+  named_locks locks = record {
+    holder = λ t. value_at None locks.holder (to.number t);
+    grants = λ t. value_at 0 locks.grants (to.number t);
+  }
 
   -- the state in which each name has what its number has
   abbrev pub named_state : State ℕ → State M
@@ -121,4 +135,8 @@ IsLineBelow n line = IsBelow n line.command × IsReplyBelow n line.reply
 
 -- the renaming that a list of distinct texts makes: each number is the place of its name
 abbrev pub numbering : List Text → Renaming Text
-numbering names = record { count = length names; name = λ k. slice_index_or names k []; number = λ t. position (bytes_eq t) names }
+numbering names = record {
+  count = length names;
+  name = λ k. slice_index_or names k [];
+  number = λ t. position (bytes_eq t) names;
+}

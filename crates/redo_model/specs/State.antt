@@ -17,8 +17,8 @@ pub data Mark : Type 0 where
   File : Text → Mark
   Absent : Mark
 
--- what is known of one name: the stamp of its file, its state, how often it was built, the stamp that its last
--- done gave, and the digest of its present build
+-- what is known of one name: the stamp of its file, its state, how often it was built, the stamp
+-- that its last done gave, and the digest of its present build
 pub record Cell : Type 0 where
   pub file : Option Text
   pub state : TargetState
@@ -26,7 +26,8 @@ pub record Cell : Type 0 where
   pub done : Option Text
   pub digest : Option (List ℕ)
 
--- the rows of each target: its change rows on names, each with a mark, its created rows on names, its always row
+-- the rows of each target: its change rows on names, each with a mark, its created rows on names,
+-- its always row
 pub record Rows (N : Type 0) : Type 0 where
   pub change : N → N → Option Mark
   pub created : N → N → Bool

@@ -1,4 +1,5 @@
--- The table of the commands: which refusal applies, what an accepted command changes, and what is answered.
+-- The table of the commands: which refusal applies, what an accepted command changes, and what is
+-- answered.
 use Rattle.std.specs.Prelude.{◌≡◌, ℕ, ◌+◌, Bool, true, false, not, ◌||◌, if◌then◌else◌, List, [], ◌∷◌, Option, Some, None, MatchOption, Contains, find, ◌==◌}
 use Rattle.std.specs.List.{list_any}
 use Rattle.sha1.specs.Sha1.{sha1}
@@ -54,19 +55,32 @@ module _ {N : Type 0} (naming : Naming N) where
   abbrev pub is_among : List N → N → Bool
   is_among names n = list_any (λ m. naming.same m n) names
 
-  -- the first refusal that applies, where `holds` says whether the session holds the command's target
+  -- the first refusal that applies, where `holds` says whether the session holds the command's
+  -- target
   abbrev pub verdict_of : Records N → ℕ → Bool → Command N → Option (Refusal N)
   verdict_of r s holds (File n stamp) = None
   verdict_of r s holds (Gone n) = None
   verdict_of r s holds (Lock t) = None
-  verdict_of r s holds (Unlock t) = refusal_or (not holds) NotLocked (refusal_or (is_building (target_state r t)) replies.Building None)
-  verdict_of r s holds (Start t) = refusal_or (not holds) NotLocked (refusal_or (is_building (target_state r t)) replies.Building None)
-  verdict_of r s holds (IfChange t ns) = refusal_or (not (is_built_by s (target_state r t))) NotBuilding (refusal_or (is_among ns t) Itself None)
-  verdict_of r s holds (IfCreate t ns) = refusal_or (not (is_built_by s (target_state r t))) NotBuilding (refusal_or (is_among ns t) Itself (refusal_of_existing (find (has_file r) ns)))
-  verdict_of r s holds (Always t) = refusal_or (not (is_built_by s (target_state r t))) NotBuilding None
-  verdict_of r s holds (Stamp t content) = refusal_or (not (is_built_by s (target_state r t))) NotBuilding None
-  verdict_of r s holds (Done t stamp) = refusal_or (not (is_built_by s (target_state r t))) NotBuilding None
-  verdict_of r s holds (Failed t) = refusal_or (not (is_built_by s (target_state r t))) NotBuilding None
+  verdict_of r s holds (Unlock t) =
+      refusal_or (not holds) NotLocked
+      (refusal_or (is_building (target_state r t)) replies.Building None)
+  verdict_of r s holds (Start t) =
+      refusal_or (not holds) NotLocked
+      (refusal_or (is_building (target_state r t)) replies.Building None)
+  verdict_of r s holds (IfChange t ns) =
+      refusal_or (not (is_built_by s (target_state r t))) NotBuilding
+      (refusal_or (is_among ns t) Itself None)
+  verdict_of r s holds (IfCreate t ns) =
+      refusal_or (not (is_built_by s (target_state r t))) NotBuilding
+      (refusal_or (is_among ns t) Itself (refusal_of_existing (find (has_file r) ns)))
+  verdict_of r s holds (Always t) =
+      refusal_or (not (is_built_by s (target_state r t))) NotBuilding None
+  verdict_of r s holds (Stamp t content) =
+      refusal_or (not (is_built_by s (target_state r t))) NotBuilding None
+  verdict_of r s holds (Done t stamp) =
+      refusal_or (not (is_built_by s (target_state r t))) NotBuilding None
+  verdict_of r s holds (Failed t) =
+      refusal_or (not (is_built_by s (target_state r t))) NotBuilding None
   verdict_of r s holds Ood = None
   verdict_of r s holds Targets = None
   verdict_of r s holds Sources = None
@@ -88,11 +102,27 @@ module _ {N : Type 0} (naming : Naming N) where
       always = put naming t false r.rows.always;
     };
   }
-  effect_of r s (IfChange t ns) = record r { rows = record r.rows { change = put naming t (λ n. if is_among ns n then Some (mark_of r n) else r.rows.change t n) r.rows.change } }
-  effect_of r s (IfCreate t ns) = record r { rows = record r.rows { created = put naming t (λ n. is_among ns n || r.rows.created t n) r.rows.created } }
-  effect_of r s (Always t) = record r { rows = record r.rows { always = put naming t true r.rows.always } }
-  effect_of r s (Stamp t content) = with_cell r t (record (r.cell t) { digest = Some (sha1 content) })
-  effect_of r s (Done t stamp) = with_cell r t (record (r.cell t) { state = Built; builds = (r.cell t).builds + 1; file = stamp; done = stamp })
+  effect_of r s (IfChange t ns) = record r {
+    rows = record r.rows {
+      change = put naming t
+          (λ n. if is_among ns n then Some (mark_of r n) else r.rows.change t n) r.rows.change;
+    };
+  }
+  effect_of r s (IfCreate t ns) = record r {
+    rows = record r.rows
+        { created = put naming t (λ n. is_among ns n || r.rows.created t n) r.rows.created };
+  }
+  effect_of r s (Always t) =
+      record r { rows = record r.rows { always = put naming t true r.rows.always } }
+  effect_of r s (Stamp t content) =
+      with_cell r t (record (r.cell t) { digest = Some (sha1 content) })
+  effect_of r s (Done t stamp) =
+      with_cell r t (record (r.cell t) {
+        state = Built;
+        builds = (r.cell t).builds + 1;
+        file = stamp;
+        done = stamp;
+      })
   effect_of r s (Failed t) = with_cell r t (record (r.cell t) { state = states.Failed })
   effect_of r s Ood = r
   effect_of r s Targets = r
@@ -105,27 +135,40 @@ module _ {N : Type 0} (naming : Naming N) where
   Tells r (Lock t) reply = ⊥
   Tells r (Unlock t) reply = reply ≡ Okay
   Tells r (Start t) reply = reply ≡ Okay
-  Tells r (IfChange t ns) reply = (stale : List N) × IsListed naming (λ n. Contains ns n × IsStale r n) stale × (reply ≡ stale_reply stale)
+  Tells r (IfChange t ns) reply =
+      (stale : List N) × IsListed naming (λ n. Contains ns n × IsStale r n) stale
+      × (reply ≡ stale_reply stale)
   Tells r (IfCreate t ns) reply = reply ≡ Okay
   Tells r (Always t) reply = reply ≡ Okay
   Tells r (Stamp t content) reply = reply ≡ Stamped (sha1 content)
   Tells r (Done t stamp) reply = reply ≡ Okay
   Tells r (Failed t) reply = reply ≡ Okay
-  Tells r Ood reply = (names : List N) × IsListed naming (λ t. HasFile r t × OutOfDate r t) names × (reply ≡ replies.Ood names)
-  Tells r Targets reply = (names : List N) × IsListed naming (λ t. HasFile r t × IsTarget r t) names × (reply ≡ replies.Targets names)
-  Tells r Sources reply = (names : List N) × IsListed naming (IsSource r) names × (reply ≡ replies.Sources names)
+  Tells r Ood reply =
+      (names : List N) × IsListed naming (λ t. HasFile r t × OutOfDate r t) names
+      × (reply ≡ replies.Ood names)
+  Tells r Targets reply =
+      (names : List N) × IsListed naming (λ t. HasFile r t × IsTarget r t) names
+      × (reply ≡ replies.Targets names)
+  Tells r Sources reply =
+      (names : List N) × IsListed naming (IsSource r) names × (reply ≡ replies.Sources names)
 
   -- the reply to any command but a lock
   abbrev pub Replies : Records N → ℕ → Bool → Command N → Reply N → Type 0
-  Replies r s holds command reply = MatchOption (verdict_of r s holds command) (Tells r command reply) (λ refusal. reply ≡ Refused refusal)
+  Replies r s holds command reply =
+      MatchOption (verdict_of r s holds command) (Tells r command reply)
+      (λ refusal. reply ≡ Refused refusal)
 
   -- the records that a command leaves
   abbrev pub records_after : Records N → ℕ → Bool → Command N → Records N
-  records_after r s holds command = unless_refused (verdict_of r s holds command) r (effect_of r s command)
+  records_after r s holds command = unless_refused (verdict_of r s holds command) r
+      (effect_of r s command)
 
   -- a lock is granted where nobody holds it
   abbrev pub locks_granted : Option ℕ → Locks N → ℕ → N → Locks N
-  locks_granted None locks s t = record { holder = put naming t (Some s) locks.holder; grants = put naming t (locks.grants t + 1) locks.grants }
+  locks_granted None locks s t = record {
+    holder = put naming t (Some s) locks.holder;
+    grants = put naming t (locks.grants t + 1) locks.grants;
+  }
   locks_granted (Some holder) locks s t = locks
 
   abbrev pub locks_freed : Locks N → N → Locks N
@@ -139,10 +182,16 @@ module _ {N : Type 0} (naming : Naming N) where
 
   -- the reply of the database to a session's command
   abbrev pub Answers : State N → ℕ → Command N → Reply N → Type 0
-  Answers st s command reply = MatchOption (asked_lock command) (Replies st.records s (holds_target st.locks s command) command reply) (λ t. reply ≡ lock_reply (st.locks.holder t) (st.locks.grants t))
+  Answers st s command reply =
+      MatchOption (asked_lock command)
+      (Replies st.records s (holds_target st.locks s command) command reply)
+      (λ t. reply ≡ lock_reply (st.locks.holder t) (st.locks.grants t))
 
   -- the state that a session's command leaves
   abbrev pub after : State N → ℕ → Command N → State N
   after st s command =
       let holds = holds_target st.locks s command in
-      record { records = records_after st.records s holds command; locks = locks_after st.locks s (verdict_of st.records s holds command) command }
+      record {
+        records = records_after st.records s holds command;
+        locks = locks_after st.locks s (verdict_of st.records s holds command) command;
+      }

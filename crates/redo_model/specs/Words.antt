@@ -12,8 +12,8 @@ word_before (Busy t g) word words = words
 word_before (Released t g) word words = words
 
 module _ {N : Type 0} (naming : Naming N) where
-  -- which command of which session it is, and whether the session holds the command's target, by its
-  -- own lines before
+  -- which command of which session it is, and whether the session holds the command's target, by
+  -- its own lines before
   abbrev pub row_word_of : List (PlacedLine N) → PlacedLine N → ℕ
   row_word_of own line =
       let held = cond (holds_by naming own (target_of line.command)) 1 0 in

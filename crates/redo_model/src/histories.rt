@@ -15,15 +15,21 @@ pub fn nothing_is_legal()
 
 /// A history with one more line is legal where what stands before the line is, and the line answers at its point.
 pub fn legal_by_one_more()
-    ensures { (lines : List (Line Text)) (line : Line Text) → Legal texts (lines ++ line ∷ []) ↔ (Legal texts lines × Answers texts (left_by texts empty lines) line.session line.command line.reply) }
+    ensures { (lines : List (Line Text)) (line : Line Text)
+        → Legal texts (lines ++ line ∷ []) ↔ (Legal texts lines
+        × Answers texts (left_by texts empty lines) line.session line.command line.reply) }
 {}
 
 /// In each state that a legal history leaves, a target in building is held by its builder.
 pub fn builder_holds()
-    ensures { (lines : List (Line Text)) (t : Text) (session : ℕ) → Legal texts lines → target_state (left_by texts empty lines).records t ≡ Building session → (left_by texts empty lines).locks.holder t ≡ Some session }
+    ensures { (lines : List (Line Text)) (t : Text) (session : ℕ) → Legal texts lines
+        → target_state (left_by texts empty lines).records t ≡ Building session
+        → (left_by texts empty lines).locks.holder t ≡ Some session }
 {}
 
 /// A command that is refused leaves the state as it was.
 pub fn refused_changes_nothing()
-    ensures { (state : State Text) (session : ℕ) (command : Command Text) (refusal : Refusal Text) → Answers texts state session command (Refused refusal) → after texts state session command ≡ state }
+    ensures { (state : State Text) (session : ℕ) (command : Command Text) (refusal : Refusal Text)
+        → Answers texts state session command (Refused refusal)
+        → after texts state session command ≡ state }
 {}

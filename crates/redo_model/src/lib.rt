@@ -5,4 +5,4 @@ pub mod histories;
 pub mod regions;
 pub mod renaming;
 pub mod replies;
-pub mod rows;
+pub mod worked;

@@ -15,33 +15,42 @@ ghost use Rattle.std.specs.declared.cmp.Ordering.{Ordering};
 
 /// A number is out of date where its name is.
 pub fn out_of_date_by_name()
-    ensures { (to : Renaming Text) (records : Records ℕ) (k : ℕ) → IsRenaming to → IsWithin to.count records → k < to.count →
-        OutOfDate records k ↔ OutOfDate (named_records to records) (to.name k) }
+    ensures { (to : Renaming Text) (records : Records ℕ) (k : ℕ) → IsRenaming to
+        → IsWithin to.count records → k < to.count
+        → OutOfDate records k ↔ OutOfDate (named_records to records) (to.name k) }
 {}
 
 /// A step over numbers, under their names, is the step over the names.
 pub fn steps_by_name()
-    ensures { (to : Renaming Text) (order : ℕ → ℕ → Ordering) (state : State ℕ) (session : ℕ) (command : Command ℕ) → IsRenaming to → IsBelow to.count command →
-        named_state to (after (numbers order) state session command) ≡ after texts (named_state to state) session (named_command to.name command) }
+    ensures { (to : Renaming Text) (order : ℕ → ℕ → Ordering) (state : State ℕ) (session : ℕ)
+        (command : Command ℕ) → IsRenaming to → IsBelow to.count command
+        → named_state to (after (numbers order) state session command)
+        ≡ after texts (named_state to state) session (named_command to.name command) }
 {}
 
 /// A reply over numbers is the answer where, under their names, it is the answer over the names.
 pub fn answers_by_name()
-    ensures { (to : Renaming Text) (order : ℕ → ℕ → Ordering) (state : State ℕ) (session : ℕ) (command : Command ℕ) (reply : Reply ℕ) →
-        IsRenaming to → OrdersAlike to texts order → IsWithin to.count state.records → IsBelow to.count command → IsReplyBelow to.count reply →
-        Answers (numbers order) state session command reply ↔ Answers texts (named_state to state) session (named_command to.name command) (named_reply to.name reply) }
+    ensures { (to : Renaming Text) (order : ℕ → ℕ → Ordering) (state : State ℕ) (session : ℕ)
+        (command : Command ℕ) (reply : Reply ℕ) → IsRenaming to → OrdersAlike to texts order
+        → IsWithin to.count state.records → IsBelow to.count command → IsReplyBelow to.count reply
+        → Answers (numbers order) state session command reply
+        ↔ Answers texts (named_state to state) session (named_command to.name command)
+        (named_reply to.name reply) }
 {}
 
 /// A history over numbers is legal where, under their names, it is legal over the names.
 pub fn legal_by_name()
-    ensures { (to : Renaming Text) (order : ℕ → ℕ → Ordering) (lines : List (Line ℕ)) → IsRenaming to → OrdersAlike to texts order → AllByRecursion (IsLineBelow to.count) lines →
-        Legal (numbers order) lines ↔ Legal texts (map (named_line to.name) lines) }
+    ensures { (to : Renaming Text) (order : ℕ → ℕ → Ordering) (lines : List (Line ℕ))
+        → IsRenaming to → OrdersAlike to texts order → AllByRecursion (IsLineBelow to.count) lines
+        → Legal (numbers order) lines ↔ Legal texts (map (named_line to.name) lines) }
 {}
 
 /// The state that a history over numbers leaves, under their names, is the one that it leaves over the names.
 pub fn states_by_name()
-    ensures { (to : Renaming Text) (order : ℕ → ℕ → Ordering) (lines : List (Line ℕ)) → IsRenaming to → AllByRecursion (λ line. IsBelow to.count line.command) lines →
-        named_state to (left_by (numbers order) empty lines) ≡ left_by texts empty (map (named_line to.name) lines) }
+    ensures { (to : Renaming Text) (order : ℕ → ℕ → Ordering) (lines : List (Line ℕ))
+        → IsRenaming to → AllByRecursion (λ line. IsBelow to.count line.command) lines
+        → named_state to (left_by (numbers order) empty lines)
+        ≡ left_by texts empty (map (named_line to.name) lines) }
 {}
 
 /// Distinct texts, numbered by their places, are a renaming.

@@ -9,10 +9,12 @@ ghost use Rattle.redo_model.specs.Step.{Answers};
 
 /// A state gives one reply to a command.
 pub fn replies_are_unique()
-    ensures { (state : State Text) (session : ℕ) (command : Command Text) (a b : Reply Text) → Answers texts state session command a → Answers texts state session command b → a ≡ b }
+    ensures { (state : State Text) (session : ℕ) (command : Command Text) (a b : Reply Text)
+        → Answers texts state session command a → Answers texts state session command b → a ≡ b }
 {}
 
 /// Two lists in order with the same names are equal.
 pub fn lists_are_unique()
-    ensures { (xs ys : List Text) → Ascending texts xs → Ascending texts ys → ((n : Text) → Contains xs n ↔ Contains ys n) → xs ≡ ys }
+    ensures { (xs ys : List Text) → Ascending texts xs → Ascending texts ys
+        → ((n : Text) → Contains xs n ↔ Contains ys n) → xs ≡ ys }
 {}

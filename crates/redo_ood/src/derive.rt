@@ -3,7 +3,7 @@
 ghost use Rattle.std.specs.Prelude.{◌≡◌, ◌<◌, ◌↔◌, ℕ, IsTrue, IsSome, length};
 ghost use Rattle.redo_model.specs.OutOfDate.{Depends, OutOfDate};
 ghost use Rattle.redo_model.specs.Renaming.{AllBelow};
-ghost use Rattle.redo_rows.specs.Rows.{records_of, rows_of, count_of};
+ghost use Rattle.redo_rows.specs.Rows.{with_rows as records_of, rows_of, rows_count as count_of};
 ghost use Rattle.redo_ood.specs.Marks.{IsMarked, IsQueued, size_of};
 ghost use Rattle.redo_ood.specs.Regions.{IsDue, EntersDue, IsDerived};
 

@@ -3,7 +3,7 @@ ghost use Rattle.redo_model.specs.Names.{IsListed};
 ghost use Rattle.redo_model.specs.OutOfDate.{InRegion};
 ghost use Rattle.redo_model.specs.Renaming.{AllBelow};
 ghost use Rattle.redo_model.specs.State.{empty};
-ghost use Rattle.redo_rows.specs.Rows.{records_of, by_number, count_of as rows_count};
+ghost use Rattle.redo_rows.specs.Rows.{with_rows as records_of, by_number, rows_count};
 ghost use Rattle.redo_ood.specs.Memo.{count_of, is_out, IsRight, WasRight, HasCount};
 
 use crate::derive::derive;

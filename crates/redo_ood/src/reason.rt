@@ -2,7 +2,7 @@
 
 ghost use Rattle.std.specs.Prelude.{◌≡◌, ◌↔◌, ◌<◌, IsTrue, length};
 ghost use Rattle.redo_model.specs.OutOfDate.{HasReason};
-ghost use Rattle.redo_rows.specs.Rows.{records_of, count_of};
+ghost use Rattle.redo_rows.specs.Rows.{with_rows as records_of, rows_count as count_of};
 
 use redo_records::{Records, State};
 use redo_rows::DepRows;

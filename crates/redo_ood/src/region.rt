@@ -6,7 +6,7 @@ ghost use Rattle.redo_model.specs.OutOfDate.{IsTarget, Depends, HasRow, TouchesS
 ghost use Rattle.redo_model.specs.Renaming.{AllBelow};
 ghost use Rattle.redo_model.specs.State.{Idle};
 ghost use Rattle.redo_records.specs.Cells.{cell_at};
-ghost use Rattle.redo_rows.specs.Rows.{records_of, count_of};
+ghost use Rattle.redo_rows.specs.Rows.{with_rows as records_of, rows_count as count_of};
 ghost use Rattle.redo_ood.specs.Marks.{IsMarked, IsQueued, Enters, size_of};
 ghost use Rattle.redo_ood.specs.Regions.{Spreads, IsRegion};
 

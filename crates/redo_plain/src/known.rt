@@ -109,7 +109,7 @@ impl Known {
     }
 
     /// Its build ended with this file, or with none.
-    pub(crate) fn finish(&mut self, stamp: Option<FileStamp>) {
+    pub(crate) fn done(&mut self, stamp: Option<FileStamp>) {
         self.state = State::Built;
         self.builds = self.builds.saturating_add(1);
         let file = stamp;

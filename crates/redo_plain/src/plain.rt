@@ -133,8 +133,8 @@ impl Plain {
             Command::IfCreate(t, names) => self.put_created(*t, names)?,
             Command::Always(t) => self.put_always(*t),
             Command::Stamp(t, content) => self.stamp(*t, Sha1::digest(content)),
-            Command::Done(t, stamp) => self.finish(*t, *stamp),
-            Command::Failed(t) => self.fail(*t),
+            Command::Done(t, stamp) => self.done(*t, *stamp),
+            Command::Failed(t) => self.failed(*t),
             Command::Ood | Command::Targets | Command::Sources => {}
         }
         Ok(())
@@ -199,13 +199,13 @@ impl Plain {
         }
     }
 
-    fn finish(&mut self, t: u32, stamp: Option<FileStamp>) {
+    fn done(&mut self, t: u32, stamp: Option<FileStamp>) {
         if let Some(known) = self.names.get_mut(t as usize) {
-            known.finish(stamp);
+            known.done(stamp);
         }
     }
 
-    fn fail(&mut self, t: u32) {
+    fn failed(&mut self, t: u32) {
         if let Some(known) = self.names.get_mut(t as usize) {
             known.state = State::Failed;
         }

@@ -5,21 +5,34 @@ use Rattle.redo_model.specs.State as states
 use Rattle.redo_records.specs.declared.state.State.{State}
 use Rattle.redo_records.specs.declared.state.State.TheVariants.{Idle, Building, Built, Failed}
 use Rattle.redo_records.specs.declared.cell.Cell.TheInside.{Inside}
-use Rattle.redo_records.specs.Meaning.{state_meaning, state_of_meaning}
+use Rattle.redo_records.specs.Meaning.{target_state_of, state_for}
 
-abbrev pub cell_meaning : Inside → states.Cell
-cell_meaning c = record { file = c.file; state = state_meaning c.state; builds = c.builds; done = c.done; digest = c.digest }
+abbrev pub cell_of : Inside → states.Cell
+cell_of c = record {
+  file = c.file;
+  state = target_state_of c.state;
+  builds = c.builds;
+  done = c.done;
+  digest = c.digest;
+}
 
 -- the fields that mean it
-abbrev pub fields_of : states.Cell → Inside
-fields_of c = record { file = c.file; state = state_of_meaning c.state; builds = c.builds; done = c.done; digest = c.digest }
+abbrev pub fields_for : states.Cell → Inside
+fields_for c = record {
+  file = c.file;
+  state = state_for c.state;
+  builds = c.builds;
+  done = c.done;
+  digest = c.digest;
+}
 
-state_of_meaning-state_meaning : (s : State) → state_of_meaning (state_meaning s) ≡ s
-state_of_meaning-state_meaning Idle = refl
-state_of_meaning-state_meaning (Building s) = refl
-state_of_meaning-state_meaning Built = refl
-state_of_meaning-state_meaning Failed = refl
+state_for-target_state_of : (s : State) → state_for (target_state_of s) ≡ s
+state_for-target_state_of Idle = refl
+state_for-target_state_of (Building s) = refl
+state_for-target_state_of Built = refl
+state_for-target_state_of Failed = refl
 
 -- a cell's meaning gives its fields back
-pub fields_of-cell_meaning : (c : Inside) → fields_of (cell_meaning c) ≡ c
-fields_of-cell_meaning c = ap (λ (s : State). record c { state = s }) (state_of_meaning-state_meaning c.state)
+pub fields_for-cell_of : (c : Inside) → fields_for (cell_of c) ≡ c
+fields_for-cell_of c =
+    ap (λ (s : State). record c { state = s }) (state_for-target_state_of c.state)

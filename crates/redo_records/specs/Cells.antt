@@ -11,5 +11,5 @@ abbrev pub with_cell_at : List Cell → ℕ → Cell → List Cell
 with_cell_at cells n c = slice_set cells n c
 
 -- the name is built, and its file is another than its last done gave
-abbrev pub IsChanged : Cell → Type 0
-IsChanged c = (c.state ≡ Built) × (c.file ≢ c.done)
+abbrev pub IsBuiltAndEdited : Cell → Type 0
+IsBuiltAndEdited c = (c.state ≡ Built) × (c.file ≢ c.done)

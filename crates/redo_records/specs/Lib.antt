@@ -1,4 +1,4 @@
 pub mod Meaning
 pub mod Cell
 pub mod Cells
-pub mod Verdict
+pub mod Refusals

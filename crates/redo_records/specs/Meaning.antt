@@ -5,22 +5,22 @@ use Rattle.redo_records.specs.declared.mark.Mark.TheVariants.{Digest, Builds, Pe
 use Rattle.redo_records.specs.declared.state.State.{State}
 use Rattle.redo_records.specs.declared.state.State.TheVariants.{Idle, Building, Built, Failed}
 
-abbrev pub mark_meaning : Mark → states.Mark
-mark_meaning (Digest digest) = states.Digest digest
-mark_meaning (Builds builds) = states.Builds builds
-mark_meaning Pending = states.Pending
-mark_meaning (File stamp) = states.File stamp
-mark_meaning Absent = states.Absent
+abbrev pub row_mark_of : Mark → states.Mark
+row_mark_of (Digest digest) = states.Digest digest
+row_mark_of (Builds builds) = states.Builds builds
+row_mark_of Pending = states.Pending
+row_mark_of (File stamp) = states.File stamp
+row_mark_of Absent = states.Absent
 
-abbrev pub state_meaning : State → states.TargetState
-state_meaning Idle = states.Idle
-state_meaning (Building s) = states.Building s
-state_meaning Built = states.Built
-state_meaning Failed = states.Failed
+abbrev pub target_state_of : State → states.TargetState
+target_state_of Idle = states.Idle
+target_state_of (Building s) = states.Building s
+target_state_of Built = states.Built
+target_state_of Failed = states.Failed
 
 -- the state that means it
-abbrev pub state_of_meaning : states.TargetState → State
-state_of_meaning states.Idle = Idle
-state_of_meaning (states.Building s) = Building s
-state_of_meaning states.Built = Built
-state_of_meaning states.Failed = Failed
+abbrev pub state_for : states.TargetState → State
+state_for states.Idle = Idle
+state_for (states.Building s) = Building s
+state_for states.Built = Built
+state_for states.Failed = Failed

@@ -3,9 +3,9 @@ ghost use Rattle.redo_model.specs.State as states;
 ghost use Rattle.redo_model.specs.State.{idle, mark_in, is_building};
 ghost use Rattle.redo_model.specs.Step.{is_built_by};
 ghost use Rattle.redo_command.specs.Meaning.{refusal_of};
-ghost use Rattle.redo_records.specs.Meaning.{mark_meaning, state_meaning};
-ghost use Rattle.redo_records.specs.Cells.{IsChanged};
-ghost use Rattle.redo_records.specs.Verdict.{verdict_at};
+ghost use Rattle.redo_records.specs.Meaning.{row_mark_of, target_state_of};
+ghost use Rattle.redo_records.specs.Cells.{IsBuiltAndEdited};
+ghost use Rattle.redo_records.specs.Refusals.{refusal_by_target};
 
 use crate::mark::Mark;
 use crate::state::State;
@@ -31,13 +31,13 @@ impl Model for Cell {
 
     ghost Value = { states.Cell };
 
-    ghost use Rattle.redo_records.specs.Cell.{cell_meaning, fields_of, fields_of-cell_meaning};
+    ghost use Rattle.redo_records.specs.Cell.{cell_of, fields_for, fields_for-cell_of};
 
-    ghost view = { cell_meaning };
+    ghost view = { cell_of };
 
-    ghost inverse = { fields_of };
+    ghost inverse = { fields_for };
 
-    ghost inverse_ok = { λ cell i. fields_of-cell_meaning cell };
+    ghost inverse_ok = { λ cell i. fields_for-cell_of cell };
 }
 
 fn is_same_stamp(one: Option<FileStamp>, other: Option<FileStamp>) -> bool
@@ -75,7 +75,12 @@ macro_rules! refuse_unless {
 macro_rules! first_refusal {
     (
         [$cell:ident $s:ident $holds:ident $kind:ident]
-        $(($case:ident $(($($field:ident),*))?, $word:literal, [$($need:ident $refusal:ident),*], $($rest:tt)*))*
+        $((
+            $case:ident $(($($field:ident),*))?,
+            $word:literal,
+            [$($need:ident $refusal:ident),*],
+            $($rest:tt)*
+        ))*
     ) => {
         match $kind {
             $(Kind::$case => {
@@ -107,7 +112,7 @@ impl Cell {
     }
 
     pub fn state(&self) -> State
-        ensures { state_meaning result ≡ self.now.state }
+        ensures { target_state_of result ≡ self.now.state }
     {
         self.state
     }
@@ -120,7 +125,7 @@ impl Cell {
 
     /// The mark that a change row on the name gets now.
     pub fn mark(&self) -> Mark
-        ensures { mark_meaning result ≡ mark_in self.now.state self.now }
+        ensures { row_mark_of result ≡ mark_in self.now.state self.now }
     {
         match self.state {
             State::Idle => Mark::of_file(self.file),
@@ -131,8 +136,8 @@ impl Cell {
     }
 
     /// Whether the name is built, and its file is another than its last done gave.
-    pub fn is_changed(&self) -> bool
-        ensures { IsTrue result ↔ IsChanged self.now }
+    pub fn is_edited(&self) -> bool
+        ensures { IsTrue result ↔ IsBuiltAndEdited self.now }
     {
         match self.state {
             State::Built => !is_same_stamp(self.file, self.done),
@@ -142,8 +147,8 @@ impl Cell {
 
     /// The first refusal that applies, by the target's state and by whether the session holds its lock. Of the names
     /// after the target nothing is known here.
-    pub fn verdict(&self, s: u8, kind: Kind, holds: bool) -> Option<Refusal>
-        ensures { option_map refusal_of result ≡ verdict_at self.now.state s holds kind }
+    pub fn refusal(&self, s: u8, kind: Kind, holds: bool) -> Option<Refusal>
+        ensures { option_map refusal_of result ≡ refusal_by_target self.now.state s holds kind }
     {
         cases!(first_refusal self s holds kind)
     }
@@ -189,7 +194,12 @@ impl Cell {
     /// The build ends with this file, or with none.
     pub fn done(&mut self, stamp: Option<FileStamp>)
         requires { self.old.builds + 1 < 2 ^ 32 }
-        ensures { self.new ≡ record self.old { file = stamp; state = states.Built; builds = self.old.builds + 1; done = stamp } }
+        ensures { self.new ≡ record self.old {
+          file = stamp;
+          state = states.Built;
+          builds = self.old.builds + 1;
+          done = stamp;
+        } }
     {
         let file = stamp;
         *self = Cell {
@@ -201,7 +211,7 @@ impl Cell {
         };
     }
 
-    pub fn fail(&mut self)
+    pub fn failed(&mut self)
         ensures { self.new ≡ record self.old { state = states.Failed } }
     {
         self.state = State::Failed;

@@ -6,13 +6,17 @@ ghost use Rattle.redo_model.specs.Command.{Command, target_of};
 ghost use Rattle.redo_model.specs.Names.{Naming};
 ghost use Rattle.redo_model.specs.State.{Records, TargetState, target_state};
 ghost use Rattle.redo_model.specs.Step.{verdict_of};
-ghost use Rattle.redo_records.specs.Verdict.{verdict_at, refusal_of_names, kind_of};
+ghost use Rattle.redo_records.specs.Refusals.{refusal_by_target, refusal_of_names, kind_for};
 
 /// The verdict on a command is that of its kind, by the state of its target; where that refuses nothing, it is that of
 /// the names after the target. Where a command has no target, it is that of its kind, by any state.
 pub fn verdict_by_kind()
-    ensures with_target { (naming : Naming ℕ) (records : Records ℕ) (s : ℕ) (holds : Bool) (command : Command ℕ) (t : ℕ) → target_of command ≡ Some t
-        → option_or (verdict_at (target_state records t) s holds (kind_of command)) (refusal_of_names naming records command) ≡ verdict_of naming records s holds command }
-    ensures without_target { (naming : Naming ℕ) (records : Records ℕ) (s : ℕ) (holds : Bool) (command : Command ℕ) (state : TargetState) → target_of command ≡ None
-        → verdict_at state s holds (kind_of command) ≡ verdict_of naming records s holds command }
+    ensures with_target { (naming : Naming ℕ) (records : Records ℕ) (s : ℕ) (holds : Bool)
+        (command : Command ℕ) (t : ℕ) → target_of command ≡ Some t
+        → option_or (refusal_by_target (target_state records t) s holds (kind_for command))
+        (refusal_of_names naming records command) ≡ verdict_of naming records s holds command }
+    ensures without_target { (naming : Naming ℕ) (records : Records ℕ) (s : ℕ) (holds : Bool)
+        (command : Command ℕ) (state : TargetState) → target_of command ≡ None
+        → refusal_by_target state s holds (kind_for command)
+        ≡ verdict_of naming records s holds command }
 {}

@@ -19,11 +19,11 @@ pub enum Mark {
 }
 
 impl Mark {
-    ghost use Rattle.redo_records.specs.Meaning.{mark_meaning};
+    ghost use Rattle.redo_records.specs.Meaning.{row_mark_of};
 
     /// The mark of an idle name.
     pub(crate) fn of_file(file: Option<FileStamp>) -> Mark
-        ensures { mark_meaning result ≡ states.file_mark file }
+        ensures { row_mark_of result ≡ states.file_mark file }
     {
         match file {
             Some(stamp) => Mark::File(stamp),
@@ -33,7 +33,7 @@ impl Mark {
 
     /// The mark of a target that is built.
     pub(crate) fn of_build(digest: Option<[u8; 20]>, builds: u32) -> Mark
-        ensures { mark_meaning result ≡ states.build_mark digest builds }
+        ensures { row_mark_of result ≡ states.build_mark digest builds }
     {
         match digest {
             Some(digest) => Mark::Digest(digest),

@@ -2,9 +2,9 @@ ghost use Rattle.std.specs.Prelude.{◌≡◌, ℕ, ◌+◌, ◌^◌, ◌<◌, �
 ghost use Rattle.redo_model.specs.State as states;
 ghost use Rattle.redo_model.specs.State.{idle, mark_in, is_building};
 ghost use Rattle.redo_command.specs.Meaning.{refusal_of};
-ghost use Rattle.redo_records.specs.Meaning.{mark_meaning, state_meaning};
-ghost use Rattle.redo_records.specs.Cells.{cell_at, with_cell_at, IsChanged};
-ghost use Rattle.redo_records.specs.Verdict.{verdict_at};
+ghost use Rattle.redo_records.specs.Meaning.{row_mark_of, target_state_of};
+ghost use Rattle.redo_records.specs.Cells.{cell_at, with_cell_at, IsBuiltAndEdited};
+ghost use Rattle.redo_records.specs.Refusals.{refusal_by_target};
 
 use crate::cell::Cell;
 use crate::mark::Mark;
@@ -55,7 +55,7 @@ impl Records {
     /// How far it has come.
     pub fn state(&self, n: u32) -> State
         requires { n < length self.now }
-        ensures { state_meaning result ≡ (cell_at self.now n).state }
+        ensures { target_state_of result ≡ (cell_at self.now n).state }
     {
         self.cells[n as usize].state()
     }
@@ -71,7 +71,7 @@ impl Records {
     /// The mark that a change row on it records now.
     pub fn mark(&self, n: u32) -> Mark
         requires { n < length self.now }
-        ensures { mark_meaning result ≡ mark_in (cell_at self.now n).state (cell_at self.now n) }
+        ensures { row_mark_of result ≡ mark_in (cell_at self.now n).state (cell_at self.now n) }
     {
         self.cells[n as usize].mark()
     }
@@ -79,18 +79,19 @@ impl Records {
     /// Whether it is built, and its file is another than its last done gave.
     pub fn changed(&self, n: u32) -> bool
         requires { n < length self.now }
-        ensures { IsTrue result ↔ IsChanged (cell_at self.now n) }
+        ensures { IsTrue result ↔ IsBuiltAndEdited (cell_at self.now n) }
     {
-        self.cells[n as usize].is_changed()
+        self.cells[n as usize].is_edited()
     }
 
     /// The first refusal that applies to a session's command on `t` whatever the names after `t` are, where `holds` says
     /// whether it holds its lock.
     pub fn verdict(&self, s: u8, kind: Kind, t: u32, holds: bool) -> Option<Refusal>
         requires { t < length self.now }
-        ensures { option_map refusal_of result ≡ verdict_at (cell_at self.now t).state s holds kind }
+        ensures { option_map refusal_of result
+            ≡ refusal_by_target (cell_at self.now t).state s holds kind }
     {
-        self.cells[t as usize].verdict(s, kind, holds)
+        self.cells[t as usize].refusal(s, kind, holds)
     }
 
     /// Its file has this stamp, or there is none.
@@ -105,7 +106,8 @@ impl Records {
     pub fn start(&mut self, s: u8, t: u32)
         requires number { t < length self.old }
         requires free { IsFalse (is_building (cell_at self.old t).state) }
-        ensures { self.new ≡ with_cell_at self.old t (record (cell_at self.old t) { state = states.Building s; digest = None }) }
+        ensures { self.new ≡ with_cell_at self.old t
+            (record (cell_at self.old t) { state = states.Building s; digest = None }) }
     {
         self.cells[t as usize].start(s);
     }
@@ -114,7 +116,8 @@ impl Records {
     pub fn stamp(&mut self, t: u32, digest: [u8; 20])
         requires number { t < length self.old }
         requires building { IsTrue (is_building (cell_at self.old t).state) }
-        ensures { self.new ≡ with_cell_at self.old t (record (cell_at self.old t) { digest = Some digest }) }
+        ensures { self.new
+            ≡ with_cell_at self.old t (record (cell_at self.old t) { digest = Some digest }) }
     {
         self.cells[t as usize].stamp(digest);
     }
@@ -124,7 +127,12 @@ impl Records {
         requires number { t < length self.old }
         requires building { IsTrue (is_building (cell_at self.old t).state) }
         requires builds { (cell_at self.old t).builds + 1 < 2 ^ 32 }
-        ensures { self.new ≡ with_cell_at self.old t (record (cell_at self.old t) { file = stamp; state = states.Built; builds = (cell_at self.old t).builds + 1; done = stamp }) }
+        ensures { self.new ≡ with_cell_at self.old t (record (cell_at self.old t) {
+          file = stamp;
+          state = states.Built;
+          builds = (cell_at self.old t).builds + 1;
+          done = stamp;
+        }) }
     {
         self.cells[t as usize].done(stamp);
     }
@@ -133,8 +141,9 @@ impl Records {
     pub fn failed(&mut self, t: u32)
         requires number { t < length self.old }
         requires building { IsTrue (is_building (cell_at self.old t).state) }
-        ensures { self.new ≡ with_cell_at self.old t (record (cell_at self.old t) { state = states.Failed }) }
+        ensures { self.new
+            ≡ with_cell_at self.old t (record (cell_at self.old t) { state = states.Failed }) }
     {
-        self.cells[t as usize].fail();
+        self.cells[t as usize].failed();
     }
 }

@@ -4,8 +4,10 @@ use Rattle.redo_rows.specs.Numbers.{NumberList}
 use Rattle.redo_rows.specs.Kept.{AreEmpty}
 
 -- one more empty list
-pub empty_push : (lists : List NumberList) (list : NumberList) → AreEmpty lists → list.items ≡ [] → AreEmpty (lists ++ list ∷ [])
+pub empty_push : (lists : List NumberList) (list : NumberList) → AreEmpty lists → list.items ≡ []
+    → AreEmpty (lists ++ list ∷ [])
 empty_push [] list empty none zero = none
 empty_push [] list empty none (suc n) = refl
 empty_push (first ∷ lists) list empty none zero = empty zero
-empty_push (first ∷ lists) list empty none (suc n) = empty_push lists list (λ k. empty (suc k)) none n
+empty_push (first ∷ lists) list empty none (suc n) =
+    empty_push lists list (λ k. empty (suc k)) none n

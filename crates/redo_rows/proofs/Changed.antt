@@ -8,16 +8,24 @@ use Rattle.redo_rows.specs.Rows.{Seat, TargetRows, seat_at, has_seat, target_at,
 use Rattle.redo_rows.proofs.Inverses.{found_target, target_same, target_other}
 
 -- rows with the same values are the same
-pub rows_ext : (a b : Rows ℕ) → ((t n : ℕ) → a.change t n ≡ b.change t n) → ((t n : ℕ) → a.created t n ≡ b.created t n) → ((t : ℕ) → a.always t ≡ b.always t) → a ≡ b
+pub rows_ext : (a b : Rows ℕ) → ((t n : ℕ) → a.change t n ≡ b.change t n)
+    → ((t n : ℕ) → a.created t n ≡ b.created t n) → ((t : ℕ) → a.always t ≡ b.always t) → a ≡ b
 rows_ext a b change created always =
-    ap (λ (f : ℕ → ℕ → Option Mark). record { change = f; created = a.created; always = a.always }) (fun_ext (λ t. fun_ext (change t)))
-    ∙ (ap (λ (f : ℕ → ℕ → Bool). record { change = b.change; created = f; always = a.always }) (fun_ext (λ t. fun_ext (created t)))
-    ∙ ap (λ (f : ℕ → Bool). record { change = b.change; created = b.created; always = f }) (fun_ext always))
+    ap (λ (f : ℕ → ℕ → Option Mark). record { change = f; created = a.created; always = a.always })
+    (fun_ext (λ t. fun_ext (change t)))
+    ∙ (ap (λ (f : ℕ → ℕ → Bool). record { change = b.change; created = f; always = a.always })
+    (fun_ext (λ t. fun_ext (created t)))
+    ∙ ap (λ (f : ℕ → Bool). record { change = b.change; created = b.created; always = f })
+    (fun_ext always))
 
 -- what holds of a value of each target, where it holds of the new one and of the others as they are
-each_target : {Y : Type 0} (f : TargetRows → Y) (g : ℕ → Y) (targets : List TargetRows) (t : ℕ) (new : TargetRows) → t < length targets → f new ≡ g t → ((u : ℕ) → u ≢ t → f (target_at targets u) ≡ g u) → (u : ℕ) → f (target_at (set targets t new) u) ≡ g u
+each_target : {Y : Type 0} (f : TargetRows → Y) (g : ℕ
+    → Y) (targets : List TargetRows) (t : ℕ) (new : TargetRows) → t < length targets → f new ≡ g t
+    → ((u : ℕ) → u ≢ t → f (target_at targets u) ≡ g u) → (u : ℕ)
+    → f (target_at (set targets t new) u) ≡ g u
 each_target f g targets t new below own others u = elim (cases_eq u t) [
-  | inl here ↦ ap (λ k. f (target_at (set targets t new) k)) here ∙ (ap f (target_same targets t new below) ∙ (own ∙ ap g (sym here)))
+  | inl here ↦ ap (λ k. f (target_at (set targets t new) k)) here
+      ∙ (ap f (target_same targets t new below) ∙ (own ∙ ap g (sym here)))
   | inr off ↦ ap f (target_other targets t u new off) ∙ others u off
 ]
 
@@ -30,10 +38,14 @@ pub record IsRowsWith (old : Rows ℕ) (t : ℕ) (target : TargetRows) (new : Ro
   pub other_created : (u n : ℕ) → u ≢ t → old.created u n ≡ new.created u n
   pub other_always : (u : ℕ) → u ≢ t → old.always u ≡ new.always u
 
-pub rows_set : (targets : List TargetRows) (t : ℕ) (target : TargetRows) (rows : Rows ℕ) → t < length targets → IsRowsWith (rows_of targets) t target rows → rows_of (set targets t target) ≡ rows
+pub rows_set : (targets : List TargetRows) (t : ℕ) (target : TargetRows) (rows : Rows ℕ)
+    → t < length targets → IsRowsWith (rows_of targets) t target rows
+    → rows_of (set targets t target) ≡ rows
 rows_set targets t target rows below h = rows_ext (rows_of (set targets t target)) rows
-    (λ u n. each_target (λ x. (seat_at x.seats n).change) (λ k. rows.change k n) targets t target below (h.change n) (λ k off. h.other_change k n off) u)
-    (λ u n. each_target (λ x. (seat_at x.seats n).created) (λ k. rows.created k n) targets t target below (h.created n) (λ k off. h.other_created k n off) u)
+    (λ u n. each_target (λ x. (seat_at x.seats n).change)
+    (λ k. rows.change k n) targets t target below (h.change n) (λ k off. h.other_change k n off) u)
+    (λ u n. each_target (λ x. (seat_at x.seats n).created) (λ k. rows.created k n) targets t target
+    below (h.created n) (λ k off. h.other_created k n off) u)
     (each_target (λ x. x.always) rows.always targets t target below h.always h.other_always)
 
 put_same : {X : Type 0} (n : ℕ) (x : X) (f : ℕ → X) → put by_number n x f n ≡ x
@@ -43,7 +55,8 @@ put_other : {X : Type 0} (n m : ℕ) (x : X) (f : ℕ → X) → m ≢ n → put
 put_other n m x f off = ap (λ b. cond b x (f m)) (ne_eqb n m (λ e. off (sym e)))
 
 -- the field of a record or of another
-pub field_of_cond : {X Y : Type 0} (f : X → Y) (b : Bool) (x y : X) → f (cond b x y) ≡ cond b (f x) (f y)
+pub field_of_cond : {X Y : Type 0} (f : X → Y) (b : Bool) (x y : X)
+    → f (cond b x y) ≡ cond b (f x) (f y)
 field_of_cond f true x y = refl
 field_of_cond f false x y = refl
 
@@ -53,51 +66,67 @@ cond_same false x = refl
 
 -- t's change row on n is written
 pub record WritesChange (old new : TargetRows) (n : ℕ) (mark : Mark) : Type 0 where
-  pub rows : (k : ℕ) → seat_at new.seats k ≡ cond (eqb n k) (record (seat_at old.seats k) { change = Some mark }) (seat_at old.seats k)
+  pub rows : (k : ℕ) → seat_at new.seats k
+      ≡ cond (eqb n k) (record (seat_at old.seats k) { change = Some mark }) (seat_at old.seats k)
   pub room : (k : ℕ) → has_seat new.seats k ≡ has_seat old.seats k
   pub always : new.always ≡ old.always
 
-change_set : (targets : List TargetRows) (t n : ℕ) (new : TargetRows) (mark : Mark) → t < length targets → WritesChange (target_at targets t) new n mark → rows_of (set targets t new) ≡ with_change (rows_of targets) t n mark
+change_set : (targets : List TargetRows) (t n : ℕ) (new : TargetRows) (mark : Mark)
+    → t < length targets → WritesChange (target_at targets t) new n mark
+    → rows_of (set targets t new) ≡ with_change (rows_of targets) t n mark
 change_set targets t n new mark below w =
     let rows : Rows ℕ = rows_of targets in
     let row : ℕ → Option Mark = put by_number n (Some mark) (rows.change t) in
     rows_set targets t new (with_change rows t n mark) below (record {
       change = λ k.
           ap (λ (s : Seat). s.change) (w.rows k)
-          ∙ (field_of_cond (λ (s : Seat). s.change) (eqb n k) (record (seat_at (target_at targets t).seats k) { change = Some mark }) (seat_at (target_at targets t).seats k)
+          ∙ (field_of_cond (λ (s : Seat). s.change) (eqb n k)
+          (record (seat_at (target_at targets t).seats k) { change = Some mark })
+          (seat_at (target_at targets t).seats k)
           ∙ sym (ap (λ (f : ℕ → Option Mark). f k) (put_same t row rows.change)));
       created = λ k.
           ap (λ (s : Seat). s.created) (w.rows k)
-          ∙ (field_of_cond (λ (s : Seat). s.created) (eqb n k) (record (seat_at (target_at targets t).seats k) { change = Some mark }) (seat_at (target_at targets t).seats k)
+          ∙ (field_of_cond (λ (s : Seat). s.created) (eqb n k)
+          (record (seat_at (target_at targets t).seats k) { change = Some mark })
+          (seat_at (target_at targets t).seats k)
           ∙ cond_same (eqb n k) (rows.created t k));
       always = w.always;
-      other_change = λ u k off. sym (ap (λ (f : ℕ → Option Mark). f k) (put_other t u row rows.change off));
+      other_change =
+          λ u k off. sym (ap (λ (f : ℕ → Option Mark). f k) (put_other t u row rows.change off));
       other_created = λ u k off. refl;
       other_always = λ u off. refl;
     })
 
 -- t's created row on n is written
 pub record WritesCreated (old new : TargetRows) (n : ℕ) : Type 0 where
-  pub rows : (k : ℕ) → seat_at new.seats k ≡ cond (eqb n k) (record (seat_at old.seats k) { created = true }) (seat_at old.seats k)
+  pub rows : (k : ℕ) → seat_at new.seats k
+      ≡ cond (eqb n k) (record (seat_at old.seats k) { created = true }) (seat_at old.seats k)
   pub room : (k : ℕ) → has_seat new.seats k ≡ has_seat old.seats k
   pub always : new.always ≡ old.always
 
-created_set : (targets : List TargetRows) (t n : ℕ) (new : TargetRows) → t < length targets → WritesCreated (target_at targets t) new n → rows_of (set targets t new) ≡ with_created (rows_of targets) t n
+created_set : (targets : List TargetRows) (t n : ℕ) (new : TargetRows) → t < length targets
+    → WritesCreated (target_at targets t) new n
+    → rows_of (set targets t new) ≡ with_created (rows_of targets) t n
 created_set targets t n new below w =
     let rows : Rows ℕ = rows_of targets in
     let row : ℕ → Bool = put by_number n true (rows.created t) in
     rows_set targets t new (with_created rows t n) below (record {
       change = λ k.
           ap (λ (s : Seat). s.change) (w.rows k)
-          ∙ (field_of_cond (λ (s : Seat). s.change) (eqb n k) (record (seat_at (target_at targets t).seats k) { created = true }) (seat_at (target_at targets t).seats k)
+          ∙ (field_of_cond (λ (s : Seat). s.change) (eqb n k)
+          (record (seat_at (target_at targets t).seats k) { created = true })
+          (seat_at (target_at targets t).seats k)
           ∙ cond_same (eqb n k) (rows.change t k));
       created = λ k.
           ap (λ (s : Seat). s.created) (w.rows k)
-          ∙ (field_of_cond (λ (s : Seat). s.created) (eqb n k) (record (seat_at (target_at targets t).seats k) { created = true }) (seat_at (target_at targets t).seats k)
+          ∙ (field_of_cond (λ (s : Seat). s.created) (eqb n k)
+          (record (seat_at (target_at targets t).seats k) { created = true })
+          (seat_at (target_at targets t).seats k)
           ∙ sym (ap (λ (f : ℕ → Bool). f k) (put_same t row rows.created)));
       always = w.always;
       other_change = λ u k off. refl;
-      other_created = λ u k off. sym (ap (λ (f : ℕ → Bool). f k) (put_other t u row rows.created off));
+      other_created =
+          λ u k off. sym (ap (λ (f : ℕ → Bool). f k) (put_other t u row rows.created off));
       other_always = λ u off. refl;
     })
 
@@ -107,7 +136,8 @@ pub record AddsSeat (old new : TargetRows) (n : ℕ) : Type 0 where
   pub room : (k : ℕ) → has_seat new.seats k ≡ (eqb k n || has_seat old.seats k)
   pub always : new.always ≡ old.always
 
-rows_stay : (targets : List TargetRows) (t n : ℕ) (new : TargetRows) → t < length targets → AddsSeat (target_at targets t) new n → rows_of (set targets t new) ≡ rows_of targets
+rows_stay : (targets : List TargetRows) (t n : ℕ) (new : TargetRows) → t < length targets
+    → AddsSeat (target_at targets t) new n → rows_of (set targets t new) ≡ rows_of targets
 rows_stay targets t n new below w = rows_set targets t new (rows_of targets) below (record {
   change = λ k. ap (λ (s : Seat). s.change) (w.rows k);
   created = λ k. ap (λ (s : Seat). s.created) (w.rows k);
@@ -118,17 +148,25 @@ rows_stay targets t n new below w = rows_set targets t new (rows_of targets) bel
 })
 
 -- the same in the terms of the code
-pub change_written : (targets now : List TargetRows) (t n : ℕ) (old new : TargetRows) (mark : Mark) → targets ≡ now → t < length now → old ≡ get_or targets t old → WritesChange old new n mark → rows_of (set targets t new) ≡ with_change (rows_of now) t n mark
+pub change_written : (targets now : List TargetRows) (t n : ℕ) (old new : TargetRows) (mark : Mark)
+    → targets ≡ now → t < length now → old ≡ get_or targets t old → WritesChange old new n mark
+    → rows_of (set targets t new) ≡ with_change (rows_of now) t n mark
 change_written targets now t n old new mark is t_in at w =
     let found = found_target targets now t old is t_in at in
-    change_set targets t n new mark found.0 (subst (λ x. WritesChange x new n mark) found.1 w) ∙ ap (λ ts. with_change (rows_of ts) t n mark) is
+    change_set targets t n new mark found.0 (subst (λ x. WritesChange x new n mark) found.1 w)
+    ∙ ap (λ ts. with_change (rows_of ts) t n mark) is
 
-pub created_written : (targets now : List TargetRows) (t n : ℕ) (old new : TargetRows) → targets ≡ now → t < length now → old ≡ get_or targets t old → WritesCreated old new n → rows_of (set targets t new) ≡ with_created (rows_of now) t n
+pub created_written : (targets now : List TargetRows) (t n : ℕ) (old new : TargetRows)
+    → targets ≡ now → t < length now → old ≡ get_or targets t old → WritesCreated old new n
+    → rows_of (set targets t new) ≡ with_created (rows_of now) t n
 created_written targets now t n old new is t_in at w =
     let found = found_target targets now t old is t_in at in
-    created_set targets t n new found.0 (subst (λ x. WritesCreated x new n) found.1 w) ∙ ap (λ ts. with_created (rows_of ts) t n) is
+    created_set targets t n new found.0 (subst (λ x. WritesCreated x new n) found.1 w)
+    ∙ ap (λ ts. with_created (rows_of ts) t n) is
 
-pub seat_added_rows : (targets now : List TargetRows) (t n : ℕ) (old new : TargetRows) → targets ≡ now → t < length now → old ≡ get_or targets t old → AddsSeat old new n → rows_of (set targets t new) ≡ rows_of now
+pub seat_added_rows : (targets now : List TargetRows) (t n : ℕ) (old new : TargetRows)
+    → targets ≡ now → t < length now → old ≡ get_or targets t old → AddsSeat old new n
+    → rows_of (set targets t new) ≡ rows_of now
 seat_added_rows targets now t n old new is t_in at w =
     let found = found_target targets now t old is t_in at in
     rows_stay targets t n new found.0 (subst (λ x. AddsSeat x new n) found.1 w) ∙ ap rows_of is

@@ -13,42 +13,60 @@ use Rattle.redo_rows.proofs.Inverses.{found_target, IsRowTest, seated_row}
 -- a list whose members are below the count
 all_below : (count : ℕ) (xs : List ℕ) → ((x : ℕ) → Contains xs x → x < count) → AllBelow count xs
 all_below count [] f = tt
-all_below count (x ∷ xs) f = (f x (0, omega arith, refl), all_below count xs (λ y c. f y (suc c.0, omega (arith, c.1), c.2)))
+all_below count (x ∷ xs) f =
+    (f x (0, omega arith, refl), all_below count xs (λ y c. f y (suc c.0, omega (arith, c.1), c.2)))
 
 -- only targets have rows
-target_below : (test : Seat → Bool) → IsRowTest test → (targets : List TargetRows) (t n : ℕ) → passes_on test n (target_at targets t) ≡ true → t < length targets
+target_below : (test : Seat → Bool) → IsRowTest test → (targets : List TargetRows) (t n : ℕ)
+    → passes_on test n (target_at targets t) ≡ true → t < length targets
 target_below test blank targets t n row = elim (cases_lt t (length targets)) [
   | inl below ↦ below
-  | inr past ↦ absurd (false≢true (sym (blank n) ∙ (ap (passes_on test n) (sym (get_or_past targets t bare past)) ∙ row)))
+  | inr past ↦ absurd (false≢true
+      (sym (blank n) ∙ (ap (passes_on test n) (sym (get_or_past targets t bare past)) ∙ row)))
 ]
 
 -- and only on names
-name_below : (targets : List TargetRows) (needed awaited : List NumberList) (seated : List ℕ) (t n : ℕ) → IsKept targets needed awaited seated → HasRowIn (target_at targets t).seats n → n < length targets
+name_below : (targets : List TargetRows) (needed awaited : List NumberList) (seated : List ℕ)
+    (t n : ℕ) → IsKept targets needed awaited seated → HasRowIn (target_at targets t).seats n
+    → n < length targets
 name_below targets needed awaited seated t n h row = h.below t n (elim row [
   | inl change ↦ seated_row has_change (λ k. refl) (target_at targets t).seats n change
   | inr created ↦ seated_row has_created (λ k. refl) (target_at targets t).seats n created
 ])
 
 -- the same in the terms of the code
-pub inverse_below : (test : Seat → Bool) → IsRowTest test → (targets now : List TargetRows) (n : ℕ) (lists : List NumberList) (list : NumberList) (xs : List ℕ) → targets ≡ now → n < length now → list ≡ get_or lists n list → xs ≡ list.items
+pub inverse_below : (test : Seat → Bool) → IsRowTest test → (targets now : List TargetRows) (n : ℕ)
+    (lists : List NumberList) (list : NumberList) (xs : List ℕ) → targets ≡ now → n < length now
+    → list ≡ get_or lists n list → xs ≡ list.items
     → IsInverse test targets lists → AllBelow (length now) xs
 inverse_below test blank targets now n lists list xs is n_in at items h =
     let name : n < length targets = subst (λ (ts : List TargetRows). n < length ts) (sym is) n_in in
     let inside : n < length lists = omega (arith, name, h.sized) in
-    let same : xs ≡ (numbers_at lists n).items = items ∙ ap (λ (x : NumberList). x.items) (at ∙ get_or_default lists n list no_numbers inside) in
+    let same : xs ≡ (numbers_at lists n).items =
+    items ∙ ap (λ (x : NumberList). x.items) (at ∙ get_or_default lists n list no_numbers inside) in
     subst (λ (ts : List TargetRows). AllBelow (length ts) xs) is
-    (all_below (length targets) xs (λ t in'. target_below test blank targets t n (((h.each n name).listed t).0 (subst (λ ys. Contains ys t) same in'))))
+    (all_below (length targets) xs (λ t in'. target_below test blank targets t n
+    (((h.each n name).listed t).0 (subst (λ ys. Contains ys t) same in'))))
 
-pub names_below : (targets now : List TargetRows) (t : ℕ) (target : TargetRows) (needed awaited : List NumberList) (seated : List ℕ) (xs : List ℕ) → targets ≡ now → t < length now → target ≡ get_or targets t target
-    → ((n : ℕ) → Contains xs n → HasRowIn target.seats n) → IsKept targets needed awaited seated → AllBelow (length now) xs
+pub names_below : (targets now : List TargetRows) (t : ℕ) (target : TargetRows)
+    (needed awaited : List NumberList) (seated : List ℕ) (xs : List ℕ) → targets ≡ now
+    → t < length now → target ≡ get_or targets t target
+    → ((n : ℕ) → Contains xs n → HasRowIn target.seats n) → IsKept targets needed awaited seated
+    → AllBelow (length now) xs
 names_below targets now t target needed awaited seated xs is t_in at rows h =
     let found = found_target targets now t target is t_in at in
     subst (λ (ts : List TargetRows). AllBelow (length ts) xs) is
-    (all_below (length targets) xs (λ n in'. name_below targets needed awaited seated t n h (subst (λ (x : TargetRows). HasRowIn x.seats n) found.1 (rows n in'))))
+    (all_below (length targets) xs (λ n in'. name_below targets needed awaited seated t n h
+    (subst (λ (x : TargetRows). HasRowIn x.seats n) found.1 (rows n in'))))
 
-pub seats_below : (targets now : List TargetRows) (t : ℕ) (target : TargetRows) (seats : List Seat) (needed awaited : List NumberList) (seated : List ℕ) → targets ≡ now → t < length now → target ≡ get_or targets t target
-    → seats ≡ target.seats → IsKept targets needed awaited seated → (n : ℕ) → has_seat seats n ≡ true → n < length now
+pub seats_below : (targets now : List TargetRows) (t : ℕ) (target : TargetRows) (seats : List Seat)
+    (needed awaited : List NumberList) (seated : List ℕ) → targets ≡ now → t < length now
+    → target ≡ get_or targets t target
+    → seats ≡ target.seats → IsKept targets needed awaited seated → (n : ℕ)
+    → has_seat seats n ≡ true → n < length now
 seats_below targets now t target seats needed awaited seated is t_in at same h n there =
     let found = found_target targets now t target is t_in at in
-    let own : has_seat (target_at targets t).seats n ≡ true = subst (λ (x : TargetRows). has_seat x.seats n ≡ true) found.1 (subst (λ ss. has_seat ss n ≡ true) same there) in
+    let own : has_seat (target_at targets t).seats n ≡ true =
+    subst (λ (x : TargetRows). has_seat x.seats n ≡ true) found.1
+    (subst (λ ss. has_seat ss n ≡ true) same there) in
     subst (λ (ts : List TargetRows). n < length ts) is (h.below t n own)

@@ -1,4 +1,5 @@
--- What the fields of the rows keep: the inverses of the rows, and how many targets have a seat for each name.
+-- What the fields of the rows keep: the inverses of the rows, and how many targets have a seat for
+-- each name.
 use Rattle.std.specs.Prelude.{◌≡◌, ◌≢◌, ◌↔◌, ◌<◌, ◌≤◌, ◌+◌, ◌^◌, ℕ, Bool, List, [], IsTrue, cond, is_some, slice_index_or, length, Contains, count_by}
 use Rattle.redo_rows.specs.Rows.{Seat, TargetRows, seat_at, has_seat, target_at, room_of}
 use Rattle.redo_rows.specs.Numbers.{NumberList}
@@ -36,13 +37,15 @@ abbrev pub AreEmpty : List NumberList → Type 0
 AreEmpty lists = (n : ℕ) → (numbers_at lists n).items ≡ []
 
 -- the targets whose seat for n passes, and room for each that has a seat for n
-pub record IsInverseOn (test : Seat → Bool) (targets : List TargetRows) (n : ℕ) (list : NumberList) : Type 0 where
+pub record IsInverseOn (test : Seat → Bool) (targets : List TargetRows) (n : ℕ)
+    (list : NumberList) : Type 0 where
   pub listed : (t : ℕ) → Contains list.items t ↔ IsTrue (passes_on test n (target_at targets t))
   pub counted : length list.items ≡ count_by (passes_on test n) targets
   pub room : seats_on targets n ≤ list.room
 
 -- the same of each name
-pub record IsInverse (test : Seat → Bool) (targets : List TargetRows) (lists : List NumberList) : Type 0 where
+pub record IsInverse (test : Seat → Bool) (targets : List TargetRows)
+    (lists : List NumberList) : Type 0 where
   pub sized : length lists ≡ length targets
   pub each : (n : ℕ) → n < length targets → IsInverseOn test targets n (numbers_at lists n)
 
@@ -52,15 +55,16 @@ pub record CountsSeats (targets : List TargetRows) (seated : List ℕ) : Type 0 
   pub each : (n : ℕ) → n < length targets → slice_index_or seated n 0 ≡ seats_on targets n
 
 -- rows are on names alone, and each inverse and count is right
-pub record IsKept (targets : List TargetRows) (needed awaited : List NumberList) (seated : List ℕ) : Type 0 where
+pub record IsKept (targets : List TargetRows) (needed awaited : List NumberList)
+    (seated : List ℕ) : Type 0 where
   pub small : length targets < 2 ^ 32
   pub below : (t n : ℕ) → IsTrue (room_of targets t n) → n < length targets
   pub needs : IsInverse has_change targets needed
   pub awaits : IsInverse has_created targets awaited
   pub counts : CountsSeats targets seated
 
--- the list of a name before and after a call that puts t there or takes it away: `was` and `is` say whether t is
--- there, and every other target stays
+-- the list of a name before and after a call that puts t there or takes it away: `was` and `is` say
+-- whether t is there, and every other target stays
 pub record Follows (t : ℕ) (was is : Bool) (old new : NumberList) : Type 0 where
   pub others : (u : ℕ) → u ≢ t → Contains new.items u ↔ Contains old.items u
   pub own : Contains new.items t ↔ IsTrue is

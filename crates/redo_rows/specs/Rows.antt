@@ -33,8 +33,8 @@ abbrev pub target_at : List TargetRows → ℕ → TargetRows
 target_at targets t = slice_index_or targets t bare
 
 -- how many names there are
-abbrev pub count_of : List TargetRows → ℕ
-count_of targets = length targets
+abbrev pub rows_count : List TargetRows → ℕ
+rows_count targets = length targets
 
 -- the rows that stand
 abbrev pub rows_of : List TargetRows → Rows ℕ
@@ -54,11 +54,13 @@ by_number = numbers nat_cmp
 
 -- the rows with a change row of t on n, in place of an earlier one
 abbrev pub with_change : Rows ℕ → ℕ → ℕ → Mark → Rows ℕ
-with_change rows t n mark = record rows { change = put by_number t (put by_number n (Some mark) (rows.change t)) rows.change }
+with_change rows t n mark = record rows
+    { change = put by_number t (put by_number n (Some mark) (rows.change t)) rows.change }
 
 -- the rows with a created row of t on n
 abbrev pub with_created : Rows ℕ → ℕ → ℕ → Rows ℕ
-with_created rows t n = record rows { created = put by_number t (put by_number n true (rows.created t)) rows.created }
+with_created rows t n =
+    record rows { created = put by_number t (put by_number n true (rows.created t)) rows.created }
 
 -- the rows with an always row of t
 abbrev pub with_always : Rows ℕ → ℕ → Rows ℕ
@@ -83,5 +85,5 @@ abbrev pub HasRowOn : Rows ℕ → ℕ → ℕ → Type 0
 HasRowOn rows t n = HasChangeRowOn rows t n ⊎ HasCreatedRowOn rows t n
 
 -- what is known of each name, with these rows
-abbrev pub records_of : List Cell → List TargetRows → Records ℕ
-records_of cells targets = record { cell = cell_at cells; rows = rows_of targets }
+abbrev pub with_rows : List Cell → List TargetRows → Records ℕ
+with_rows cells targets = record { cell = cell_at cells; rows = rows_of targets }

@@ -9,7 +9,8 @@ use crate::target::Target;
 pub(crate) fn put_in(lists: &mut Vec<Numbers>, n: u32, t: u32, was: bool)
     requires name { n < length lists.old.items }
     requires was { Contains (numbers_at lists.old.items n).items t ↔ IsTrue was }
-    requires room { IsFalse was → length (numbers_at lists.old.items n).items < (numbers_at lists.old.items n).room }
+    requires room { IsFalse was
+        → length (numbers_at lists.old.items n).items < (numbers_at lists.old.items n).room }
     ensures { FollowsOn n t was true lists.old.items lists.new.items }
 {
     if !was {
@@ -38,7 +39,8 @@ pub(crate) fn forget(
 )
     requires target { t < length targets.now.items }
     requires kept { IsKept targets.now.items needed.old.items awaited.old.items seated.old.items }
-    ensures { IsKept (slice_set targets.now.items t bare) needed.new.items awaited.new.items seated.new.items }
+    ensures { IsKept
+        (slice_set targets.now.items t bare) needed.new.items awaited.new.items seated.new.items }
 {
     for seat in targets[t as usize].seats() {
         let n = seat.name();

@@ -1,6 +1,6 @@
 ghost use Rattle.std.specs.Prelude.{◌≡◌, ◌↔◌, IsTrue};
-ghost use Rattle.redo_records.specs.Meaning.{mark_meaning};
-ghost use Rattle.redo_rows.specs.KeptMark.{kept_meaning};
+ghost use Rattle.redo_records.specs.Meaning.{row_mark_of};
+ghost use Rattle.redo_rows.specs.KeptMark.{kept_mark_of};
 
 use redo_command::FileStamp;
 use redo_records::Mark;
@@ -55,7 +55,7 @@ pub enum KeptMark {
 
 impl KeptMark {
     pub fn new(mark: Mark) -> KeptMark
-        ensures { kept_meaning result ≡ mark_meaning mark }
+        ensures { kept_mark_of result ≡ row_mark_of mark }
     {
         match mark {
             Mark::Digest(digest) => KeptMark::Digest(digest),
@@ -67,7 +67,7 @@ impl KeptMark {
     }
 
     pub fn mark(self) -> Mark
-        ensures { mark_meaning result ≡ kept_meaning self }
+        ensures { row_mark_of result ≡ kept_mark_of self }
     {
         match self {
             KeptMark::Digest(digest) => Mark::Digest(digest),
@@ -80,7 +80,7 @@ impl KeptMark {
 
     /// Whether it is this mark.
     pub fn is(&self, mark: &Mark) -> bool
-        ensures { IsTrue result ↔ (kept_meaning self.now ≡ mark_meaning mark.now) }
+        ensures { IsTrue result ↔ (kept_mark_of self.now ≡ row_mark_of mark.now) }
     {
         match (self, mark) {
             (KeptMark::Digest(kept), Mark::Digest(digest)) => kept == digest,

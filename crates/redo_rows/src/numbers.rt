@@ -16,7 +16,10 @@ impl Model for Numbers {
 
     ghost Value = { NumberList };
 
-    ghost view = { λ inside. record { items = inside.items.items; room = vec_capacity inside.items } };
+    ghost view = { λ inside. record {
+      items = inside.items.items;
+      room = vec_capacity inside.items;
+    } };
 
     ghost invariant = { λ inside. Rising inside.items.items };
 }
@@ -74,7 +77,8 @@ impl Numbers {
     /// Keeps its room.
     pub fn remove(&mut self, x: u32)
         requires { Contains self.old.items x }
-        ensures each { (u : ℕ) → Contains self.new.items u ↔ (Contains self.old.items u × (u ≡ x → ⊥)) }
+        ensures each { (u : ℕ)
+            → Contains self.new.items u ↔ (Contains self.old.items u × (u ≡ x → ⊥)) }
         ensures length { length self.new.items + 1 ≡ length self.old.items }
         ensures room { self.old.room ≤ self.new.room }
     {

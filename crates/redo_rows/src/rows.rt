@@ -3,8 +3,8 @@ ghost use Rattle.redo_model.specs.Names.{IsListed};
 ghost use Rattle.redo_model.specs.OutOfDate.{SomeAppeared, SomeChanged};
 ghost use Rattle.redo_model.specs.State.{no_rows};
 ghost use Rattle.redo_model.specs.Renaming.{AllBelow};
-ghost use Rattle.redo_records.specs.Meaning.{mark_meaning};
-ghost use Rattle.redo_rows.specs.Rows.{count_of, rows_of, room_of, with_change, with_created, with_always, without_rows, HasRowOn, HasChangeRowOn, HasCreatedRowOn, by_number, records_of};
+ghost use Rattle.redo_records.specs.Meaning.{row_mark_of};
+ghost use Rattle.redo_rows.specs.Rows.{rows_count, rows_of, room_of, with_change, with_created, with_always, without_rows, HasRowOn, HasChangeRowOn, HasCreatedRowOn, by_number, with_rows};
 
 use crate::news::is_any_news;
 use crate::numbers::Numbers;
@@ -36,13 +36,14 @@ impl Model for DepRows {
 
     ghost view = { λ inside. inside.targets.items };
 
-    ghost invariant = { λ inside. IsKept inside.targets.items inside.needed.items inside.awaited.items inside.seated.items };
+    ghost invariant = { λ inside.
+        IsKept inside.targets.items inside.needed.items inside.awaited.items inside.seated.items };
 }
 
 impl DepRows {
     /// No rows and no room.
     pub fn new(alloc: Global, names: u32) -> Result<DepRows, AllocError>
-        ensures count { IfOk result (λ rows. count_of rows ≡ names) }
+        ensures count { IfOk result (λ rows. rows_count rows ≡ names) }
         ensures rows { IfOk result (λ rows. rows_of rows ≡ no_rows) }
         ensures room { IfOk result (λ rows. (t n : ℕ) → room_of rows t n ≡ false) }
     {
@@ -58,13 +59,15 @@ impl DepRows {
     /// Makes room for rows of `t` on these names, and changes no row. Room that was there stays, also where memory
     /// runs out.
     pub fn reserve(&mut self, t: u32, names: &[u32]) -> Result<(), AllocError>
-        requires target { t < count_of self.old }
-        requires names { AllBelow (count_of self.old) names.now }
+        requires target { t < rows_count self.old }
+        requires names { AllBelow (rows_count self.old) names.now }
         ensures rows { rows_of self.new ≡ rows_of self.old }
-        ensures made { OnOk result ((n : ℕ) → Contains names.now n → IsTrue (room_of self.new t n)) }
+        ensures made { OnOk result
+            ((n : ℕ) → Contains names.now n → IsTrue (room_of self.new t n)) }
         ensures kept { (u n : ℕ) → IsTrue (room_of self.old u n) → IsTrue (room_of self.new u n) }
-        ensures from { (u n : ℕ) → IsTrue (room_of self.new u n) → IsTrue (room_of self.old u n) ⊎ ((u ≡ t) × Contains names.now n) }
-        ensures count { count_of self.new ≡ count_of self.old }
+        ensures from { (u n : ℕ) → IsTrue (room_of self.new u n)
+            → IsTrue (room_of self.old u n) ⊎ ((u ≡ t) × Contains names.now n) }
+        ensures count { rows_count self.new ≡ rows_count self.old }
     {
         for &n in names {
             self.reserve_seat(t, n)?;
@@ -74,12 +77,13 @@ impl DepRows {
 
     /// Makes room for rows of `t` on `n`.
     fn reserve_seat(&mut self, t: u32, n: u32) -> Result<(), AllocError>
-        requires target { t < count_of self.old }
-        requires name { n < count_of self.old }
+        requires target { t < rows_count self.old }
+        requires name { n < rows_count self.old }
         ensures rows { rows_of self.new ≡ rows_of self.old }
-        ensures made { OnOk result ((u k : ℕ) → room_of self.new u k ≡ (((t == u) && (k == n)) || room_of self.old u k)) }
+        ensures made { OnOk result
+            ((u k : ℕ) → room_of self.new u k ≡ (((t == u) && (k == n)) || room_of self.old u k)) }
         ensures err { OnErr result (self.new ≡ self.old) }
-        ensures count { count_of self.new ≡ count_of self.old }
+        ensures count { rows_count self.new ≡ rows_count self.old }
     {
         if self.has_room(t, n) {
             return Ok(());
@@ -94,7 +98,7 @@ impl DepRows {
 
     /// Whether there is room for a row of `t` on `n`, and so for its change row and its created row.
     pub fn has_room(&self, t: u32, n: u32) -> bool
-        requires { t < count_of self.now }
+        requires { t < rows_count self.now }
         ensures { result ≡ room_of self.now t n }
     {
         self.targets[t as usize].has_seat(n)
@@ -102,12 +106,12 @@ impl DepRows {
 
     /// A change row of `t` on `n`, in place of an earlier one.
     pub fn put_change(&mut self, t: u32, n: u32, mark: Mark)
-        requires target { t < count_of self.old }
-        requires name { n < count_of self.old }
+        requires target { t < rows_count self.old }
+        requires name { n < rows_count self.old }
         requires room { IsTrue (room_of self.old t n) }
-        ensures rows { rows_of self.new ≡ with_change (rows_of self.old) t n (mark_meaning mark) }
+        ensures rows { rows_of self.new ≡ with_change (rows_of self.old) t n (row_mark_of mark) }
         ensures room { (u k : ℕ) → room_of self.new u k ≡ room_of self.old u k }
-        ensures count { count_of self.new ≡ count_of self.old }
+        ensures count { rows_count self.new ≡ rows_count self.old }
     {
         let was = self.targets[t as usize].put_change(n, mark);
         inverse::put_in(&mut self.needed, n, t, was);
@@ -115,12 +119,12 @@ impl DepRows {
 
     /// A created row of `t` on `n`.
     pub fn put_created(&mut self, t: u32, n: u32)
-        requires target { t < count_of self.old }
-        requires name { n < count_of self.old }
+        requires target { t < rows_count self.old }
+        requires name { n < rows_count self.old }
         requires room { IsTrue (room_of self.old t n) }
         ensures rows { rows_of self.new ≡ with_created (rows_of self.old) t n }
         ensures room { (u k : ℕ) → room_of self.new u k ≡ room_of self.old u k }
-        ensures count { count_of self.new ≡ count_of self.old }
+        ensures count { rows_count self.new ≡ rows_count self.old }
     {
         let was = self.targets[t as usize].put_created(n);
         inverse::put_in(&mut self.awaited, n, t, was);
@@ -128,20 +132,20 @@ impl DepRows {
 
     /// An always row of `t`.
     pub fn put_always(&mut self, t: u32)
-        requires { t < count_of self.old }
+        requires { t < rows_count self.old }
         ensures rows { rows_of self.new ≡ with_always (rows_of self.old) t }
         ensures room { (u k : ℕ) → room_of self.new u k ≡ room_of self.old u k }
-        ensures count { count_of self.new ≡ count_of self.old }
+        ensures count { rows_count self.new ≡ rows_count self.old }
     {
         self.targets[t as usize].put_always();
     }
 
     /// Takes away the rows of `t`, and their room.
     pub fn clear(&mut self, t: u32)
-        requires { t < count_of self.old }
+        requires { t < rows_count self.old }
         ensures rows { rows_of self.new ≡ without_rows (rows_of self.old) t }
         ensures room { (u k : ℕ) → room_of self.new u k ≡ (not (u == t) && room_of self.old u k) }
-        ensures count { count_of self.new ≡ count_of self.old }
+        ensures count { rows_count self.new ≡ rows_count self.old }
     {
         inverse::forget(
             &self.targets,
@@ -155,15 +159,15 @@ impl DepRows {
 
     /// The mark of the change row of `t` on `n`.
     pub fn change_of(&self, t: u32, n: u32) -> Option<Mark>
-        requires { t < count_of self.now }
-        ensures { option_map mark_meaning result ≡ (rows_of self.now).change t n }
+        requires { t < rows_count self.now }
+        ensures { option_map row_mark_of result ≡ (rows_of self.now).change t n }
     {
         self.targets[t as usize].change_of(n)
     }
 
     /// Whether `t` has a created row on `n`.
     pub fn created(&self, t: u32, n: u32) -> bool
-        requires { t < count_of self.now }
+        requires { t < rows_count self.now }
         ensures { result ≡ (rows_of self.now).created t n }
     {
         self.targets[t as usize].created(n)
@@ -171,7 +175,7 @@ impl DepRows {
 
     /// Whether `t` has an always row.
     pub fn always(&self, t: u32) -> bool
-        requires { t < count_of self.now }
+        requires { t < rows_count self.now }
         ensures { result ≡ (rows_of self.now).always t }
     {
         self.targets[t as usize].always()
@@ -179,9 +183,9 @@ impl DepRows {
 
     /// The names on which `t` has a row, by ascending number.
     pub fn of(&self, t: u32) -> &[u32]
-        requires { t < count_of self.now }
+        requires { t < rows_count self.now }
         ensures listed { IsListed by_number (λ n. HasRowOn (rows_of self.now) t n) result.now }
-        ensures below { AllBelow (count_of self.now) result.now }
+        ensures below { AllBelow (rows_count self.now) result.now }
     {
         self.targets[t as usize].names()
     }
@@ -189,28 +193,30 @@ impl DepRows {
     /// Whether `t` has a created row on a name that has a file now, or a change row with another mark than the name
     /// has now.
     pub fn has_news(&self, records: &Records, t: u32) -> bool
-        requires target { t < count_of self.now }
-        requires names { length records.now ≡ count_of self.now }
-        ensures { IsTrue result ↔ (SomeAppeared (records_of records.now self.now) t
-            ⊎ SomeChanged (records_of records.now self.now) t) }
+        requires target { t < rows_count self.now }
+        requires names { length records.now ≡ rows_count self.now }
+        ensures { IsTrue result ↔ (SomeAppeared (with_rows records.now self.now) t
+            ⊎ SomeChanged (with_rows records.now self.now) t) }
     {
         is_any_news(records, self.targets[t as usize].seats())
     }
 
     /// The targets with a change row on `n`, by ascending number.
     pub fn needed_by(&self, n: u32) -> &[u32]
-        requires { n < count_of self.now }
-        ensures listed { IsListed by_number (λ t. HasChangeRowOn (rows_of self.now) t n) result.now }
-        ensures below { AllBelow (count_of self.now) result.now }
+        requires { n < rows_count self.now }
+        ensures listed { IsListed by_number
+            (λ t. HasChangeRowOn (rows_of self.now) t n) result.now }
+        ensures below { AllBelow (rows_count self.now) result.now }
     {
         self.needed[n as usize].as_slice()
     }
 
     /// The targets with a created row on `n`, by ascending number.
     pub fn awaited_by(&self, n: u32) -> &[u32]
-        requires { n < count_of self.now }
-        ensures listed { IsListed by_number (λ t. HasCreatedRowOn (rows_of self.now) t n) result.now }
-        ensures below { AllBelow (count_of self.now) result.now }
+        requires { n < rows_count self.now }
+        ensures listed { IsListed by_number
+            (λ t. HasCreatedRowOn (rows_of self.now) t n) result.now }
+        ensures below { AllBelow (rows_count self.now) result.now }
     {
         self.awaited[n as usize].as_slice()
     }

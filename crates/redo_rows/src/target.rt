@@ -1,6 +1,6 @@
 ghost use Rattle.std.specs.Prelude.{◌≡◌, ◌⊎◌, ◌↔◌, ℕ, ◌+◌, ◌<◌, ◌≤◌, ◌==◌, ◌||◌, Some, true, false, not, is_some, IsTrue, length, Contains, option_map, MatchOption, IfOk, IfErr, OnOk, OnErr, if◌then◌else◌};
 ghost use Rattle.redo_model.specs.Names.{IsListed};
-ghost use Rattle.redo_records.specs.Meaning.{mark_meaning};
+ghost use Rattle.redo_records.specs.Meaning.{row_mark_of};
 ghost use Rattle.redo_rows.specs.Rows.{bare, seat_at, has_seat, by_number};
 ghost use Rattle.redo_rows.specs.Target.{blank, has_row, HasRowIn, HasChangeBut, Ascending, IsSeatOf, IsGapFor};
 
@@ -27,13 +27,13 @@ impl Model for Seat {
 
     ghost Value = { rows.Seat };
 
-    ghost use Rattle.redo_rows.specs.Seat.{seat_meaning, fields_of, fields_of-seat_meaning};
+    ghost use Rattle.redo_rows.specs.Seat.{seat_of, fields_for, fields_for-seat_of};
 
-    ghost view = { seat_meaning };
+    ghost view = { seat_of };
 
-    ghost inverse = { fields_of };
+    ghost inverse = { fields_for };
 
-    ghost inverse_ok = { λ seat i. fields_of-seat_meaning seat };
+    ghost inverse_ok = { λ seat i. fields_for-seat_of seat };
 }
 
 impl Seat {
@@ -54,14 +54,14 @@ impl Seat {
     }
 
     pub fn change(&self) -> Option<Mark>
-        ensures { option_map mark_meaning result ≡ self.now.change }
+        ensures { option_map row_mark_of result ≡ self.now.change }
     {
         self.change.map(|kept| kept.mark())
     }
 
     /// Whether there is a change row with another mark.
     pub fn has_change_but(&self, mark: &Mark) -> bool
-        ensures { IsTrue result ↔ HasChangeBut (mark_meaning mark.now) self.now }
+        ensures { IsTrue result ↔ HasChangeBut (row_mark_of mark.now) self.now }
     {
         match &self.change {
             Some(kept) => !kept.is(mark),
@@ -88,7 +88,7 @@ impl Seat {
     }
 
     fn put_change(&mut self, mark: Mark)
-        ensures { self.new ≡ record self.old { change = Some (mark_meaning mark) } }
+        ensures { self.new ≡ record self.old { change = Some (row_mark_of mark) } }
     {
         self.change = Some(KeptMark::new(mark));
     }
@@ -167,7 +167,8 @@ impl Target {
 
     fn find(&self, n: u32) -> Option<&Seat>
         ensures there { is_some result ≡ has_seat self.now.seats n }
-        ensures seat { MatchOption result (seat_at self.now.seats n ≡ blank n) (λ seat. seat.now ≡ seat_at self.now.seats n) }
+        ensures seat { MatchOption result (seat_at self.now.seats n ≡ blank n)
+            (λ seat. seat.now ≡ seat_at self.now.seats n) }
     {
         match search(self.seats.as_slice(), n) {
             Ok(place) => Some(&self.seats[place]),
@@ -184,7 +185,7 @@ impl Target {
 
     /// The mark of the change row on the name.
     pub fn change_of(&self, n: u32) -> Option<Mark>
-        ensures { option_map mark_meaning result ≡ (seat_at self.now.seats n).change }
+        ensures { option_map row_mark_of result ≡ (seat_at self.now.seats n).change }
     {
         match self.find(n) {
             Some(seat) => seat.change(),
@@ -229,7 +230,8 @@ impl Target {
         requires new { has_seat self.old.seats n ≡ false }
         ensures rows { (k : ℕ) → seat_at self.new.seats k ≡ seat_at self.old.seats k }
         ensures always { self.new.always ≡ self.old.always }
-        ensures made { OnOk result ((k : ℕ) → has_seat self.new.seats k ≡ (k == n || has_seat self.old.seats k)) }
+        ensures made { OnOk result
+            ((k : ℕ) → has_seat self.new.seats k ≡ (k == n || has_seat self.old.seats k)) }
         ensures err { OnErr result (self.new ≡ self.old) }
     {
         self.names.reserve(self.seats.len() + 1)?;
@@ -241,7 +243,9 @@ impl Target {
     pub fn put_change(&mut self, n: u32, mark: Mark) -> bool
         requires { has_seat self.old.seats n ≡ true }
         ensures was { result ≡ is_some (seat_at self.old.seats n).change }
-        ensures rows { (k : ℕ) → seat_at self.new.seats k ≡ (if n == k then record (seat_at self.old.seats k) { change = Some (mark_meaning mark) } else seat_at self.old.seats k) }
+        ensures rows { (k : ℕ)
+            → seat_at self.new.seats k ≡ (if n == k then record (seat_at self.old.seats k)
+            { change = Some (row_mark_of mark) } else seat_at self.old.seats k) }
         ensures room { (k : ℕ) → has_seat self.new.seats k ≡ has_seat self.old.seats k }
         ensures always { self.new.always ≡ self.old.always }
     {
@@ -258,7 +262,9 @@ impl Target {
     pub fn put_created(&mut self, n: u32) -> bool
         requires { has_seat self.old.seats n ≡ true }
         ensures was { result ≡ (seat_at self.old.seats n).created }
-        ensures rows { (k : ℕ) → seat_at self.new.seats k ≡ (if n == k then record (seat_at self.old.seats k) { created = true } else seat_at self.old.seats k) }
+        ensures rows { (k : ℕ)
+            → seat_at self.new.seats k ≡ (if n == k then record (seat_at self.old.seats k)
+            { created = true } else seat_at self.old.seats k) }
         ensures room { (k : ℕ) → has_seat self.new.seats k ≡ has_seat self.old.seats k }
         ensures always { self.new.always ≡ self.old.always }
     {

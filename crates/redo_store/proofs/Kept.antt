@@ -10,12 +10,11 @@ use Rattle.redo_model.specs.State.{Cell, idle}
 use Rattle.redo_model.specs.Step.{after, locks_granted}
 use Rattle.redo_model.specs.Command as commands
 use Rattle.redo_store.specs.Orders.{AreSorted}
-use Rattle.redo_rows.specs.Rows as rows
-use Rattle.redo_rows.specs.Rows.{TargetRows}
+use Rattle.redo_rows.specs.Rows.{TargetRows, rows_count}
 use Rattle.redo_store.specs.Stored.{Stored, IsStored}
 use Rattle.redo_store.specs.Stored as stored
 use Rattle.redo_ood.proofs.Marking.{same_everywhere}
-use Rattle.redo_store.specs.Tables.{Tables, records_of, locks_of, state_of, naming_of}
+use Rattle.redo_store.specs.Tables.{Tables, tables_records, locks_of, state_of, tables_naming}
 use Rattle.redo_store.proofs.Places.{listed_by_place}
 
 -- what holds at every place still does after a write that keeps it
@@ -39,7 +38,7 @@ IsStored-set_cell t n c h few = record {
 
 -- the rows of as many targets may be written
 pub IsStored-set_rows : (t : Stored) (to : List TargetRows) → IsStored t
-    → rows.count_of to ≡ rows.count_of t.rows → IsStored (record t { rows = to })
+    → rows_count to ≡ rows_count t.rows → IsStored (record t { rows = to })
 IsStored-set_rows t to h same = record {
   rows_for_each = same ∙ h.rows_for_each;
   all_in_order = h.all_in_order;
@@ -49,7 +48,7 @@ IsStored-set_rows t to h same = record {
 
 -- a store that knows nothing
 pub IsStored-new : (names : List (List ℕ)) (t : Stored) → AreSorted names t.sorted
-    → t.cells ≡ replicate (length names) idle → rows.count_of t.rows ≡ length names
+    → t.cells ≡ replicate (length names) idle → rows_count t.rows ≡ length names
     → length names < 2 ^ 32 → IsStored t
 IsStored-new names t sorted cells each few =
     let count : length t.cells ≡ length names =
@@ -80,27 +79,27 @@ set_is_put xs i x d below k = elim (cases_eq i k) [
 pub granted : (t : Tables) (s n g : ℕ) (o : Option ℕ) → n < length t.holders → n < length t.grants
     → o ≡ get_or t.holders n o → o ≡ None → g ≡ get_or t.grants n g
     → state_of (record t { holders = set t.holders n (Some s); grants = set t.grants n (g + 1) })
-    ≡ after (naming_of t) (state_of t) s (commands.Lock n)
+    ≡ after (tables_naming t) (state_of t) s (commands.Lock n)
 granted t s n g o has_holder has_grants read free count =
     let none : get_or t.holders n None ≡ None =
     get_or_default t.holders n None o has_holder ∙ sym read ∙ free in
     let so_far : g ≡ get_or t.grants n 0 = count ∙ get_or_default t.grants n g 0 has_grants in
     let holders : (λ (k : ℕ). get_or (set t.holders n (Some s)) k None)
-    ≡ put (naming_of t) n (Some s) (λ k. get_or t.holders k None) =
+    ≡ put (tables_naming t) n (Some s) (λ k. get_or t.holders k None) =
     fun_ext (set_is_put t.holders n (Some s) None has_holder) in
     let grants : (λ (k : ℕ). get_or (set t.grants n (g + 1)) k 0)
-    ≡ put (naming_of t) n (get_or t.grants n 0 + 1) (λ k. get_or t.grants k 0) =
+    ≡ put (tables_naming t) n (get_or t.grants n 0 + 1) (λ k. get_or t.grants k 0) =
     fun_ext (set_is_put t.grants n (g + 1) 0 has_grants)
-    ∙ ap (λ (m : ℕ). put (naming_of t) n (m + 1) (λ k. get_or t.grants k 0)) so_far
+    ∙ ap (λ (m : ℕ). put (tables_naming t) n (m + 1) (λ k. get_or t.grants k 0)) so_far
     in
     subst (λ (h : Option ℕ). state_of (record t {
       holders = set t.holders n (Some s);
       grants = set t.grants n (g + 1);
     }) ≡ record {
-      records = records_of t;
-      locks = locks_granted (naming_of t) h (locks_of t) s n;
+      records = tables_records t;
+      locks = locks_granted (tables_naming t) h (locks_of t) s n;
     }) (sym none)
     (λ i. record {
-      records = records_of t;
+      records = tables_records t;
       locks = record { holder = holders i; grants = grants i };
     })

@@ -6,5 +6,5 @@ pub mod Kept
 pub mod Effects
 pub mod Refreshing
 pub mod Rooms
-pub mod Verdicts
+pub mod Refusals
 pub mod Obeyed

@@ -10,7 +10,7 @@ use Rattle.redo_model.specs.State.{Locks}
 use Rattle.redo_model.specs.Command.{Command, File, Gone, Lock, Unlock, Start, IfChange, IfCreate, Always, Stamp, Done, Failed, Ood, Targets, Sources, asked_lock}
 use Rattle.redo_model.specs.Reply.{Refusal, Reply, Okay, Refused}
 use Rattle.redo_model.specs.Step.{Replies, records_after, after, verdict_of, holds_target, locks_after, locks_freed, unless_refused}
-use Rattle.redo_store.specs.Tables.{Tables, records_of, locks_of, state_of, naming_of, freed_by}
+use Rattle.redo_store.specs.Tables.{Tables, tables_records, locks_of, state_of, tables_naming, freed_by}
 
 -- the locks without that of the target, if there is one
 abbrev pub freed : Naming ℕ → Locks ℕ → Option ℕ → Locks ℕ
@@ -31,16 +31,16 @@ unlocked naming locks t reply (Some refusal) h =
 module _ (old : Tables) (s : ℕ) (holds : Bool) where
   -- the locks that a command leaves, by its reply
   freed_after : (command : Command ℕ) (reply : Reply ℕ) → asked_lock command ≡ None
-      → Replies (naming_of old) (records_of old) s holds command reply
-      → locks_after (naming_of old) (locks_of old) s
-      (verdict_of (naming_of old) (records_of old) s holds command) command
-      ≡ freed (naming_of old) (locks_of old) (freed_by command reply)
+      → Replies (tables_naming old) (tables_records old) s holds command reply
+      → locks_after (tables_naming old) (locks_of old) s
+      (verdict_of (tables_naming old) (tables_records old) s holds command) command
+      ≡ freed (tables_naming old) (locks_of old) (freed_by command reply)
   freed_after (File n stamp) reply none h = refl
   freed_after (Gone n) reply none h = refl
   freed_after (Lock t) reply none h = cc
   freed_after (Unlock t) reply none h =
-      unlocked (naming_of old) (locks_of old) t reply
-      (verdict_of (naming_of old) (records_of old) s holds (Unlock t)) h
+      unlocked (tables_naming old) (locks_of old) t reply
+      (verdict_of (tables_naming old) (tables_records old) s holds (Unlock t)) h
   freed_after (Start t) reply none h = refl
   freed_after (IfChange t ns) reply none h = refl
   freed_after (IfCreate t ns) reply none h = refl
@@ -55,19 +55,19 @@ module _ (old : Tables) (s : ℕ) (holds : Bool) where
   -- the state that it leaves, where its target's lock is freed after its change
   pub obeyed : (new : Tables) (command : Command ℕ) (reply : Reply ℕ) → asked_lock command ≡ None
       → holds ≡ holds_target (locks_of old) s command
-      → Replies (naming_of old) (records_of old) s holds command reply
-      → records_of new ≡ records_after (naming_of old) (records_of old) s holds command
-      → locks_of new ≡ freed (naming_of old) (locks_of old) (freed_by command reply)
-      → state_of new ≡ after (naming_of old) (state_of old) s command
+      → Replies (tables_naming old) (tables_records old) s holds command reply
+      → tables_records new ≡ records_after (tables_naming old) (tables_records old) s holds command
+      → locks_of new ≡ freed (tables_naming old) (locks_of old) (freed_by command reply)
+      → state_of new ≡ after (tables_naming old) (state_of old) s command
   obeyed new command reply none held replies records locks =
-      let whole : locks_of new ≡ locks_after (naming_of old) (locks_of old) s
-      (verdict_of (naming_of old) (records_of old) s holds command) command =
+      let whole : locks_of new ≡ locks_after (tables_naming old) (locks_of old) s
+      (verdict_of (tables_naming old) (tables_records old) s holds command) command =
       locks ∙ sym (freed_after command reply none replies) in
       subst (λ (h : Bool). state_of new ≡ record {
-        records = records_after (naming_of old)
-            (records_of old) s h command;
-        locks = locks_after (naming_of old) (locks_of old) s
-            (verdict_of (naming_of old) (records_of old) s h command) command;
+        records = records_after (tables_naming old)
+            (tables_records old) s h command;
+        locks = locks_after (tables_naming old) (locks_of old) s
+            (verdict_of (tables_naming old) (tables_records old) s h command) command;
       }) held
       (λ i. record { records = records i; locks = whole i })
 
@@ -87,7 +87,7 @@ none_is_put xs i k = elim (cases_eq i k) [
 
 -- a target without a holder is free
 pub freed_at : (t : Tables) (n : ℕ) → locks_of (record t { holders = set t.holders n None })
-    ≡ freed (naming_of t) (locks_of t) (Some n)
+    ≡ freed (tables_naming t) (locks_of t) (Some n)
 freed_at t n =
     let holders : (λ (k : ℕ). get_or (set t.holders n None) k None)
     ≡ (λ k. cond (n == k) None (get_or t.holders k None)) =

@@ -7,8 +7,7 @@ use Rattle.redo_model.specs.Names.{Naming, IsListed, numbers}
 use Rattle.redo_model.specs.State.{Cell, Records}
 use Rattle.redo_model.specs.Renaming.{AllBelow}
 use Rattle.redo_records.specs.Cells.{cell_at}
-use Rattle.redo_rows.specs.Rows.{TargetRows, room_of}
-use Rattle.redo_rows.specs.Rows as rows
+use Rattle.redo_rows.specs.Rows.{TargetRows, room_of, rows_count, with_rows}
 use Rattle.redo_store.specs.Orders.{by_place}
 
 -- a cell and the rows for each name, the numbers of all names in order, and how many commands were
@@ -20,7 +19,7 @@ pub record Stored : Type 0 where
   pub applied : ℕ
 
 abbrev pub records_of : Stored → Records ℕ
-records_of stored = rows.records_of stored.cells stored.rows
+records_of stored = with_rows stored.cells stored.rows
 
 -- how many names there are
 abbrev pub count_of : Stored → ℕ
@@ -40,7 +39,7 @@ applied_of stored = stored.applied
 -- each name has a cell and rows, each number stands once, in order, no name was built more often
 -- than commands were applied, and each name has a number of 32 bits
 pub record IsStored (stored : Stored) : Type 0 where
-  pub rows_for_each : rows.count_of stored.rows ≡ count_of stored
+  pub rows_for_each : rows_count stored.rows ≡ count_of stored
   pub all_in_order : IsListed (naming_of stored) (λ n. n < count_of stored) stored.sorted
   pub few_builds : (n : ℕ) → (cell_at stored.cells n).builds ≤ stored.applied
   pub few_names : count_of stored < 2 ^ 32

@@ -15,8 +15,8 @@ pub record Tables : Type 0 where
   pub grants : List ℕ
   pub calls : ℕ
 
-abbrev pub records_of : Tables → Records ℕ
-records_of tables = stored.records_of tables.store
+abbrev pub tables_records : Tables → Records ℕ
+tables_records tables = stored.records_of tables.store
 
 abbrev pub locks_of : Tables → Locks ℕ
 locks_of tables = record {
@@ -26,18 +26,18 @@ locks_of tables = record {
 
 -- the state that the tables hold
 abbrev pub state_of : Tables → State ℕ
-state_of tables = record { records = records_of tables; locks = locks_of tables }
+state_of tables = record { records = tables_records tables; locks = locks_of tables }
 
 -- how many names there are
-abbrev pub count_of : Tables → ℕ
-count_of tables = stored.count_of tables.store
+abbrev pub tables_count : Tables → ℕ
+tables_count tables = stored.count_of tables.store
 
 -- the order of the numbers
-abbrev pub order_of : Tables → ℕ → ℕ → Ordering
-order_of tables = stored.order_of tables.store
+abbrev pub tables_order : Tables → ℕ → ℕ → Ordering
+tables_order tables = stored.order_of tables.store
 
-abbrev pub naming_of : Tables → Naming ℕ
-naming_of tables = numbers (order_of tables)
+abbrev pub tables_naming : Tables → Naming ℕ
+tables_naming tables = numbers (tables_order tables)
 
 -- the calls that gave a reply
 abbrev pub calls_of : Tables → ℕ
@@ -45,13 +45,13 @@ calls_of tables = tables.calls
 
 -- each list has a place for each name, and no count is above the calls
 pub record AreTables (tables : Tables) : Type 0 where
-  pub holder_for_each : length tables.holders ≡ count_of tables
-  pub grants_for_each : length tables.grants ≡ count_of tables
+  pub holder_for_each : length tables.holders ≡ tables_count tables
+  pub grants_for_each : length tables.grants ≡ tables_count tables
   pub few_grants : (n : ℕ) → slice_index tables.grants n ≤ tables.calls
   pub few_applied : tables.store.applied ≤ tables.calls
 
 -- no count of grants has come to the calls
-pub record HasRoom (tables : Tables) : Type 0 where
+pub record HasGrantsLeft (tables : Tables) : Type 0 where
   pub grants : (n : ℕ) → slice_index tables.grants n < tables.calls
   pub calls : tables.calls < 2 ^ 32
 
@@ -63,6 +63,6 @@ freed_by command reply = None
 -- the same state, names and calls
 pub record IsAsBefore (old new : Tables) : Type 0 where
   pub state : state_of new ≡ state_of old
-  pub count : count_of new ≡ count_of old
-  pub order : order_of new ≡ order_of old
+  pub count : tables_count new ≡ tables_count old
+  pub order : tables_order new ≡ tables_order old
   pub calls : calls_of new ≡ calls_of old

@@ -2,9 +2,9 @@
 #![tactic(auto)]
 
 mod redo;
-mod rows;
 mod sorted;
 mod store;
+mod table;
 
 pub use redo::Redo;
 pub use store::Store;

@@ -56,14 +56,14 @@ fn freed_by(command: &Command, reply: &Reply) -> Option<u32>
 }
 
 impl Redo {
-    ghost use Rattle.redo_store.specs.Tables.{state_of, records_of, locks_of, order_of, naming_of, count_of, calls_of, HasRoom, IsAsBefore};
+    ghost use Rattle.redo_store.specs.Tables.{state_of, tables_records, locks_of, tables_order, tables_naming, tables_count, calls_of, HasGrantsLeft, IsAsBefore};
 
     /// The empty database: each name is idle, without a file, and free.
     pub fn new(alloc: Global, names: &Names) -> Result<Redo, AllocError>
         ensures empty { IfOk result (λ redo. state_of redo ≡ empty) }
-        ensures count { IfOk result (λ redo. count_of redo ≡ length names.now) }
+        ensures count { IfOk result (λ redo. tables_count redo ≡ length names.now) }
         ensures order { IfOk result
-            (λ redo. OrdersAlike (numbering names.now) texts (order_of redo)) }
+            (λ redo. OrdersAlike (numbering names.now) texts (tables_order redo)) }
         ensures calls { IfOk result (λ redo. calls_of redo ≡ 0) }
     {
         let count = names.len() as usize;
@@ -85,16 +85,16 @@ impl Redo {
         session: u8,
         command: &Command,
     ) -> Result<Reply, AllocError>
-        requires numbers { IsBelow (count_of self.old) (command_of command.now) }
+        requires numbers { IsBelow (tables_count self.old) (command_of command.now) }
         requires calls { calls_of self.old + 1 < 2 ^ 32 }
-        ensures answers { IfOk result (λ reply. Answers (numbers (order_of self.old))
+        ensures answers { IfOk result (λ reply. Answers (numbers (tables_order self.old))
             (state_of self.old) session (command_of command.now) (reply_of reply)) }
-        ensures after { OnOk result (state_of self.new ≡ after (numbers (order_of self.old))
+        ensures after { OnOk result (state_of self.new ≡ after (numbers (tables_order self.old))
             (state_of self.old) session (command_of command.now)) }
         ensures calls { OnOk result (calls_of self.new ≡ calls_of self.old + 1) }
-        ensures below { IfOk result (λ reply. IsReplyBelow (count_of self.old) (reply_of reply)) }
-        ensures count { count_of self.new ≡ count_of self.old }
-        ensures order { order_of self.new ≡ order_of self.old }
+        ensures below { IfOk result (λ reply. IsReplyBelow (tables_count self.old) (reply_of reply)) }
+        ensures count { tables_count self.new ≡ tables_count self.old }
+        ensures order { tables_order self.new ≡ tables_order self.old }
         ensures err { OnErr result (IsAsBefore self.old self.new) }
     {
         match asked_lock(command) {
@@ -116,23 +116,23 @@ impl Redo {
     fn count_call(&mut self)
         requires { calls_of self.old + 1 < 2 ^ 32 }
         ensures after { self.new ≡ record self.old { calls = calls_of self.old + 1 } }
-        ensures room { HasRoom self.new }
+        ensures grants { HasGrantsLeft self.new }
     {
         self.calls += 1;
     }
 
     /// The reply to a lock, and its change, after the call was counted.
     fn lock(&mut self, session: u8, t: u32) -> Reply
-        requires number { t < count_of self.old }
-        requires room { HasRoom self.old }
-        ensures answers { Answers (naming_of self.old) (state_of self.old) session (commands.Lock t)
+        requires number { t < tables_count self.old }
+        requires grants { HasGrantsLeft self.old }
+        ensures answers { Answers (tables_naming self.old) (state_of self.old) session (commands.Lock t)
             (reply_of result) }
         ensures after { state_of self.new
-            ≡ after (naming_of self.old) (state_of self.old) session (commands.Lock t) }
-        ensures below { IsReplyBelow (count_of self.old) (reply_of result) }
+            ≡ after (tables_naming self.old) (state_of self.old) session (commands.Lock t) }
+        ensures below { IsReplyBelow (tables_count self.old) (reply_of result) }
         ensures calls { calls_of self.new ≡ calls_of self.old }
-        ensures count { count_of self.new ≡ count_of self.old }
-        ensures order { order_of self.new ≡ order_of self.old }
+        ensures count { tables_count self.new ≡ tables_count self.old }
+        ensures order { tables_order self.new ≡ tables_order self.old }
     {
         let at = t as usize;
         let granted = self.grants[at];
@@ -147,7 +147,7 @@ impl Redo {
     }
 
     fn holds(&self, session: u8, t: u32) -> bool
-        requires { t < count_of self.now }
+        requires { t < tables_count self.now }
         ensures { result ≡ is_held_by session ((locks_of self.now).holder t) }
     {
         match self.holders[t as usize] {
@@ -157,7 +157,7 @@ impl Redo {
     }
 
     fn holds_target(&self, session: u8, command: &Command) -> bool
-        requires { IsBelow (count_of self.now) (command_of command.now) }
+        requires { IsBelow (tables_count self.now) (command_of command.now) }
         ensures { result ≡ holds_target (locks_of self.now) session (command_of command.now) }
     {
         match command.target() {
@@ -168,17 +168,17 @@ impl Redo {
 
     /// The reply to a command that is no lock, and its change.
     fn obey(&mut self, alloc: Global, session: u8, command: &Command) -> Result<Reply, AllocError>
-        requires numbers { IsBelow (count_of self.old) (command_of command.now) }
+        requires numbers { IsBelow (tables_count self.old) (command_of command.now) }
         requires no_lock { asked_lock (command_of command.now) ≡ None }
         requires calls { calls_of self.old + 1 < 2 ^ 32 }
-        ensures answers { IfOk result (λ reply. Answers (naming_of self.old)
+        ensures answers { IfOk result (λ reply. Answers (tables_naming self.old)
             (state_of self.old) session (command_of command.now) (reply_of reply)) }
         ensures after { OnOk result (state_of self.new
-            ≡ after (naming_of self.old) (state_of self.old) session (command_of command.now)) }
+            ≡ after (tables_naming self.old) (state_of self.old) session (command_of command.now)) }
         ensures calls { OnOk result (calls_of self.new ≡ calls_of self.old + 1) }
-        ensures below { IfOk result (λ reply. IsReplyBelow (count_of self.old) (reply_of reply)) }
-        ensures count { count_of self.new ≡ count_of self.old }
-        ensures order { order_of self.new ≡ order_of self.old }
+        ensures below { IfOk result (λ reply. IsReplyBelow (tables_count self.old) (reply_of reply)) }
+        ensures count { tables_count self.new ≡ tables_count self.old }
+        ensures order { tables_order self.new ≡ tables_order self.old }
         ensures err { OnErr result (IsAsBefore self.old self.new) }
     {
         let holds = self.holds_target(session, command);
@@ -192,15 +192,15 @@ impl Redo {
 
     /// The change of a command that is no lock, but for what it sets free.
     fn apply(&mut self, session: u8, command: &Command, holds: bool) -> Result<(), AllocError>
-        requires numbers { IsBelow (count_of self.old) (command_of command.now) }
+        requires numbers { IsBelow (tables_count self.old) (command_of command.now) }
         requires no_lock { asked_lock (command_of command.now) ≡ None }
         requires calls { calls_of self.old + 1 < 2 ^ 32 }
-        ensures records { OnOk result (records_of self.new ≡ records_after (naming_of self.old)
-            (records_of self.old) session holds (command_of command.now)) }
+        ensures records { OnOk result (tables_records self.new ≡ records_after (tables_naming self.old)
+            (tables_records self.old) session holds (command_of command.now)) }
         ensures locks { locks_of self.new ≡ locks_of self.old }
         ensures calls { OnOk result (calls_of self.new ≡ calls_of self.old + 1) }
-        ensures count { count_of self.new ≡ count_of self.old }
-        ensures order { order_of self.new ≡ order_of self.old }
+        ensures count { tables_count self.new ≡ tables_count self.old }
+        ensures order { tables_order self.new ≡ tables_order self.old }
         ensures err { OnErr result (IsAsBefore self.old self.new) }
     {
         let calls = self.calls + 1;
@@ -210,7 +210,7 @@ impl Redo {
     }
 
     fn free(&mut self, t: u32)
-        requires { t < count_of self.old }
+        requires { t < tables_count self.old }
         ensures { self.new ≡ record self.old { holders = slice_set self.old.holders t None } }
     {
         self.holders[t as usize] = None;

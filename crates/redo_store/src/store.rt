@@ -7,8 +7,8 @@ ghost use Rattle.redo_model.specs.Step.{Replies, Tells, records_after, verdict_o
 ghost use Rattle.redo_model.specs.Renaming.{OrdersAlike, numbering, IsBelow, IsReplyBelow};
 ghost use Rattle.redo_command.specs.Meaning.{command_of, reply_of, refusal_of};
 
-use crate::rows::{answer, answers, effect, effects};
 use crate::sorted::{ranks_of, sorted_numbers};
+use crate::table::{answer, answers, effect, effects};
 use redo_command::{Command, FileStamp, Refusal, Reply, cases};
 use redo_names::Names;
 use redo_ood::Ood;
@@ -92,7 +92,7 @@ impl Store {
         ensures below { IfOk result (λ reply. IsReplyBelow (count_of self.now) (reply_of reply)) }
         ensures ok { lists_names (command_of command.now) ≡ false → IsOk result }
     {
-        match self.verdict(s, command, holds) {
+        match self.refusal(s, command, holds) {
             Some(refusal) => Ok(Reply::Refused(refusal)),
             None => self.answer(alloc, command),
         }
@@ -116,7 +116,7 @@ impl Store {
             (command_of command.now)) → IsOk result }
         ensures err { OnErr result (IsSameButRoom self.old self.new) }
     {
-        match self.verdict(s, command, holds) {
+        match self.refusal(s, command, holds) {
             Some(_) => self.count_applied(),
             None => {
                 self.make_room(command)?;
@@ -135,7 +135,7 @@ impl Store {
     }
 
     /// The first refusal that applies.
-    fn verdict(&self, s: u8, command: &Command, holds: bool) -> Option<Refusal>
+    fn refusal(&self, s: u8, command: &Command, holds: bool) -> Option<Refusal>
         requires { IsBelow (count_of self.now) (command_of command.now) }
         ensures { option_map refusal_of result ≡ verdict_of (naming_of self.now)
             (records_of self.now) s holds (command_of command.now) }

@@ -9,7 +9,7 @@ use Rattle.redo_model.specs.OutOfDate.{DifferAt}
 use Rattle.redo_model.specs.Renaming.{AllBelow}
 use Rattle.redo_model.specs.State.{Cell, empty, idle}
 use Rattle.redo_records.specs.Cells.{cell_at}
-use Rattle.redo_rows.specs.Rows.{TargetRows, bare, count_of, records_of, seat_at, target_at}
+use Rattle.redo_rows.specs.Rows.{TargetRows, bare, rows_count, with_rows, seat_at, target_at}
 use Rattle.redo_ood.proofs.Listing.{each_below}
 
 numbered : (count n : ℕ) → n < count → Contains (range_with_len 0 count) n
@@ -33,7 +33,7 @@ numbers_below count = each_below count (range_with_len 0 count) (numbered_below 
 
 -- the records and rows of that many names have nothing past these
 module _ (count : ℕ) (cells : List Cell) (rows : List TargetRows)
-    (all_cells : length cells ≡ count) (all_rows : count_of rows ≡ count) where
+    (all_cells : length cells ≡ count) (all_rows : rows_count rows ≡ count) where
   past : (n : ℕ) → (Contains (range_with_len 0 count) n → ⊥) → count ≤ n
   past n far = elim (cases_lt n count) [
     | inl below ↦ absurd (far (numbered count n below))
@@ -46,7 +46,7 @@ module _ (count : ℕ) (cells : List Cell) (rows : List TargetRows)
   bare_past : (t : ℕ) → count ≤ t → bare ≡ target_at rows t
   bare_past t h = sym (get_or_past rows t bare (omega arith))
 
-  pub differ_everywhere : DifferAt (range_with_len 0 count) empty.records (records_of cells rows)
+  pub differ_everywhere : DifferAt (range_with_len 0 count) empty.records (with_rows cells rows)
   differ_everywhere = record {
     cell = λ n far. idle_past n (past n far);
     change = λ t n far.

@@ -1,6 +1,6 @@
 //! The memo of what is out of date over long chains and rings of targets.
 ghost use Rattle.std.specs.Prelude.{◌≡◌, ◌<◌, ◌≤◌, length, IfOk};
-ghost use Rattle.redo_rows.specs.Rows.{count_of};
+ghost use Rattle.redo_rows.specs.Rows.{rows_count};
 
 use crate::memos::{memo_of, put_always};
 use redo_command::FileStamp;
@@ -39,9 +39,9 @@ fn all_built(rt: &impl Abort, alloc: Global, count: u32) -> Result<Records, Fail
 
 /// The target has a change row on a name that was built once.
 fn link(rt: &impl Abort, rows: &mut DepRows, t: u32, n: u32) -> Result<(), Fail>
-    requires target { t < count_of rows.old }
-    requires name { n < count_of rows.old }
-    ensures { count_of rows.new ≡ count_of rows.old }
+    requires target { t < rows_count rows.old }
+    requires name { n < rows_count rows.old }
+    ensures { rows_count rows.new ≡ rows_count rows.old }
 {
     rows.reserve(t, &[n])?;
     assert!(rt; rows.has_room(t, n));
@@ -52,7 +52,7 @@ fn link(rt: &impl Abort, rows: &mut DepRows, t: u32, n: u32) -> Result<(), Fail>
 /// Each target needs the next one.
 fn chain(rt: &impl Abort, alloc: Global, count: u32) -> Result<DepRows, Fail>
     requires { 0 < count }
-    ensures { IfOk result (λ rows. count_of rows ≡ count) }
+    ensures { IfOk result (λ rows. rows_count rows ≡ count) }
 {
     let mut rows = DepRows::new(alloc, count)?;
     for t in 1..count {

@@ -1,6 +1,6 @@
 //! The database beside the slower forms of it, which have to give the same replies.
 ghost use Rattle.std.specs.Prelude.{◌≡◌, length, IfOk};
-ghost use Rattle.redo_store.specs.Tables.{count_of};
+ghost use Rattle.redo_store.specs.Tables.{tables_count};
 ghost use Rattle.redo_model.specs.Renaming.{IsBelow, IsReplyBelow};
 ghost use Rattle.redo_command.specs.Meaning.{command_of, reply_of};
 ghost use Rattle.redo_tests_store.specs.declared.random.TheConstants.{NAMES};
@@ -31,7 +31,7 @@ pub(crate) struct Compared {
     redo: Redo,
     plain: Plain,
     pub(crate) told: Told,
-    ghost count: { count_of redo ≡ NAMES },
+    ghost count: { tables_count redo ≡ NAMES },
 }
 
 impl Compared {

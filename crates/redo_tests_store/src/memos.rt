@@ -1,7 +1,7 @@
 //! The memo of what is out of date, made anew, and kept right through an always row.
 ghost use Rattle.std.specs.Prelude.{◌≡◌, ◌<◌, length, IfOk};
 ghost use Rattle.std.specs.List.{range_with_len};
-ghost use Rattle.redo_rows.specs.Rows.{count_of, records_of};
+ghost use Rattle.redo_rows.specs.Rows.{rows_count, with_rows};
 ghost use Rattle.redo_ood.specs.Memo.{count_of as memo_count, IsRight};
 
 use redo_ood::Ood;
@@ -26,9 +26,9 @@ pub(crate) fn memo_of(
     rows: &DepRows,
 ) -> Result<Ood, Fail>
     requires records { length records.now ≡ count }
-    requires rows { count_of rows.now ≡ count }
+    requires rows { rows_count rows.now ≡ count }
     ensures count { IfOk result (λ ood. memo_count ood ≡ count) }
-    ensures right { IfOk result (λ ood. IsRight ood (records_of records.now rows.now)) }
+    ensures right { IfOk result (λ ood. IsRight ood (with_rows records.now rows.now)) }
 {
     let names = all_numbers(alloc, count)?;
     let mut ood = Ood::new(alloc, count)?;
@@ -39,13 +39,13 @@ pub(crate) fn memo_of(
 
 /// The target has an always row. Answers how many names the region of the change has.
 pub(crate) fn put_always(ood: &mut Ood, records: &Records, rows: &mut DepRows, t: u32) -> u32
-    requires target { t < count_of rows.old }
-    requires records { length records.now ≡ count_of rows.old }
-    requires count { memo_count ood.old ≡ count_of rows.old }
-    requires right { IsRight ood.old (records_of records.now rows.old) }
-    ensures right { IsRight ood.new (records_of records.now rows.new) }
+    requires target { t < rows_count rows.old }
+    requires records { length records.now ≡ rows_count rows.old }
+    requires count { memo_count ood.old ≡ rows_count rows.old }
+    requires right { IsRight ood.old (with_rows records.now rows.old) }
+    ensures right { IsRight ood.new (with_rows records.now rows.new) }
     ensures count { memo_count ood.new ≡ memo_count ood.old }
-    ensures rows { count_of rows.new ≡ count_of rows.old }
+    ensures rows { rows_count rows.new ≡ rows_count rows.old }
 {
     rows.put_always(t);
     ood.refresh(records, rows, &[t])

@@ -1,6 +1,6 @@
 //! Refusals of the database, in their order.
 ghost use Rattle.std.specs.Prelude.{◌≡◌};
-ghost use Rattle.redo_store.specs.Tables.{count_of};
+ghost use Rattle.redo_store.specs.Tables.{tables_count};
 
 use crate::answers::{Answer, answer_of, names_of};
 use redo_command::{Refusal, read_command};
@@ -19,8 +19,8 @@ fn called(
     session: u8,
     line: &str,
 ) -> Result<Option<Answer>, Fail>
-    requires { count_of redo.old ≡ 2 }
-    ensures { count_of redo.new ≡ 2 }
+    requires { tables_count redo.old ≡ 2 }
+    ensures { tables_count redo.new ≡ 2 }
 {
     let command = read_command(alloc, line.as_bytes(), names)?;
     assert_eq!(rt; names.len(), 2);
@@ -30,7 +30,7 @@ fn called(
 
 /// Each command has its answer.
 fn answers(rt: &impl Abort, alloc: Global, redo: &mut Redo, names: &mut Names) -> Result<(), Fail>
-    requires { count_of redo.old ≡ 2 }
+    requires { tables_count redo.old ≡ 2 }
 {
     for (session, line, want) in [
         (0, "start T", Answer::Refused(Refusal::NotLocked)),

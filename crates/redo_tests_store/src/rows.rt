@@ -1,7 +1,7 @@
 //! Rows, and the lists of those that stand on a name.
 ghost use Rattle.std.specs.Prelude.{◌≡◌, ◌<◌, IfOk};
 ghost use Rattle.redo_model.specs.Renaming.{AllBelow};
-ghost use Rattle.redo_rows.specs.Rows.{count_of};
+ghost use Rattle.redo_rows.specs.Rows.{rows_count};
 
 use redo_command::FileStamp;
 use redo_records::Mark;
@@ -14,7 +14,7 @@ const NAMES: u32 = 4;
 
 /// No rows. Where a request for memory is refused, the next try succeeds.
 fn no_rows(alloc: Global) -> Result<DepRows, AllocError>
-    ensures { IfOk result (λ rows. count_of rows ≡ NAMES) }
+    ensures { IfOk result (λ rows. rows_count rows ≡ NAMES) }
 {
     match DepRows::new(alloc, NAMES) {
         Ok(rows) => Ok(rows),
@@ -24,9 +24,9 @@ fn no_rows(alloc: Global) -> Result<DepRows, AllocError>
 
 /// Room for rows on these names. Where a request for memory is refused, the next try succeeds.
 fn reserve(rows: &mut DepRows, t: u32, names: &[u32]) -> Result<(), AllocError>
-    requires target { t < count_of rows.old }
-    requires names { AllBelow (count_of rows.old) names.now }
-    ensures { count_of rows.new ≡ count_of rows.old }
+    requires target { t < rows_count rows.old }
+    requires names { AllBelow (rows_count rows.old) names.now }
+    ensures { rows_count rows.new ≡ rows_count rows.old }
 {
     match rows.reserve(t, names) {
         Ok(()) => Ok(()),
@@ -36,9 +36,9 @@ fn reserve(rows: &mut DepRows, t: u32, names: &[u32]) -> Result<(), AllocError>
 
 /// A change row, for which there is room.
 fn put_change(rt: &impl Abort, rows: &mut DepRows, t: u32, n: u32, mark: Mark)
-    requires target { t < count_of rows.old }
-    requires name { n < count_of rows.old }
-    ensures { count_of rows.new ≡ count_of rows.old }
+    requires target { t < rows_count rows.old }
+    requires name { n < rows_count rows.old }
+    ensures { rows_count rows.new ≡ rows_count rows.old }
 {
     assert!(rt; rows.has_room(t, n));
     rows.put_change(t, n, mark);
@@ -46,8 +46,8 @@ fn put_change(rt: &impl Abort, rows: &mut DepRows, t: u32, n: u32, mark: Mark)
 
 /// Room for some rows, and those rows.
 fn put_rows(rt: &impl Abort, rows: &mut DepRows) -> Result<(), Fail>
-    requires { count_of rows.old ≡ NAMES }
-    ensures { count_of rows.new ≡ NAMES }
+    requires { rows_count rows.old ≡ NAMES }
+    ensures { rows_count rows.new ≡ NAMES }
 {
     reserve(rows, 0, &[1, 2])?;
     reserve(rows, 3, &[1])?;
@@ -61,7 +61,7 @@ fn put_rows(rt: &impl Abort, rows: &mut DepRows) -> Result<(), Fail>
 
 /// What stands before the rows of 0 are taken away.
 fn check_rows(rt: &impl Abort, rows: &DepRows)
-    requires { count_of rows.now ≡ NAMES }
+    requires { rows_count rows.now ≡ NAMES }
 {
     assert_eq!(rt; rows.needed_by(1), [0, 3].as_slice());
     assert_eq!(rt; rows.awaited_by(2), [0].as_slice());
@@ -75,7 +75,7 @@ fn check_rows(rt: &impl Abort, rows: &DepRows)
 
 /// What stands after that.
 fn check_rest(rt: &impl Abort, rows: &DepRows)
-    requires { count_of rows.now ≡ NAMES }
+    requires { rows_count rows.now ≡ NAMES }
 {
     assert_eq!(rt; rows.needed_by(1), [3].as_slice());
     assert!(rt; rows.awaited_by(2).is_empty());
@@ -87,8 +87,8 @@ fn check_rest(rt: &impl Abort, rows: &DepRows)
 
 /// Room for more rows. Where it is refused, all rows and all room are as they were, and the next try succeeds.
 fn more_room(rt: &impl Abort, rows: &mut DepRows) -> Result<(), Fail>
-    requires { count_of rows.old ≡ NAMES }
-    ensures { count_of rows.new ≡ NAMES }
+    requires { rows_count rows.old ≡ NAMES }
+    ensures { rows_count rows.new ≡ NAMES }
 {
     if rows.reserve(3, &[0, 1, 2]).is_err() {
         check_rows(rt, rows);
@@ -124,8 +124,8 @@ fn inverse_rows(rt: HostRuntime) -> Result<(), Fail> {
 
 /// A change row of 0 on 1 gives back the mark that was put.
 fn check_mark(rt: &impl Abort, rows: &mut DepRows, mark: &Mark)
-    requires { count_of rows.old ≡ NAMES }
-    ensures { count_of rows.new ≡ NAMES }
+    requires { rows_count rows.old ≡ NAMES }
+    ensures { rows_count rows.new ≡ NAMES }
 {
     put_change(rt, rows, 0, 1, *mark);
     let kept = rows.change_of(0, 1);

@@ -1,7 +1,7 @@
 //! Which targets are out of date, found in the plainest way: each name is looked at again until no more are found.
 //! It follows the rows of the targets, never the inverses.
 ghost use Rattle.std.specs.Prelude.{◌≡◌, ◌<◌, length, IfOk};
-ghost use Rattle.redo_rows.specs.Rows.{count_of};
+ghost use Rattle.redo_rows.specs.Rows.{rows_count};
 
 use redo_records::{Records, State};
 use redo_rows::DepRows;
@@ -9,7 +9,7 @@ use std::alloc::{AllocError, Global};
 
 /// Whether the target has a created row on the name, and the name has a file now.
 fn has_appeared(records: &Records, rows: &DepRows, t: u32, n: u32) -> bool
-    requires target { t < count_of rows.now }
+    requires target { t < rows_count rows.now }
     requires name { n < length records.now }
 {
     rows.created(t, n) && records.file(n).is_some()
@@ -17,7 +17,7 @@ fn has_appeared(records: &Records, rows: &DepRows, t: u32, n: u32) -> bool
 
 /// Whether the target has a change row on the name with another mark than the name has now.
 fn has_changed(records: &Records, rows: &DepRows, t: u32, n: u32) -> bool
-    requires target { t < count_of rows.now }
+    requires target { t < rows_count rows.now }
     requires name { n < length records.now }
 {
     match rows.change_of(t, n) {
@@ -28,8 +28,8 @@ fn has_changed(records: &Records, rows: &DepRows, t: u32, n: u32) -> bool
 
 /// Whether a name on which the target has a row has appeared or changed.
 fn has_news(records: &Records, rows: &DepRows, t: u32) -> bool
-    requires target { t < count_of rows.now }
-    requires names { length records.now ≡ count_of rows.now }
+    requires target { t < rows_count rows.now }
+    requires names { length records.now ≡ rows_count rows.now }
 {
     for &n in rows.of(t) {
         if has_appeared(records, rows, t, n) || has_changed(records, rows, t, n) {
@@ -41,8 +41,8 @@ fn has_news(records: &Records, rows: &DepRows, t: u32) -> bool
 
 /// Whether it is a target with a reason of its own to be built again.
 pub(crate) fn has_reason(records: &Records, rows: &DepRows, t: u32) -> bool
-    requires target { t < count_of rows.now }
-    requires names { length records.now ≡ count_of rows.now }
+    requires target { t < rows_count rows.now }
+    requires names { length records.now ≡ rows_count rows.now }
 {
     match records.state(t) {
         State::Idle => false,
@@ -53,8 +53,8 @@ pub(crate) fn has_reason(records: &Records, rows: &DepRows, t: u32) -> bool
 
 /// Whether the target has a change row on a name that was found.
 fn needs_found(rows: &DepRows, found: &[bool], t: u32) -> bool
-    requires target { t < count_of rows.now }
-    requires found { length found.now ≡ count_of rows.now }
+    requires target { t < rows_count rows.now }
+    requires found { length found.now ≡ rows_count rows.now }
 {
     for &n in rows.of(t) {
         if rows.change_of(t, n).is_some() && found[n as usize] {
@@ -66,9 +66,9 @@ fn needs_found(rows: &DepRows, found: &[bool], t: u32) -> bool
 
 /// Whether it is a target that wasn't found, and needs one that was.
 fn is_next(records: &Records, rows: &DepRows, found: &[bool], t: u32) -> bool
-    requires target { t < count_of rows.now }
-    requires names { length records.now ≡ count_of rows.now }
-    requires found { length found.now ≡ count_of rows.now }
+    requires target { t < rows_count rows.now }
+    requires names { length records.now ≡ rows_count rows.now }
+    requires found { length found.now ≡ rows_count rows.now }
 {
     !found[t as usize] && records.state(t) != State::Idle && needs_found(rows, found, t)
 }
@@ -76,7 +76,7 @@ fn is_next(records: &Records, rows: &DepRows, found: &[bool], t: u32) -> bool
 /// Finds the targets that need one that was found. Whether there are any.
 fn find_more(records: &Records, rows: &DepRows, count: u32, found: &mut Vec<bool>) -> bool
     requires names { length records.now ≡ count }
-    requires rows { count_of rows.now ≡ count }
+    requires rows { rows_count rows.now ≡ count }
     requires found { length found.old.items ≡ count }
     ensures { length found.new.items ≡ count }
 {
@@ -98,7 +98,7 @@ fn with_reason(
     count: u32,
 ) -> Result<Vec<bool>, AllocError>
     requires names { length records.now ≡ count }
-    requires rows { count_of rows.now ≡ count }
+    requires rows { rows_count rows.now ≡ count }
     ensures { IfOk result (λ found. length found.items ≡ count) }
 {
     let mut found = vec![in alloc; false; count as usize]?;
@@ -116,7 +116,7 @@ pub(crate) fn search(
     count: u32,
 ) -> Result<Vec<bool>, AllocError>
     requires names { length records.now ≡ count }
-    requires rows { count_of rows.now ≡ count }
+    requires rows { rows_count rows.now ≡ count }
     ensures { IfOk result (λ found. length found.items ≡ count) }
 {
     let mut found = with_reason(alloc, records, rows, count)?;

@@ -1,6 +1,6 @@
 //! Shapes in the graph of the change rows.
 ghost use Rattle.std.specs.Prelude.{◌≡◌, ◌+◌, ◌<◌, ◌≤◌, length, IfOk};
-ghost use Rattle.redo_rows.specs.Rows.{count_of};
+ghost use Rattle.redo_rows.specs.Rows.{rows_count};
 
 use crate::random::NAMES;
 use redo_rows::DepRows;
@@ -19,14 +19,14 @@ pub(crate) enum Shape {
 }
 
 fn needs(rows: &DepRows, t: u32, n: u32) -> bool
-    requires { t < count_of rows.now }
+    requires { t < rows_count rows.now }
 {
     rows.change_of(t, n).is_some()
 }
 
 /// Gives each name that the target needs this length, unless it has one.
 fn lengthen(rows: &DepRows, t: u32, chain: u32, lengths: &mut Vec<u32>)
-    requires rows { count_of rows.now ≡ NAMES }
+    requires rows { rows_count rows.now ≡ NAMES }
     requires target { t < NAMES }
     requires lengths { length lengths.old.items ≡ NAMES }
     ensures { length lengths.new.items ≡ NAMES }
@@ -40,7 +40,7 @@ fn lengthen(rows: &DepRows, t: u32, chain: u32, lengths: &mut Vec<u32>)
 
 /// Gives each name that one of this length needs the next length, unless it has one.
 fn lengthen_all(rows: &DepRows, chain: u32, lengths: &mut Vec<u32>)
-    requires rows { count_of rows.now ≡ NAMES }
+    requires rows { rows_count rows.now ≡ NAMES }
     requires chain { chain < NAMES }
     requires lengths { length lengths.old.items ≡ NAMES }
     ensures { length lengths.new.items ≡ NAMES }
@@ -54,7 +54,7 @@ fn lengthen_all(rows: &DepRows, chain: u32, lengths: &mut Vec<u32>)
 
 /// For each name, of how many rows the shortest chain is that leads there from the target; 0 where none does.
 fn lengths_from(alloc: Global, rows: &DepRows, t: u32) -> Result<Vec<u32>, AllocError>
-    requires rows { count_of rows.now ≡ NAMES }
+    requires rows { rows_count rows.now ≡ NAMES }
     requires target { t < NAMES }
     ensures { IfOk result (λ lengths. length lengths.items ≡ NAMES) }
 {
@@ -68,7 +68,7 @@ fn lengths_from(alloc: Global, rows: &DepRows, t: u32) -> Result<Vec<u32>, Alloc
 
 /// Whether the target needs two that need the name.
 fn needs_twice(rows: &DepRows, t: u32, n: u32) -> bool
-    requires rows { count_of rows.now ≡ NAMES }
+    requires rows { rows_count rows.now ≡ NAMES }
     requires target { t < NAMES }
 {
     let mut once = false;
@@ -85,7 +85,7 @@ fn needs_twice(rows: &DepRows, t: u32, n: u32) -> bool
 
 /// Whether the target needs two that need one name.
 fn is_diamond(rows: &DepRows, t: u32) -> bool
-    requires rows { count_of rows.now ≡ NAMES }
+    requires rows { rows_count rows.now ≡ NAMES }
     requires target { t < NAMES }
 {
     for n in 0..NAMES {
@@ -111,7 +111,7 @@ fn note_shapes(
     t: u32,
     shapes: &mut Vec<Shape>,
 ) -> Result<(), AllocError>
-    requires rows { count_of rows.now ≡ NAMES }
+    requires rows { rows_count rows.now ≡ NAMES }
     requires target { t < NAMES }
 {
     let lengths = lengths_from(alloc, rows, t)?;
@@ -124,7 +124,7 @@ fn note_shapes(
 
 /// The shapes that there are, each once.
 pub(crate) fn shapes_in(alloc: Global, rows: &DepRows) -> Result<Vec<Shape>, AllocError>
-    requires { count_of rows.now ≡ NAMES }
+    requires { rows_count rows.now ≡ NAMES }
 {
     let mut shapes = Vec::new(alloc);
     for t in 0..NAMES {

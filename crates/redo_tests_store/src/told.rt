@@ -5,7 +5,7 @@ ghost use Rattle.redo_model.specs.Renaming.{AllBelow, IsBelow};
 ghost use Rattle.redo_model.specs.State.{is_building};
 ghost use Rattle.redo_command.specs.Meaning.{command_of};
 ghost use Rattle.redo_records.specs.Cells.{cell_at};
-ghost use Rattle.redo_rows.specs.Rows.{count_of, records_of};
+ghost use Rattle.redo_rows.specs.Rows.{rows_count, with_rows};
 ghost use Rattle.redo_ood.specs.Memo.{count_of as memo_count, IsRight};
 ghost use Rattle.redo_tests_store.specs.declared.random.TheConstants.{NAMES};
 
@@ -29,7 +29,7 @@ pub(crate) struct Told {
     // for each name, whether it is a target that is out of date
     found: Vec<bool>,
     ghost records_count: { length records ≡ NAMES },
-    ghost rows_count: { count_of rows ≡ NAMES },
+    ghost rows_count: { rows_count rows ≡ NAMES },
     ghost found_count: { length found.items ≡ NAMES },
 }
 
@@ -72,7 +72,7 @@ impl Told {
     /// The memo for what was told, from that of nothing.
     pub(crate) fn memo(&self, rt: &impl Abort, alloc: Global) -> Result<Ood, Fail>
         ensures count { IfOk result (λ ood. memo_count ood ≡ NAMES) }
-        ensures right { IfOk result (λ ood. IsRight ood (records_of self.now.records self.now.rows)) }
+        ensures right { IfOk result (λ ood. IsRight ood (with_rows self.now.records self.now.rows)) }
     {
         memo_of(rt, alloc, NAMES, &self.records, &self.rows)
     }
@@ -81,9 +81,9 @@ impl Told {
     pub(crate) fn change_file(&mut self, ood: &mut Ood, n: u32, file: Option<FileStamp>) -> u32
         requires name { n < NAMES }
         requires count { memo_count ood.old ≡ NAMES }
-        requires right { IsRight ood.old (records_of self.old.records self.old.rows) }
+        requires right { IsRight ood.old (with_rows self.old.records self.old.rows) }
         ensures count { memo_count ood.new ≡ NAMES }
-        ensures right { IsRight ood.new (records_of self.new.records self.new.rows) }
+        ensures right { IsRight ood.new (with_rows self.new.records self.new.rows) }
     {
         self.records.set_file(n, file);
         ood.refresh(&self.records, &self.rows, &[n])
@@ -93,9 +93,9 @@ impl Told {
     pub(crate) fn begin(&mut self, rt: &impl Abort, ood: &mut Ood, t: u32) -> u32
         requires target { t < NAMES }
         requires count { memo_count ood.old ≡ NAMES }
-        requires right { IsRight ood.old (records_of self.old.records self.old.rows) }
+        requires right { IsRight ood.old (with_rows self.old.records self.old.rows) }
         ensures count { memo_count ood.new ≡ NAMES }
-        ensures right { IsRight ood.new (records_of self.new.records self.new.rows) }
+        ensures right { IsRight ood.new (with_rows self.new.records self.new.rows) }
     {
         assert!(rt; !self.is_building(t));
         self.records.start(0, t);
@@ -196,8 +196,8 @@ impl Told {
             Command::IfCreate(t, names) => self.put_created(rt, *t, names)?,
             Command::Always(t) => self.rows.put_always(*t),
             Command::Stamp(t, content) => self.stamp(rt, *t, content),
-            Command::Done(t, stamp) => self.finish(rt, *t, *stamp),
-            Command::Failed(t) => self.fail(rt, *t),
+            Command::Done(t, stamp) => self.done(rt, *t, *stamp),
+            Command::Failed(t) => self.failed(rt, *t),
             Command::Lock(_) | Command::Unlock(_) => {}
             Command::Ood | Command::Targets | Command::Sources => {}
         }
@@ -243,14 +243,14 @@ impl Told {
         self.records.stamp(t, digest_of(content));
     }
 
-    fn finish(&mut self, rt: &impl Abort, t: u32, stamp: Option<FileStamp>)
+    fn done(&mut self, rt: &impl Abort, t: u32, stamp: Option<FileStamp>)
         requires { t < NAMES }
     {
         assert!(rt; self.is_building(t) && self.records.builds(t) < 10_000);
         self.records.done(t, stamp);
     }
 
-    fn fail(&mut self, rt: &impl Abort, t: u32)
+    fn failed(&mut self, rt: &impl Abort, t: u32)
         requires { t < NAMES }
     {
         assert!(rt; self.is_building(t));

@@ -4,7 +4,7 @@ ghost use Rattle.redo_model.specs.State.{Cell, is_building, target_state};
 ghost use Rattle.redo_model.specs.Command as commands;
 ghost use Rattle.redo_model.specs.Renaming.{AllBelow};
 ghost use Rattle.redo_ood.specs.Memo.{IsRight, WasRight, count_of as memo_count};
-ghost use Rattle.redo_rows.specs.Rows.{room_of, count_of as rows_count, records_of as with_rows};
+ghost use Rattle.redo_rows.specs.Rows.{room_of, rows_count, with_rows};
 ghost use Rattle.redo_store.specs.Changes.{HasEffect, HasEffectOfAny, AreRowsAfter, records_with_file};
 ghost use Rattle.redo_store.specs.Stored.{records_of, count_of, HasBuildsLeft, KeepsNames, has_room_for};
 
@@ -85,7 +85,7 @@ impl Store {
         refresh(&mut self.memo, &self.records, &self.rows, t);
     }
 
-    pub(crate) fn finish(&mut self, t: u32, stamp: Option<FileStamp>)
+    pub(crate) fn done(&mut self, t: u32, stamp: Option<FileStamp>)
         requires number { t < count_of self.old }
         requires building { IsTrue (is_building (target_state (records_of self.old) t)) }
         requires builds { HasBuildsLeft self.old }
@@ -96,7 +96,7 @@ impl Store {
         refresh(&mut self.memo, &self.records, &self.rows, t);
     }
 
-    pub(crate) fn fail(&mut self, t: u32)
+    pub(crate) fn failed(&mut self, t: u32)
         requires number { t < count_of self.old }
         requires building { IsTrue (is_building (target_state (records_of self.old) t)) }
         ensures after { HasEffectOfAny self.old self.new (commands.Failed t) }

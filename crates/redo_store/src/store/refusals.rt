@@ -3,11 +3,11 @@ ghost use Rattle.std.specs.List.{list_any};
 ghost use Rattle.redo_model.specs.State.{has_file};
 ghost use Rattle.redo_model.specs.Renaming.{AllBelow, IsBelow};
 ghost use Rattle.redo_command.specs.Meaning.{command_of, refusal_of};
-ghost use Rattle.redo_records.specs.Verdict.{refusal_of_names};
+ghost use Rattle.redo_records.specs.Refusals.{refusal_of_names};
 ghost use Rattle.redo_store.specs.Stored.{records_of, naming_of, count_of};
 
-use crate::rows::{first_refusal_of_names, refusals_of_names, refuse_names_unless};
 use crate::store::Store;
+use crate::table::{first_refusal_of_names, refusals_of_names, refuse_names_unless};
 use redo_command::{Command, Refusal, cases};
 
 fn is_among(names: &[u32], t: u32) -> bool

@@ -4,4 +4,5 @@ use Rattle.redo_model.proofs.OneMore.{legal_more, legal_front}
 use Rattle.redo_model.proofs.histories.legal_by_one_more.Goals as goal
 
 pub returns : goal.returns
-returns c lines line = (legal_front texts empty lines line, λ h. legal_more texts empty lines line h.0 h.1)
+returns c lines line =
+    (legal_front texts empty lines line, λ h. legal_more texts empty lines line h.0 h.1)

@@ -4,4 +4,5 @@ use Rattle.redo_model.proofs.HistoriesByName.{legal_by_name}
 use Rattle.redo_model.proofs.renaming.legal_by_name.Goals as goal
 
 pub returns : goal.returns
-returns c to order lines law orders below = legal_by_name law texts texts_are_names order orders lines below
+returns c to order lines law orders below =
+    legal_by_name law texts texts_are_names order orders lines below

@@ -1,4 +1,4 @@
-use Rattle.redo_rows.specs.Rows.{records_of}
+use Rattle.redo_rows.specs.Rows.{with_rows as records_of}
 use Rattle.redo_ood.proofs.Deriving.{derived_from}
 use Rattle.redo_ood.proofs.derive.derive.Goals as goal
 

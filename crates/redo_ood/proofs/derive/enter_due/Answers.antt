@@ -1,4 +1,4 @@
-use Rattle.redo_rows.specs.Rows.{records_of}
+use Rattle.redo_rows.specs.Rows.{with_rows as records_of}
 use Rattle.redo_ood.specs.Regions.{EntersDue}
 use Rattle.redo_ood.proofs.Deriving.{due_more}
 use Rattle.redo_ood.proofs.Marking.{at_take_all}

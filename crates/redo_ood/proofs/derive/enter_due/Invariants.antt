@@ -1,5 +1,5 @@
 use Rattle.std.proofs.Common.{take}
-use Rattle.redo_rows.specs.Rows.{records_of}
+use Rattle.redo_rows.specs.Rows.{with_rows as records_of}
 use Rattle.redo_ood.specs.Regions.{EntersDue}
 use Rattle.redo_ood.proofs.derive.enter_due.Given as goal
 

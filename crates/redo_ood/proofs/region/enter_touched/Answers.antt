@@ -1,4 +1,4 @@
-use Rattle.redo_rows.specs.Rows.{records_of}
+use Rattle.redo_rows.specs.Rows.{with_rows as records_of}
 use Rattle.redo_ood.specs.Marks.{Enters}
 use Rattle.redo_ood.proofs.Marking.{at_take_all}
 use Rattle.redo_ood.proofs.Spreading.{Touches, touches_more}

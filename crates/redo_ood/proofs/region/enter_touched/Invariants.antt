@@ -1,5 +1,5 @@
 use Rattle.std.proofs.Common.{take}
-use Rattle.redo_rows.specs.Rows.{records_of}
+use Rattle.redo_rows.specs.Rows.{with_rows as records_of}
 use Rattle.redo_ood.specs.Marks.{Enters}
 use Rattle.redo_ood.proofs.Spreading.{Touches}
 use Rattle.redo_ood.proofs.region.enter_touched.Given as goal

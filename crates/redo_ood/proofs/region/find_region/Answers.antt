@@ -1,4 +1,4 @@
-use Rattle.redo_rows.specs.Rows.{records_of}
+use Rattle.redo_rows.specs.Rows.{with_rows as records_of}
 use Rattle.redo_ood.proofs.Spreading.{region_found}
 use Rattle.redo_ood.proofs.region.find_region.Goals as goal
 

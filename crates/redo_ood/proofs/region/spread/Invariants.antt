@@ -1,5 +1,5 @@
 use Rattle.std.proofs.Common.{◌≤◌, ◌-◌, length, take}
-use Rattle.redo_rows.specs.Rows.{records_of}
+use Rattle.redo_rows.specs.Rows.{with_rows as records_of}
 use Rattle.redo_ood.specs.Marks.{size_of}
 use Rattle.redo_ood.specs.Regions.{Spreads}
 use Rattle.redo_ood.proofs.region.spread.Given as goal

@@ -1,4 +1,4 @@
-use Rattle.redo_records.proofs.Verdicts.{verdict_on_target, verdict_without_target}
+use Rattle.redo_records.proofs.Refusals.{verdict_on_target, verdict_without_target}
 use Rattle.redo_records.proofs.laws.verdict_by_kind.Goals as goal
 
 pub returns : goal.returns

@@ -3,7 +3,7 @@ use Rattle.std.proofs.lemmas.List.{take_more, length-map}
 use Rattle.redo_model.specs.Names.{texts}
 use Rattle.redo_model.specs.Renaming.{OrdersAlike, numbering, IsReplyBelow}
 use Rattle.redo_command.specs.Meaning.{reply_of, line_at}
-use Rattle.redo_store.specs.Tables.{state_of, order_of}
+use Rattle.redo_store.specs.Tables.{state_of, tables_order}
 use Rattle.redo_replay.proofs.Replayed.{Replayed, replayed_next, replayed_same, replayed_wrong}
 use Rattle.redo_replay.proofs.replays.verdict_on.Goals as goal
 
@@ -13,7 +13,7 @@ returns-then-not-is_same-clause-verdict c =
     let wrong = c.index-lines-at.result in
     let below : IsReplyBelow (length c.args.names.now) (reply_of reply) = subst (λ n. IsReplyBelow n (reply_of reply)) c.loop-at.invariant.count c.in_ok-reply.ensures.below in
     let differs : reply_of reply ≢ reply_of wrong.reply = λ e. let same = c.is_same.ensures.1 e in cc in
-    replayed_wrong c.args.names.now c.len.ensures.names.distinct (order_of c.loop-at.redo) c.loop-at.invariant.orders (state_of c.loop-at.redo) c.args.lines.now c.loop-at.at wrong reply
+    replayed_wrong c.args.names.now c.len.ensures.names.distinct (tables_order c.loop-at.redo) c.loop-at.invariant.orders (state_of c.loop-at.redo) c.args.lines.now c.loop-at.at wrong reply
     c.requires.below c.loop-at-test.true c.index-lines-at.is below c.loop-at.invariant.replayed c.in_ok-reply.ensures.answers differs
 
 pub loop-at-preserved : goal.loop-at-preserved
@@ -33,7 +33,7 @@ loop-at-preserved c =
 pub returns-clause-verdict : goal.returns-clause-verdict
 returns-clause-verdict c =
     let whole : take c.loop-at.at c.args.lines.now ≡ c.args.lines.now = take_all c.loop-at.at c.args.lines.now c.loop-at-test.false in
-    let replayed : Replayed (order_of c.loop-at.redo) (state_of c.loop-at.redo) c.args.lines.now = subst (Replayed (order_of c.loop-at.redo) (state_of c.loop-at.redo)) whole c.loop-at.invariant.replayed in (
+    let replayed : Replayed (tables_order c.loop-at.redo) (state_of c.loop-at.redo) c.args.lines.now = subst (Replayed (tables_order c.loop-at.redo) (state_of c.loop-at.redo)) whole c.loop-at.invariant.replayed in (
       sym (length-map c.args.lines.now (line_at c.args.names.now)),
-      replayed_same c.args.names.now c.len.ensures.names.distinct (order_of c.loop-at.redo) c.loop-at.invariant.orders (state_of c.loop-at.redo) c.args.lines.now c.requires.below replayed,
+      replayed_same c.args.names.now c.len.ensures.names.distinct (tables_order c.loop-at.redo) c.loop-at.invariant.orders (state_of c.loop-at.redo) c.args.lines.now c.requires.below replayed,
     )

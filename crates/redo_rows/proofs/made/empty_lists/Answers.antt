@@ -8,5 +8,6 @@ use Rattle.redo_rows.proofs.made.empty_lists.Goals as goal
 pub fill-preserved : goal.fill-preserved
 fill-preserved c = record {
   count = grind (arith, common_steps);
-  empty = subst (λ (lists : List NumberList). AreEmpty lists) (sym c.in_ok-push.ensures.items) (empty_push c.fill.lists.items c.new.result c.fill.invariant.empty c.new.ensures);
+  empty = subst (λ (lists : List NumberList). AreEmpty lists) (sym c.in_ok-push.ensures.items)
+      (empty_push c.fill.lists.items c.new.result c.fill.invariant.empty c.new.ensures);
 }

@@ -8,5 +8,7 @@ use Rattle.redo_rows.proofs.target.search.Goals as goal
 pub returns : goal.returns
 returns c =
     let facts = c.binary_search_by_key.ensures in
-    let by_name = facts.position (λ (seat : Seat). seat.name) (answers_always _ _ _ (λ f a r g called. search rules)) in
+    let by_name =
+    facts.position (λ (seat : Seat). seat.name)
+    (answers_always _ _ _ (λ f a r g called. search rules)) in
     searched c.args.seats.now c.requires c.args.n c.binary_search_by_key.result facts.bound by_name

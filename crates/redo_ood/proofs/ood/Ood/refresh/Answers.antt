@@ -1,4 +1,4 @@
-use Rattle.redo_rows.specs.Rows.{records_of}
+use Rattle.redo_rows.specs.Rows.{with_rows as records_of}
 use Rattle.redo_ood.proofs.Deriving.{region_listed, cleared_sound, memo_right, region_counted}
 use Rattle.redo_ood.proofs.ood.Ood.refresh.Goals as goal
 

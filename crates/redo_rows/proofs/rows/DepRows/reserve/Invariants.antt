@@ -1,5 +1,5 @@
 use Rattle.std.proofs.Common.{◌≡◌, ◌<◌, ◌⊎◌, ℕ, IsTrue, Contains, slice_index}
-use Rattle.redo_rows.specs.Rows.{count_of, rows_of, room_of}
+use Rattle.redo_rows.specs.Rows.{rows_count, rows_of, room_of}
 use Rattle.redo_rows.proofs.rows.DepRows.reserve.Given as goal
 
 abbrev pub invariant-loop-n : goal.invariant-loop-n
@@ -7,6 +7,7 @@ invariant-loop-n l = record {
   rows : rows_of l.self ≡ rows_of l.fn.self;
   made : (k : ℕ) → k < l.n-index → IsTrue (room_of l.self l.t (slice_index l.names k));
   kept : (u k : ℕ) → IsTrue (room_of l.fn.self u k) → IsTrue (room_of l.self u k);
-  from : (u k : ℕ) → IsTrue (room_of l.self u k) → IsTrue (room_of l.fn.self u k) ⊎ ((u ≡ l.t) × Contains l.names k);
-  count : count_of l.self ≡ count_of l.fn.self;
+  from : (u k : ℕ) → IsTrue (room_of l.self u k)
+      → IsTrue (room_of l.fn.self u k) ⊎ ((u ≡ l.t) × Contains l.names k);
+  count : rows_count l.self ≡ rows_count l.fn.self;
 }

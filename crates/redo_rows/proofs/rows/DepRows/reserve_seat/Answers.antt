@@ -11,10 +11,13 @@ pub overflow_add-seats : goal.overflow_add-seats
 overflow_add-seats c =
     let targets = c.self.inside.targets.items in
     let seated = c.self.inside.seated.items in
-    let name : c.args.n < length targets = omega (arith, c.requires.name, ap length c.self.view_is) in
+    let name : c.args.n < length targets =
+    omega (arith, c.requires.name, ap length c.self.view_is) in
     let h = c.self.invariant in
     let inside : c.args.n < length seated = omega (arith, name, h.counts.sized) in
-    let is : c.index.result.now ≡ seats_on targets c.args.n = c.index.ensures ∙ (get_or_default seated c.args.n c.index.result.now 0 inside ∙ h.counts.each c.args.n name) in
+    let is : c.index.result.now ≡ seats_on targets c.args.n =
+    c.index.ensures
+    ∙ (get_or_default seated c.args.n c.index.result.now 0 inside ∙ h.counts.each c.args.n name) in
     let few = count_by-le-length (sits_on c.args.n) targets in
     omega (arith, is, few, h.small)
 
@@ -24,8 +27,10 @@ invariant_of-self c =
     let needed = c.self.inside.needed.items in
     let awaited = c.self.inside.awaited.items in
     let seated = c.self.inside.seated.items in
-    let name : c.args.n < length targets = omega (arith, c.requires.name, ap length c.self.view_is) in
-    kept_needed targets c.args.n needed awaited seated c.index_mut.result.now c.reserve.new.self name c.index_mut.ensures.value c.reserve.ensures.items c.reserve.ensures.kept c.self.invariant
+    let name : c.args.n < length targets =
+    omega (arith, c.requires.name, ap length c.self.view_is) in
+    kept_needed targets c.args.n needed awaited seated c.index_mut.result.now c.reserve.new.self
+    name c.index_mut.ensures.value c.reserve.ensures.items c.reserve.ensures.kept c.self.invariant
 
 pub invariant_of-self-in_err-reserve-2 : goal.invariant_of-self-in_err-reserve-2
 invariant_of-self-in_err-reserve-2 c =
@@ -33,27 +38,63 @@ invariant_of-self-in_err-reserve-2 c =
     let needed = c.self.inside.needed.items in
     let awaited = c.self.inside.awaited.items in
     let seated = c.self.inside.seated.items in
-    let name : c.args.n < length targets = omega (arith, c.requires.name, ap length c.self.view_is) in
-    let h = kept_needed targets c.args.n needed awaited seated c.index_mut.result.now c.reserve.new.self name c.index_mut.ensures.value c.reserve.ensures.items c.reserve.ensures.kept c.self.invariant in
-    kept_awaited targets c.args.n (set needed c.args.n c.reserve.new.self) awaited seated c.index_mut-2.result.now c.reserve-2.new.self name c.index_mut-2.ensures.value c.reserve-2.ensures.items c.reserve-2.ensures.kept h
+    let name : c.args.n < length targets =
+    omega (arith, c.requires.name, ap length c.self.view_is) in
+    let h =
+    kept_needed targets c.args.n needed awaited seated c.index_mut.result.now c.reserve.new.self
+    name c.index_mut.ensures.value c.reserve.ensures.items c.reserve.ensures.kept
+    c.self.invariant in
+    kept_awaited targets c.args.n (set needed c.args.n c.reserve.new.self) awaited seated
+    c.index_mut-2.result.now c.reserve-2.new.self name c.index_mut-2.ensures.value
+    c.reserve-2.ensures.items c.reserve-2.ensures.kept h
 
 pub invariant_of-self-in_err-add_seat : goal.invariant_of-self-in_err-add_seat
 invariant_of-self-in_err-add_seat c =
-    let name : c.args.n < length c.self.inside.targets.items = omega (arith, c.requires.name, ap length c.self.view_is) in
-    let h1 = kept_needed c.self.inside.targets.items c.args.n c.self.inside.needed.items c.self.inside.awaited.items c.self.inside.seated.items c.index_mut.result.now c.reserve.new.self name c.index_mut.ensures.value c.reserve.ensures.items c.reserve.ensures.kept c.self.invariant in
-    let h2 = kept_awaited c.self.inside.targets.items c.args.n (set c.self.inside.needed.items c.args.n c.reserve.new.self) c.self.inside.awaited.items c.self.inside.seated.items c.index_mut-2.result.now c.reserve-2.new.self name c.index_mut-2.ensures.value c.reserve-2.ensures.items c.reserve-2.ensures.kept h1 in
-    kept_always c.self.inside.targets.items c.args.self.now c.args.t c.index_mut-3.result.now c.add_seat.new.self (set c.self.inside.needed.items c.args.n c.reserve.new.self) (set c.self.inside.awaited.items c.args.n c.reserve-2.new.self) c.self.inside.seated.items c.self.view_is c.requires.target c.index_mut-3.ensures.value (ap (λ (x : TargetRows). x.seats) c.in_err-add_seat.ensures.err) h2
+    let name : c.args.n < length c.self.inside.targets.items =
+    omega (arith, c.requires.name, ap length c.self.view_is) in
+    let h1 =
+    kept_needed c.self.inside.targets.items c.args.n c.self.inside.needed.items
+    c.self.inside.awaited.items c.self.inside.seated.items c.index_mut.result.now c.reserve.new.self
+    name c.index_mut.ensures.value c.reserve.ensures.items c.reserve.ensures.kept
+    c.self.invariant in
+    let h2 =
+    kept_awaited c.self.inside.targets.items c.args.n
+    (set c.self.inside.needed.items c.args.n c.reserve.new.self) c.self.inside.awaited.items
+    c.self.inside.seated.items c.index_mut-2.result.now c.reserve-2.new.self name
+    c.index_mut-2.ensures.value c.reserve-2.ensures.items c.reserve-2.ensures.kept h1 in
+    kept_always c.self.inside.targets.items c.args.self.now c.args.t c.index_mut-3.result.now
+    c.add_seat.new.self (set c.self.inside.needed.items c.args.n c.reserve.new.self)
+    (set c.self.inside.awaited.items c.args.n c.reserve-2.new.self) c.self.inside.seated.items
+    c.self.view_is c.requires.target c.index_mut-3.ensures.value
+    (ap (λ (x : TargetRows). x.seats) c.in_err-add_seat.ensures.err) h2
 
 pub invariant_of-self-2 : goal.invariant_of-self-2
 invariant_of-self-2 c =
     let e = c.add_seat.ensures in
-    let name : c.args.n < length c.self.inside.targets.items = omega (arith, c.requires.name, ap length c.self.view_is) in
-    let h1 = kept_needed c.self.inside.targets.items c.args.n c.self.inside.needed.items c.self.inside.awaited.items c.self.inside.seated.items c.index_mut.result.now c.reserve.new.self name c.index_mut.ensures.value c.reserve.ensures.items c.reserve.ensures.kept c.self.invariant in
-    let h2 = kept_awaited c.self.inside.targets.items c.args.n (set c.self.inside.needed.items c.args.n c.reserve.new.self) c.self.inside.awaited.items c.self.inside.seated.items c.index_mut-2.result.now c.reserve-2.new.self name c.index_mut-2.ensures.value c.reserve-2.ensures.items c.reserve-2.ensures.kept h1 in
-    kept_seat c.self.inside.targets.items c.args.self.now c.args.t c.args.n c.index_mut-3.result.now c.add_seat.new.self c.self.inside.needed.items c.self.inside.awaited.items c.self.inside.seated.items c.reserve.new.self c.reserve-2.new.self c.index.result.now c.self.view_is c.requires.target c.requires.name c.index_mut-3.ensures.value
-    (record { rows = e.rows; room = c.in_ok-add_seat.ensures.made; always = e.always }) (sym c.has_room.ensures ∙ c.if-has_room.false) c.index.ensures c.in_ok-reserve.ensures.ok c.in_ok-reserve-2.ensures.ok h2
+    let name : c.args.n < length c.self.inside.targets.items =
+    omega (arith, c.requires.name, ap length c.self.view_is) in
+    let h1 =
+    kept_needed c.self.inside.targets.items c.args.n c.self.inside.needed.items
+    c.self.inside.awaited.items c.self.inside.seated.items c.index_mut.result.now c.reserve.new.self
+    name c.index_mut.ensures.value c.reserve.ensures.items c.reserve.ensures.kept
+    c.self.invariant in
+    let h2 =
+    kept_awaited c.self.inside.targets.items c.args.n
+    (set c.self.inside.needed.items c.args.n c.reserve.new.self) c.self.inside.awaited.items
+    c.self.inside.seated.items c.index_mut-2.result.now c.reserve-2.new.self name
+    c.index_mut-2.ensures.value c.reserve-2.ensures.items c.reserve-2.ensures.kept h1 in
+    kept_seat c.self.inside.targets.items c.args.self.now c.args.t c.args.n c.index_mut-3.result.now
+    c.add_seat.new.self c.self.inside.needed.items c.self.inside.awaited.items
+    c.self.inside.seated.items c.reserve.new.self c.reserve-2.new.self c.index.result.now
+    c.self.view_is c.requires.target c.requires.name c.index_mut-3.ensures.value
+    (record { rows = e.rows; room = c.in_ok-add_seat.ensures.made; always = e.always })
+    (sym c.has_room.ensures ∙ c.if-has_room.false) c.index.ensures c.in_ok-reserve.ensures.ok
+    c.in_ok-reserve-2.ensures.ok h2
 
 pub returns-clause-rows : goal.returns-clause-rows
 returns-clause-rows c =
     let e = c.add_seat.ensures in
-    seat_added_rows c.self.inside.targets.items c.args.self.now c.args.t c.args.n c.index_mut-3.result.now c.add_seat.new.self c.self.view_is c.requires.target c.index_mut-3.ensures.value (record { rows = e.rows; room = c.in_ok-add_seat.ensures.made; always = e.always })
+    seat_added_rows c.self.inside.targets.items c.args.self.now c.args.t c.args.n
+    c.index_mut-3.result.now c.add_seat.new.self c.self.view_is c.requires.target
+    c.index_mut-3.ensures.value
+    (record { rows = e.rows; room = c.in_ok-add_seat.ensures.made; always = e.always })

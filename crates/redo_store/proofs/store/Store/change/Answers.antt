@@ -14,7 +14,7 @@ pub returns-in-Stamp-clause-after : goal.returns-in-Stamp-clause-after
 returns-in-Stamp-clause-after c = search (rules, c.stamp.ensures.after c.args.s)
 
 pub returns-in-Done-clause-after : goal.returns-in-Done-clause-after
-returns-in-Done-clause-after c = search (rules, c.finish.ensures.after c.args.s)
+returns-in-Done-clause-after c = search (rules, c.done.ensures.after c.args.s)
 
 pub returns-in-Failed-clause-after : goal.returns-in-Failed-clause-after
-returns-in-Failed-clause-after c = search (rules, c.fail.ensures.after c.args.s)
+returns-in-Failed-clause-after c = search (rules, c.failed.ensures.after c.args.s)

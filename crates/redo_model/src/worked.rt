@@ -5,7 +5,7 @@ ghost use Rattle.redo_model.specs.History.{Legal};
 ghost use Rattle.redo_model.specs.Names.{texts};
 ghost use Rattle.redo_model.specs.Reply.{Granted, Okay};
 ghost use Rattle.redo_model.specs.Reply as replies;
-ghost use Rattle.redo_model.specs.Rows.{appearance, common_path, cycle, order_of_refusals, with_reply};
+ghost use Rattle.redo_model.specs.Worked.{appearance, common_path, cycle, order_of_refusals, with_reply};
 
 /// One session builds a target from a source, and asks for all lists.
 pub fn common_path_is_legal()

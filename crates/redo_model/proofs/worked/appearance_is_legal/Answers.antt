@@ -1,5 +1,5 @@
 use Rattle.redo_model.proofs.Appearance.{appearance_legal}
-use Rattle.redo_model.proofs.rows.appearance_is_legal.Goals as goal
+use Rattle.redo_model.proofs.worked.appearance_is_legal.Goals as goal
 
 pub returns : goal.returns
 returns c = appearance_legal

@@ -3,7 +3,7 @@ use Rattle.redo_records.specs.Cells.{cell_at}
 use Rattle.redo_store.specs.Stored.{HasBuildsLeft}
 use Rattle.redo_store.specs.KeptStore.{stored_of}
 use Rattle.redo_store.proofs.Refreshing.{cell_refreshed, due_by_cell}
-use Rattle.redo_store.proofs.store.Store.finish.Goals as goal
+use Rattle.redo_store.proofs.store.Store.done.Goals as goal
 
 pub refresh-requires-clause-right : goal.refresh-requires-clause-right
 refresh-requires-clause-right c =

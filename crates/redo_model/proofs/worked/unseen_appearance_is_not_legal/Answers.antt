@@ -1,10 +1,10 @@
 use Rattle.std.proofs.Common.{[], ◌∷◌, refl}
 use Rattle.std.specs.Prelude.{codes}
 use Rattle.redo_model.specs.Reply.{Ood}
-use Rattle.redo_model.specs.Rows.{appearance}
+use Rattle.redo_model.specs.Worked.{appearance}
 use Rattle.redo_model.proofs.Appearance.{appearance_legal}
 use Rattle.redo_model.proofs.Changed.{same_reply}
-use Rattle.redo_model.proofs.rows.unseen_appearance_is_not_legal.Goals as goal
+use Rattle.redo_model.proofs.worked.unseen_appearance_is_not_legal.Goals as goal
 
 pub returns : goal.returns
 returns c wrong =

@@ -1,5 +1,5 @@
 use Rattle.redo_store.proofs.Refreshing.{cell_refreshed, due_by_cell}
-use Rattle.redo_store.proofs.store.Store.fail.Goals as goal
+use Rattle.redo_store.proofs.store.Store.failed.Goals as goal
 
 pub refresh-requires-clause-right : goal.refresh-requires-clause-right
 refresh-requires-clause-right c =

@@ -27,9 +27,19 @@ macro_rules! first_refusal_of_names {
 }
 
 macro_rules! refusals_of_names {
-    ([$store:tt $command:ident] $(($case:ident $(($($field:ident),*))?, $word:literal, [$($need:ident $refusal:ident),*], $answer:ident, $effect:ident))*) => {
+    (
+        [$store:tt $command:ident]
+        $((
+            $case:ident $(($($field:ident),*))?,
+            $word:literal,
+            [$($need:ident $refusal:ident),*],
+            $answer:ident,
+            $effect:ident
+        ))*
+    ) => {
         match $command {
-            $(Command::$case $(($($field),*))? => first_refusal_of_names!([$store $($($field)*)?] $($need $refusal)*),)*
+            $(Command::$case $(($($field),*))? =>
+                first_refusal_of_names!([$store $($($field)*)?] $($need $refusal)*),)*
         }
     };
 }
@@ -60,7 +70,16 @@ macro_rules! answer {
 }
 
 macro_rules! answers {
-    ([$store:tt $alloc:tt $command:ident] $(($case:ident $(($($field:ident),*))?, $word:literal, $needs:tt, $answer:ident, $effect:ident))*) => {
+    (
+        [$store:tt $alloc:tt $command:ident]
+        $((
+            $case:ident $(($($field:ident),*))?,
+            $word:literal,
+            $needs:tt,
+            $answer:ident,
+            $effect:ident
+        ))*
+    ) => {
         match $command {
             $(Command::$case $(($($field),*))? => answer!($answer [$store $alloc] $($($field)*)?),)*
         }
@@ -93,16 +112,25 @@ macro_rules! effect {
     (stamp [$store:tt $s:tt] $t:ident $content:ident) => {
         $store.stamp(*$t, $content)
     };
-    (finish [$store:tt $s:tt] $t:ident $stamp:ident) => {
-        $store.finish(*$t, *$stamp)
+    (done [$store:tt $s:tt] $t:ident $stamp:ident) => {
+        $store.done(*$t, *$stamp)
     };
-    (fail [$store:tt $s:tt] $t:ident) => {
-        $store.fail(*$t)
+    (failed [$store:tt $s:tt] $t:ident) => {
+        $store.failed(*$t)
     };
 }
 
 macro_rules! effects {
-    ([$store:tt $s:tt $command:ident] $(($case:ident $(($($field:ident),*))?, $word:literal, $needs:tt, $answer:ident, $effect:ident))*) => {
+    (
+        [$store:tt $s:tt $command:ident]
+        $((
+            $case:ident $(($($field:ident),*))?,
+            $word:literal,
+            $needs:tt,
+            $answer:ident,
+            $effect:ident
+        ))*
+    ) => {
         match $command {
             $(Command::$case $(($($field),*))? => effect!($effect [$store $s] $($($field)*)?),)*
         }

@@ -1,10 +1,10 @@
 use Rattle.std.proofs.Common.{◌≡◌, Some, None, option_map, refl, arith}
 use Rattle.redo_command.specs.Meaning.{command_of, refusal_of, kind_of}
 use Rattle.redo_model.specs.State.{target_state}
-use Rattle.redo_records.specs.Verdict.{verdict_at}
+use Rattle.redo_records.specs.Refusals.{refusal_by_target}
 use Rattle.redo_store.specs.Stored.{Stored, naming_of, records_of}
-use Rattle.redo_store.proofs.Verdicts.{free_without_target, verdict_by_parts}
-use Rattle.redo_store.proofs.store.Store.verdict.Goals as goal
+use Rattle.redo_store.proofs.Refusals.{free_without_target, refusal_by_parts}
+use Rattle.redo_store.proofs.store.Store.refusal.Goals as goal
 
 pub returns-in_err-t : goal.returns-in_err-t
 returns-in_err-t c =
@@ -15,20 +15,20 @@ returns-in_err-t c =
 pub returns-in-Some : goal.returns-in-Some
 returns-in-Some c =
     let now : Stored = c.args.self.now in
-    let by_cell : Some (refusal_of c.in-Some.refusal) ≡ verdict_at
+    let by_cell : Some (refusal_of c.in-Some.refusal) ≡ refusal_by_target
     (target_state (records_of now) c.in_ok-t.t) c.args.s c.args.holds (kind_of c.args.command.now) =
     rw (← c.self.view_is, ← c.kind.ensures) c.in-Some.ensures
     in
-    verdict_by_parts (naming_of now) (records_of now) c.args.s c.args.holds c.args.command.now
+    refusal_by_parts (naming_of now) (records_of now) c.args.s c.args.holds c.args.command.now
     c.in_ok-t.t (Some (refusal_of c.in-Some.refusal)) _ c.in_ok-t.ensures by_cell refl
 
 pub returns-in-None : goal.returns-in-None
 returns-in-None c =
     let now : Stored = c.args.self.now in
-    let by_cell : None ≡ verdict_at
+    let by_cell : None ≡ refusal_by_target
     (target_state (records_of now) c.in_ok-t.t) c.args.s c.args.holds (kind_of c.args.command.now) =
     rw (← c.self.view_is, ← c.kind.ensures) c.in-None.ensures
     in
-    verdict_by_parts (naming_of now) (records_of now) c.args.s c.args.holds c.args.command.now
+    refusal_by_parts (naming_of now) (records_of now) c.args.s c.args.holds c.args.command.now
     c.in_ok-t.t None (option_map refusal_of c.refusal_of_names.result) c.in_ok-t.ensures by_cell
     c.refusal_of_names.ensures

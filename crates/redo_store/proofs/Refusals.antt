@@ -10,12 +10,11 @@ use Rattle.redo_model.specs.Names.{Naming}
 use Rattle.redo_model.specs.Reply as replies
 use Rattle.redo_model.specs.State.{Records, target_state}
 use Rattle.redo_model.specs.Step.{verdict_of}
-use Rattle.redo_records.specs.Verdict as verdicts
-use Rattle.redo_records.specs.Verdict.{verdict_at, refusal_of_names}
-use Rattle.redo_records.proofs.Verdicts.{verdict_on_target}
+use Rattle.redo_records.specs.Refusals.{refusal_by_target, refusal_of_names, kind_for}
+use Rattle.redo_records.proofs.Refusals.{verdict_on_target}
 
 -- the kind of a command is that of what it means
-same_kind : (command : Command) → kind_of command ≡ verdicts.kind_of (command_of command)
+same_kind : (command : Command) → kind_of command ≡ kind_for (command_of command)
 same_kind (coded.File n stamp) = refl
 same_kind (coded.Gone n) = refl
 same_kind (coded.Lock t) = refl
@@ -38,14 +37,14 @@ module _ (naming : Naming ℕ) (r : Records ℕ) (s : ℕ) (holds : Bool) where
   free_without_target command none = grind arith
 
   -- the refusal by the target's cell, else that of the names, is the verdict
-  pub verdict_by_parts : (command : Command) (t : ℕ) (own names : Option (replies.Refusal ℕ))
+  pub refusal_by_parts : (command : Command) (t : ℕ) (own names : Option (replies.Refusal ℕ))
       → Some t ≡ target_of (command_of command)
-      → own ≡ verdict_at (target_state r t) s holds (kind_of command)
+      → own ≡ refusal_by_target (target_state r t) s holds (kind_of command)
       → names ≡ refusal_of_names naming r (command_of command)
       → option_or own names ≡ verdict_of naming r s holds (command_of command)
-  verdict_by_parts command t own names on by_cell by_names =
+  refusal_by_parts command t own names on by_cell by_names =
       ap (λ (o : Option (replies.Refusal ℕ)). option_or o names)
-      (by_cell ∙ ap (verdict_at (target_state r t) s holds) (same_kind command))
+      (by_cell ∙ ap (refusal_by_target (target_state r t) s holds) (same_kind command))
       ∙ ap (option_or
-      (verdict_at (target_state r t) s holds (verdicts.kind_of (command_of command)))) by_names
+      (refusal_by_target (target_state r t) s holds (kind_for (command_of command)))) by_names
       ∙ verdict_on_target naming r s holds (command_of command) t (sym on)

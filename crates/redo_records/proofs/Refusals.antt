@@ -6,19 +6,22 @@ use Rattle.redo_model.specs.Names.{Naming}
 use Rattle.redo_model.specs.State.{Records, TargetState, target_state}
 use Rattle.redo_model.specs.Reply.{Refusal, NotBuilding}
 use Rattle.redo_model.specs.Step.{refusal_or, is_built_by, verdict_of}
-use Rattle.redo_records.specs.Verdict.{verdict_at, refusal_of_names, kind_of}
+use Rattle.redo_records.specs.Refusals.{refusal_by_target, refusal_of_names, kind_for}
 
 or_none : {X : Type 0} (o : Option X) → option_or o None ≡ o
 or_none None = refl
 or_none (Some x) = refl
 
-or_later : {N : Type 0} (test : Bool) (refusal : Refusal N) (rest : Option (Refusal N)) → option_or (refusal_or test refusal None) rest ≡ refusal_or test refusal rest
+or_later : {N : Type 0} (test : Bool) (refusal : Refusal N) (rest : Option (Refusal N))
+    → option_or (refusal_or test refusal None) rest ≡ refusal_or test refusal rest
 or_later true refusal rest = refl
 or_later false refusal rest = refl
 
 module _ (naming : Naming ℕ) (records : Records ℕ) (s : ℕ) (holds : Bool) where
   -- by the state of its target
-  pub verdict_on_target : (command : Command ℕ) (t : ℕ) → target_of command ≡ Some t → option_or (verdict_at (target_state records t) s holds (kind_of command)) (refusal_of_names naming records command) ≡ verdict_of naming records s holds command
+  pub verdict_on_target : (command : Command ℕ) (t : ℕ) → target_of command ≡ Some t
+      → option_or (refusal_by_target (target_state records t) s holds (kind_for command))
+      (refusal_of_names naming records command) ≡ verdict_of naming records s holds command
   verdict_on_target (File n stamp) t on = refl
   verdict_on_target (Gone n) t on = refl
   verdict_on_target (Lock u) t on = refl
@@ -30,10 +33,12 @@ module _ (naming : Naming ℕ) (records : Records ℕ) (s : ℕ) (holds : Bool) 
       rw same (or_none _)
   verdict_on_target (IfChange u ns) t on =
       let same : u ≡ t = cc in
-      rw same (or_later (not (is_built_by s (target_state records t))) NotBuilding (refusal_of_names naming records (IfChange t ns)))
+      rw same (or_later (not (is_built_by s (target_state records t))) NotBuilding
+      (refusal_of_names naming records (IfChange t ns)))
   verdict_on_target (IfCreate u ns) t on =
       let same : u ≡ t = cc in
-      rw same (or_later (not (is_built_by s (target_state records t))) NotBuilding (refusal_of_names naming records (IfCreate t ns)))
+      rw same (or_later (not (is_built_by s (target_state records t))) NotBuilding
+      (refusal_of_names naming records (IfCreate t ns)))
   verdict_on_target (Always u) t on =
       let same : u ≡ t = cc in
       rw same (or_none _)
@@ -51,5 +56,7 @@ module _ (naming : Naming ℕ) (records : Records ℕ) (s : ℕ) (holds : Bool) 
   verdict_on_target Sources t on = refl
 
   -- by any state, where it has no target
-  pub verdict_without_target : (command : Command ℕ) (state : TargetState) → target_of command ≡ None → verdict_at state s holds (kind_of command) ≡ verdict_of naming records s holds command
+  pub verdict_without_target : (command : Command ℕ) (state : TargetState)
+      → target_of command ≡ None → refusal_by_target state s holds (kind_for command)
+      ≡ verdict_of naming records s holds command
   verdict_without_target command state no_target = grind arith
