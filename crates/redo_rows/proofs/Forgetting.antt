@@ -43,7 +43,7 @@ inverse_drop : (test : Seat → Bool) → IsRowTest test → (targets : List Tar
     → (target_at targets t).seats ≡ seat ∷ rest → has_seat rest seat.name ≡ false
     → FollowsOn seat.name t (test seat) false lists lists'
     → IsInverse test targets lists
-        → IsInverse test (set targets t (record { seats = rest; always = false })) lists'
+    → IsInverse test (set targets t (record { seats = rest; always = false })) lists'
 inverse_drop test blank targets t seat rest lists lists' below e none f h =
     let n : ℕ = seat.name in
     let old : TargetRows = target_at targets t in
@@ -71,8 +71,8 @@ kept_drop : (targets : List TargetRows) (t : ℕ) (seat : Seat) (rest : List Sea
     → FollowsOn seat.name t (has_change seat) false needed needed' → FollowsOn seat.name t
     (has_created seat) false awaited awaited' → m + 1 ≡ get_or seated seat.name 0
     → IsKept targets needed awaited seated
-        → IsKept (set targets t (record { seats = rest; always = false })) needed' awaited'
-        (set seated seat.name m)
+    → IsKept (set targets t (record { seats = rest; always = false })) needed' awaited'
+    (set seated seat.name m)
 kept_drop targets t seat rest needed awaited needed' awaited' seated m below e none f g less h =
     let n : ℕ = seat.name in
     let new : TargetRows = record { seats = rest; always = false } in
@@ -146,7 +146,7 @@ pub at_seat : (targets : List TargetRows) (t i : ℕ) (target : TargetRows) (sea
     → n ≡ seat.name → changed ≡ has_change seat → created ≡ has_created seat
     → AtSeat targets t i seat n changed created
 at_seat targets t i target seats seat n changed created below at is rise in' found name change
-create =
+    create =
     let e : seats ≡ (target_at targets t).seats =
     is ∙ ap (λ (x : TargetRows). x.seats) (at ∙ get_or_default targets t target bare below) in
     record {

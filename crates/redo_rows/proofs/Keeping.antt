@@ -9,7 +9,7 @@ use Rattle.std.specs.List.{Contains, insert, count_by}
 use Rattle.redo_rows.specs.Numbers.{NumberList}
 use Rattle.redo_rows.specs.Rows.{Seat, seat_at}
 use Rattle.redo_rows.specs.Target.{blank, Ascending, has_row, IsSeatOf, IsGapFor, IsKept}
-use Rattle.redo_rows.proofs.Seats.{seat_found, seat_named, none_in_gap}
+use Rattle.redo_rows.proofs.Seats.{seat_stands, seat_named, none_in_gap}
 use Rattle.redo_rows.proofs.SeatEdits.{seat_at-set, set_ascends, seat_at-insert, insert_ascends}
 
 abbrev HasRow : Seat → Type 0
@@ -51,7 +51,7 @@ kept_written seats names after n i new listed kept at same rowed is each longer 
     ap (λ b. cond (not b) 1 0) rowed in
     let old_counts : ◌≡◌ {A = ℕ} (cond (not (has_row (get_or seats i new))) 1 0) (cond listed 0 1) =
     ap (λ (seat : Seat). cond (not (has_row seat)) 1 0)
-    (seat_found seats n i new kept.ascending at).0 ∙ ap (λ b. cond (not b) 1 0) (sym is)
+    (seat_stands seats n i new kept.ascending at).0 ∙ ap (λ b. cond (not b) 1 0) (sym is)
     ∙ turned listed in
     record {
       ascending = set_ascends seats n i new kept.ascending at same;

@@ -51,9 +51,9 @@ seat_there seats k there =
     )
 
 -- the place of a name's seat gives what stands on it
-pub seat_found : (seats : List Seat) (n i : ℕ) (d : Seat) → Ascending seats → IsSeatOf seats n i
+pub seat_stands : (seats : List Seat) (n i : ℕ) (d : Seat) → Ascending seats → IsSeatOf seats n i
     → (get_or seats i d ≡ seat_at seats n) × (has_seat seats n ≡ true)
-seat_found seats n i d ascending at =
+seat_stands seats n i d ascending at =
     let found = seat_found seats i d ascending at.within in
     let named : (get_or seats i d).name ≡ n = name_read seats i d at.within ∙ at.named in
     (sym found.0 ∙ ap (seat_at seats) named, sym (ap (has_seat seats) named) ∙ found.1)

@@ -1,5 +1,5 @@
 -- Which news the seats of a target tell, by their places.
-use Rattle.std.proofs.Common.{◌≡◌, ◌≢◌, refl, ℕ, ◌<◌, Bool, true, false, List, length, get_or, sym, subst, ap, ◌∙◌, inl, inr, Option, Some, None, ◌↔◌, IsTrue, not}
+use Rattle.std.proofs.Common.{◌≡◌, ◌≢◌, refl, ℕ, ◌<◌, Bool, true, false, List, length, get_or, sym, subst, ◌∙◌, inl, inr, Option, Some, ◌↔◌, IsTrue, not}
 use Rattle.std.proofs.lemmas.Bool.{false≢true}
 use Rattle.std.proofs.lemmas.Option.{none-some, same_Some}
 use Rattle.redo_model.specs.State.{Records, Mark}

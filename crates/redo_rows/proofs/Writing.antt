@@ -157,8 +157,11 @@ inverse_seat test targets t n new lists below n_in w room h =
     (λ k off. w.room k ∙ ap (λ b. b || has_seat (target_at targets t).seats k) (ne_eqb k n off))
     (subst (λ b. FollowsOn n t row b lists lists) (sym (ap test (w.rows n)))
     (follows_on_same t n row lists ((h.each n n_in).listed t)))
-    (λ in'. omega (arith, room,
-    ap flag (w.room n ∙ ap (λ b. b || has_seat (target_at targets t).seats n) (eq-eqb n n refl))))
+    (λ in'. omega (
+      arith,
+      room,
+      ap flag (w.room n ∙ ap (λ b. b || has_seat (target_at targets t).seats n) (eq-eqb n n refl)),
+    ))
     h
 
 keeps_seat : (targets : List TargetRows) (t n : ℕ) (new : TargetRows)
@@ -169,7 +172,7 @@ keeps_seat : (targets : List TargetRows) (t n : ℕ) (new : TargetRows)
     → IsKept targets needed awaited seated
     → IsKept (set targets t new) needed awaited (set seated n m)
 keeps_seat targets t n new needed awaited seated m below n_in w none more needed_room awaited_room
-h =
+    h =
     let now : sits_on n new ≡ true =
     w.room n ∙ ap (λ b. b || has_seat (target_at targets t).seats n) (eq-eqb n n refl) in
     record {
@@ -177,9 +180,9 @@ h =
       below =
           below_set targets t new below h.below (λ k s.
           elim (or_cases (eqb k n) (has_seat (target_at targets t).seats k) (sym (w.room k) ∙ s)) [
-        | inl here ↦ subst (λ j. j < length targets) (sym (eqb-true k n here)) n_in
-        | inr old ↦ h.below t k old
-      ]);
+            | inl here ↦ subst (λ j. j < length targets) (sym (eqb-true k n here)) n_in
+            | inr old ↦ h.below t k old
+          ]);
       needs = inverse_seat has_change targets t n new needed below n_in w
           (omega (arith, needed_room, more, h.counts.each n n_in)) h.needs;
       awaits = inverse_seat has_created targets t n new awaited below n_in w
@@ -254,7 +257,7 @@ pub kept_seat : (targets now : List TargetRows) (t n : ℕ) (old new : TargetRow
     → IsKept (set targets t new) (set needed n grown_needed) (set awaited n grown_awaited)
     (set seated n (m + 1))
 kept_seat targets now t n old new needed awaited seated grown_needed grown_awaited m is t_in n_in at
-w none counted needed_room awaited_room h =
+    w none counted needed_room awaited_room h =
     let found = found_target targets now t old is t_in at in
     let name : n < length targets = subst (λ (ts : List TargetRows). n < length ts) (sym is) n_in in
     let needed_in : n < length needed =

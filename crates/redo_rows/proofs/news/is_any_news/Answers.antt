@@ -1,4 +1,4 @@
-use Rattle.std.proofs.Common.{◌≡◌, ℕ, ◌<◌, true, false, length, sym, subst, refl, arith}
+use Rattle.std.proofs.Common.{◌≡◌, true, sym, subst, refl, arith}
 use Rattle.std.proofs.lemmas.Bool.{false≢true}
 use Rattle.redo_rows.specs.Rows.{Seat, has_seat}
 use Rattle.redo_rows.specs.News.{known, HasNews}

@@ -1,4 +1,4 @@
-use Rattle.std.proofs.Common.{◌≡◌, ℕ, ◌<◌, length, subst, sym, arith}
+use Rattle.std.proofs.Common.{arith}
 use Rattle.redo_rows.proofs.Listed.{seats_below}
 use Rattle.redo_rows.proofs.rows.DepRows.has_news.Goals as goal
 

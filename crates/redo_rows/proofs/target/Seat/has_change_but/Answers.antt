@@ -1,4 +1,4 @@
-use Rattle.std.proofs.Common.{◌≡◌, Some, sym, ap, ◌∙◌, option_map}
+use Rattle.std.proofs.Common.{sym, ap, ◌∙◌, option_map}
 use Rattle.redo_records.specs.Meaning.{row_mark_of}
 use Rattle.redo_rows.specs.KeptMark.{kept_mark_of}
 use Rattle.redo_rows.specs.Rows.{Seat}

@@ -1,7 +1,7 @@
 use Rattle.std.proofs.Common.{sym, ap, ◌∙◌, subst}
 use Rattle.redo_rows.specs.Rows.{TargetRows, seat_at, has_seat}
 use Rattle.redo_rows.specs.Target.{IsSeatOf, IsGapFor}
-use Rattle.redo_rows.proofs.Seats.{seat_found, none_in_gap, nothing_stands}
+use Rattle.redo_rows.proofs.Seats.{seat_stands, none_in_gap, nothing_stands}
 use Rattle.redo_rows.proofs.target.Target.find.Goals as goal
 
 pub returns-in-Ok-clause-seat : goal.returns-in-Ok-clause-seat
@@ -9,7 +9,7 @@ returns-in-Ok-clause-seat c =
     let at =
     subst (λ seats. IsSeatOf seats c.args.n c.in-Ok.place) c.as_slice.ensures.value
     c.in-Ok.ensures.found in
-    c.index.ensures ∙ (seat_found c.self.inside.seats.items c.args.n c.in-Ok.place
+    c.index.ensures ∙ (seat_stands c.self.inside.seats.items c.args.n c.in-Ok.place
     c.index.result.now c.self.invariant.ascending at).0
     ∙ ap (λ (rows : TargetRows). seat_at rows.seats c.args.n) c.self.view_is
 

@@ -3,7 +3,7 @@ use Rattle.redo_records.specs.declared.mark.Mark.{Mark}
 use Rattle.redo_records.specs.Meaning.{row_mark_of}
 use Rattle.redo_rows.specs.Rows.{Seat, TargetRows, seat_at, has_seat}
 use Rattle.redo_rows.specs.Target.{has_row, IsSeatOf}
-use Rattle.redo_rows.proofs.Seats.{seat_found}
+use Rattle.redo_rows.proofs.Seats.{seat_stands}
 use Rattle.redo_rows.proofs.SeatEdits.{has_seat-set}
 use Rattle.redo_rows.proofs.Keeping.{row_listed, kept_written, new_named, rows_written}
 use Rattle.redo_rows.proofs.target.Target.put_change.Goals as goal
@@ -26,7 +26,7 @@ at c =
 stood : (c : After-put_change)
     → c.index_mut-seat.result.now ≡ seat_at c.self.inside.seats.items c.args.n
 stood c =
-    c.index_mut-seat.ensures.value ∙ (seat_found c.self.inside.seats.items c.args.n
+    c.index_mut-seat.ensures.value ∙ (seat_stands c.self.inside.seats.items c.args.n
     c.place_of-place.result c.index_mut-seat.result.now c.self.invariant.ascending (at c)).0
 
 stands : (c : After-put_change)

@@ -2,7 +2,7 @@ use Rattle.std.proofs.Common.{◌≡◌, ◌∙◌, ap, subst, refl, true, is_so
 use Rattle.std.proofs.lemmas.Bool.{or_right}
 use Rattle.redo_rows.specs.Rows.{Seat, TargetRows, seat_at, has_seat}
 use Rattle.redo_rows.specs.Target.{has_row, IsSeatOf}
-use Rattle.redo_rows.proofs.Seats.{seat_found}
+use Rattle.redo_rows.proofs.Seats.{seat_stands}
 use Rattle.redo_rows.proofs.SeatEdits.{has_seat-set}
 use Rattle.redo_rows.proofs.Keeping.{row_listed, kept_written, new_named, rows_written}
 use Rattle.redo_rows.proofs.target.Target.put_created.Goals as goal
@@ -25,7 +25,7 @@ at c =
 stood : (c : After-put_created)
     → c.index_mut-seat.result.now ≡ seat_at c.self.inside.seats.items c.args.n
 stood c =
-    c.index_mut-seat.ensures.value ∙ (seat_found c.self.inside.seats.items c.args.n
+    c.index_mut-seat.ensures.value ∙ (seat_stands c.self.inside.seats.items c.args.n
     c.place_of-place.result c.index_mut-seat.result.now c.self.invariant.ascending (at c)).0
 
 stands : (c : After-put_created)
