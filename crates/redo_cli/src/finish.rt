@@ -1,6 +1,6 @@
 ghost use Rattle.std.specs.Prelude.{◌≡◌, ◌++◌, IfErr, OnOk, OnErr, false, true, codes, decimal};
 ghost use Rattle.std.specs.Io.KnownBytes.{Appends, Keeps};
-ghost use Rattle.redo_command.specs.Watched.{is_faulted, inner_of};
+ghost use Rattle.redo_whole.specs.Watched.{is_faulted, inner_of};
 ghost use Rattle.redo_cli.specs.Lines.{word_of, file_name, text_line, history_line, replay_line, fault_line, said, status_of};
 
 use crate::fault::Fault;
