@@ -766,7 +766,7 @@ class Move:
              "   `specs/Meaning.antt`. `redo_text`: its form in `src/forms.rt`, its text in `src/text.rt` and `specs/Texts.antt`. The\n"
              "   table gives the keyword"),
         ]
-        paths = [p for p in sorted(tree.now) if p.endswith(".md")]
+        paths = [p for p in sorted(tree.now) if p.endswith(".md") or p == "renames.txt"]
         for old, new in changes:
             pattern = r"\s+".join(re.escape(word) for word in old.split())
             found = [(p, m) for p in paths for m in re.finditer(pattern, tree.now[p])]
@@ -775,6 +775,10 @@ class Move:
                 if "\n" in m[0] and "\n" not in new:
                     new = "\n".join(new.rsplit(" ", 1))
                 tree.now[path] = tree.now[path][:m.start()] + new + tree.now[path][m.end():]
+        for path in paths:
+            tree.now[path] = re.sub(rf"`(\w+)(!?)` of `{FROM}`", lambda m: m[0] if m[1] not in self.exports
+                                    else f"`{m[1]}{m[2]}` of `{self.src[self.exports[m[1]]]}`", tree.now[path])
+            tree.now[path] = tree.now[path].replace(f"`IsScript` of `{FROM}`'s grammar", f"`IsScript` of `{TEXT}/specs/Grammar`")
         went = {old[len("crates/"):]: new[len("crates/"):] for new, old in tree.moved.items()}
         for path in paths:
             tree.now[path] = re.sub(rf"{FROM}/(?:src|specs|proofs|must-fail)/[\w/]+\.\w+",
