@@ -203,10 +203,7 @@ def cut_script(tree):
         methods = methods.replace("≤ MOST_COMMANDS }", "≤ 4096 }")
     script = once(script, "Ok(Script { commands })", "Ok(Script::new(commands))", src + "script.rt")
     script = script.replace("use std::marker::Model;\n", "")
-    found = re.search(r"use crate::read::\{?([^;{}]*)\}?;\n", script)
-    if not found:
-        stop("script.rt: there is no line use crate::read")
-    script = script.replace(found[0], "use crate::read::read_script_line;\n")
+    script = drop_use(script, "crate::read", ["MOST_COMMANDS"])
     ghost = [line for line in script.split("\n") if line.startswith("ghost use Rattle.std.specs.Prelude.{")]
     if len(ghost) != 1:
         stop("script.rt: there isn't one import of the Prelude")
