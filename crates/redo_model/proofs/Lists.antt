@@ -1,7 +1,6 @@
 -- Lists in order, each name once: two with the same members are equal.
 use Rattle.std.proofs.Common.{◌≡◌, ◌⊎◌, ◌↔◌, Bool, true, false, cond, List, [], ◌∷◌, refl, sym, ap, ◌∙◌, subst, inl, inr, arith, suc}
 use Rattle.std.specs.List.{Contains, filter}
-use Rattle.std.proofs.lemmas.List.Kept.{AllPairs-filter}
 use Rattle.std.specs.declared.cmp.Ordering.TheVariants.{Less}
 use Rattle.redo_model.specs.Names.{Naming, Ascending, IsListed, IsNaming}
 use Rattle.redo_model.proofs.Members.{contains_first, contains_later, contains_cases, contains_none}
@@ -95,15 +94,3 @@ module _ {X : Type 0} (test : X → Bool) where
             (subst (Contains (x ∷ filter test xs)) e (contains_first x (filter test xs)))
         | inr k ↦ contains_kept (test x) x (filter test xs) n (contains_filter xs n k p)
       ]
-
--- the names among those with P that pass the test, where that tells Q
-pub IsListed-filter : {N : Type 0} (naming : Naming N) (P Q : N → Type 0) (test : N
-    → Bool) (xs : List N) → IsListed naming P xs → ((n : N) → Q n → P n × (test n ≡ true))
-    → ((n : N) → test n ≡ true → Q n) → IsListed naming Q (filter test xs)
-IsListed-filter naming P Q test xs h to from = (
-  AllPairs-filter (λ m n. naming.order m n ≡ Less) test xs h.0,
-  λ n. (
-    λ k. from n (contains_from_filter test xs n k).1,
-    λ q. let p = to n q in contains_filter test xs n ((h.1 n).1 p.0) p.1,
-  ),
-)
