@@ -19,9 +19,9 @@ kept_mark_for states.Pending = Pending
 kept_mark_for (states.File stamp) = File stamp
 kept_mark_for states.Absent = Absent
 
-pub kept_of_meaning-kept_meaning : (kept : KeptMark) → kept_mark_for (kept_mark_of kept) ≡ kept
-kept_of_meaning-kept_meaning (Digest digest) = refl
-kept_of_meaning-kept_meaning (Builds builds) = refl
-kept_of_meaning-kept_meaning Pending = refl
-kept_of_meaning-kept_meaning (File stamp) = refl
-kept_of_meaning-kept_meaning Absent = refl
+pub kept_mark_for-kept_mark_of : (kept : KeptMark) → kept_mark_for (kept_mark_of kept) ≡ kept
+kept_mark_for-kept_mark_of (Digest digest) = refl
+kept_mark_for-kept_mark_of (Builds builds) = refl
+kept_mark_for-kept_mark_of Pending = refl
+kept_mark_for-kept_mark_of (File stamp) = refl
+kept_mark_for-kept_mark_of Absent = refl

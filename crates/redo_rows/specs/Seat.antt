@@ -3,7 +3,7 @@ use Rattle.std.specs.Prelude.{◌≡◌, refl, Option, Some, None, option_map}
 use Rattle.std.proofs.Common.{ap}
 use Rattle.redo_rows.specs.declared.kept_mark.KeptMark.{KeptMark}
 use Rattle.redo_rows.specs.declared.target.Seat.TheInside.{Inside}
-use Rattle.redo_rows.specs.KeptMark.{kept_mark_of, kept_mark_for, kept_of_meaning-kept_meaning}
+use Rattle.redo_rows.specs.KeptMark.{kept_mark_of, kept_mark_for, kept_mark_for-kept_mark_of}
 use Rattle.redo_rows.specs.Rows.{Seat}
 
 abbrev pub seat_of : Inside → Seat
@@ -24,7 +24,7 @@ fields_for seat = record {
 given_back : (change : Option KeptMark)
     → option_map kept_mark_for (option_map kept_mark_of change) ≡ change
 given_back None = refl
-given_back (Some kept) = ap Some (kept_of_meaning-kept_meaning kept)
+given_back (Some kept) = ap Some (kept_mark_for-kept_mark_of kept)
 
 -- a seat's meaning gives its fields back
 pub fields_for-seat_of : (seat : Inside) → fields_for (seat_of seat) ≡ seat
