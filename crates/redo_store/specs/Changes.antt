@@ -18,7 +18,8 @@ HasEffectOfAny old new command = (s : ℕ) → HasEffect old new s command
 
 -- over these cells, the new rows are what the command makes of the old ones, whichever session's
 -- it is
-pub record AreRowsAfter (cells : List Cell) (old new : List TargetRows) (command : Command ℕ) : Type 0 where
+pub record AreRowsAfter (cells : List Cell) (old new : List TargetRows)
+    (command : Command ℕ) : Type 0 where
   pub effect : (s : ℕ) → with_rows cells new ≡ effect_of by_number (with_rows cells old) s command
 
 -- what the store knew, with this file of the name, or with none

@@ -92,7 +92,8 @@ impl Redo {
         ensures after { OnOk result (state_of self.new ≡ after (numbers (tables_order self.old))
             (state_of self.old) session (command_of command.now)) }
         ensures calls { OnOk result (calls_of self.new ≡ calls_of self.old + 1) }
-        ensures below { IfOk result (λ reply. IsReplyBelow (tables_count self.old) (reply_of reply)) }
+        ensures below { IfOk result
+            (λ reply. IsReplyBelow (tables_count self.old) (reply_of reply)) }
         ensures count { tables_count self.new ≡ tables_count self.old }
         ensures order { tables_order self.new ≡ tables_order self.old }
         ensures err { OnErr result (IsAsBefore self.old self.new) }
@@ -125,8 +126,8 @@ impl Redo {
     fn lock(&mut self, session: u8, t: u32) -> Reply
         requires number { t < tables_count self.old }
         requires grants { HasGrantsLeft self.old }
-        ensures answers { Answers (tables_naming self.old) (state_of self.old) session (commands.Lock t)
-            (reply_of result) }
+        ensures answers { Answers (tables_naming self.old) (state_of self.old) session
+            (commands.Lock t) (reply_of result) }
         ensures after { state_of self.new
             ≡ after (tables_naming self.old) (state_of self.old) session (commands.Lock t) }
         ensures below { IsReplyBelow (tables_count self.old) (reply_of result) }
@@ -176,7 +177,8 @@ impl Redo {
         ensures after { OnOk result (state_of self.new
             ≡ after (tables_naming self.old) (state_of self.old) session (command_of command.now)) }
         ensures calls { OnOk result (calls_of self.new ≡ calls_of self.old + 1) }
-        ensures below { IfOk result (λ reply. IsReplyBelow (tables_count self.old) (reply_of reply)) }
+        ensures below { IfOk result
+            (λ reply. IsReplyBelow (tables_count self.old) (reply_of reply)) }
         ensures count { tables_count self.new ≡ tables_count self.old }
         ensures order { tables_order self.new ≡ tables_order self.old }
         ensures err { OnErr result (IsAsBefore self.old self.new) }
@@ -195,8 +197,9 @@ impl Redo {
         requires numbers { IsBelow (tables_count self.old) (command_of command.now) }
         requires no_lock { asked_lock (command_of command.now) ≡ None }
         requires calls { calls_of self.old + 1 < 2 ^ 32 }
-        ensures records { OnOk result (tables_records self.new ≡ records_after (tables_naming self.old)
-            (tables_records self.old) session holds (command_of command.now)) }
+        ensures records { OnOk result (tables_records self.new
+            ≡ records_after (tables_naming self.old) (tables_records self.old) session holds
+            (command_of command.now)) }
         ensures locks { locks_of self.new ≡ locks_of self.old }
         ensures calls { OnOk result (calls_of self.new ≡ calls_of self.old + 1) }
         ensures count { tables_count self.new ≡ tables_count self.old }

@@ -14,5 +14,6 @@ returns-in-Some-clause-after c =
     ≡ after (tables_naming old) (state_of old) c.args.session (Lock c.in-Some.t) =
     subst (λ (t : Tables). state_of c.lock.new.self ≡ after (tables_naming t) (state_of t)
     c.args.session (Lock c.in-Some.t)) c.count_call.ensures.after c.lock.ensures.after in
-    subst (λ (asked : Command ℕ). state_of c.lock.new.self ≡ after (tables_naming old) (state_of old)
+    subst
+    (λ (asked : Command ℕ). state_of c.lock.new.self ≡ after (tables_naming old) (state_of old)
     c.args.session asked) (sym (lock_asked command c.in-Some.t (sym c.in-Some.ensures))) counted

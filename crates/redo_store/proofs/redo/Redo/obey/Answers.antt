@@ -31,4 +31,5 @@ returns-clause-after c =
     obeyed old c.args.session c.holds_target-holds.result new command reply c.requires.no_lock
     c.holds_target-holds.ensures replies
     (same_records ∙ c.in_ok-apply.ensures.records)
-    (locks ∙ ap (λ l. freed (tables_naming old) l (freed_by command reply)) c.in_ok-apply.ensures.locks)
+    (locks
+    ∙ ap (λ l. freed (tables_naming old) l (freed_by command reply)) c.in_ok-apply.ensures.locks)

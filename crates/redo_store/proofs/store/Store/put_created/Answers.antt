@@ -13,4 +13,5 @@ invariant_of-self c =
     c.refresh.ensures.count c.refresh.ensures.right
 
 pub returns-clause-after : goal.returns-clause-after
-returns-clause-after c s = rw (← c.self.view_is) ((c.create_each.ensures.after c.self.inside.records).effect s)
+returns-clause-after c s =
+    rw (← c.self.view_is) ((c.create_each.ensures.after c.self.inside.records).effect s)
