@@ -1,21 +1,33 @@
-//! Readers and writers that fail.
+//! Readers and writers that fail once, and then work. They count what they are asked.
+use std::alloc::Global;
 use std::io;
 use std::io::{Error, ErrorKind, Read, Write};
 
-/// Gives `left` bytes `x`, one a read, and fails at the read numbered `fails_at`, counted from 0.
+/// Gives `left` bytes `x`, one a read. The read numbered `fails_at`, counted from 0, fails.
 #[derive(Drop)]
 pub(crate) struct FailingReader {
     pub left: usize,
-    pub reads: usize,
     pub fails_at: usize,
+    pub reads: usize,
+}
+
+impl FailingReader {
+    pub(crate) fn new(left: usize, fails_at: usize) -> FailingReader {
+        FailingReader {
+            left,
+            fails_at,
+            reads: 0,
+        }
+    }
 }
 
 impl Read for FailingReader {
     fn read(&mut self, buf: &mut [u8]) -> io::Result<usize> {
-        if self.reads >= self.fails_at {
+        let read = self.reads;
+        self.reads = read.saturating_add(1);
+        if read == self.fails_at {
             return Err(Error::from(ErrorKind::Other));
         }
-        self.reads = self.reads.saturating_add(1);
         if self.left == 0 || buf.is_empty() {
             return Ok(0);
         }
@@ -25,26 +37,54 @@ impl Read for FailingReader {
     }
 }
 
-/// Takes `room` bytes. A later write fails, or takes none where `fails` is false. A flush fails.
+/// Takes `room` bytes. The next write fails, or takes none where `fails` is false, and later ones
+/// take all. The first flush fails.
 #[derive(Drop)]
-pub(crate) struct FullWriter {
+pub(crate) struct FailingWriter {
     pub taken: Vec<u8>,
-    pub room: usize,
+    pub room: Option<usize>,
     pub fails: bool,
+    pub writes: usize,
+    pub flushes: usize,
 }
 
-impl Write for FullWriter {
+impl FailingWriter {
+    pub(crate) fn new(alloc: Global, room: usize, fails: bool) -> FailingWriter {
+        FailingWriter {
+            taken: Vec::new(alloc),
+            room: Some(room),
+            fails,
+            writes: 0,
+            flushes: 0,
+        }
+    }
+}
+
+impl Write for FailingWriter {
     fn write(&mut self, buf: &[u8]) -> io::Result<usize> {
-        let most = self.room.min(buf.len());
-        if most == 0 && self.fails {
-            return Err(Error::from(ErrorKind::Other));
+        self.writes = self.writes.saturating_add(1);
+        let Some(room) = self.room else {
+            return self.taken.write(buf);
+        };
+        let most = room.min(buf.len());
+        if most == 0 {
+            self.room = None;
+            return if self.fails {
+                Err(Error::from(ErrorKind::Other))
+            } else {
+                Ok(0)
+            };
         }
         let count = self.taken.write(&buf[..most])?;
-        self.room -= count;
+        self.room = Some(room - count);
         Ok(count)
     }
 
     fn flush(&mut self) -> io::Result<()> {
-        Err(Error::from(ErrorKind::Other))
+        self.flushes = self.flushes.saturating_add(1);
+        if self.flushes == 1 {
+            return Err(Error::from(ErrorKind::Other));
+        }
+        Ok(())
     }
 }
