@@ -62,9 +62,12 @@ impl Holds {
 
     /// Whether each hold has held a session until its second moment had come.
     pub(crate) fn are_met(&self) -> bool {
-        self.holds
-            .iter()
-            .all(|hold| hold.is_met.load(Ordering::SeqCst) != 0)
+        for hold in &self.holds {
+            if hold.is_met.load(Ordering::SeqCst) == 0 {
+                return false;
+            }
+        }
+        true
     }
 
     pub(crate) fn ready_calls(&self) -> u64 {

@@ -16,15 +16,9 @@ mod plans;
 #[cfg(test)]
 mod refusals;
 #[cfg(test)]
-mod runs;
-#[cfg(test)]
 mod schedules;
 #[cfg(test)]
 mod seats;
-#[cfg(test)]
-mod threads;
-#[cfg(test)]
-mod two_threads;
 #[cfg(test)]
 mod whole_runs;
 #[cfg(test)]

@@ -2,20 +2,18 @@
 ghost use Rattle.std.specs.Prelude.{length, IfOk};
 ghost use Rattle.redo_board.specs.Kept.{IsBoardOf, SitsAt, IsFreshOf};
 
-use crate::gates::Holds;
-use crate::histories::history_of;
-use crate::outcomes::{is_right, ran};
+use crate::histories::{history_of, replays};
+use crate::outcomes::{ran, tries_of};
 use crate::plans::plan_of;
 use crate::seats::close;
-use crate::threads::journals_of;
 use crate::worked::{COMMON_PATH, COMMON_PATH_HISTORY, LOST_TRY, LOST_TRY_HISTORY, lost_try};
 use crate::workers::work;
 use redo_board::{Board, Open, Seat};
 use redo_journal::{Journal, Plan};
-use redo_session::RunFault;
+use redo_session::{Outcome, RunFault};
 use std::alloc::{AllocError, Global};
 use std::process::Abort;
-use std::test::Fail;
+use std::sync::Wait;
 use std::thread::Threads;
 
 /// The plan of these files. Where a request is refused, the next try succeeds.
@@ -38,69 +36,55 @@ fn opened(alloc: Global, plan: &Plan) -> Result<(Board, Seat), AllocError>
     }
 }
 
-/// The journals have this history. Where a request is refused, the next try succeeds.
-fn check_history(
+/// The journals' history. Where a request is refused, the next try succeeds.
+fn merged(
     rt: &impl Abort,
     alloc: Global,
     plan: &Plan,
     journals: &[Journal],
-    want: &str,
-) -> Result<(), Fail> {
-    let history = match history_of(rt, alloc, plan, journals) {
-        Ok(history) => history,
-        Err(_) => history_of(rt, alloc, plan, journals)?,
-    };
-    assert_eq!(rt; str::from_utf8(&history)?, want);
+) -> Result<Vec<u8>, AllocError> {
+    match history_of(rt, alloc, plan, journals) {
+        Ok(history) => Ok(history),
+        Err(_) => history_of(rt, alloc, plan, journals),
+    }
+}
+
+#[test]
+fn every_request_refused(rt: HostRuntime) -> Result<(), AllocError> {
+    let alloc = rt.alloc();
+    let plan = planned(&rt, alloc, &[COMMON_PATH])?;
+    assert!(rt; plan.scripts().len() == 1);
+    let (board, seat) = opened(alloc, &plan)?;
+    let (seat, journal) = work(&rt, alloc, &board, &plan, &Open, seat)?;
+    assert!(rt; close(board, &plan, seat) == 7 && journal.tries == 7);
+    let history = merged(&rt, alloc, &plan, &[journal])?;
+    assert!(rt; history.as_slice() == COMMON_PATH_HISTORY.as_bytes());
     Ok(())
 }
 
-#[test]
-fn every_request_refused(rt: HostRuntime) -> Result<(), Fail> {
-    let alloc = rt.alloc();
-    let plan = planned(&rt, alloc, &[COMMON_PATH])?;
-    assert_eq!(rt; plan.scripts().len(), 1);
-    let (board, seat) = opened(alloc, &plan)?;
-    let (seat, journal) = work(&rt, alloc, &board, &plan, &Open, seat)?;
-    assert_eq!(rt; close(board, &plan, seat), 7);
-    assert_eq!(rt; journal.tries, 7);
-    check_history(&rt, alloc, &plan, &[journal], COMMON_PATH_HISTORY)
-}
-
-/// The gate of the lost try. Where a request is refused, the next try succeeds.
-fn gated(alloc: Global) -> Result<Holds, AllocError> {
-    match lost_try(alloc) {
-        Ok(gate) => Ok(gate),
-        Err(_) => lost_try(alloc),
-    }
-}
-
-/// The journals of the lost try, where it came so: without a thread of its own, a session waits in
-/// vain for the other.
-fn lost_journals<R: Threads + Abort + Sync>(
+/// The run of the lost try, where it came so.
+fn lost<R: Threads + Wait + Abort + Sync>(
     rt: &R,
     alloc: Global,
     plan: &Plan,
-) -> Result<Option<Vec<Journal>>, AllocError> {
-    let gate = gated(alloc)?;
-    let journals = journals_of(rt, alloc, plan, &gate)?;
-    if !gate.are_met() {
-        return Ok(None);
-    }
-    assert_eq!(rt; gate.ready_calls(), 6);
-    Ok(Some(journals))
+) -> Result<(Outcome, Vec<u8>), RunFault> {
+    let gate = lost_try(alloc)?;
+    let left = ran(rt, alloc, plan, &gate)?;
+    assert!(rt; gate.are_met() && gate.ready_calls() == 6);
+    Ok(left)
 }
 
 #[test]
-fn refused_after_the_lost_row(rt: HostRuntime) -> Result<(), Fail> {
+fn refused_after_the_lost_row(rt: HostRuntime) -> Result<(), RunFault> {
     let alloc = rt.alloc();
     let plan = planned(&rt, alloc, &LOST_TRY)?;
-    let journals = match lost_journals(&rt, alloc, &plan) {
-        Ok(Some(journals)) => journals,
-        _ => lost_journals(&rt, alloc, &plan)?.ok_or("a session waited too long")?,
+    let (outcome, history) = match lost(&rt, alloc, &plan) {
+        Ok(left) => left,
+        Err(RunFault::Memory) => lost(&rt, alloc, &plan)?,
     };
-    let tries = journals.iter().map(|journal| journal.tries);
-    assert!(rt; tries.eq([6, 5]));
-    check_history(&rt, alloc, &plan, &journals, LOST_TRY_HISTORY)
+    assert!(rt; tries_of(&outcome.journals, 0) == 6 && tries_of(&outcome.journals, 1) == 5);
+    assert!(rt; history.as_slice() == LOST_TRY_HISTORY.as_bytes());
+    Ok(())
 }
 
 /// Two sessions that want one target.
@@ -112,15 +96,15 @@ const TWO_SESSIONS: [&str; 2] = [
 /// Where a request or the start of a thread is refused, a run answers that, and the next one
 /// succeeds.
 #[test]
-fn run_with_each_request_refused(rt: HostRuntime) -> Result<(), Fail> {
+fn run_with_each_request_refused(rt: HostRuntime) -> Result<(), RunFault> {
     let alloc = rt.alloc();
     let plan = planned(&rt, alloc, &TWO_SESSIONS)?;
-    let (outcome, history) = match ran(&rt, alloc, &plan, &Open) {
+    let (_outcome, history) = match ran(&rt, alloc, &plan, &Open) {
         Ok(left) => left,
         Err(RunFault::Memory) => ran(&rt, alloc, &plan, &Open)?,
     };
-    match is_right(&rt, alloc, &plan, &TWO_SESSIONS, &outcome, &history) {
+    match replays(&rt, alloc, &history, 13) {
         Ok(()) => Ok(()),
-        Err(AllocError) => Ok(is_right(&rt, alloc, &plan, &TWO_SESSIONS, &outcome, &history)?),
+        Err(_) => Ok(replays(&rt, alloc, &history, 13)?),
     }
 }

@@ -129,7 +129,7 @@ fn journals_of(
     }
     journals.reverse();
     let rows = close(board, plan, all);
-    assert_eq!(rt; rows, rows_in(&journals));
+    assert!(rt; rows == rows_in(&journals));
     Ok(journals)
 }
 
@@ -162,17 +162,18 @@ fn check_plan(rt: &impl Abort, alloc: Global, files: &[&str]) -> Result<usize, F
     Err("more schedules".into())
 }
 
+/// The plan has so many schedules.
+fn has_schedules<R: Abort + AllocGlobal>(rt: &R, files: &[&str], count: usize) -> Result<(), Fail> {
+    assert!(rt; check_plan(rt, rt.alloc(), files)? == count);
+    Ok(())
+}
+
 #[test]
 fn every_schedule(rt: HostRuntime) -> Result<(), Fail> {
-    let alloc = rt.alloc();
-    let mut counts = Vec::new(alloc);
-    for files in PLANS {
-        counts.push(check_plan(&rt, alloc, files)?)?;
-    }
     // 12! / (6! 6!) twice, 10! / (4! 3! 3!), 9! / (3! 3! 3!) and 8! / (2! 2! 2! 2!)
-    assert_eq!(rt;
-        counts.as_slice(),
-        [924, 924, 4_200, 1_680, 2_520].as_slice()
-    );
-    Ok(())
+    has_schedules(&rt, PLANS[0], 924)?;
+    has_schedules(&rt, PLANS[1], 924)?;
+    has_schedules(&rt, PLANS[2], 4_200)?;
+    has_schedules(&rt, PLANS[3], 1_680)?;
+    has_schedules(&rt, PLANS[4], 2_520)
 }

@@ -1,65 +1,64 @@
 //! Runs of whole plans, each session on a thread of its own.
 use crate::gates::{Hold, Holds, Moment};
-use crate::outcomes::{is_right, ran};
+use crate::histories::{replays, rows_in};
+use crate::outcomes::{ran, tries_of};
 use crate::plans::plan_of;
-use crate::two_threads::{FILES, HISTORY_A, HISTORY_B, held_until};
-use crate::worked::{BUSY, BUSY_HISTORY, COMMON_PATH, LOST_TRY, LOST_TRY_HISTORY, busy, lost_try};
+use crate::worked::{
+    BUSY, BUSY_HISTORY, COMMON_PATH, FILES, HISTORY_A, HISTORY_B, LOST_TRY, LOST_TRY_HISTORY, busy,
+    held_until, lost_try,
+};
 use redo_board::Open;
-use redo_session::Outcome;
-use std::alloc::{AllocError, Global};
+use redo_session::{Outcome, RunFault};
 use std::process::Abort;
 use std::sync::Wait;
-use std::test::Fail;
 use std::thread::Threads;
 
-/// Under the gate a run of these files has this history, each hold is met, and what it left is
-/// right.
+/// Under the gate a run of these files has this history, and each hold is met.
 fn has_history<R: Threads + Wait + Abort + AllocGlobal + Sync>(
     rt: &R,
     files: &[&str],
     gate: &Holds,
     want: &str,
-) -> Result<Outcome, Fail> {
+) -> Result<Outcome, RunFault> {
     let alloc = rt.alloc();
     let plan = plan_of(rt, alloc, files)?;
     let (outcome, history) = ran(rt, alloc, &plan, gate)?;
     assert!(rt; gate.are_met());
-    assert_eq!(rt; str::from_utf8(&history)?, want);
-    is_right(rt, alloc, &plan, files, &outcome, &history)?;
+    assert!(rt; history.as_slice() == want.as_bytes(), "{history:?}");
     Ok(outcome)
 }
 
+/// A session that is held until the other one's command is done comes second.
 #[test]
-fn gate_a(rt: HostRuntime) -> Result<(), Fail> {
+fn gate_a(rt: HostRuntime) -> Result<(), RunFault> {
     has_history(&rt, &FILES, &held_until(rt.alloc(), 0, 1)?, HISTORY_A)?;
     Ok(())
 }
 
 #[test]
-fn gate_b(rt: HostRuntime) -> Result<(), Fail> {
+fn gate_b(rt: HostRuntime) -> Result<(), RunFault> {
     has_history(&rt, &FILES, &held_until(rt.alloc(), 1, 0)?, HISTORY_B)?;
     Ok(())
 }
 
 #[test]
-fn lost_try_changes_the_reply(rt: HostRuntime) -> Result<(), Fail> {
+fn lost_try_changes_the_reply(rt: HostRuntime) -> Result<(), RunFault> {
     let gate = lost_try(rt.alloc())?;
     let outcome = has_history(&rt, &LOST_TRY, &gate, LOST_TRY_HISTORY)?;
-    let tries = outcome.journals.iter().map(|journal| journal.tries);
-    assert!(rt; tries.eq([6, 5]));
-    assert_eq!(rt; gate.ready_calls(), 6);
+    assert!(rt; tries_of(&outcome.journals, 0) == 6 && tries_of(&outcome.journals, 1) == 5);
+    assert!(rt; gate.ready_calls() == 6);
     Ok(())
 }
 
 #[test]
-fn busy_across_a_release(rt: HostRuntime) -> Result<(), Fail> {
+fn busy_across_a_release(rt: HostRuntime) -> Result<(), RunFault> {
     has_history(&rt, &BUSY, &busy(rt.alloc())?, BUSY_HISTORY)?;
     Ok(())
 }
 
 /// The second session finds the lock held, and gets it after the release.
 #[test]
-fn merging(rt: HostRuntime) -> Result<(), Fail> {
+fn merging(rt: HostRuntime) -> Result<(), RunFault> {
     let gate = Holds::new(vec![in rt.alloc();
         Hold::new(Moment::Before(1, 0), Moment::After(0, 0)),
         Hold::new(Moment::Before(0, 1), Moment::After(1, 0)),
@@ -77,7 +76,7 @@ fn merging(rt: HostRuntime) -> Result<(), Fail> {
 
 /// Sessions without a command.
 #[test]
-fn empty_input(rt: HostRuntime) -> Result<(), Fail> {
+fn empty_input(rt: HostRuntime) -> Result<(), RunFault> {
     let gate = Holds::new(Vec::new(rt.alloc()));
     has_history(&rt, &[""], &gate, "history 0\n")?;
     has_history(&rt, &["", ""], &gate, "history 0\n")?;
@@ -89,7 +88,7 @@ fn empty_input(rt: HostRuntime) -> Result<(), Fail> {
 /// Sessions that share no name, whose commands take turns. Nothing orders their locks, so that in
 /// the history all of the first come first.
 #[test]
-fn common_path_beside_own_lock(rt: HostRuntime) -> Result<(), Fail> {
+fn common_path_beside_own_lock(rt: HostRuntime) -> Result<(), RunFault> {
     let gate = Holds::new(vec![in rt.alloc();
         Hold::new(Moment::Before(1, 0), Moment::After(0, 1)),
         Hold::new(Moment::Before(0, 2), Moment::After(1, 0)),
@@ -112,43 +111,33 @@ fn common_path_beside_own_lock(rt: HostRuntime) -> Result<(), Fail> {
     Ok(())
 }
 
-/// The file of a session that asks for a target of all sessions, and builds one of its own.
-fn file_of(alloc: Global, session: usize) -> Result<String, AllocError> {
-    let mut file = String::new(alloc);
-    write!(
-        file,
-        "file f{session} 1\n\
-        lock t\n\
-        start t\n\
-        ifchange t f{session}\n\
-        done t {session}\n\
-        unlock t\n\
-        lock o{session}\n\
-        start o{session}\n\
-        ifchange o{session} t f{session}\n\
-        done o{session} 1\n\
-        unlock o{session}\n\
-        ood\n"
-    )?;
-    Ok(file)
+/// What a run of these files leaves replays as the same, with so many lines. Answers how many of
+/// them are at rows.
+fn runs_freely<R: Threads + Wait + Abort + AllocGlobal + Sync>(
+    rt: &R,
+    files: &[&str],
+    lines: usize,
+) -> Result<usize, RunFault> {
+    let alloc = rt.alloc();
+    let plan = plan_of(rt, alloc, files)?;
+    let (outcome, history) = ran(rt, alloc, &plan, &Open)?;
+    replays(rt, alloc, &history, lines)?;
+    assert!(rt; outcome.journals.len() == files.len());
+    Ok(rows_in(&outcome.journals))
 }
+
+#[test]
+fn two_seats(rt: HostRuntime) -> Result<(), RunFault> {
+    assert!(rt; runs_freely(&rt, &FILES, 2)? == 2);
+    Ok(())
+}
+
+/// The file of each of many sessions: all build one target.
+const BUILD: &str = "file a 1\nlock t\nstart t\nifchange t a\ndone t 1\nunlock t\nood\n";
 
 /// As many sessions as a plan has at most.
 #[test]
-fn most_sessions(rt: HostRuntime) -> Result<(), Fail> {
-    let alloc = rt.alloc();
-    let mut texts = Vec::new(alloc);
-    for session in 1..=64 {
-        texts.push(file_of(alloc, session)?)?;
-    }
-    let mut files: Vec<&str> = Vec::new(alloc);
-    for text in &texts {
-        files.push(text.as_str())?;
-    }
-    let plan = plan_of(&rt, alloc, &files)?;
-    let (outcome, history) = ran(&rt, alloc, &plan, &Open)?;
-    assert_eq!(rt; outcome.journals.len(), 64);
-    assert!(rt; history.starts_with(b"history 768\n".as_slice()));
-    is_right(&rt, alloc, &plan, &files, &outcome, &history)?;
+fn most_sessions(rt: HostRuntime) -> Result<(), RunFault> {
+    runs_freely(&rt, &[BUILD; 64], 448)?;
     Ok(())
 }

@@ -1,9 +1,21 @@
-//! Runs whose history is written down.
+//! Runs whose history is written down: their files, their gates, and what comes of them.
 use crate::gates::{Hold, Holds, Moment};
-use crate::plans::plan_of;
-use crate::threads::have_history;
 use std::alloc::{AllocError, Global};
-use std::test::Fail;
+
+/// Two sessions of one command each.
+pub(crate) const FILES: [&str; 2] = ["file a 1\n", "file b 1\n"];
+
+/// What comes of them where the first session is held.
+pub(crate) const HISTORY_A: &str = "history 2\n2 file b 1 => ok\n1 file a 1 => ok\n";
+
+/// What comes of them where the second session is held.
+pub(crate) const HISTORY_B: &str = "history 2\n1 file a 1 => ok\n2 file b 1 => ok\n";
+
+/// A session is held until the other one's command is done.
+pub(crate) fn held_until(alloc: Global, held: u8, other: u8) -> Result<Holds, AllocError> {
+    let hold = Hold::new(Moment::Before(held, 0), Moment::After(other, 0));
+    Ok(Holds::new(vec![in alloc; hold]?))
+}
 
 /// One session, which builds a target and asks for the lists.
 pub(crate) const COMMON_PATH: &str =
@@ -49,18 +61,6 @@ pub(crate) fn lost_try(alloc: Global) -> Result<Holds, AllocError> {
     ]?))
 }
 
-#[test]
-fn lost_try_changes_the_reply(rt: HostRuntime) -> Result<(), Fail> {
-    let alloc = rt.alloc();
-    let plan = plan_of(&rt, alloc, &LOST_TRY)?;
-    let gate = lost_try(alloc)?;
-    let journals = have_history(&rt, alloc, &plan, &gate, LOST_TRY_HISTORY)?;
-    let tries = journals.iter().map(|journal| journal.tries);
-    assert!(rt; tries.eq([6, 5]));
-    assert_eq!(rt; gate.ready_calls(), 6);
-    Ok(())
-}
-
 /// Three sessions that want one lock.
 pub(crate) const BUSY: [&str; 3] = [
     "lock t\nunlock t\n",
@@ -86,12 +86,4 @@ pub(crate) fn busy(alloc: Global) -> Result<Holds, AllocError> {
         Hold::new(Moment::Before(1, 1), Moment::After(2, 0)),
         Hold::new(Moment::Before(2, 1), Moment::After(1, 1)),
     ]?))
-}
-
-#[test]
-fn busy_across_a_release(rt: HostRuntime) -> Result<(), Fail> {
-    let alloc = rt.alloc();
-    let plan = plan_of(&rt, alloc, &BUSY)?;
-    have_history(&rt, alloc, &plan, &busy(alloc)?, BUSY_HISTORY)?;
-    Ok(())
 }
