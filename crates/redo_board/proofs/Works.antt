@@ -9,7 +9,7 @@ use Rattle.redo_model.specs.Renaming.{IsBelow, AllBelow}
 use Rattle.redo_model.specs.Placed.{Place}
 use Rattle.redo_model.specs.Journals.{Numbered, numbered}
 use Rattle.redo_command.specs.Meaning.{reply_of}
-use Rattle.redo_store.specs.Stored.{Stored}
+use Rattle.redo_store.specs.Stored.{Stored, count_of}
 use Rattle.redo_journal.specs.Plans.{PlanOf, IsPlan, script_of}
 use Rattle.redo_journal.specs.Journals.{place_of, line_told}
 use Rattle.redo_journal.specs.declared.entry.Entry.{Entry}
@@ -50,6 +50,11 @@ pub next_below : (p : PlanOf) (w : Worker) (n : Numbered ℕ) → Works p w → 
 next_below p w n k is =
     subst (IsBelow (length p.names)) (sym (named_next p w n is).command)
     (command_below p w.session n.number (plan_is p w k))
+
+pub store_below : (p : PlanOf) (w : Worker) (n : Numbered ℕ) → Works p w → next_by p w ≡ Some n
+    → IsBelow (count_of w.store) n.command
+store_below p w n k is =
+    subst (λ m. IsBelow m n.command) (sym k.lags.count) (next_below p w n k is)
 
 pub target_low : (p : PlanOf) (w : Worker) (n : Numbered ℕ) (t : ℕ) → Works p w
     → next_by p w ≡ Some n → names_in n.command ≡ t ∷ [] → t < length p.names

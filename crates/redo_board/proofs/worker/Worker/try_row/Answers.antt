@@ -1,11 +1,10 @@
 use Rattle.std.proofs.Common.{◌≡◌, ℕ, ◌+◌, ◌*◌, ◌<◌, ◌∷◌, [], ◌++◌, length, List, arith, refl, sym, ap, ◌∙◌, subst, None, Some, Bool}
 use Rattle.std.proofs.lemmas.List.{length_push}
-use Rattle.redo_model.specs.Command.{asked_lock}
+use Rattle.redo_model.specs.Command.{Command, asked_lock}
 use Rattle.redo_model.specs.Placed.{Row}
-use Rattle.redo_model.specs.Renaming.{IsBelow}
 use Rattle.redo_model.specs.Journals.{Numbered}
 use Rattle.redo_model.specs.Step.{records_after}
-use Rattle.redo_store.specs.Stored.{records_of, naming_of, count_of}
+use Rattle.redo_store.specs.Stored.{records_of, naming_of}
 use Rattle.redo_command.specs.Meaning.{command_of, reply_of}
 use Rattle.redo_journal.specs.Plans.{PlanOf}
 use Rattle.redo_board.specs.Rows.{rows_of}
@@ -21,9 +20,12 @@ use Rattle.redo_board.proofs.Steps.{tries_as, won_goes, room}
 use Rattle.redo_board.proofs.Stores.{says, lags_few, lags_won}
 use Rattle.redo_board.proofs.Told.{way-row}
 use Rattle.redo_board.proofs.Briefs.{ready_said}
-use Rattle.redo_board.proofs.Works.{few_words, plan_is, named_next, next_below, own_below, own_has, entered, both_on, works_lost, waits_lost}
+use Rattle.redo_board.proofs.Works.{few_words, plan_is, named_next, store_below, own_below, own_has, entered, both_on, works_lost, waits_lost}
 use Rattle.redo_board.proofs.worker.Worker.try_row.Goals as goal
 use Rattle.redo_board.proofs.worker.Worker.try_row.Goals.{After-enter}
+
+abbrev asked : ℕ → Command ℕ → Numbered ℕ
+asked number x = record { number = number; command = x }
 
 -- there is a row for the command
 there : (p : PlanOf) (w : Worker) (n : Numbered ℕ) → Works p w → next_by p w ≡ Some n
@@ -48,15 +50,14 @@ compare_exchange-found-requires c =
     let b = c.requires.belongs.0 in
     let k = c.requires.belongs.1 in
     let x = command_of c.args.command.now in
-    let n : Numbered ℕ = record { number = c.args.number; command = x } in
+    let n = asked c.args.number x in
     let is-next = c.requires.command.next in
     let near = there p w n k.works is-next c.requires.way in
     let holds : c.has-holds.result ≡ own (journal_of p w) x =
     c.has-holds.ensures ∙ own_has p w n k.works is-next in
     let no-lock : asked_lock x ≡ None =
     way-row x (own (journal_of p w) x) (own_build (journal_of p w) x) c.requires.way in
-    let below : IsBelow (count_of w.store) x =
-    subst (λ m. IsBelow m x) (sym k.works.lags.count) (next_below p w n k.works is-next) in
+    let below = store_below p w n k.works is-next in
     let some = ready_said w x c.args.list no-lock below c.requires.ready in (
       k.table,
       (let x = b.words in omega arith),
@@ -76,8 +77,7 @@ compare_exchange-found-requires c =
 pub overflow_add-self : goal.overflow_add-self
 overflow_add-self c =
     let p = c.args.plan.now in
-    let n : Numbered ℕ =
-    record { number = c.args.number; command = command_of c.args.command.now } in
+    let n = asked c.args.number (command_of c.args.command.now) in
     let near = there p c.args.self.now n c.requires.belongs.1.works c.requires.command.next
     c.requires.way in
     let a = few_words p c.args.board.now c.requires.belongs.0 in
@@ -86,27 +86,21 @@ overflow_add-self c =
 
 pub returns-then-found-ne0-clause-row : goal.returns-then-found-ne0-clause-row
 returns-then-found-ne0-clause-row c =
-    let n : Numbered ℕ =
-    record { number = c.args.number; command = command_of c.args.command.now } in
+    let n = asked c.args.number (command_of c.args.command.now) in
     there c.args.plan.now c.args.self.now n c.requires.belongs.1.works c.requires.command.next
     c.requires.way
 
 pub returns-clause-row : goal.returns-clause-row
 returns-clause-row c =
-    let n : Numbered ℕ =
-    record { number = c.args.number; command = command_of c.args.command.now } in
+    let n = asked c.args.number (command_of c.args.command.now) in
     there c.args.plan.now c.args.self.now n c.requires.belongs.1.works c.requires.command.next
     c.requires.way
 
 pub apply-requires-clause-numbers : goal.apply-requires-clause-numbers
 apply-requires-clause-numbers c =
-    let p = c.args.plan.now in
-    let w = c.args.self.now in
-    let k = c.requires.belongs.1.works in
-    let n : Numbered ℕ =
-    record { number = c.args.number; command = command_of c.args.command.now } in
-    subst (λ m. IsBelow m n.command) (sym k.lags.count)
-    (next_below p w n k c.requires.command.next)
+    let n = asked c.args.number (command_of c.args.command.now) in
+    store_below c.args.plan.now c.args.self.now n c.requires.belongs.1.works
+    c.requires.command.next
 
 pub apply-requires-clause-applied : goal.apply-requires-clause-applied
 apply-requires-clause-applied c =
@@ -121,8 +115,7 @@ returns-then-found-ne0-clause-works c =
     let k = c.requires.belongs.1 in
     let e = c.compare_exchange-found.ensures in
     let found : ℕ = c.compare_exchange-found.result in
-    let n : Numbered ℕ =
-    record { number = c.args.number; command = command_of c.args.command.now } in
+    let n = asked c.args.number (command_of c.args.command.now) in
     let w' : Worker =
     record {
       seat = c.compare_exchange-found.new.seat;
@@ -167,7 +160,7 @@ done c =
     let cap = c.enter.ensures in
     let r = c.reply_to-reply.ensures in
     let x = command_of c.args.command.now in
-    let n : Numbered ℕ = record { number = c.args.number; command = x } in
+    let n = asked c.args.number x in
     let is-next = c.requires.command.next in
     let named = named_next p w n is-next in
     let h : Bool = own (journal_of p w) x in
@@ -222,22 +215,16 @@ returns-clause-result c = (done (goal.at.returns-clause-result c).After-enter).1
 
 pub has-holds-requires : goal.has-holds-requires
 has-holds-requires c =
-    let n : Numbered ℕ =
-    record { number = c.args.number; command = command_of c.args.command.now } in
+    let n = asked c.args.number (command_of c.args.command.now) in
     own_below c.args.plan.now c.args.self.now n c.requires.belongs.1.works c.requires.command.next
 
 pub reply_to-reply-requires-clause-numbers : goal.reply_to-reply-requires-clause-numbers
 reply_to-reply-requires-clause-numbers c =
-    let p = c.args.plan.now in
-    let w = c.args.self.now in
-    let k = c.requires.belongs.1.works in
-    let n : Numbered ℕ =
-    record { number = c.args.number; command = command_of c.args.command.now } in
-    subst (λ m. IsBelow m n.command) (sym k.lags.count)
-    (next_below p w n k c.requires.command.next)
+    let n = asked c.args.number (command_of c.args.command.now) in
+    store_below c.args.plan.now c.args.self.now n c.requires.belongs.1.works
+    c.requires.command.next
 
 pub enter-requires-clause-names : goal.enter-requires-clause-names
 enter-requires-clause-names c =
-    let n : Numbered ℕ =
-    record { number = c.args.number; command = command_of c.args.command.now } in
+    let n = asked c.args.number (command_of c.args.command.now) in
     own_below c.args.plan.now c.args.self.now n c.requires.belongs.1.works c.requires.command.next
