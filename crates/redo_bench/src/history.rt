@@ -1,7 +1,7 @@
 ghost use Rattle.std.specs.Prelude.{◌≡◌, length, List, IfOk};
 ghost use Rattle.redo_model.specs.Names.{Text};
 ghost use Rattle.redo_model.specs.History.{Line};
-ghost use Rattle.redo_command.specs.Histories.{history_text_of};
+ghost use Rattle.redo_replay.specs.Histories.{history_text_of};
 
 use anyhow::{Result, bail};
 use redo_command::{Watched, read_whole};

@@ -9,8 +9,8 @@ use Rattle.redo_model.specs.Reply.{Reply, Refusal, Okay, Refused}
 use Rattle.redo_model.specs.Step.{Replies, Tells, verdict_of}
 use Rattle.redo_model.specs.Renaming.{IsBelow, IsReplyBelow}
 use Rattle.redo_model.proofs.VerdictsByName.{RefusesBelow, verdict_below}
-use Rattle.redo_command.specs.Meaning.{reply_of}
-use Rattle.redo_command.specs.declared.reply.Reply as coded
+use Rattle.redo_terms.specs.Meaning.{reply_of}
+use Rattle.redo_terms.specs.declared.reply.Reply as coded
 use Rattle.redo_store.specs.Stored.{count_of, order_of, records_of, lists_names}
 use Rattle.redo_board.specs.Own.{has}
 use Rattle.redo_board.specs.Steps.{IsSaidBy, IsReadyBy}

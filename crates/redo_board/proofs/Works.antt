@@ -8,7 +8,7 @@ use Rattle.redo_model.specs.Reply.{Reply}
 use Rattle.redo_model.specs.Renaming.{IsBelow, AllBelow}
 use Rattle.redo_model.specs.Placed.{Place}
 use Rattle.redo_model.specs.Journals.{Numbered, numbered}
-use Rattle.redo_command.specs.Meaning.{reply_of}
+use Rattle.redo_terms.specs.Meaning.{reply_of}
 use Rattle.redo_store.specs.Stored.{Stored}
 use Rattle.redo_journal.specs.Plans.{PlanOf, IsPlan, script_of}
 use Rattle.redo_journal.specs.Journals.{place_of, line_told}

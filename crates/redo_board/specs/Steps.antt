@@ -1,11 +1,11 @@
 -- What the code's values say of a step.
 use Rattle.std.specs.Prelude.{◌≡◌, ◌≤◌, ℕ, false, Option, Some, None, ◌∷◌, [], ◌++◌, vec_capacity}
-use Rattle.redo_command.specs.Meaning.{reply_of}
+use Rattle.redo_terms.specs.Meaning.{reply_of}
 use Rattle.redo_model.specs.Command.{Command}
 use Rattle.redo_model.specs.Reply.{Reply}
 use Rattle.redo_model.specs.Step.{Replies}
 use Rattle.redo_model.specs.Renaming.{IsReplyBelow}
-use Rattle.redo_command.specs.declared.reply.Reply as commands
+use Rattle.redo_terms.specs.declared.reply.Reply as commands
 use Rattle.redo_store.specs.Stored.{records_of, naming_of, count_of, lists_names}
 use Rattle.redo_journal.specs.Journals.{place_of}
 use Rattle.redo_journal.specs.declared.entry.Entry.{Entry}

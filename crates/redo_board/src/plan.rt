@@ -1,11 +1,11 @@
 // What a board and its workers ask of a plan.
 ghost use Rattle.std.specs.Prelude.{◌≡◌, ◌<◌, ◌≤◌, length, map};
-ghost use Rattle.redo_command.specs.Meaning.{command_of};
+ghost use Rattle.redo_terms.specs.Meaning.{command_of};
 ghost use Rattle.redo_journal.specs.Plans.{IsPlan, script_of};
 ghost use Rattle.redo_board.specs.Rows.{command, rows_in, rows_of, takes_row, bit};
 
-use redo_command::{Command, FileStamp};
 use redo_journal::Plan;
+use redo_terms::{Command, FileStamp};
 
 /// The commands of a session.
 pub(crate) fn commands(plan: &Plan, session: u8) -> &[Command]

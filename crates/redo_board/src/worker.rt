@@ -3,7 +3,7 @@ ghost use Rattle.std.specs.Prelude.{OnErr, MatchBool, None, IfSome, vec_len, vec
 ghost use Rattle.std.specs.Option.{IfNone};
 ghost use Rattle.redo_model.specs.Journals.{next_of};
 ghost use Rattle.redo_model.specs.Renaming.{IsBelow};
-ghost use Rattle.redo_command.specs.Meaning.{command_of};
+ghost use Rattle.redo_terms.specs.Meaning.{command_of};
 ghost use Rattle.redo_journal.specs.Plans.{PlanOf, script_of};
 ghost use Rattle.redo_board.specs.declared.board.Board.{Board as BoardOf};
 ghost use Rattle.redo_board.specs.Shown.{session_of, journal_of, tries_of, seen_by, first_of};
@@ -20,9 +20,9 @@ use crate::gate::Gate;
 use crate::plan::{command_at, commands, session_number};
 use crate::seat::{Seat, Token};
 use crate::worker::own::{Own, Way};
-use redo_command::{Command, FileStamp, Reply};
 use redo_journal::{Entry, Journal, Plan};
 use redo_store::Store;
+use redo_terms::{Command, FileStamp, Reply};
 use std::alloc::{AllocError, Global};
 
 mod claims;

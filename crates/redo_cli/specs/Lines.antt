@@ -1,8 +1,8 @@
 -- The lines that tell why the program failed.
 use Rattle.std.specs.Prelude.{ℕ, List, ◌++◌, Option, Some, None, Result, Ok, Err, slice_get, codes, decimal, string_bytes, String}
 use Rattle.std.specs.declared.alloc.Global.{Global}
-use Rattle.redo_command.specs.declared.fault.LineFault.{LineFault}
-use Rattle.redo_command.specs.declared.fault.LineFault.TheVariants.{LineTooLong, BadByte, UnknownCommand, WrongWords, BadName, BadStamp, BadHex, TooManyLines, TooManyNames}
+use Rattle.redo_text.specs.declared.fault.LineFault.{LineFault}
+use Rattle.redo_text.specs.declared.fault.LineFault.TheVariants.{LineTooLong, BadByte, UnknownCommand, WrongWords, BadName, BadStamp, BadHex, TooManyLines, TooManyNames}
 use Rattle.redo_session.specs.declared.fault.TextFault.{TextFault}
 use Rattle.redo_session.specs.declared.fault.TextFault.TheVariants as texts
 use Rattle.redo_replay.specs.declared.fault.HistoryFault.{HistoryFault}

@@ -1,45 +1,14 @@
 //! Commands and replies: what they are, how they are read and written; and whole reads and writes.
+//!
+//! The items stand in redo_terms, redo_text and redo_whole, and are passed on here.
 #![tactic(auto)]
 
-mod args;
-mod cases;
-mod command;
-mod fault;
-mod forms;
-mod keywords;
-mod kind;
-mod known;
-mod laws;
-mod name_lists;
-mod numbers;
-mod read;
-mod replies;
-mod reply;
-mod reply_kind;
-mod reply_words;
-mod scan;
-mod script;
-mod stamp;
-mod text;
-mod watched;
-mod whole;
-mod words;
-
-pub use command::Command;
-pub use fault::{LineFault, ReadFault, ReplyFault};
-pub use kind::Kind;
-pub use laws::{
-    command_reads_back, fault_or_command, no_read_fault, one_command_a_line, one_reply_a_text,
-    one_script, reply_reads_back,
+pub use redo_terms::{
+    Command, FileStamp, Kind, LONGEST_STAMP, Line, MOST_COMMANDS, Refusal, Reply, Script,
 };
-pub use name_lists::MOST_LISTED_NAMES;
-pub use numbers::read_number;
-pub use read::{LONGEST_LINE, MOST_COMMANDS, read_command};
-pub use replies::read_reply;
-pub use reply::{Line, Refusal, Reply};
-pub use scan::place_of;
-pub use script::{Script, read_script};
-pub use stamp::{FileStamp, LONGEST_STAMP};
-pub use text::{command_text, reply_text};
-pub use watched::Watched;
-pub use whole::{WholeFault, WriteFault, read_whole, write_whole};
+pub use redo_text::{
+    LONGEST_LINE, LineFault, MOST_LISTED_NAMES, ReadFault, ReplyFault, command_reads_back,
+    command_text, fault_or_command, no_read_fault, one_command_a_line, one_reply_a_text, one_script,
+    place_of, read_command, read_number, read_reply, read_script, reply_reads_back, reply_text,
+};
+pub use redo_whole::{Watched, WholeFault, WriteFault, read_whole, write_whole};

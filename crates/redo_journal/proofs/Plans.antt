@@ -4,8 +4,8 @@ use Rattle.std.proofs.lemmas.Bool.{false≢true}
 use Rattle.std.specs.List.{AllByRecursion}
 use Rattle.std.proofs.lemmas.List.{length-map}
 use Rattle.redo_model.specs.Renaming.{IsBelow}
-use Rattle.redo_command.specs.Meaning.{command_of}
-use Rattle.redo_command.specs.declared.command.Command.{Command}
+use Rattle.redo_terms.specs.Meaning.{command_of}
+use Rattle.redo_terms.specs.declared.command.Command.{Command}
 use Rattle.redo_journal.specs.Plans.{AreBelow, scripts_of}
 
 pub some_at : (n : ℕ) → (n == 0) ≡ false → 1 ≤ n

@@ -5,7 +5,7 @@ use Rattle.redo_model.specs.Command.{Command, Ood}
 use Rattle.redo_model.specs.Placed.{PlacedLine}
 use Rattle.redo_model.specs.Placed as placed
 use Rattle.redo_model.specs.Journals.{IsJournal}
-use Rattle.redo_command.specs.Meaning.{reply_of}
+use Rattle.redo_terms.specs.Meaning.{reply_of}
 use Rattle.redo_journal.specs.declared.entry.Place.{Place}
 use Rattle.redo_journal.specs.declared.entry.Place.TheVariants.{Row, Granted, Busy, Released}
 use Rattle.redo_journal.specs.declared.entry.Entry.{Entry}

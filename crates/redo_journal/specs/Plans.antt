@@ -5,8 +5,8 @@ use Rattle.redo_names.specs.Names.{AreNames}
 use Rattle.redo_model.specs.Names.{Text}
 use Rattle.redo_model.specs.Command as commands
 use Rattle.redo_model.specs.Renaming.{IsBelow}
-use Rattle.redo_command.specs.declared.command.Command.{Command}
-use Rattle.redo_command.specs.Meaning.{command_of}
+use Rattle.redo_terms.specs.declared.command.Command.{Command}
+use Rattle.redo_terms.specs.Meaning.{command_of}
 
 -- names, and for each session its commands, over the numbers of the names
 pub record PlanOf : Type 0 where

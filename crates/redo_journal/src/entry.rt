@@ -1,4 +1,4 @@
-use redo_command::Reply;
+use redo_terms::Reply;
 
 /// Where a command stands: at a row, or among the claims on a target. The numbers of a claim are
 /// the target's and the grant's.

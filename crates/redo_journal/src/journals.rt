@@ -1,12 +1,12 @@
 ghost use Rattle.std.specs.Prelude.{◌≡◌, ◌↔◌, ◌<◌, ℕ, IsTrue, length, map, slice_index};
 ghost use Rattle.redo_model.specs.Journals.{IsJournal};
-ghost use Rattle.redo_command.specs.Meaning.{command_of};
+ghost use Rattle.redo_terms.specs.Meaning.{command_of};
 ghost use Rattle.redo_journal.specs.Journals.{told_by, AreJournals};
 ghost use Rattle.redo_journal.specs.Numbers.{numbers_in};
 
 use crate::entry::{Entry, Journal};
 use crate::plan::Plan;
-use redo_command::Script;
+use redo_terms::Script;
 
 /// Whether the entries are numbered 0, 1, 2, ..
 fn are_numbered(entries: &[Entry]) -> bool

@@ -2,8 +2,8 @@ ghost use Rattle.std.specs.Prelude.{◌≡◌, ◌<◌, ◌↔◌, length, IfOk,
 ghost use Rattle.std.specs.List.{AllByRecursion};
 ghost use Rattle.redo_journal.specs.Plans.{AreBelow, IsPlan, scripts_of};
 
-use redo_command::Script;
 use redo_names::Names;
+use redo_terms::Script;
 use std::marker::Model;
 use thiserror::Error;
 

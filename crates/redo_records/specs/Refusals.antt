@@ -5,8 +5,8 @@ use Rattle.redo_model.specs.State.{Records, TargetState, is_building, has_file}
 use Rattle.redo_model.specs.Reply.{Refusal, NotLocked, Building, NotBuilding, Itself}
 use Rattle.redo_model.specs.Step.{refusal_or, refusal_of_existing, is_built_by, is_among}
 use Rattle.redo_model.specs.Command as commands
-use Rattle.redo_command.specs.declared.kind.Kind.{Kind}
-use Rattle.redo_command.specs.declared.kind.Kind.TheVariants.{File, Gone, Lock, Unlock, Start, IfChange, IfCreate, Always, Stamp, Done, Failed, Ood, Targets, Sources}
+use Rattle.redo_terms.specs.declared.kind.Kind.{Kind}
+use Rattle.redo_terms.specs.declared.kind.Kind.TheVariants.{File, Gone, Lock, Unlock, Start, IfChange, IfCreate, Always, Stamp, Done, Failed, Ood, Targets, Sources}
 
 -- the first of these that applies: the session does not hold the target's lock, the target is
 -- building

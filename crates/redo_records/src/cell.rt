@@ -2,14 +2,14 @@ ghost use Rattle.std.specs.Prelude.{◌≡◌, ◌+◌, ◌<◌, ◌^◌, ◌↔
 ghost use Rattle.redo_model.specs.State as states;
 ghost use Rattle.redo_model.specs.State.{idle, mark_in, is_building};
 ghost use Rattle.redo_model.specs.Step.{is_built_by};
-ghost use Rattle.redo_command.specs.Meaning.{refusal_of};
+ghost use Rattle.redo_terms.specs.Meaning.{refusal_of};
 ghost use Rattle.redo_records.specs.Meaning.{row_mark_of, target_state_of};
 ghost use Rattle.redo_records.specs.Cells.{IsBuiltAndEdited};
 ghost use Rattle.redo_records.specs.Refusals.{refusal_by_target};
 
 use crate::mark::Mark;
 use crate::state::State;
-use redo_command::{FileStamp, Kind, Refusal, cases};
+use redo_terms::{FileStamp, Kind, Refusal, cases};
 use std::marker::Model;
 use std::mem::size_of;
 

@@ -1,7 +1,7 @@
 ghost use Rattle.std.specs.Prelude.{◌≡◌};
 ghost use Rattle.redo_model.specs.State as states;
 
-use redo_command::FileStamp;
+use redo_terms::FileStamp;
 
 /// What a change row records of a name.
 #[derive(Clone, Copy, Debug, PartialEq, Eq)]

@@ -1,7 +1,7 @@
 ghost use Rattle.std.specs.Prelude.{◌≡◌, ℕ, ◌+◌, ◌^◌, ◌<◌, ◌↔◌, IsTrue, IsFalse, List, length, replicate, option_map, IfOk};
 ghost use Rattle.redo_model.specs.State as states;
 ghost use Rattle.redo_model.specs.State.{idle, mark_in, is_building};
-ghost use Rattle.redo_command.specs.Meaning.{refusal_of};
+ghost use Rattle.redo_terms.specs.Meaning.{refusal_of};
 ghost use Rattle.redo_records.specs.Meaning.{row_mark_of, target_state_of};
 ghost use Rattle.redo_records.specs.Cells.{cell_at, with_cell_at, IsBuiltAndEdited};
 ghost use Rattle.redo_records.specs.Refusals.{refusal_by_target};
@@ -9,7 +9,7 @@ ghost use Rattle.redo_records.specs.Refusals.{refusal_by_target};
 use crate::cell::Cell;
 use crate::mark::Mark;
 use crate::state::State;
-use redo_command::{FileStamp, Kind, Refusal};
+use redo_terms::{FileStamp, Kind, Refusal};
 use std::alloc::{AllocError, Global};
 use std::marker::Model;
 

@@ -4,7 +4,7 @@ use Rattle.std.specs.Prelude.{◌⊎◌, Contains, codes}
 use Rattle.std.specs.List.{AllByRecursion, flat_map}
 use Rattle.std.proofs.lemmas.List.Elements.{All-contains, All-from_recursion}
 use Rattle.redo_model.specs.Names.{Text}
-use Rattle.redo_command.specs.Texts.{after_space, spaced}
+use Rattle.redo_text.specs.Texts.{after_space, spaced}
 use Rattle.redo_replay.specs.HistoryFaults.{IsCutAtSpace, IsCutAtArrow, arrow}
 
 abbrev pub Without : ℕ → Text → Type 0

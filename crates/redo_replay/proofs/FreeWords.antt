@@ -14,16 +14,16 @@ use Rattle.redo_model.specs.Names.{Text}
 use Rattle.redo_model.specs.Command.{Command, File, Gone, Lock, Unlock, Start, IfChange, IfCreate, Always, Stamp, Done, Failed, Ood, Targets, Sources}
 use Rattle.redo_model.specs.Reply.{Refusal, NotLocked, Building, NotBuilding, Itself, Exists, Reply, Okay, Granted, Busy, Stale, Stamped, Refused}
 use Rattle.redo_model.specs.Reply as replies
-use Rattle.redo_command.specs.Stamp.{is_stamp, is_placeholder}
-use Rattle.redo_command.specs.declared.stamp.TheConstants.{LONGEST_STAMP}
-use Rattle.redo_command.specs.Texts.{after_space, spaced, stamp_word, content_word, refusal_words}
-use Rattle.redo_command.specs.Grammar.{IsCommandLine, IsSpelled, HasForm, IsContentWord}
-use Rattle.redo_command.specs.Replies.{IsReplyText, HasReplyForm, AreAllNames}
-use Rattle.redo_command.proofs.Steps.{both}
-use Rattle.redo_command.proofs.Spaced.{IsVisible, name_is_visible, stamp_is_visible}
-use Rattle.redo_command.proofs.Contents.{content_is_visible, content_word_says, arrow_is_no_content}
-use Rattle.redo_command.proofs.NameLists.{names_are_visible}
-use Rattle.redo_command.proofs.ReplyWords.{grant_is_visible}
+use Rattle.redo_terms.specs.Stamp.{is_stamp, is_placeholder}
+use Rattle.redo_terms.specs.declared.stamp.TheConstants.{LONGEST_STAMP}
+use Rattle.redo_text.specs.Texts.{after_space, spaced, stamp_word, content_word, refusal_words}
+use Rattle.redo_text.specs.Grammar.{IsCommandLine, IsSpelled, HasForm, IsContentWord}
+use Rattle.redo_text.specs.Replies.{IsReplyText, HasReplyForm, AreAllNames}
+use Rattle.redo_text.proofs.Steps.{both}
+use Rattle.redo_text.proofs.Spaced.{IsVisible, name_is_visible, stamp_is_visible}
+use Rattle.redo_text.proofs.Contents.{content_is_visible, content_word_says, arrow_is_no_content}
+use Rattle.redo_text.proofs.NameLists.{names_are_visible}
+use Rattle.redo_text.proofs.ReplyWords.{grant_is_visible}
 use Rattle.redo_replay.proofs.CutOnce.{Without, without_append, IsFreeWord}
 
 -- bytes that are not visible are not in a visible word

@@ -7,15 +7,15 @@ use Rattle.redo_names.specs.Names.{is_visible}
 use Rattle.redo_model.specs.Names.{Text}
 use Rattle.redo_model.specs.Command.{Command}
 use Rattle.redo_model.specs.History.{Line}
-use Rattle.redo_command.specs.Grammar.{IsCommandLine}
-use Rattle.redo_command.specs.Replies.{IsReplyText}
-use Rattle.redo_command.specs.Histories.{ended, header_of}
-use Rattle.redo_command.proofs.LineLaws.{one_command}
+use Rattle.redo_text.specs.Grammar.{IsCommandLine}
+use Rattle.redo_text.specs.Replies.{IsReplyText}
+use Rattle.redo_replay.specs.Histories.{ended, header_of}
+use Rattle.redo_text.proofs.LineLaws.{one_command}
 use Rattle.redo_replay.specs.HistoryTexts.{IsHistoryLine, AreHistoryLines}
 use Rattle.redo_replay.specs.HistoryFaults.{IsCutAtArrow, arrow}
 use Rattle.redo_replay.proofs.CutOnce.{Without, without_append, first_cut, same_front, cut_after, one_cut_at_arrow}
 use Rattle.redo_replay.proofs.FreeWords.{without_unseen, decimal_is_visible, command_words, command_is_one_line, reply_is_one_line}
-use Rattle.redo_command.proofs.RepliesRead.{one_reply}
+use Rattle.redo_text.proofs.RepliesRead.{one_reply}
 
 pub number_is_without : (b n : ℕ) → is_visible b ≡ false → n < 2 ^ 64 → Without b (decimal n)
 number_is_without b n unseen h = without_unseen b unseen (decimal n) (decimal_is_visible n h)

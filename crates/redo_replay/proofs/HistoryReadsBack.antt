@@ -4,9 +4,9 @@ use Rattle.std.specs.Prelude.{codes, decimal}
 use Rattle.std.specs.List.{AllByRecursion, flat_map}
 use Rattle.redo_model.specs.Names.{Text}
 use Rattle.redo_model.specs.History.{Line}
-use Rattle.redo_command.specs.Texts.{command_text_of, reply_text_of}
-use Rattle.redo_command.specs.Histories.{ended, answer_text_of, line_text_of, header_of, history_text_of}
-use Rattle.redo_command.proofs.LineLaws.{text_is_spelled}
+use Rattle.redo_text.specs.Texts.{command_text_of, reply_text_of}
+use Rattle.redo_replay.specs.Histories.{ended, answer_text_of, line_text_of, header_of, history_text_of}
+use Rattle.redo_text.proofs.LineLaws.{text_is_spelled}
 use Rattle.redo_replay.specs.HistoryTexts.{IsHistoryLine, HasLineForm, AreHistoryLines, AreNamesOf, IsHistory}
 
 -- without its LF

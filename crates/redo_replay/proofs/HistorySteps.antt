@@ -7,11 +7,11 @@ use Rattle.std.proofs.lemmas.List.{map_push, length-map}
 use Rattle.redo_names.specs.Names.{Extends}
 use Rattle.redo_model.specs.Names.{Text}
 use Rattle.redo_model.specs.History as histories
-use Rattle.redo_command.specs.declared.reply.Line.{Line}
-use Rattle.redo_command.specs.Grammar.{with_names}
-use Rattle.redo_command.specs.Meaning.{line_of, line_at}
-use Rattle.redo_command.specs.Histories.{ended, header_of}
-use Rattle.redo_command.proofs.ScriptParts.{with_names-append}
+use Rattle.redo_terms.specs.declared.reply.Line.{Line}
+use Rattle.redo_text.specs.Grammar.{with_names}
+use Rattle.redo_terms.specs.Meaning.{line_of, line_at}
+use Rattle.redo_replay.specs.Histories.{ended, header_of}
+use Rattle.redo_text.proofs.ScriptParts.{with_names-append}
 use Rattle.redo_replay.specs.HistoryTexts.{IsHistoryLine, AreHistoryLines, names_in_line, AddsLineNames, AreNamesOf, AreLinesOf, IsHistory}
 use Rattle.redo_replay.specs.HistoryFaults.{IsLineCause, IsReadUpTo, IsReadBefore, IsHistoryFault}
 use Rattle.redo_replay.specs.Recorded.{Recorded, lines_of, AreLinesBelow}

@@ -3,9 +3,9 @@ use Rattle.std.proofs.Common.{◌≡◌, ℕ, ◌+◌, ◌⊎◌, inl, inr, List
 use Rattle.redo_model.specs.Names.{Text}
 use Rattle.redo_model.specs.Command.{names_in}
 use Rattle.redo_model.specs.History.{Line}
-use Rattle.redo_command.specs.Grammar.{with_names, AddsNames}
-use Rattle.redo_command.specs.Replies.{AddsReplyNames, names_in_reply}
-use Rattle.redo_command.proofs.ScriptParts.{with_names-append}
+use Rattle.redo_text.specs.Grammar.{with_names, AddsNames}
+use Rattle.redo_text.specs.Replies.{AddsReplyNames, names_in_reply}
+use Rattle.redo_text.proofs.ScriptParts.{with_names-append}
 use Rattle.redo_replay.specs.HistoryTexts.{AddsLineNames}
 use Rattle.redo_replay.specs.HistoryFaults.{arrow, IsCutAtSpace, IsCutAtArrow, IsSessionWord}
 

@@ -9,9 +9,9 @@ use native.Mathlib.Decide.{dec_lt}
 use Rattle.redo_model.specs.Command as commands
 use Rattle.redo_model.specs.Reply as replies
 use Rattle.redo_model.specs.Renaming.{IsBelow}
-use Rattle.redo_command.specs.declared.command.Command.{Command}
-use Rattle.redo_command.specs.declared.reply.Line.{Line}
-use Rattle.redo_command.specs.Meaning.{command_of, reply_of, line_of}
+use Rattle.redo_terms.specs.declared.command.Command.{Command}
+use Rattle.redo_terms.specs.declared.reply.Line.{Line}
+use Rattle.redo_terms.specs.Meaning.{command_of, reply_of, line_of}
 use Rattle.redo_model.specs.Placed.{PlacedLine, Fits}
 use Rattle.redo_model.specs.Placed as placed
 use Rattle.redo_joint.proofs.Exchange.{In}

@@ -4,12 +4,12 @@ use Rattle.redo_names.specs.Names.{Extends}
 use Rattle.redo_model.specs.Names.{Text}
 use Rattle.redo_model.specs.Reply as replies
 use Rattle.redo_model.specs.Renaming.{IsReplyBelow, IsLineBelow}
-use Rattle.redo_command.specs.declared.reply.Refusal.TheVariants.{NotLocked, Building, NotBuilding, Itself, Exists}
-use Rattle.redo_command.specs.declared.reply.Reply.{Reply}
-use Rattle.redo_command.specs.declared.reply.Reply.TheVariants.{Okay, Granted, Busy, Stale, Stamped, Ood, Targets, Sources, Refused}
-use Rattle.redo_command.specs.declared.reply.Line.{Line}
-use Rattle.redo_command.specs.Meaning.{command_of, reply_of, reply_at, line_of, line_at}
-use Rattle.redo_command.proofs.Added.{text_at-Extends, texts-Extends, all_below-Extends, IsBelow-Extends, command_at-Extends}
+use Rattle.redo_terms.specs.declared.reply.Refusal.TheVariants.{NotLocked, Building, NotBuilding, Itself, Exists}
+use Rattle.redo_terms.specs.declared.reply.Reply.{Reply}
+use Rattle.redo_terms.specs.declared.reply.Reply.TheVariants.{Okay, Granted, Busy, Stale, Stamped, Ood, Targets, Sources, Refused}
+use Rattle.redo_terms.specs.declared.reply.Line.{Line}
+use Rattle.redo_terms.specs.Meaning.{command_of, reply_of, reply_at, line_of, line_at}
+use Rattle.redo_text.proofs.Added.{text_at-Extends, texts-Extends, all_below-Extends, IsBelow-Extends, command_at-Extends}
 use Rattle.redo_replay.specs.Recorded.{AreLinesBelow}
 
 module _ (old new : List Text) (x : Extends old new) where

@@ -6,13 +6,13 @@ use Rattle.std.proofs.lemmas.Grind.{flat_map-append}
 use Rattle.redo_model.specs.Names.{Text}
 use Rattle.redo_model.specs.Command.{Command, names_in}
 use Rattle.redo_model.specs.History.{Line}
-use Rattle.redo_command.specs.declared.fault.LineFault.{LineFault}
-use Rattle.redo_command.specs.Grammar.{IsCommandLine, AddsNames, with_names}
-use Rattle.redo_command.specs.Replies.{IsReplyText, AddsReplyNames, names_in_reply}
-use Rattle.redo_command.specs.Histories.{ended, header_of}
-use Rattle.redo_command.proofs.FaultOrCommand.{no_fault_in_a_line}
-use Rattle.redo_command.proofs.LineLaws.{one_command}
-use Rattle.redo_command.proofs.ScriptParts.{with_names-append, with_names-longer}
+use Rattle.redo_text.specs.declared.fault.LineFault.{LineFault}
+use Rattle.redo_text.specs.Grammar.{IsCommandLine, AddsNames, with_names}
+use Rattle.redo_text.specs.Replies.{IsReplyText, AddsReplyNames, names_in_reply}
+use Rattle.redo_replay.specs.Histories.{ended, header_of}
+use Rattle.redo_text.proofs.FaultOrCommand.{no_fault_in_a_line}
+use Rattle.redo_text.proofs.LineLaws.{one_command}
+use Rattle.redo_text.proofs.ScriptParts.{with_names-append, with_names-longer}
 use Rattle.redo_replay.specs.HistoryTexts.{IsHistory, IsHistoryLine, AreHistoryLines, names_in_line}
 use Rattle.redo_replay.specs.HistoryFaults.{IsCutAtArrow, arrow, HasBadSession, HasSession, IsNoReply, HasBadReply, HasBadCommand, IsReadUpTo, IsReadBefore, IsHistoryFault}
 use Rattle.redo_replay.specs.declared.fault.HistoryFault.{HistoryFault}

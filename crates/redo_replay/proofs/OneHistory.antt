@@ -4,8 +4,8 @@ use Rattle.std.specs.List.{flat_map}
 use Rattle.std.proofs.lemmas.List.{nil_from_length}
 use Rattle.redo_model.specs.Names.{Text}
 use Rattle.redo_model.specs.History.{Line}
-use Rattle.redo_command.specs.Grammar.{with_names}
-use Rattle.redo_command.specs.Histories.{ended, header_of}
+use Rattle.redo_text.specs.Grammar.{with_names}
+use Rattle.redo_replay.specs.Histories.{ended, header_of}
 use Rattle.redo_replay.specs.HistoryTexts.{IsHistory, AreNamesOf, names_in_line}
 use Rattle.redo_replay.proofs.HistoryLines.{one_header, lines_front}
 

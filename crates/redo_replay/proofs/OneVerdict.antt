@@ -8,7 +8,7 @@ use Rattle.redo_model.specs.Step.{Answers, after}
 use Rattle.redo_model.specs.History.{Line, left_by, LegalFrom, Legal}
 use Rattle.redo_model.proofs.Texts.{texts_are_names}
 use Rattle.redo_model.proofs.Unique.{one_answer}
-use Rattle.redo_command.specs.Meaning.{reply_at}
+use Rattle.redo_terms.specs.Meaning.{reply_at}
 use Rattle.redo_replay.specs.Verdicts.{Verdict, Same, Differs, IsSame, IsVerdict, IsFirstWrong, verdict_at}
 use Rattle.redo_replay.specs.declared.verdict.Verdict as declared
 use Rattle.redo_replay.specs.declared.verdict.Verdict.TheVariants as coded

@@ -19,9 +19,9 @@ use Rattle.redo_model.proofs.Naming.{numbering_is_renaming}
 use Rattle.redo_model.proofs.OneMore.{left_by-append, legal_more, legal_front}
 use Rattle.redo_model.proofs.HistoriesByName.{legal_by_name}
 use Rattle.redo_model.proofs.RepliesByName.{same_reply}
-use Rattle.redo_command.specs.Meaning.{command_of, command_at, reply_of, line_of, line_at, reply_at}
-use Rattle.redo_command.specs.declared.reply.Line.{Line}
-use Rattle.redo_command.specs.declared.reply.Reply.{Reply}
+use Rattle.redo_terms.specs.Meaning.{command_of, command_at, reply_of, line_of, line_at, reply_at}
+use Rattle.redo_terms.specs.declared.reply.Line.{Line}
+use Rattle.redo_terms.specs.declared.reply.Reply.{Reply}
 use Rattle.redo_replay.specs.Recorded.{Recorded, AreLinesBelow, lines_of}
 use Rattle.redo_replay.specs.Verdicts.{IsFirstWrong}
 

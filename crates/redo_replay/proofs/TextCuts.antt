@@ -13,8 +13,8 @@ use Rattle.std.proofs.lemmas.List.Prefix.{at_reads}
 use Rattle.std.proofs.lemmas.List.Quantifiers.{position-Some}
 use Rattle.std.proofs.lemmas.Map.Made.{Contains-tail}
 use Rattle.redo_model.specs.Names.{Text}
-use Rattle.redo_command.specs.Histories.{header_of}
-use Rattle.redo_command.proofs.Places.{none_passes}
+use Rattle.redo_replay.specs.Histories.{header_of}
+use Rattle.redo_text.proofs.Places.{none_passes}
 use Rattle.redo_replay.specs.HistoryFaults.{arrow, IsCutAtArrow, HasNoArrow}
 use Rattle.redo_replay.proofs.CutOnce.{first_cut, without_from}
 

@@ -9,9 +9,9 @@ use native.Mathlib.Decide.{ℕ_discrete}
 use Rattle.redo_model.specs.Command as commands
 use Rattle.redo_model.specs.Placed.{PlacedLine, Fits}
 use Rattle.redo_model.specs.Journals.{Numbered, next_of, IsJournal, IsJournalAfter}
-use Rattle.redo_command.specs.declared.command.Command.{Command}
-use Rattle.redo_command.specs.declared.command.Command.TheVariants.{Ood}
-use Rattle.redo_command.specs.Meaning.{command_of, reply_of}
+use Rattle.redo_terms.specs.declared.command.Command.{Command}
+use Rattle.redo_terms.specs.declared.command.Command.TheVariants.{Ood}
+use Rattle.redo_terms.specs.Meaning.{command_of, reply_of}
 use Rattle.redo_journal.specs.declared.entry.Entry.{Entry}
 use Rattle.redo_journal.specs.declared.entry.Journal.{Journal}
 use Rattle.redo_journal.specs.Plans.{PlanOf, scripts_of, script_of}

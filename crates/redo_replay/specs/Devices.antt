@@ -2,8 +2,8 @@
 use Rattle.std.specs.Prelude.{Option}
 use Rattle.std.specs.Io.KnownBytes.{Appends, Keeps}
 use Rattle.redo_model.specs.Names.{Text}
-use Rattle.redo_command.specs.Watched.{inner_of}
-use Rattle.redo_command.specs.declared.watched.Watched.{Watched}
+use Rattle.redo_whole.specs.Watched.{inner_of}
+use Rattle.redo_whole.specs.declared.watched.Watched.{Watched}
 
 -- the bytes that a reader has left, or those that a writer was given: `bytes` says them of the
 -- reader or writer itself, where they are known

@@ -5,11 +5,11 @@ use Rattle.redo_model.specs.Names.{Text}
 use Rattle.redo_model.specs.Command.{Command}
 use Rattle.redo_model.specs.Reply.{Reply}
 use Rattle.redo_model.specs.History.{Line}
-use Rattle.redo_command.specs.Grammar.{IsCommandLine, AddsNames}
-use Rattle.redo_command.specs.Questions.{line_fault}
-use Rattle.redo_command.specs.Replies.{IsReplyText, AddsReplyNames}
-use Rattle.redo_command.specs.Histories.{ended, header_of}
-use Rattle.redo_command.specs.declared.fault.LineFault.{LineFault}
+use Rattle.redo_text.specs.Grammar.{IsCommandLine, AddsNames}
+use Rattle.redo_text.specs.Questions.{line_fault}
+use Rattle.redo_text.specs.Replies.{IsReplyText, AddsReplyNames}
+use Rattle.redo_replay.specs.Histories.{ended, header_of}
+use Rattle.redo_text.specs.declared.fault.LineFault.{LineFault}
 use Rattle.redo_replay.specs.HistoryTexts.{AreLinesOf}
 use Rattle.redo_replay.specs.declared.fault.HistoryFault.{HistoryFault}
 use Rattle.redo_replay.specs.declared.fault.HistoryFault.TheVariants.{Memory, BadHeader, Cut, BadSession, BadLine, BadReply}

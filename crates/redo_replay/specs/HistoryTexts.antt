@@ -4,10 +4,10 @@ use Rattle.std.specs.List.{flat_map}
 use Rattle.redo_model.specs.Names.{Text}
 use Rattle.redo_model.specs.Command.{names_in}
 use Rattle.redo_model.specs.History.{Line}
-use Rattle.redo_command.specs.Grammar.{HasForm, IsShort, IsCommandLine, with_names}
-use Rattle.redo_command.specs.Texts.{command_text_of}
-use Rattle.redo_command.specs.Replies.{HasReplyForm, IsReplyText, names_in_reply}
-use Rattle.redo_command.specs.Histories.{ended, header_of}
+use Rattle.redo_text.specs.Grammar.{HasForm, IsShort, IsCommandLine, with_names}
+use Rattle.redo_text.specs.Texts.{command_text_of}
+use Rattle.redo_text.specs.Replies.{HasReplyForm, IsReplyText, names_in_reply}
+use Rattle.redo_replay.specs.Histories.{ended, header_of}
 
 -- the text, without its LF, is the line's: its session's number, its command and its reply
 pub record IsHistoryLine (text : Text) (line : Line Text) : Type 0 where

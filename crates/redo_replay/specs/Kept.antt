@@ -1,7 +1,7 @@
 -- What the fields of a history show, and what they keep.
 use Rattle.std.specs.Prelude.{◌<◌, ◌≤◌, length, map}
 use Rattle.std.specs.List.{AllByRecursion}
-use Rattle.redo_command.specs.Meaning.{line_of}
+use Rattle.redo_terms.specs.Meaning.{line_of}
 use Rattle.redo_replay.specs.Recorded.{Recorded, AreLinesBelow}
 use Rattle.redo_replay.specs.declared.history.History.TheInside.{Inside}
 

@@ -1,3 +1,4 @@
+pub mod Histories
 pub mod Recorded
 pub mod Kept
 pub mod Verdicts

@@ -6,9 +6,9 @@ use Rattle.redo_model.specs.Command as commands
 use Rattle.redo_model.specs.Placed.{Fits}
 use Rattle.redo_model.specs.Placed as placed
 use Rattle.redo_joint.specs.Named.{IsPlaceBelow}
-use Rattle.redo_command.specs.Meaning.{reply_of, line_of}
-use Rattle.redo_command.specs.declared.reply.Line.{Line}
-use Rattle.redo_command.specs.declared.reply.Reply.TheVariants.{Okay}
+use Rattle.redo_terms.specs.Meaning.{reply_of, line_of}
+use Rattle.redo_terms.specs.declared.reply.Line.{Line}
+use Rattle.redo_terms.specs.declared.reply.Reply.TheVariants.{Okay}
 use Rattle.redo_journal.specs.Journals.{place_of, command_told, line_told}
 use Rattle.redo_journal.specs.declared.entry.Place.{Place}
 use Rattle.redo_journal.specs.declared.entry.Place.TheVariants.{Row, Granted, Busy, Released}

@@ -5,8 +5,8 @@ use Rattle.redo_names.specs.Names.{text_at}
 use Rattle.redo_model.specs.Names.{Text}
 use Rattle.redo_model.specs.History.{Line}
 use Rattle.redo_model.specs.Renaming.{IsLineBelow, named_line}
-use Rattle.redo_command.specs.Meaning.{line_of}
-use Rattle.redo_command.specs.declared.reply.Line as coded
+use Rattle.redo_terms.specs.Meaning.{line_of}
+use Rattle.redo_terms.specs.declared.reply.Line as coded
 
 -- names, and lines over their numbers
 pub record Recorded : Type 0 where

@@ -1,6 +1,6 @@
 ghost use Rattle.std.specs.Prelude.{◌≡◌, ◌<◌, ◌≤◌, length, map};
 ghost use Rattle.std.specs.List.{AllByRecursion};
-ghost use Rattle.redo_command.specs.Meaning.{line_of};
+ghost use Rattle.redo_terms.specs.Meaning.{line_of};
 ghost use Rattle.redo_replay.specs.Recorded.{AreLinesBelow};
 
 use redo_command::Line;

@@ -4,7 +4,7 @@ ghost use Rattle.std.specs.Prelude.{◌≡◌, ◌↔◌, ◌<◌, ◌≤◌, �
 ghost use Rattle.std.specs.List.{AllByRecursion};
 ghost use Rattle.redo_model.specs.Names.{Text, texts};
 ghost use Rattle.redo_model.specs.History.{Legal, Line};
-ghost use Rattle.redo_command.specs.Histories.{history_text_of};
+ghost use Rattle.redo_replay.specs.Histories.{history_text_of};
 ghost use Rattle.redo_replay.specs.HistoryTexts.{IsHistory, HasLineForm, AreNamesOf};
 ghost use Rattle.redo_replay.specs.HistoryFaults.{IsHistoryFault};
 ghost use Rattle.redo_replay.specs.declared.fault.HistoryFault.{HistoryFault};

@@ -1,7 +1,7 @@
 //! One history of what several sessions did.
 
 ghost use Rattle.std.specs.Prelude.{◌≡◌, ◌↔◌, ℕ, ◌<◌, ◌≤◌, ◌+◌, IsTrue, IfOk, OnOk, MatchOption, MatchBool, length, map, slice_index, slice_index_or};
-ghost use Rattle.redo_command.specs.Meaning.{command_of, line_of};
+ghost use Rattle.redo_terms.specs.Meaning.{command_of, line_of};
 ghost use Rattle.redo_model.specs.Placed as placed;
 ghost use Rattle.redo_journal.specs.Journals.{AreJournals, line_told};
 ghost use Rattle.redo_replay.specs.Merges.{AreMerged, HaveNoOrder};

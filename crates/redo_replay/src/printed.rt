@@ -1,7 +1,7 @@
 ghost use Rattle.std.specs.Prelude.{◌≡◌, ◌++◌, length, map, decimal, IfOk, OnOk};
 ghost use Rattle.redo_model.specs.Renaming.{IsLineBelow};
-ghost use Rattle.redo_command.specs.Meaning.{line_of, line_at};
-ghost use Rattle.redo_command.specs.Histories.{ended, answer_text_of, line_text_of, history_text_of};
+ghost use Rattle.redo_terms.specs.Meaning.{line_of, line_at};
+ghost use Rattle.redo_replay.specs.Histories.{ended, answer_text_of, line_text_of, history_text_of};
 ghost use Rattle.redo_replay.specs.Recorded.{AreLinesBelow};
 
 use redo_command::{Line, command_text, reply_text};

@@ -1,7 +1,7 @@
 ghost use Rattle.std.specs.Prelude.{◌≡◌, ◌↔◌, ◌≤◌, length, map, IfOk};
 ghost use Rattle.redo_model.specs.Names.{texts};
 ghost use Rattle.redo_model.specs.History.{Legal};
-ghost use Rattle.redo_command.specs.Meaning.{line_at};
+ghost use Rattle.redo_terms.specs.Meaning.{line_at};
 ghost use Rattle.redo_replay.specs.Recorded.{AreLinesBelow, lines_of};
 ghost use Rattle.redo_replay.specs.Verdicts.{IsSame, IsVerdict, IsVerdictBelow, verdict_at};
 

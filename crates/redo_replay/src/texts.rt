@@ -1,7 +1,7 @@
 ghost use Rattle.std.specs.Prelude.{◌≡◌, ◌≢◌, ◌↔◌, ◌⊎◌, List, true, false, IfSome, IfOk, IfErr, IsErrOf, IsErrAnd};
 ghost use Rattle.redo_model.specs.Names.{Text, texts};
 ghost use Rattle.redo_model.specs.History.{Line, Legal};
-ghost use Rattle.redo_command.specs.Watched.{is_faulted};
+ghost use Rattle.redo_whole.specs.Watched.{is_faulted};
 ghost use Rattle.redo_replay.specs.Devices.{known_in, WritesNothing};
 ghost use Rattle.redo_replay.specs.Recorded.{lines_of};
 ghost use Rattle.redo_replay.specs.Verdicts.{IsSame};

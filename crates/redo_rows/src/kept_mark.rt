@@ -2,8 +2,8 @@ ghost use Rattle.std.specs.Prelude.{◌≡◌, ◌↔◌, IsTrue};
 ghost use Rattle.redo_records.specs.Meaning.{row_mark_of};
 ghost use Rattle.redo_rows.specs.KeptMark.{kept_mark_of};
 
-use redo_command::FileStamp;
 use redo_records::Mark;
+use redo_terms::FileStamp;
 use std::marker::Model;
 
 /// How often a name was built, in four bytes that may stand at any address.

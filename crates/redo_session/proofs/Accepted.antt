@@ -7,9 +7,9 @@ use native.Mathlib.Decide.{dec_lt}
 use Rattle.redo_names.specs.Names.{Extends}
 use Rattle.redo_model.specs.Names.{Text}
 use Rattle.redo_model.specs.Command as commands
-use Rattle.redo_command.specs.declared.command.Command.{Command}
-use Rattle.redo_command.specs.Meaning.{command_of, command_at}
-use Rattle.redo_command.proofs.Added.{command_at-Extends, IsBelow-Extends}
+use Rattle.redo_terms.specs.declared.command.Command.{Command}
+use Rattle.redo_terms.specs.Meaning.{command_of, command_at}
+use Rattle.redo_text.proofs.Added.{command_at-Extends, IsBelow-Extends}
 use Rattle.redo_session.specs.declared.fault.TextFault.{TextFault}
 use Rattle.redo_session.specs.declared.fault.TextFault.TheVariants.{Memory, Read, TooManySessions, NoSession, Write, Device, TooLong}
 use Rattle.redo_session.specs.Runs.{IsAccepted, AreAccepted, IsRunText, RunsAs}

@@ -6,7 +6,7 @@ use Rattle.redo_model.specs.Names.{Text}
 use Rattle.redo_model.specs.Command.{Command}
 use Rattle.redo_session.specs.declared.fault.TextFault.{TextFault}
 use Rattle.redo_session.specs.declared.fault.TextFault.TheVariants.{Memory, Read, TooManySessions, NoSession, Write, Device, TooLong}
-use Rattle.redo_command.specs.Faults.{IsFirstFault}
+use Rattle.redo_text.specs.Faults.{IsFirstFault}
 use Rattle.redo_session.specs.Runs.{AreAccepted}
 use Rattle.redo_session.specs.Faults.{IsCause, IsFileCause, FilesBefore}
 

@@ -7,9 +7,9 @@ use Rattle.hex.specs.Hex.{lower_digits}
 use Rattle.hex.proofs.HexLemmas.{decode_of-ok, length-encode_with}
 use Rattle.redo_model.specs.Names.{Text}
 use Rattle.redo_model.specs.Command.{Command, File, Gone, Lock, Unlock, Start, IfChange, IfCreate, Always, Stamp, Done, Failed, Ood, Targets, Sources, names_in}
-use Rattle.redo_command.specs.Texts.{after_space, spaced, content_word, command_text_of}
-use Rattle.redo_command.specs.Grammar.{HasForm, IsShort, IsContentWord, IsSpelled, IsCommandLine, AreCommandLines}
-use Rattle.redo_command.specs.Replies.{AreAllNames}
+use Rattle.redo_text.specs.Texts.{after_space, spaced, content_word, command_text_of}
+use Rattle.redo_text.specs.Grammar.{HasForm, IsShort, IsContentWord, IsSpelled, IsCommandLine, AreCommandLines}
+use Rattle.redo_text.specs.Replies.{AreAllNames}
 
 -- the command has its form, and its text is short
 abbrev pub IsSaid : Command Text → Type 0

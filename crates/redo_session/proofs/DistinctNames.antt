@@ -11,7 +11,7 @@ use Rattle.std.proofs.lemmas.Slice.Eq.{bytes_eq-Decides}
 use Rattle.redo_names.specs.Names.{has, with_name}
 use Rattle.redo_names.proofs.NameLists.{AreNames-none}
 use Rattle.redo_model.specs.Names.{Text}
-use Rattle.redo_command.specs.Grammar.{with_names}
+use Rattle.redo_text.specs.Grammar.{with_names}
 use Rattle.redo_session.proofs.KnownNames.{IsKnown, AreKnown}
 
 either : (b c : Bool) → (b || c) ≡ true → (b ≡ true) ⊎ (c ≡ true)

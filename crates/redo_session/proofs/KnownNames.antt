@@ -8,8 +8,8 @@ use Rattle.std.proofs.lemmas.List.Folds.{list_any-append}
 use Rattle.redo_names.specs.Names.{has, with_name, is_name}
 use Rattle.redo_model.specs.Names.{Text}
 use Rattle.redo_model.proofs.Members.{contains_first, contains_later, contains_cases, contains_none}
-use Rattle.redo_command.specs.Grammar.{with_names}
-use Rattle.redo_command.specs.Replies.{AreAllNames}
+use Rattle.redo_text.specs.Grammar.{with_names}
+use Rattle.redo_text.specs.Replies.{AreAllNames}
 
 -- the name is one of these
 abbrev pub IsKnown : List Text → Text → Type 0

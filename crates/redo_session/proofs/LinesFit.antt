@@ -6,9 +6,9 @@ use Rattle.redo_model.specs.State.{State}
 use Rattle.redo_model.specs.Command.{names_in}
 use Rattle.redo_model.specs.Step.{holds_target, verdict_of, after}
 use Rattle.redo_model.specs.History.{Line, LegalFrom}
-use Rattle.redo_command.specs.Grammar.{with_names}
-use Rattle.redo_command.specs.Replies.{AreAllNames, names_in_reply}
-use Rattle.redo_command.proofs.ScriptParts.{with_names-append}
+use Rattle.redo_text.specs.Grammar.{with_names}
+use Rattle.redo_text.specs.Replies.{AreAllNames, names_in_reply}
+use Rattle.redo_text.proofs.ScriptParts.{with_names-append}
 use Rattle.redo_replay.specs.HistoryTexts.{HasLineForm, names_in_line}
 use Rattle.redo_session.proofs.CommandsSaid.{IsSaid, form_has_names}
 use Rattle.redo_session.proofs.Grants.{AreFewGrants, few_after}

@@ -4,11 +4,11 @@ use Rattle.std.specs.Prelude.{IfSome}
 use Rattle.std.specs.List.{flat_map}
 use Rattle.redo_model.specs.Names.{Text}
 use Rattle.redo_model.specs.Command.{Command, names_in}
-use Rattle.redo_command.specs.declared.fault.LineFault.{LineFault}
-use Rattle.redo_command.specs.Grammar.{AreCommandLines, IsScript, with_names}
-use Rattle.redo_command.specs.Faults.{IsFirstFault}
-use Rattle.redo_command.proofs.LineLaws.{one_command}
-use Rattle.redo_command.proofs.ScriptSteps.{no_first_fault}
+use Rattle.redo_text.specs.declared.fault.LineFault.{LineFault}
+use Rattle.redo_text.specs.Grammar.{AreCommandLines, IsScript, with_names}
+use Rattle.redo_text.specs.Faults.{IsFirstFault}
+use Rattle.redo_text.proofs.LineLaws.{one_command}
+use Rattle.redo_text.proofs.ScriptSteps.{no_first_fault}
 use Rattle.redo_session.specs.declared.fault.TextFault.{TextFault}
 use Rattle.redo_session.specs.declared.fault.TextFault.TheVariants.{Memory, Read, TooManySessions, NoSession, Write, Device, TooLong}
 use Rattle.redo_session.specs.Runs.{AreAccepted, AreKnownSessions}

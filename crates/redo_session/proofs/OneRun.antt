@@ -8,9 +8,9 @@ use Rattle.redo_model.specs.Step.{Answers, after}
 use Rattle.redo_model.specs.History.{Line, LegalFrom}
 use Rattle.redo_model.proofs.Texts.{texts_are_names}
 use Rattle.redo_model.proofs.Unique.{one_answer}
-use Rattle.redo_command.specs.Grammar.{IsScript}
-use Rattle.redo_command.specs.Histories.{run_text_of, sessions_below}
-use Rattle.redo_command.proofs.ScriptLaws.{one_script}
+use Rattle.redo_text.specs.Grammar.{IsScript}
+use Rattle.redo_session.specs.RunTexts.{run_text_of, sessions_below}
+use Rattle.redo_text.proofs.ScriptLaws.{one_script}
 use Rattle.redo_session.specs.Runs.{IsRun, AreAccepted, RunsAs}
 use Rattle.redo_session.proofs.Parts.{whole_part}
 

@@ -18,9 +18,9 @@ use Rattle.redo_model.specs.Journals.{IsJointOrder}
 use Rattle.redo_model.specs.Renaming.{IsBelow, IsLineBelow, named_command, named_line}
 use Rattle.redo_model.proofs.Naming.{numbering_is_renaming}
 use Rattle.redo_model.proofs.Texts.{texts_are_names}
-use Rattle.redo_command.specs.Meaning.{line_at}
-use Rattle.redo_command.specs.Meaning as coded
-use Rattle.redo_command.specs.declared.reply.Line.{Line}
+use Rattle.redo_terms.specs.Meaning.{line_at}
+use Rattle.redo_terms.specs.Meaning as coded
+use Rattle.redo_terms.specs.declared.reply.Line.{Line}
 use Rattle.redo_joint.specs.Named.{named_placed_line, named_journals, IsPlaceBelow, IsPlacedBelow, IsToldBelow}
 use Rattle.redo_joint.proofs.Exchange.{In}
 use Rattle.redo_joint.proofs.Own.{all_by_parts, all_of_part}

@@ -7,8 +7,8 @@ use Rattle.std.proofs.lemmas.List.Sums.{length-filter}
 use Rattle.redo_model.specs.Names.{Text}
 use Rattle.redo_model.specs.History.{part_of}
 use Rattle.redo_model.specs.History as histories
-use Rattle.redo_command.specs.Meaning.{line_at}
-use Rattle.redo_command.specs.declared.reply.Line.{Line}
+use Rattle.redo_terms.specs.Meaning.{line_at}
+use Rattle.redo_terms.specs.declared.reply.Line.{Line}
 
 either_length : {X Y : Type 0} (b : Bool) (x : X) (xs : List X) (y : Y) (ys : List Y)
     → length xs ≡ length ys → length (cond b (x ∷ xs) xs) ≡ length (cond b (y ∷ ys) ys)

@@ -6,7 +6,7 @@ use Rattle.redo_model.specs.State.{State, Records, has_file, target_state, is_bu
 use Rattle.redo_model.specs.Command.{Command, File, Gone, Lock, Unlock, Start, IfChange, IfCreate, Always, Stamp, Done, Failed, Ood, Targets, Sources, names_in, asked_lock}
 use Rattle.redo_model.specs.Reply.{Refusal, NotLocked, Building, NotBuilding, Itself, Exists, Reply, Okay, Refused}
 use Rattle.redo_model.specs.Step.{Tells, Replies, Answers, verdict_of, refusal_or, refusal_of_existing, stale_reply, lock_reply, holds_target, is_among, is_built_by}
-use Rattle.redo_command.specs.Replies.{HasReplyForm, AreAllNames, names_in_reply}
+use Rattle.redo_text.specs.Replies.{HasReplyForm, AreAllNames, names_in_reply}
 use Rattle.redo_session.proofs.KnownNames.{IsKnown, AreKnown, known_are_names, all_members, member_of_all}
 use Rattle.redo_session.proofs.KnownFiles.{AreFilesKnown}
 use Rattle.redo_session.proofs.Grants.{AreFewGrants}

@@ -6,8 +6,9 @@ use Rattle.redo_model.specs.Names.{Text, texts}
 use Rattle.redo_model.specs.State.{empty}
 use Rattle.redo_model.specs.Command.{Command, names_in}
 use Rattle.redo_model.specs.History.{Line, part_of, Legal}
-use Rattle.redo_command.specs.Grammar.{with_names}
-use Rattle.redo_command.specs.Histories.{history_text_of, session_text_of, sessions_below}
+use Rattle.redo_text.specs.Grammar.{with_names}
+use Rattle.redo_replay.specs.Histories.{history_text_of}
+use Rattle.redo_session.specs.RunTexts.{session_text_of, sessions_below}
 use Rattle.redo_replay.proofs.HistoryReadsBack.{history_reads_back}
 use Rattle.redo_replay.proofs.Replayed.{all_map}
 use Rattle.redo_replay.specs.HistoryTexts.{IsHistory, AreNamesOf}

@@ -7,10 +7,10 @@ use Rattle.redo_model.specs.Names.{Text}
 use Rattle.redo_model.specs.Command as model
 use Rattle.redo_model.specs.History.{Line}
 use Rattle.redo_model.specs.Renaming.{named_command}
-use Rattle.redo_command.specs.declared.command.Command.{Command}
-use Rattle.redo_command.specs.Histories.{run_text_of, sessions_below}
-use Rattle.redo_command.specs.Meaning.{command_of, line_at}
-use Rattle.redo_command.specs.declared.reply.Line as coded
+use Rattle.redo_terms.specs.declared.command.Command.{Command}
+use Rattle.redo_session.specs.RunTexts.{run_text_of, sessions_below}
+use Rattle.redo_terms.specs.Meaning.{command_of, line_at}
+use Rattle.redo_terms.specs.declared.reply.Line as coded
 use Rattle.redo_journal.specs.Plans.{PlanOf, scripts_of}
 use Rattle.redo_session.specs.Runs.{IsRun, IsRunText}
 use Rattle.redo_session.specs.Files.{scripts_at}

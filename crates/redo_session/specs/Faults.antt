@@ -2,9 +2,9 @@
 use Rattle.std.specs.Prelude.{◌≡◌, ℕ, ◌<◌, ◌≤◌, Bool, false, List, [], length, take, Option, None, IfSome, IsTrue, slice_index_or, ⊤}
 use Rattle.redo_model.specs.Names.{Text}
 use Rattle.redo_model.specs.Command.{Command}
-use Rattle.redo_command.specs.Faults.{IsFirstFault}
+use Rattle.redo_text.specs.Faults.{IsFirstFault}
 use Rattle.redo_session.specs.Runs.{AreAccepted, AreSessions}
-use Rattle.redo_command.specs.declared.fault.LineFault.{LineFault}
+use Rattle.redo_text.specs.declared.fault.LineFault.{LineFault}
 use Rattle.redo_session.specs.declared.fault.TextFault.{TextFault}
 use Rattle.redo_session.specs.declared.fault.TextFault.TheVariants.{Memory, Read, TooManySessions, NoSession, Write, Device, TooLong}
 use Rattle.redo_journal.specs.declared.plan.PlanFault.{PlanFault}

@@ -4,10 +4,10 @@ use Rattle.std.specs.List.{AllByRecursion}
 use Rattle.redo_model.specs.Names.{Text}
 use Rattle.redo_model.specs.Command as commands
 use Rattle.redo_model.specs.Renaming.{IsBelow}
-use Rattle.redo_command.specs.declared.command.Command.{Command}
-use Rattle.redo_command.specs.declared.watched.Watched.{Watched}
-use Rattle.redo_command.specs.Meaning.{command_of, command_at}
-use Rattle.redo_command.specs.Watched.{is_faulted}
+use Rattle.redo_terms.specs.declared.command.Command.{Command}
+use Rattle.redo_whole.specs.declared.watched.Watched.{Watched}
+use Rattle.redo_terms.specs.Meaning.{command_of, command_at}
+use Rattle.redo_whole.specs.Watched.{is_faulted}
 use Rattle.redo_replay.specs.Devices.{known_in}
 
 -- what each file has left, where it is known; `remaining` says it of a reader

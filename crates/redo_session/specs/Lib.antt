@@ -1,3 +1,4 @@
+pub mod RunTexts
 pub mod Runs
 pub mod Faults
 pub mod Files

@@ -5,8 +5,8 @@ use Rattle.std.specs.Io.KnownBytes.{Appends}
 use Rattle.redo_model.specs.Names.{Text, texts}
 use Rattle.redo_model.specs.Command.{Command}
 use Rattle.redo_model.specs.History.{Line, part_of, Legal}
-use Rattle.redo_command.specs.Grammar.{IsScript}
-use Rattle.redo_command.specs.Histories.{run_text_of, sessions_below}
+use Rattle.redo_text.specs.Grammar.{IsScript}
+use Rattle.redo_session.specs.RunTexts.{run_text_of, sessions_below}
 
 -- the file's bytes, where they are known, are a script of these commands, with the names before
 -- and after it

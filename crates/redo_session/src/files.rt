@@ -1,7 +1,7 @@
 ghost use Rattle.std.specs.Prelude.{◌≡◌, ◌↔◌, ℕ, ◌<◌, false, [], length, map, IfOk, IfErr, IsErrAnd, OnErr};
 ghost use Rattle.redo_names.specs.Names.{Extends};
-ghost use Rattle.redo_command.specs.Meaning.{command_at};
-ghost use Rattle.redo_command.specs.Watched.{is_faulted};
+ghost use Rattle.redo_terms.specs.Meaning.{command_at};
+ghost use Rattle.redo_whole.specs.Watched.{is_faulted};
 ghost use Rattle.redo_replay.specs.Devices.{known_in};
 ghost use Rattle.redo_session.specs.Runs.{IsAccepted, AreAccepted};
 ghost use Rattle.redo_session.specs.Files.{bytes_of_files, flags_of_files, scripts_at, IsScriptBelow, AreScriptsBelow};

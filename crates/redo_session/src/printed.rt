@@ -1,8 +1,9 @@
 ghost use Rattle.std.specs.Prelude.{◌≡◌, ◌+◌, ◌++◌, length, map, codes, decimal, IfOk, OnOk, [], ◌∷◌, ◌==◌, count_by};
 ghost use Rattle.redo_model.specs.History.{part_of};
 ghost use Rattle.redo_model.specs.Renaming.{IsLineBelow};
-ghost use Rattle.redo_command.specs.Meaning.{line_of, line_at};
-ghost use Rattle.redo_command.specs.Histories.{ended, session_text_of, run_text_of, sessions_below};
+ghost use Rattle.redo_terms.specs.Meaning.{line_of, line_at};
+ghost use Rattle.redo_replay.specs.Histories.{ended};
+ghost use Rattle.redo_session.specs.RunTexts.{session_text_of, run_text_of, sessions_below};
 ghost use Rattle.redo_replay.specs.Recorded.{AreLinesBelow};
 ghost use Rattle.redo_session.specs.Printed.{answers_of};
 

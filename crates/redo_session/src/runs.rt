@@ -1,5 +1,5 @@
 ghost use Rattle.std.specs.Prelude.{map, IfOk};
-ghost use Rattle.redo_command.specs.Meaning.{line_of, line_at};
+ghost use Rattle.redo_terms.specs.Meaning.{line_of, line_at};
 ghost use Rattle.redo_replay.specs.Merges.{AreMerged};
 ghost use Rattle.redo_replay.specs.Recorded.{AreLinesBelow};
 ghost use Rattle.redo_session.specs.Runs.{IsRun};

@@ -1,5 +1,5 @@
 ghost use Rattle.std.specs.Prelude.{◌≡◌, ◌≢◌, ◌↔◌, ◌⊎◌, ◌<◌, ◌≤◌, [], false, true, length, map, Any, All, IfOk, IfErr, OnOk, IsErrOf, IsErrAnd};
-ghost use Rattle.redo_command.specs.Watched.{is_faulted};
+ghost use Rattle.redo_whole.specs.Watched.{is_faulted};
 ghost use Rattle.redo_replay.specs.Devices.{known_in, WritesNothing};
 ghost use Rattle.redo_session.specs.Runs.{IsRunText, RunsAs, WritesRun, WritesPart, AreKnownSessions};
 ghost use Rattle.redo_session.specs.Files.{bytes_of_files, flags_of_files, scripts_at, AreScriptsBelow};

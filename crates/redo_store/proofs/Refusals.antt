@@ -1,9 +1,9 @@
 -- The verdict on a command as the store finds it.
 use Rattle.std.proofs.Common.{◌≡◌, ℕ, Bool, Option, Some, None, refl, sym, ap, ◌∙◌, arith}
 use Rattle.std.specs.Option.{option_or}
-use Rattle.redo_command.specs.declared.command.Command.{Command}
-use Rattle.redo_command.specs.declared.command.Command.TheVariants as coded
-use Rattle.redo_command.specs.Meaning.{command_of, kind_of}
+use Rattle.redo_terms.specs.declared.command.Command.{Command}
+use Rattle.redo_terms.specs.declared.command.Command.TheVariants as coded
+use Rattle.redo_terms.specs.Meaning.{command_of, kind_of}
 use Rattle.redo_model.specs.Command as commands
 use Rattle.redo_model.specs.Command.{target_of}
 use Rattle.redo_model.specs.Names.{Naming}

@@ -5,12 +5,12 @@ ghost use Rattle.redo_model.specs.Command as commands;
 ghost use Rattle.redo_model.specs.Command.{asked_lock};
 ghost use Rattle.redo_model.specs.Step.{Answers, after, is_held_by, holds_target, records_after};
 ghost use Rattle.redo_model.specs.Renaming.{OrdersAlike, numbering, IsBelow, IsReplyBelow};
-ghost use Rattle.redo_command.specs.Meaning.{command_of, reply_of};
+ghost use Rattle.redo_terms.specs.Meaning.{command_of, reply_of};
 ghost use Rattle.redo_store.specs.Tables.{freed_by};
 
 use crate::store::Store;
-use redo_command::{Command, Reply};
 use redo_names::Names;
+use redo_terms::{Command, Reply};
 use std::alloc::{AllocError, Global};
 use std::marker::Model;
 

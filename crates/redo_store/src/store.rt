@@ -5,15 +5,15 @@ ghost use Rattle.redo_model.specs.Command as commands;
 ghost use Rattle.redo_model.specs.Command.{asked_lock};
 ghost use Rattle.redo_model.specs.Step.{Replies, Tells, records_after, verdict_of};
 ghost use Rattle.redo_model.specs.Renaming.{OrdersAlike, numbering, IsBelow, IsReplyBelow};
-ghost use Rattle.redo_command.specs.Meaning.{command_of, reply_of, refusal_of};
+ghost use Rattle.redo_terms.specs.Meaning.{command_of, reply_of, refusal_of};
 
 use crate::sorted::{ranks_of, sorted_numbers};
 use crate::table::{answer, answers, effect, effects};
-use redo_command::{Command, FileStamp, Refusal, Reply, cases};
 use redo_names::Names;
 use redo_ood::Ood;
 use redo_records::{Records, digest_of};
 use redo_rows::DepRows;
+use redo_terms::{Command, FileStamp, Refusal, Reply, cases};
 use std::alloc::{AllocError, Global};
 use std::marker::Model;
 

@@ -2,7 +2,7 @@
 ghost use Rattle.std.specs.Prelude.{IsTrue};
 ghost use Rattle.std.specs.List.{AllByRecursion};
 ghost use Rattle.redo_model.specs.Renaming.{AllBelow, IsBelow, IsReplyBelow, IsLineBelow};
-ghost use Rattle.redo_command.specs.Meaning.{command_of, reply_of, line_of};
+ghost use Rattle.redo_terms.specs.Meaning.{command_of, reply_of, line_of};
 
 use redo_command::{Command, Line, Refusal, Reply};
 use redo_journal::{Entry, Journal, Place, Plan, are_journals};

@@ -2,7 +2,7 @@
 //! most part a build leaves its target as it was, so that targets become up to date again.
 ghost use Rattle.std.specs.Prelude.{◌<◌, IfOk};
 ghost use Rattle.redo_model.specs.Renaming.{AllBelow, IsBelow};
-ghost use Rattle.redo_command.specs.Meaning.{command_of};
+ghost use Rattle.redo_terms.specs.Meaning.{command_of};
 
 use crate::random::{NAMES, Random};
 use redo_command::{Command, FileStamp};

@@ -2,7 +2,7 @@
 ghost use Rattle.std.specs.Prelude.{◌≡◌, length, IfOk};
 ghost use Rattle.redo_store.specs.Tables.{tables_count};
 ghost use Rattle.redo_model.specs.Renaming.{IsBelow};
-ghost use Rattle.redo_command.specs.Meaning.{command_of};
+ghost use Rattle.redo_terms.specs.Meaning.{command_of};
 ghost use Rattle.redo_tests_store.specs.declared.random.TheConstants.{NAMES};
 
 use crate::random::NAMES;

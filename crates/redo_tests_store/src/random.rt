@@ -1,7 +1,7 @@
 //! Commands that are drawn at random, the same for the same seed.
 ghost use Rattle.std.specs.Prelude.{◌<◌, ◌≤◌, IfOk};
 ghost use Rattle.redo_model.specs.Renaming.{AllBelow, IsBelow};
-ghost use Rattle.redo_command.specs.Meaning.{command_of};
+ghost use Rattle.redo_terms.specs.Meaning.{command_of};
 
 use redo_command::{Command, FileStamp};
 use std::alloc::{AllocError, Global};

@@ -13,8 +13,8 @@ ghost use Rattle.redo_board.specs.Outcomes.{Made};
 use crate::board::Board;
 use crate::rule::{Claim, Free};
 use crate::worker::Worker;
-use redo_command::{Command, FileStamp, Reply};
 use redo_journal::{Entry, Place, Plan};
+use redo_terms::{Command, FileStamp, Reply};
 
 impl Worker {
     /// One `fetch_or` on the claim word of a target.

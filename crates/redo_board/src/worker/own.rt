@@ -1,11 +1,11 @@
 ghost use Rattle.std.specs.Prelude.{◌≡◌, ◌<◌, ◌&&◌, [], not, cond, IfOk};
 ghost use Rattle.redo_model.specs.Renaming.{IsBelow};
-ghost use Rattle.redo_command.specs.Meaning.{command_of, reply_of};
+ghost use Rattle.redo_terms.specs.Meaning.{command_of, reply_of};
 ghost use Rattle.redo_board.specs.Core as core;
 ghost use Rattle.redo_board.specs.Own.{names_of, hold_at, has, way_by, Says, Notes};
 ghost use Rattle.redo_board.specs.Steps.{way_of};
 
-use redo_command::{Command, FileStamp, Reply};
+use redo_terms::{Command, FileStamp, Reply};
 use std::alloc::{AllocError, Global};
 
 /// The word that a command steps on.

@@ -1,7 +1,7 @@
 ghost use Rattle.std.specs.Prelude.{◌≡◌, ◌+◌, ◌<◌, true, None, IfOk, OnOk, OnErr, MatchBool};
 ghost use Rattle.redo_model.specs.Command.{asked_lock};
 ghost use Rattle.redo_model.specs.Renaming.{IsBelow};
-ghost use Rattle.redo_command.specs.Meaning.{command_of, reply_of};
+ghost use Rattle.redo_terms.specs.Meaning.{command_of, reply_of};
 ghost use Rattle.redo_store.specs.Stored.{count_of, has_room_for};
 ghost use Rattle.redo_board.specs.Rows.{rows_of, bit};
 ghost use Rattle.redo_board.specs.Core.{row, holds_of};
@@ -18,8 +18,8 @@ use crate::gate::Gate;
 use crate::plan::command_at;
 use crate::rule::Try;
 use crate::worker::Worker;
-use redo_command::{Command, FileStamp, Reply};
 use redo_journal::{Entry, Place, Plan};
+use redo_terms::{Command, FileStamp, Reply};
 use std::alloc::{AllocError, Global};
 
 impl Worker {

@@ -9,10 +9,10 @@ ghost use Rattle.redo_store.specs.Changes.{HasEffect, HasEffectOfAny, AreRowsAft
 ghost use Rattle.redo_store.specs.Stored.{records_of, count_of, HasBuildsLeft, KeepsNames, has_room_for};
 
 use crate::store::Store;
-use redo_command::FileStamp;
 use redo_ood::Ood;
 use redo_records::{Records, digest_of};
 use redo_rows::DepRows;
+use redo_terms::FileStamp;
 
 /// A change row of `t` on each of the names, with the mark that the records give it.
 fn change_each(rows: &mut DepRows, records: &Records, t: u32, names: &[u32])

@@ -4,12 +4,12 @@ ghost use Rattle.redo_model.specs.State.{Idle, has_file, target_state};
 ghost use Rattle.redo_model.specs.OutOfDate.{HasFile, IsTarget, OutOfDate, IsSource, HasChangeRow, HasCreatedRow, HasRow};
 ghost use Rattle.redo_model.specs.Step.{Tells, stale_reply};
 ghost use Rattle.redo_model.specs.Renaming.{AllBelow, IsReplyBelow};
-ghost use Rattle.redo_command.specs.Meaning.{reply_of};
+ghost use Rattle.redo_terms.specs.Meaning.{reply_of};
 ghost use Rattle.redo_store.specs.Stored.{IsStored, records_of, naming_of, count_of, AreInOrder};
 
 use crate::store::Store;
-use redo_command::Reply;
 use redo_records::State;
+use redo_terms::Reply;
 use std::alloc::{AllocError, Global};
 
 pub(super) fn push_if(names: &mut Vec<u32>, n: u32, is_due: bool) -> Result<(), AllocError>

@@ -2,13 +2,13 @@ ghost use Rattle.std.specs.Prelude.{◌≡◌, ◌==◌, find, option_map};
 ghost use Rattle.std.specs.List.{list_any};
 ghost use Rattle.redo_model.specs.State.{has_file};
 ghost use Rattle.redo_model.specs.Renaming.{AllBelow, IsBelow};
-ghost use Rattle.redo_command.specs.Meaning.{command_of, refusal_of};
+ghost use Rattle.redo_terms.specs.Meaning.{command_of, refusal_of};
 ghost use Rattle.redo_records.specs.Refusals.{refusal_of_names};
 ghost use Rattle.redo_store.specs.Stored.{records_of, naming_of, count_of};
 
 use crate::store::Store;
 use crate::table::{first_refusal_of_names, refusals_of_names, refuse_names_unless};
-use redo_command::{Command, Refusal, cases};
+use redo_terms::{Command, Refusal, cases};
 
 fn is_among(names: &[u32], t: u32) -> bool
     ensures { result ≡ list_any (λ m. m == t) names.now }

@@ -1,7 +1,7 @@
 use Rattle.std.proofs.Common.{◌≡◌, ◌∷◌, [], ◌++◌, length, map, ap, subst, sym, arith, rules, ◌∙◌, All, ◌+◌, ◌≤◌, ◌-◌}
 use Rattle.std.proofs.lemmas.List.{length-map}
 use Rattle.std.proofs.lemmas.List.Elements.{All-push}
-use Rattle.redo_command.specs.Meaning.{command_of}
+use Rattle.redo_terms.specs.Meaning.{command_of}
 use Rattle.redo_board.specs.Kept.{SitsAt, WorksAt, IsFreshOf}
 use Rattle.redo_bench.specs.Workers.{HasSession}
 use Rattle.redo_bench.proofs.Workers.{has_next}

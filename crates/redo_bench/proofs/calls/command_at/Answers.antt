@@ -2,8 +2,8 @@ use Rattle.std.proofs.Common.{ℕ, zero, suc, ◌<◌, List, [], ◌∷◌, leng
 use Rattle.std.proofs.lemmas.List.{length-map}
 use Rattle.std.specs.List.{AllByRecursion}
 use Rattle.redo_model.specs.Renaming.{IsBelow}
-use Rattle.redo_command.specs.declared.command.Command.{Command}
-use Rattle.redo_command.specs.Meaning.{command_of}
+use Rattle.redo_terms.specs.declared.command.Command.{Command}
+use Rattle.redo_terms.specs.Meaning.{command_of}
 use Rattle.redo_bench.proofs.calls.command_at.Goals as goal
 
 below_at : (n : ℕ) (xs : List Command) (k : ℕ) (x : Command) → k < length xs

@@ -1,8 +1,8 @@
 use Rattle.std.proofs.Common.{◌≡◌, ℕ, ◌+◌, List, [], ◌∷◌, ◌++◌, length, map, take, arith, sym, ap, ◌∙◌}
 use Rattle.std.proofs.lemmas.List.{take_more, map-append, length-map}
 use Rattle.redo_model.specs.Command as commands
-use Rattle.redo_command.specs.Meaning.{command_of}
-use Rattle.redo_command.specs.declared.command.Command.{Command}
+use Rattle.redo_terms.specs.Meaning.{command_of}
+use Rattle.redo_terms.specs.declared.command.Command.{Command}
 use Rattle.redo_board.specs.Rows.{rows_in_all, rows_in}
 use Rattle.redo_board.proofs.Counts.{rows-push-all}
 use Rattle.redo_board.proofs.plan.rows.Goals as goal

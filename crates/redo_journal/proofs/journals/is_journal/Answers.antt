@@ -1,7 +1,7 @@
 use Rattle.std.proofs.Common.{◌≡◌, ◌<◌, ℕ, List, length, map, get_or, [], ◌∙◌, sym, ap, subst, arith}
 use Rattle.std.proofs.lemmas.Bool.{false≢true}
 use Rattle.std.proofs.lemmas.List.{length-map}
-use Rattle.redo_command.specs.Meaning.{command_of}
+use Rattle.redo_terms.specs.Meaning.{command_of}
 use Rattle.redo_journal.specs.declared.entry.Entry.{Entry}
 use Rattle.redo_journal.specs.Numbers.{numbers_in}
 use Rattle.redo_journal.proofs.Told.{is_told, told_own, told_few, told_numbers}

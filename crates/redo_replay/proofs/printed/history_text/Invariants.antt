@@ -1,7 +1,7 @@
 use Rattle.std.proofs.Common.{◌≡◌, ◌++◌, length, map, codes, decimal, take}
 use Rattle.std.specs.List.{flat_map}
-use Rattle.redo_command.specs.Meaning.{line_at}
-use Rattle.redo_command.specs.Histories.{ended, line_text_of}
+use Rattle.redo_terms.specs.Meaning.{line_at}
+use Rattle.redo_replay.specs.Histories.{ended, line_text_of}
 use Rattle.redo_replay.proofs.printed.history_text.Given as goal
 
 abbrev pub invariant-loop-line : goal.invariant-loop-line

@@ -1,8 +1,8 @@
 use Rattle.std.proofs.Common.{◌<◌, length, arith}
 use Rattle.std.proofs.lemmas.Result.{err_from_is_err_and}
 use Rattle.redo_model.specs.Renaming.{IsLineBelow}
-use Rattle.redo_command.specs.declared.reply.Line.{Line}
-use Rattle.redo_command.specs.Meaning.{line_of}
+use Rattle.redo_terms.specs.declared.reply.Line.{Line}
+use Rattle.redo_terms.specs.Meaning.{line_of}
 use Rattle.redo_replay.proofs.Replayed.{all_more}
 use Rattle.redo_replay.proofs.MoreNames.{AreLinesBelow-Extends}
 use Rattle.redo_replay.proofs.HistorySteps.{one_read, all_read, read_up_to, read_before, line_fails}

@@ -1,6 +1,6 @@
 use Rattle.std.proofs.Common.{◌≡◌, ◌+◌, ◌<◌, length}
 use Rattle.std.specs.List.{AllByRecursion}
-use Rattle.redo_command.specs.declared.reply.Line.{Line}
+use Rattle.redo_terms.specs.declared.reply.Line.{Line}
 use Rattle.redo_replay.specs.Recorded.{AreLinesBelow}
 use Rattle.redo_replay.proofs.HistorySteps.{IsReadSoFar}
 use Rattle.redo_replay.proofs.read.history_in.Given as goal

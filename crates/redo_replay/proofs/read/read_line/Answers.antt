@@ -1,11 +1,11 @@
 use Rattle.std.proofs.Common.{◌≡◌, List, [], ◌∷◌, inl, inr, refl, sym, subst}
 use Rattle.redo_model.specs.Names.{Text}
 use Rattle.redo_model.specs.Command as commands
-use Rattle.redo_command.specs.Meaning.{command_of, command_at, line_at}
-use Rattle.redo_command.specs.Grammar.{IsCommandLine, AddsNames}
-use Rattle.redo_command.proofs.Added.{command_at-Extends, IsBelow-Extends}
-use Rattle.redo_command.specs.declared.fault.ReplyFault.{ReplyFault}
-use Rattle.redo_command.specs.declared.fault.ReplyFault.TheVariants as replies
+use Rattle.redo_terms.specs.Meaning.{command_of, command_at, line_at}
+use Rattle.redo_text.specs.Grammar.{IsCommandLine, AddsNames}
+use Rattle.redo_text.proofs.Added.{command_at-Extends, IsBelow-Extends}
+use Rattle.redo_text.specs.declared.fault.ReplyFault.{ReplyFault}
+use Rattle.redo_text.specs.declared.fault.ReplyFault.TheVariants as replies
 use Rattle.redo_replay.specs.declared.fault.HistoryFault.{HistoryFault}
 use Rattle.redo_replay.specs.HistoryFaults.{IsNoReply, HasBadReply, IsLineCause}
 use Rattle.redo_replay.proofs.LineParts.{line_parts, line_named}

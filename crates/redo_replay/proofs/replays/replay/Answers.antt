@@ -2,7 +2,7 @@ use Rattle.std.proofs.Common.{◌≡◌, List, map, subst}
 use Rattle.std.specs.Prelude.{IfOk}
 use Rattle.redo_model.specs.Names.{Text}
 use Rattle.redo_model.specs.History.{Line}
-use Rattle.redo_command.specs.Meaning.{line_at}
+use Rattle.redo_terms.specs.Meaning.{line_at}
 use Rattle.redo_replay.specs.Recorded.{lines_of}
 use Rattle.redo_replay.specs.Verdicts.{IsVerdict, verdict_at}
 use Rattle.redo_replay.proofs.OneVerdict.{answered_same}

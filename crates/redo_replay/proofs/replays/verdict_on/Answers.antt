@@ -2,7 +2,7 @@ use Rattle.std.proofs.Common.{◌≡◌, ◌≢◌, ◌+◌, ◌++◌, [], ◌�
 use Rattle.std.proofs.lemmas.List.{take_more, length-map}
 use Rattle.redo_model.specs.Names.{texts}
 use Rattle.redo_model.specs.Renaming.{OrdersAlike, numbering, IsReplyBelow}
-use Rattle.redo_command.specs.Meaning.{reply_of, line_at}
+use Rattle.redo_terms.specs.Meaning.{reply_of, line_at}
 use Rattle.redo_store.specs.Tables.{state_of, tables_order}
 use Rattle.redo_replay.proofs.Replayed.{Replayed, replayed_next, replayed_same, replayed_wrong}
 use Rattle.redo_replay.proofs.replays.verdict_on.Goals as goal

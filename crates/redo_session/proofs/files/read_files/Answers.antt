@@ -1,7 +1,7 @@
 use Rattle.std.proofs.Common.{◌∙◌, arith}
 use Rattle.std.proofs.lemmas.Result.{err_from_is_err_and}
 use Rattle.std.proofs.Math.Seq.{map-set_same}
-use Rattle.redo_command.specs.Watched.{is_faulted, inner_of}
+use Rattle.redo_whole.specs.Watched.{is_faulted, inner_of}
 use Rattle.redo_session.proofs.Causes.{IsCause-read, shown_after}
 use Rattle.redo_session.specs.Files.{scripts_at}
 use Rattle.redo_session.proofs.Accepted.{AreScriptsBelow-append, files_more}

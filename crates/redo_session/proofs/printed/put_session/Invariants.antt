@@ -1,7 +1,7 @@
 use Rattle.std.proofs.Common.{◌≡◌, ◌+◌, ◌++◌, length, map, codes, decimal, take}
 use Rattle.redo_model.specs.History.{part_of}
-use Rattle.redo_command.specs.Meaning.{line_at}
-use Rattle.redo_command.specs.Histories.{ended}
+use Rattle.redo_terms.specs.Meaning.{line_at}
+use Rattle.redo_replay.specs.Histories.{ended}
 use Rattle.redo_session.specs.Printed.{answers_of}
 use Rattle.redo_session.proofs.printed.put_session.Given as goal
 

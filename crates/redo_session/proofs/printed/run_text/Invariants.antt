@@ -1,6 +1,6 @@
 use Rattle.std.proofs.Common.{◌≡◌, map}
-use Rattle.redo_command.specs.Meaning.{line_at}
-use Rattle.redo_command.specs.Histories.{run_text_of, sessions_below}
+use Rattle.redo_terms.specs.Meaning.{line_at}
+use Rattle.redo_session.specs.RunTexts.{run_text_of, sessions_below}
 use Rattle.redo_session.proofs.printed.run_text.Given as goal
 
 abbrev pub invariant-loop-session : goal.invariant-loop-session

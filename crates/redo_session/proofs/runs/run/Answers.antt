@@ -1,7 +1,7 @@
 use Rattle.std.proofs.Common.{◌≡◌, ℕ, List, length, map, ap, sym, subst, ◌∙◌}
 use Rattle.std.proofs.lemmas.List.{length-map}
-use Rattle.redo_command.specs.Meaning.{command_of, line_of}
-use Rattle.redo_command.specs.declared.command.Command.{Command}
+use Rattle.redo_terms.specs.Meaning.{command_of, line_of}
+use Rattle.redo_terms.specs.declared.command.Command.{Command}
 use Rattle.redo_model.specs.Command as model
 use Rattle.redo_journal.specs.Plans.{PlanOf, scripts_of}
 use Rattle.redo_journal.specs.Journals.{AreJournals}

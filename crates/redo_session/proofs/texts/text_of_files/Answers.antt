@@ -1,7 +1,7 @@
 use Rattle.std.proofs.Common.{◌≡◌, ◌∙◌, [], length, map, sym, ap}
 use Rattle.std.proofs.lemmas.List.{length-map, nil_from_length}
-use Rattle.redo_command.specs.Meaning.{command_at}
-use Rattle.redo_command.specs.Watched.{inner_of}
+use Rattle.redo_terms.specs.Meaning.{command_at}
+use Rattle.redo_whole.specs.Watched.{inner_of}
 use Rattle.redo_session.specs.Files.{bytes_of_files, flags_of_files, scripts_at}
 use Rattle.redo_session.proofs.Accepted.{IsCause-sessions, AreAccepted-length, runs_as}
 use Rattle.redo_session.proofs.texts.text_of_files.Goals as goal

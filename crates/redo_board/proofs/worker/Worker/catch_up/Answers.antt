@@ -1,5 +1,5 @@
 use Rattle.std.proofs.Common.{◌≡◌, ℕ, ◌-◌, ◌/◌, ap, subst, arith, Some, ◌∙◌}
-use Rattle.redo_command.specs.Meaning.{command_of}
+use Rattle.redo_terms.specs.Meaning.{command_of}
 use Rattle.redo_model.specs.Step.{records_after}
 use Rattle.redo_store.specs.Stored.{records_of, naming_of}
 use Rattle.redo_journal.specs.Plans.{PlanOf, IsPlan}

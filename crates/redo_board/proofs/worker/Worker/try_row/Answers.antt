@@ -6,7 +6,7 @@ use Rattle.redo_model.specs.Renaming.{IsBelow}
 use Rattle.redo_model.specs.Journals.{Numbered}
 use Rattle.redo_model.specs.Step.{records_after}
 use Rattle.redo_store.specs.Stored.{records_of, naming_of, count_of}
-use Rattle.redo_command.specs.Meaning.{command_of, reply_of}
+use Rattle.redo_terms.specs.Meaning.{command_of, reply_of}
 use Rattle.redo_journal.specs.Plans.{PlanOf}
 use Rattle.redo_board.specs.Rows.{rows_of}
 use Rattle.redo_board.specs.Core.{word, row}

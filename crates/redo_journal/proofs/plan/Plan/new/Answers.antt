@@ -1,7 +1,7 @@
 use Rattle.std.proofs.Common.{List, length, map, sym, ◌∙◌, arith}
 use Rattle.std.proofs.lemmas.List.{length-map}
-use Rattle.redo_command.specs.declared.command.Command.{Command}
-use Rattle.redo_command.specs.Meaning.{command_of}
+use Rattle.redo_terms.specs.declared.command.Command.{Command}
+use Rattle.redo_terms.specs.Meaning.{command_of}
 use Rattle.redo_journal.proofs.Plans.{some_at, below_at, short_of}
 use Rattle.redo_journal.proofs.plan.Plan.new.Goals as goal
 

@@ -1,5 +1,5 @@
 use Rattle.std.proofs.Common.{ℕ, ◌<◌, map, slice_index_or}
-use Rattle.redo_command.specs.Meaning.{command_of}
+use Rattle.redo_terms.specs.Meaning.{command_of}
 use Rattle.redo_replay.specs.Merging.{FitsScript, none}
 use Rattle.redo_replay.proofs.merging.fitting.journal_fits.Given as goal
 

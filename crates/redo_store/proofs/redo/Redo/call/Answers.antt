@@ -1,7 +1,7 @@
 use Rattle.std.proofs.Common.{◌≡◌, ℕ, sym, subst}
 use Rattle.redo_model.specs.Command.{Command, Lock}
 use Rattle.redo_model.specs.Step.{after}
-use Rattle.redo_command.specs.Meaning.{command_of}
+use Rattle.redo_terms.specs.Meaning.{command_of}
 use Rattle.redo_store.specs.Tables.{Tables, tables_naming, state_of}
 use Rattle.redo_store.proofs.Obeyed.{lock_asked}
 use Rattle.redo_store.proofs.redo.Redo.call.Goals as goal

@@ -1,6 +1,6 @@
 use Rattle.std.proofs.Common.{◌≡◌, ◌∙◌, ap, subst}
 use Rattle.redo_model.specs.Step.{Replies}
-use Rattle.redo_command.specs.Meaning.{command_of, reply_of}
+use Rattle.redo_terms.specs.Meaning.{command_of, reply_of}
 use Rattle.redo_store.specs.Tables.{Tables, tables_records, locks_of, tables_naming, freed_by}
 use Rattle.redo_store.proofs.Obeyed.{freed, freed_at, obeyed}
 use Rattle.redo_store.proofs.redo.Redo.obey.Goals as goal

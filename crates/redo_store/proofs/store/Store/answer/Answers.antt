@@ -1,7 +1,7 @@
 use Rattle.std.proofs.Common.{◌≡◌, ℕ, List, subst, rules}
 use Rattle.std.specs.Prelude.{IfOk}
 use Rattle.std.proofs.lemmas.Result.{IfOk-weaker}
-use Rattle.redo_command.specs.Meaning.{reply_of}
+use Rattle.redo_terms.specs.Meaning.{reply_of}
 use Rattle.redo_model.specs.Command as commands
 use Rattle.redo_model.specs.Step.{Tells}
 use Rattle.redo_store.specs.Stored.{Stored, naming_of, records_of}

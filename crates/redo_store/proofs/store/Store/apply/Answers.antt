@@ -1,5 +1,5 @@
 use Rattle.std.proofs.Common.{sym}
-use Rattle.redo_command.specs.Meaning.{command_of}
+use Rattle.redo_terms.specs.Meaning.{command_of}
 use Rattle.redo_store.proofs.Rooms.{still_accepted, changed_after_room}
 use Rattle.redo_store.proofs.store.Store.apply.Goals as goal
 

@@ -1,5 +1,5 @@
 use Rattle.std.proofs.Common.{◌≡◌, Some, None, option_map, refl, arith}
-use Rattle.redo_command.specs.Meaning.{command_of, refusal_of, kind_of}
+use Rattle.redo_terms.specs.Meaning.{command_of, refusal_of, kind_of}
 use Rattle.redo_model.specs.State.{target_state}
 use Rattle.redo_records.specs.Refusals.{refusal_by_target}
 use Rattle.redo_store.specs.Stored.{Stored, naming_of, records_of}

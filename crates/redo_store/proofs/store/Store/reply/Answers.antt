@@ -1,5 +1,5 @@
 use Rattle.std.proofs.Common.{sym, subst}
-use Rattle.redo_command.specs.Meaning.{command_of}
+use Rattle.redo_terms.specs.Meaning.{command_of}
 use Rattle.redo_model.proofs.VerdictsByName.{RefusesBelow, verdict_below}
 use Rattle.redo_store.specs.Stored.{count_of, order_of, records_of}
 use Rattle.redo_store.proofs.store.Store.reply.Goals as goal

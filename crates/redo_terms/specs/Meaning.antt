@@ -1,0 +1,84 @@
+-- What the values of the code mean: over numbers, and over the names that the numbers stand for.
+use Rattle.std.specs.Prelude.{ℕ, List}
+use Rattle.redo_names.specs.Names.{text_at}
+use Rattle.redo_model.specs.Names.{Text}
+use Rattle.redo_model.specs.Command as commands
+use Rattle.redo_model.specs.Reply as replies
+use Rattle.redo_model.specs.History as histories
+use Rattle.redo_model.specs.Renaming.{named_command, named_reply, named_line}
+use Rattle.redo_terms.specs.declared.command.Command.{Command}
+use Rattle.redo_terms.specs.declared.command.Command.TheVariants.{File, Gone, Lock, Unlock, Start, IfChange, IfCreate, Always, Stamp, Done, Failed, Ood, Targets, Sources}
+use Rattle.redo_terms.specs.declared.kind.Kind.{Kind}
+use Rattle.redo_terms.specs.declared.kind.Kind.TheVariants as kinds
+use Rattle.redo_terms.specs.declared.reply.Refusal.{Refusal}
+use Rattle.redo_terms.specs.declared.reply.Refusal.TheVariants.{NotLocked, Building, NotBuilding, Itself, Exists}
+use Rattle.redo_terms.specs.declared.reply.Reply.{Reply}
+use Rattle.redo_terms.specs.declared.reply.Reply.TheVariants as coded
+use Rattle.redo_terms.specs.declared.reply.Line.{Line}
+
+abbrev pub command_of : Command → commands.Command ℕ
+command_of (File n stamp) = commands.File n stamp
+command_of (Gone n) = commands.Gone n
+command_of (Lock t) = commands.Lock t
+command_of (Unlock t) = commands.Unlock t
+command_of (Start t) = commands.Start t
+command_of (IfChange t names) = commands.IfChange t names.items
+command_of (IfCreate t names) = commands.IfCreate t names.items
+command_of (Always t) = commands.Always t
+command_of (Stamp t content) = commands.Stamp t content.items
+command_of (Done t stamp) = commands.Done t stamp
+command_of (Failed t) = commands.Failed t
+command_of Ood = commands.Ood
+command_of Targets = commands.Targets
+command_of Sources = commands.Sources
+
+abbrev pub kind_of : Command → Kind
+kind_of (File n stamp) = kinds.File
+kind_of (Gone n) = kinds.Gone
+kind_of (Lock t) = kinds.Lock
+kind_of (Unlock t) = kinds.Unlock
+kind_of (Start t) = kinds.Start
+kind_of (IfChange t names) = kinds.IfChange
+kind_of (IfCreate t names) = kinds.IfCreate
+kind_of (Always t) = kinds.Always
+kind_of (Stamp t content) = kinds.Stamp
+kind_of (Done t stamp) = kinds.Done
+kind_of (Failed t) = kinds.Failed
+kind_of Ood = kinds.Ood
+kind_of Targets = kinds.Targets
+kind_of Sources = kinds.Sources
+
+abbrev pub refusal_of : Refusal → replies.Refusal ℕ
+refusal_of NotLocked = replies.NotLocked
+refusal_of Building = replies.Building
+refusal_of NotBuilding = replies.NotBuilding
+refusal_of Itself = replies.Itself
+refusal_of (Exists n) = replies.Exists n
+
+abbrev pub reply_of : Reply → replies.Reply ℕ
+reply_of coded.Okay = replies.Okay
+reply_of (coded.Granted g) = replies.Granted g
+reply_of (coded.Busy g) = replies.Busy g
+reply_of (coded.Stale names) = replies.Stale names.items
+reply_of (coded.Stamped digest) = replies.Stamped digest
+reply_of (coded.Ood names) = replies.Ood names.items
+reply_of (coded.Targets names) = replies.Targets names.items
+reply_of (coded.Sources names) = replies.Sources names.items
+reply_of (coded.Refused refusal) = replies.Refused (refusal_of refusal)
+
+abbrev pub line_of : Line → histories.Line ℕ
+line_of line = record {
+  session = line.session;
+  command = command_of line.command;
+  reply = reply_of line.reply;
+}
+
+-- under the names that the numbers stand for
+abbrev pub command_at : List Text → Command → commands.Command Text
+command_at names command = named_command (text_at names) (command_of command)
+
+abbrev pub reply_at : List Text → Reply → replies.Reply Text
+reply_at names reply = named_reply (text_at names) (reply_of reply)
+
+abbrev pub line_at : List Text → Line → histories.Line Text
+line_at names line = named_line (text_at names) (line_of line)

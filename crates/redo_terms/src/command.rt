@@ -1,0 +1,97 @@
+use crate::kind::Kind;
+use crate::stamp::FileStamp;
+use std::alloc::{AllocError, Global};
+
+/// What a session asks of the database. Names are numbers.
+#[derive(Debug, Drop)]
+pub enum Command {
+    /// The name has a file with this stamp.
+    File(u32, FileStamp),
+    /// The name has no file.
+    Gone(u32),
+    Lock(u32),
+    Unlock(u32),
+    /// The target is built from now on.
+    Start(u32),
+    /// The target depends on these names as they are now; a line holds 1 to 64.
+    IfChange(u32, Vec<u32>),
+    /// The target depends on none of these names having a file; a line holds 1 to 64.
+    IfCreate(u32, Vec<u32>),
+    /// Once built, the target is always out of date.
+    Always(u32),
+    /// The target's digest is that of this content, of which a line holds up to 4,092 bytes.
+    Stamp(u32, Vec<u8>),
+    /// The target was built; its file has this stamp, or there is none.
+    Done(u32, Option<FileStamp>),
+    /// The target could not be built.
+    Failed(u32),
+    /// Which targets have a file and are out of date?
+    Ood,
+    /// Which targets have a file?
+    Targets,
+    /// Which idle names have a file, and a row of some target on them?
+    Sources,
+}
+
+impl Command {
+    ghost use Rattle.std.specs.Prelude.{◌≡◌, IfOk};
+    ghost use Rattle.redo_model.specs.Command.{target_of};
+    ghost use Rattle.redo_terms.specs.Meaning.{command_of, kind_of};
+
+    /// Its case.
+    pub fn kind(&self) -> Kind
+        ensures { result ≡ kind_of self.now }
+    {
+        match self {
+            Command::File(..) => Kind::File,
+            Command::Gone(_) => Kind::Gone,
+            Command::Lock(_) => Kind::Lock,
+            Command::Unlock(_) => Kind::Unlock,
+            Command::Start(_) => Kind::Start,
+            Command::IfChange(..) => Kind::IfChange,
+            Command::IfCreate(..) => Kind::IfCreate,
+            Command::Always(_) => Kind::Always,
+            Command::Stamp(..) => Kind::Stamp,
+            Command::Done(..) => Kind::Done,
+            Command::Failed(_) => Kind::Failed,
+            Command::Ood => Kind::Ood,
+            Command::Targets => Kind::Targets,
+            Command::Sources => Kind::Sources,
+        }
+    }
+
+    /// The number of its target; none where it tells of a file, or asks about all names.
+    pub fn target(&self) -> Option<u32>
+        ensures { result ≡ target_of (command_of self.now) }
+    {
+        match self {
+            Command::Lock(t) | Command::Unlock(t) | Command::Start(t) => Some(*t),
+            Command::IfChange(t, _) | Command::IfCreate(t, _) | Command::Always(t) => Some(*t),
+            Command::Stamp(t, _) | Command::Done(t, _) | Command::Failed(t) => Some(*t),
+            Command::File(..) | Command::Gone(_) => None,
+            Command::Ood | Command::Targets | Command::Sources => None,
+        }
+    }
+
+    /// An equal command.
+    pub fn copy(&self, alloc: Global) -> Result<Command, AllocError>
+        ensures { IfOk result (λ copy. command_of copy ≡ command_of self.now) }
+    {
+        Ok(match self {
+            Command::File(n, stamp) => Command::File(*n, *stamp),
+            Command::Gone(n) => Command::Gone(*n),
+            Command::Lock(t) => Command::Lock(*t),
+            Command::Unlock(t) => Command::Unlock(*t),
+            Command::Start(t) => Command::Start(*t),
+            Command::IfChange(t, names) => Command::IfChange(*t, Vec::from_slice(alloc, names)?),
+            Command::IfCreate(t, names) => Command::IfCreate(*t, Vec::from_slice(alloc, names)?),
+            Command::Always(t) => Command::Always(*t),
+            Command::Stamp(t, content) => Command::Stamp(*t, Vec::from_slice(alloc, content)?),
+            Command::Done(t, stamp) => Command::Done(*t, *stamp),
+            Command::Failed(t) => Command::Failed(*t),
+            Command::Ood => Command::Ood,
+            Command::Targets => Command::Targets,
+            Command::Sources => Command::Sources,
+        })
+    }
+}

@@ -1,0 +1,15 @@
+//! What commands and replies are: their cases, the table of the commands, file stamps, and the commands of a session.
+#![tactic(auto)]
+
+mod cases;
+mod command;
+mod kind;
+mod reply;
+mod script;
+mod stamp;
+
+pub use command::Command;
+pub use kind::Kind;
+pub use reply::{Line, Refusal, Reply};
+pub use script::{MOST_COMMANDS, Script};
+pub use stamp::{FileStamp, LONGEST_STAMP};

@@ -1,0 +1,86 @@
+use crate::command::Command;
+use std::alloc::{AllocError, Global};
+
+/// Why a command changed nothing.
+#[derive(Clone, Copy, Debug, PartialEq, Eq)]
+pub enum Refusal {
+    /// The session does not hold the target.
+    NotLocked,
+    /// The target is being built.
+    Building,
+    /// The session is not building the target.
+    NotBuilding,
+    /// The target is among the names after it.
+    Itself,
+    /// This name has a file, the first of the names after the target that has one.
+    Exists(u32),
+}
+
+/// What the database answers. Names are numbers. Lists of names are sorted by the bytes of the names.
+#[derive(Debug, Drop)]
+pub enum Reply {
+    Okay,
+    /// The lock is the session's, by the grant of this number.
+    Granted(u32),
+    /// The lock is taken, by the grant of this number.
+    Busy(u32),
+    /// Those of the names after the target that are out of date, or idle without a file; at least one.
+    Stale(Vec<u32>),
+    /// The digest of the content.
+    Stamped([u8; 20]),
+    /// The targets that have a file and are out of date.
+    Ood(Vec<u32>),
+    /// The targets that have a file.
+    Targets(Vec<u32>),
+    /// The idle names that have a file and on which a target has a row.
+    Sources(Vec<u32>),
+    Refused(Refusal),
+}
+
+impl Reply {
+    ghost use Rattle.std.specs.Prelude.{◌≡◌, ◌↔◌, IsTrue, IfOk};
+    ghost use Rattle.redo_terms.specs.Meaning.{reply_of};
+
+    /// Whether the other says the same.
+    pub fn is_same(&self, other: &Reply) -> bool
+        ensures { IsTrue result ↔ (reply_of self.now ≡ reply_of other.now) }
+    {
+        match (self, other) {
+            (Reply::Okay, Reply::Okay) => true,
+            (Reply::Granted(one), Reply::Granted(two)) => one == two,
+            (Reply::Busy(one), Reply::Busy(two)) => one == two,
+            (Reply::Stale(one), Reply::Stale(two)) => one == two,
+            (Reply::Stamped(one), Reply::Stamped(two)) => one == two,
+            (Reply::Ood(one), Reply::Ood(two)) => one == two,
+            (Reply::Targets(one), Reply::Targets(two)) => one == two,
+            (Reply::Sources(one), Reply::Sources(two)) => one == two,
+            (Reply::Refused(one), Reply::Refused(two)) => one == two,
+            _ => false,
+        }
+    }
+
+    /// An equal reply.
+    pub fn copy(&self, alloc: Global) -> Result<Reply, AllocError>
+        ensures { IfOk result (λ copy. reply_of copy ≡ reply_of self.now) }
+    {
+        Ok(match self {
+            Reply::Okay => Reply::Okay,
+            Reply::Granted(grant) => Reply::Granted(*grant),
+            Reply::Busy(grant) => Reply::Busy(*grant),
+            Reply::Stale(names) => Reply::Stale(Vec::from_slice(alloc, names)?),
+            Reply::Stamped(digest) => Reply::Stamped(*digest),
+            Reply::Ood(names) => Reply::Ood(Vec::from_slice(alloc, names)?),
+            Reply::Targets(names) => Reply::Targets(Vec::from_slice(alloc, names)?),
+            Reply::Sources(names) => Reply::Sources(Vec::from_slice(alloc, names)?),
+            Reply::Refused(refusal) => Reply::Refused(*refusal),
+        })
+    }
+}
+
+/// A line of a history. Sessions are counted from 0.
+#[derive(Debug, Drop)]
+pub struct Line {
+    pub session: u8,
+    pub command: Command,
+    pub reply: Reply,
+}

@@ -1,0 +1,62 @@
+-- What it takes that reading by steps comes to its end.
+use Rattle.std.proofs.Common.{◌≡◌, Bool, true, false, cond, ◌&&◌, ◌||◌, List, [], ◌∷◌, Option, Some, Result, Ok, Err, refl}
+use Rattle.std.specs.List.{find}
+use Rattle.redo_model.specs.Names.{Text}
+use Rattle.redo_model.specs.Command.{Command}
+use Rattle.redo_text.specs.declared.fault.LineFault.{LineFault}
+use Rattle.redo_text.specs.Reading.{◌>>=◌, Reading}
+
+pub both : (a b : Bool) → (a && b) ≡ true → (a ≡ true) × (b ≡ true)
+both true b e = (refl, e)
+both false b e = absurd cc
+
+pub neither : (a b : Bool) → (a || b) ≡ false → (a ≡ false) × (b ≡ false)
+neither true b e = absurd cc
+neither false b e = (refl, e)
+
+-- each of two steps is made
+pub bind_ok : {A B : Type 0} (r : Result A LineFault) (f : A → Result B LineFault) (y : B)
+    → (r >>= f) ≡ Ok y → (x : A) × (r ≡ Ok x) × (f x ≡ Ok y)
+bind_ok (Ok x) f y e = (x, refl, e)
+bind_ok (Err d) f y e = absurd cc
+
+-- a test that leads to a fault otherwise is passed
+pub guard_ok : {A : Type 0} (b : Bool) (d : LineFault) (x y : A) → cond b (Ok x) (Err d) ≡ Ok y
+    → (b ≡ true) × (x ≡ y)
+guard_ok true d x y e = (refl, cc)
+guard_ok false d x y e = absurd cc
+
+-- a test that leads to a fault is not passed
+pub unless_ok : {A : Type 0} (b : Bool) (d : LineFault) (r : Result A LineFault) (y : A)
+    → cond b (Err d) r ≡ Ok y → (b ≡ false) × (r ≡ Ok y)
+unless_ok true d r y e = absurd cc
+unless_ok false d r y e = (refl, e)
+
+-- what a search finds passes its test
+pub found_passes : {X : Type 0} (test : X → Bool) (xs : List X) (x : X) → find test xs ≡ Some x
+    → test x ≡ true
+found_passes test [] x e = absurd cc
+found_passes test (y ∷ ys) x e = by (test y) refl e (found_passes test ys x)
+  where
+    by : (b : Bool) → test y ≡ b → cond b (Some y) (find test ys) ≡ Some x
+        → (find test ys ≡ Some x → test x ≡ true) → test x ≡ true
+    by true passes h later = cc
+    by false fails h later = later h
+
+-- the end of reading a line
+abbrev pub read : Command Text × List Text → Reading
+read x = Ok x
+
+abbrev pub gave : {X : Type 0} → X → Result X LineFault
+gave x = Ok x
+
+-- what a step gives is one thing
+pub same_given : {X : Type 0} (x y : X) → gave x ≡ gave y → x ≡ y
+same_given x y e = cc
+
+abbrev pub found : {X : Type 0} → X → Option X
+found x = Some x
+
+-- and so is what a search finds
+pub same_found : {X : Type 0} (x y : X) → found x ≡ found y → x ≡ y
+same_found x y e = cc

@@ -1,0 +1,48 @@
+use Rattle.std.proofs.Common.{◌≡◌, ◌∙◌, ℕ, map, Vec}
+use Rattle.std.specs.Global.{Global}
+use Rattle.std.proofs.lemmas.Result.{err_from_is_err_and}
+use Rattle.redo_names.specs.Names.{text_at}
+use Rattle.redo_text.proofs.Added.{text_at-Extends}
+use Rattle.redo_text.proofs.NameLists.{texts_of, fails_alike, form_without_target, form_without_names, form_with_names}
+use Rattle.redo_text.proofs.name_lists.target_and_numbers_in.Goals as goal
+
+pub returns-in_err-number-clause-reads : goal.returns-in_err-number-clause-reads
+returns-in_err-number-clause-reads c form =
+    let names = c.number_of.new.names in
+    let p =
+    err_from_is_err_and c.from_residual-in_err-number.result
+    c.from_residual-in_err-number.ensures.1 in
+    let none =
+    form_without_target form c.args.names.now (texts_of c.args.words.now) _ _
+    c.in_ok-target.ensures.reads in
+    rw (p.1, p.2)
+    (fails_alike {X = ℕ} {Y = ℕ × Vec ℕ Global} (λ n. names)
+    (λ x. (form (text_at names x.0) (map (text_at names) x.1.items), names))
+    c.in_err-number.field-0.0 _ _ none c.in_err-number.ensures.reads)
+
+pub returns-in_err-numbers-clause-reads : goal.returns-in_err-numbers-clause-reads
+returns-in_err-numbers-clause-reads c form =
+    let names = c.numbers_of.new.names in
+    let p =
+    err_from_is_err_and c.from_residual-in_err-numbers.result
+    c.from_residual-in_err-numbers.ensures.1 in
+    let none =
+    form_without_names form c.args.names.now (texts_of c.args.words.now) _ _
+    c.number_of.new.names c.len.ensures.names.few c.in_ok-target.ensures.reads
+    c.in_ok-number.ensures.reads in
+    rw (p.1, p.2)
+    (fails_alike {X = Vec ℕ Global} {Y = ℕ × Vec ℕ Global} (λ numbers. names)
+    (λ x. (form (text_at names x.0) (map (text_at names) x.1.items), names))
+    c.in_err-numbers.field-0.0 _ _ none c.in_err-numbers.ensures.reads)
+
+pub returns-clause-reads : goal.returns-clause-reads
+returns-clause-reads c form =
+    let new = c.numbers_of.new.names in
+    let t : text_at new c.in_ok-number.number ≡ c.in_ok-target.target.now =
+    text_at-Extends c.number_of.new.names new c.in_ok-number.number c.numbers_of.ensures.kept
+    c.in_ok-number.ensures.within ∙ c.in_ok-number.ensures.number in
+    let ts = c.in_ok-numbers.ensures.numbers in
+    rw (t, ts)
+    (form_with_names form c.args.names.now (texts_of c.args.words.now) _ _
+    c.number_of.new.names new c.len.ensures.names.few c.in_ok-target.ensures.reads
+    c.in_ok-number.ensures.reads c.in_ok-numbers.ensures.reads)

@@ -1,0 +1,92 @@
+-- Which texts are commands and scripts.
+use Rattle.std.specs.Prelude.{◌≡◌, ◌≢◌, ◌<◌, ◌≤◌, ◌⊎◌, Bool, true, not, List, [], ◌∷◌, length, filter, IsTrue, IfSome, Ok, codes, ◌==◌, ⊤}
+use Rattle.std.specs.List.{slice_split, flat_map, AllByRecursion}
+use Rattle.hex.specs.Hex.{decode_of}
+use Rattle.redo_names.specs.Names.{is_name, with_name, AreAllNames}
+use Rattle.redo_model.specs.Names.{Text}
+use Rattle.redo_model.specs.Command.{Command, File, Gone, Lock, Unlock, Start, IfChange, IfCreate, Always, Stamp, Done, Failed, Ood, Targets, Sources, names_in}
+use Rattle.redo_terms.specs.Stamp.{is_stamp}
+use Rattle.redo_text.specs.Texts.{spaced, command_text_of}
+
+-- 1 to 64 names
+pub record IsNameList (names : List Text) : Type 0 where
+  pub some : 1 ≤ length names
+  pub few : length names ≤ 64
+  pub each : AreAllNames names
+
+-- what the words of a command have to be
+abbrev pub HasForm : Command Text → Type 0
+HasForm (File n stamp) = IsTrue (is_name n) × IsTrue (is_stamp stamp)
+HasForm (Gone n) = IsTrue (is_name n)
+HasForm (Lock t) = IsTrue (is_name t)
+HasForm (Unlock t) = IsTrue (is_name t)
+HasForm (Start t) = IsTrue (is_name t)
+HasForm (IfChange t ns) = IsTrue (is_name t) × IsNameList ns
+HasForm (IfCreate t ns) = IsTrue (is_name t) × IsNameList ns
+HasForm (Always t) = IsTrue (is_name t)
+HasForm (Stamp t content) = IsTrue (is_name t) × AllByRecursion (λ b. b < 256) content
+HasForm (Done t stamp) = IsTrue (is_name t) × IfSome stamp (λ s. IsTrue (is_stamp s))
+HasForm (Failed t) = IsTrue (is_name t)
+HasForm Ood = ⊤
+HasForm Targets = ⊤
+HasForm Sources = ⊤
+
+-- a line may have 8,192 bytes, a script 4,096 commands, a run 65,536 names
+abbrev pub IsShort : Text → Type 0
+IsShort line = length line ≤ 8192
+
+-- "-" stands for empty content; the digits of other content may have letters of either case
+abbrev pub IsContentWord : Text → Text → Type 0
+IsContentWord word content =
+    ((word ≡ codes "-") × (content ≡ [])) ⊎ ((content ≢ []) × (decode_of word ≡ Ok content))
+
+-- the line is the command's text, without its LF; of a stamp the content may be spelled in other
+-- ways
+abbrev pub IsSpelled : Text → Command Text → Type 0
+IsSpelled line (Stamp t content) =
+    (word : Text) × (line ≡ spaced (codes "stamp") (t ∷ word ∷ [])) × IsContentWord word content
+IsSpelled line command = line ≡ command_text_of command
+
+-- the line says the command
+abbrev pub IsCommandLine : Text → Command Text → Type 0
+IsCommandLine line command = HasForm command × IsShort line × IsSpelled line command
+
+-- the names, and after them the new ones of these, each once, in the order in which they are met
+abbrev pub with_names : List Text → List Text → List Text
+with_names names [] = names
+with_names names (t ∷ ts) = with_names (with_name names t) ts
+
+-- after are the names with those of the commands, and not too many
+abbrev pub AddsNames : List Text → List (Command Text) → List Text → Type 0
+AddsNames names commands after =
+    (after ≡ with_names names (flat_map names_in commands)) × (length after ≤ 65536)
+
+-- the pieces between line feeds: what stands after a last line feed is an empty piece, which is
+-- skipped as any
+abbrev pub lines_of : Text → List Text
+lines_of text = slice_split (λ b. b == 10) text
+
+-- an empty line, and one that begins with '#'
+abbrev pub is_skipped : Text → Bool
+is_skipped [] = true
+is_skipped (b ∷ bs) = b == 35
+
+-- each line is its command's
+abbrev pub AreCommandLines : List Text → List (Command Text) → Type 0
+AreCommandLines [] [] = ⊤
+AreCommandLines [] (command ∷ commands) = ⊥
+AreCommandLines (line ∷ lines) [] = ⊥
+AreCommandLines (line ∷ lines) (command ∷ commands) =
+    IsCommandLine line command × AreCommandLines lines commands
+
+-- the lines that are not skipped are these commands, one by one
+pub record AreScriptLines (names : List Text) (lines : List Text) (commands : List (Command Text))
+    (after : List Text) : Type 0 where
+  pub short : AllByRecursion IsShort lines
+  pub said : AreCommandLines (filter (λ line. not (is_skipped line)) lines) commands
+  pub few : length commands ≤ 4096
+  pub named : AddsNames names commands after
+
+-- the text is a script of these commands, and after are the names with its names
+abbrev pub IsScript : List Text → Text → List (Command Text) → List Text → Type 0
+IsScript names text commands after = AreScriptLines names (lines_of text) commands after

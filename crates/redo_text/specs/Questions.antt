@@ -1,0 +1,142 @@
+-- What is wrong with a line: a list of questions about it, each with its fault. The first question
+-- that is answered by yes tells the line's fault.
+use Rattle.std.specs.Prelude.{ℕ, ◌%◌, List, [], ◌∷◌, ◌++◌, map, drop, length, Option, Some, None}
+use Rattle.std.specs.Prelude.{Bool, true, not, ◌&&◌, ◌||◌, ◌==◌, nat_lt, nat_le, if◌then◌else◌, codes, bytes_eq, find}
+use Rattle.std.specs.List.{slice_split, list_any, list_all}
+use Rattle.hex.specs.Hex.{is_hex_digit}
+use Rattle.redo_names.specs.Names.{is_name}
+use Rattle.redo_model.specs.Names.{Text}
+use Rattle.redo_terms.specs.declared.kind.Kind.{Kind}
+use Rattle.redo_terms.specs.declared.kind.Kind.TheVariants as kinds
+use Rattle.redo_text.specs.declared.fault.LineFault.{LineFault}
+use Rattle.redo_text.specs.declared.fault.LineFault.TheVariants.{LineTooLong, BadByte, UnknownCommand, WrongWords, BadName, BadStamp, BadHex, TooManyLines, TooManyNames}
+use Rattle.redo_terms.specs.Stamp.{is_stamp}
+use Rattle.redo_text.specs.Texts.{word_of}
+use Rattle.redo_text.specs.Grammar.{with_names, is_skipped}
+
+-- a question is its answer, and the fault where that is yes
+abbrev pub Question : Type 0
+Question = Bool × LineFault
+
+-- the fault of the first question that is answered by yes
+abbrev pub first_yes : List Question → Option LineFault
+first_yes [] = None
+first_yes (question ∷ others) = if question.0 then Some question.1 else first_yes others
+
+-- what is wanted of a word
+pub data Wanted : Type 0 where
+  a_name : Wanted
+  a_stamp : Wanted
+  a_stamp_or_none : Wanted
+  some_content : Wanted
+
+-- what is wanted after the first word, where it says a command of this kind, and these words follow
+abbrev pub wanted : Kind → List Text → List Wanted
+wanted kinds.File words = a_name ∷ a_stamp ∷ []
+wanted kinds.Gone words = a_name ∷ []
+wanted kinds.Lock words = a_name ∷ []
+wanted kinds.Unlock words = a_name ∷ []
+wanted kinds.Start words = a_name ∷ []
+wanted kinds.IfChange words = a_name ∷ a_name ∷ map (λ word. a_name) (drop 2 words)
+wanted kinds.IfCreate words = a_name ∷ a_name ∷ map (λ word. a_name) (drop 2 words)
+wanted kinds.Always words = a_name ∷ []
+wanted kinds.Stamp words = a_name ∷ some_content ∷ []
+wanted kinds.Done words = a_name ∷ a_stamp_or_none ∷ []
+wanted kinds.Failed words = a_name ∷ []
+wanted kinds.Ood words = []
+wanted kinds.Targets words = []
+wanted kinds.Sources words = []
+
+-- an even number of hexadecimal digits, at least two
+abbrev pub are_digits : Text → Bool
+are_digits word = nat_le 2 (length word) && length word % 2 == 0 && list_all is_hex_digit word
+
+-- whether it is that; "-" stands for no stamp, and for content of no bytes
+abbrev pub is_it : Wanted → Text → Bool
+is_it a_name word = is_name word
+is_it a_stamp word = is_stamp word
+is_it a_stamp_or_none word = bytes_eq word (codes "-") || is_stamp word
+is_it some_content word = bytes_eq word (codes "-") || are_digits word
+
+-- the fault of a word that is not
+abbrev pub fault_of : Wanted → LineFault
+fault_of a_name = BadName
+fault_of a_stamp = BadStamp
+fault_of a_stamp_or_none = BadStamp
+fault_of some_content = BadHex
+
+-- word by word from the left: is it not what is wanted?
+abbrev pub word_questions : List Wanted → List Text → List Question
+word_questions [] words = []
+word_questions (want ∷ wants) [] = []
+word_questions (want ∷ wants) (word ∷ words) =
+    (not (is_it want word), fault_of want) ∷ word_questions wants words
+
+-- the words of which names are wanted
+abbrev pub names_among : List Wanted → List Text → List Text
+names_among [] words = []
+names_among (want ∷ wants) [] = []
+names_among (a_name ∷ wants) (word ∷ words) = word ∷ names_among wants words
+names_among (want ∷ wants) (word ∷ words) = names_among wants words
+
+-- the kind of command whose word this is
+abbrev pub all_kinds : List Kind
+all_kinds =
+    kinds.File ∷ kinds.Gone ∷ kinds.Lock ∷ kinds.Unlock ∷ kinds.Start ∷ kinds.IfChange
+    ∷ kinds.IfCreate ∷ kinds.Always ∷ kinds.Stamp ∷ kinds.Done ∷ kinds.Failed ∷ kinds.Ood
+    ∷ kinds.Targets ∷ kinds.Sources ∷ []
+
+abbrev pub kind_named : Text → Option Kind
+kind_named word = find (λ kind. bytes_eq word (word_of kind)) all_kinds
+
+-- would there be more than 65,536 names with these?
+abbrev pub is_full : List Text → List Text → Bool
+is_full names own = nat_lt 65536 (length (with_names names own))
+
+-- Is the first word no command? Is the number of words another? Are there more than 64 names after
+-- the target? Word by word, is it not what is wanted? Would there be too many names?
+abbrev pub form_questions : List Text → Option Kind → List Text → List Question
+form_questions names None words = (true, UnknownCommand) ∷ []
+form_questions names (Some kind) words =
+    (not (length words == length (wanted kind words)), WrongWords)
+    ∷ (nat_lt 64 (length (drop 1 words)), TooManyNames)
+    ∷ word_questions (wanted kind words) words
+    ++ (is_full names (names_among (wanted kind words) words), TooManyNames) ∷ []
+
+abbrev pub word_list_questions : List Text → List Text → List Question
+word_list_questions names [] = (true, UnknownCommand) ∷ []
+word_list_questions names (word ∷ words) = form_questions names (kind_named word) words
+
+-- the pieces between single spaces
+abbrev pub words_of : Text → List Text
+words_of line = slice_split (λ b. b == 32) line
+
+-- a visible byte or a space
+abbrev pub is_text_byte : ℕ → Bool
+is_text_byte b = nat_le 32 b && nat_le b 126
+
+-- is there a byte that is neither?
+abbrev pub has_bad_byte : Text → Bool
+has_bad_byte line = list_any (λ b. not (is_text_byte b)) line
+
+abbrev pub is_too_long : Text → Bool
+is_too_long line = nat_lt 8192 (length line)
+
+-- what is asked about the bytes and words of a line, where these are the names before it
+abbrev pub text_questions : List Text → Text → List Question
+text_questions names line =
+    (has_bad_byte line, BadByte) ∷ word_list_questions names (words_of line)
+
+-- the fault of a line without its LF
+unfoldable pub line_fault : List Text → Text → Option LineFault
+line_fault names line = first_yes ((is_too_long line, LineTooLong) ∷ text_questions names line)
+
+-- what is asked about a line of a session file after so many commands, where it is not too long
+abbrev pub file_line_questions : ℕ → List Text → Text → List Question
+file_line_questions count names line =
+    if is_skipped line then [] else (count == 4096, TooManyLines) ∷ text_questions names line
+
+-- the fault of a line of a session file, after so many commands
+unfoldable pub file_line_fault : ℕ → List Text → Text → Option LineFault
+file_line_fault count names line =
+    first_yes ((is_too_long line, LineTooLong) ∷ file_line_questions count names line)

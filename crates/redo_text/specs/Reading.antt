@@ -1,0 +1,177 @@
+-- The steps of the private readers, which no public clause cites: what each gives, or the fault
+-- where it fails.
+use Rattle.std.specs.Prelude.{◌≡◌, ℕ, List, [], ◌∷◌, ◌++◌, length, Option, Some, None, Result, Ok, Err, not, nat_lt, nat_le, ◌==◌, if◌then◌else◌, codes, bytes_eq, slice_get, true}
+use Rattle.std.specs.Borrow.{Bor}
+use Rattle.std.specs.List.{list_all}
+use Rattle.hex.specs.Hex.{decode_of}
+use Rattle.hex.specs.declared.error.FromHexError.{FromHexError}
+use Rattle.redo_names.specs.Names.{is_name, has}
+use Rattle.redo_model.specs.Names.{Text}
+use Rattle.redo_model.specs.Command.{Command, File, Gone, Lock, Unlock, Start, IfChange, IfCreate, Always, Stamp, Done, Failed, Ood, Targets, Sources}
+use Rattle.redo_terms.specs.declared.kind.Kind.{Kind}
+use Rattle.redo_terms.specs.declared.kind.Kind.TheVariants as kinds
+use Rattle.redo_terms.specs.Stamp.{is_stamp}
+use Rattle.redo_text.specs.Grammar.{with_names, is_skipped}
+use Rattle.redo_text.specs.Questions.{kind_named, words_of, has_bad_byte}
+use Rattle.redo_text.specs.declared.fault.LineFault.{LineFault}
+use Rattle.redo_text.specs.declared.fault.LineFault.TheVariants.{LineTooLong, BadByte, UnknownCommand, WrongWords, BadName, BadStamp, BadHex, TooManyLines, TooManyNames}
+use Rattle.redo_text.specs.declared.fault.Unread.{Unread}
+use Rattle.redo_text.specs.declared.fault.Unread.TheVariants as unread
+
+infixl 10 ◌>>=◌
+abbrev pub ◌>>=◌ : {A B : Type 0} → Result A LineFault → (A → Result B LineFault)
+    → Result B LineFault
+(Ok x) >>= f = f x
+(Err e) >>= f = Err e
+
+abbrev pub name_in : Text → Result Text LineFault
+name_in word = if is_name word then Ok word else Err BadName
+
+abbrev pub file_stamp_in : Text → Result Text LineFault
+file_stamp_in word = if is_stamp word then Ok word else Err BadStamp
+
+-- "-" is no stamp
+abbrev pub file_stamp_or_none_in : Text → Result (Option Text) LineFault
+file_stamp_or_none_in word =
+    if bytes_eq word (codes "-") then Ok None else (file_stamp_in word >>= λ s. Ok (Some s))
+
+-- decoded bytes, of which there have to be some
+abbrev pub some_content : Result Text FromHexError → Result Text LineFault
+some_content (Ok []) = Err BadHex
+some_content (Ok (b ∷ bs)) = Ok (b ∷ bs)
+some_content (Err e) = Err BadHex
+
+-- "-" is empty content
+abbrev pub content_in : Text → Result Text LineFault
+content_in word = if bytes_eq word (codes "-") then Ok [] else some_content (decode_of word)
+
+-- the names with this one, where it is there or there is room
+abbrev pub added : List Text → Text → Result (List Text) LineFault
+added names text =
+    if has names text then Ok names
+    else (if length names == 65536 then Err TooManyNames else Ok (names ++ text ∷ []))
+
+-- the text is a name, and this is its number
+pub record IsNumbered (names : List Text) (text : Text) (number : ℕ) : Type 0 where
+  pub at : slice_get names number ≡ Some text
+  pub name : is_name text ≡ true
+
+-- a command, and the names after it
+abbrev pub Reading : Type 0
+Reading = Result (Command Text × List Text) LineFault
+
+-- a form of one name
+unfoldable pub one_name_in : (Text → Command Text) → List Text → List Text → Reading
+one_name_in form names [] = Err WrongWords
+one_name_in form names (n ∷ []) = do
+  name ← name_in n
+  after ← added names name
+  Ok (form name, after)
+one_name_in form names (n ∷ w ∷ ws) = Err WrongWords
+
+-- a name, and after it 1 to 64 names
+unfoldable pub target_and_names_in : List Text → Result (Text × List Text) LineFault
+target_and_names_in [] = Err WrongWords
+target_and_names_in (t ∷ []) = Err WrongWords
+target_and_names_in (t ∷ n ∷ ns) =
+    if nat_lt 64 (length (n ∷ ns)) then Err TooManyNames
+    else (if not (list_all is_name (t ∷ n ∷ ns)) then Err BadName
+    else Ok (t, n ∷ ns))
+
+-- the names with all of these, where they are not too many then
+unfoldable pub all_added : List Text → List Text → Result (List Text) LineFault
+all_added names ts =
+    if nat_le (length (with_names names ts)) 65536 then Ok (with_names names ts)
+    else Err TooManyNames
+
+-- a form of a target and of names
+unfoldable pub names_form_in : (Text → List Text → Command Text) → List Text → List Text → Reading
+names_form_in form names args = do
+  words ← target_and_names_in args
+  after ← all_added names (words.0 ∷ words.1)
+  Ok (form words.0 words.1, after)
+
+unfoldable pub file_in : List Text → List Text → Reading
+file_in names [] = Err WrongWords
+file_in names (n ∷ []) = Err WrongWords
+file_in names (n ∷ s ∷ []) = do
+  name ← name_in n
+  stamp ← file_stamp_in s
+  after ← added names name
+  Ok (File name stamp, after)
+file_in names (n ∷ s ∷ w ∷ ws) = Err WrongWords
+
+unfoldable pub stamp_in : List Text → List Text → Reading
+stamp_in names [] = Err WrongWords
+stamp_in names (n ∷ []) = Err WrongWords
+stamp_in names (n ∷ c ∷ []) = do
+  name ← name_in n
+  content ← content_in c
+  after ← added names name
+  Ok (Stamp name content, after)
+stamp_in names (n ∷ c ∷ w ∷ ws) = Err WrongWords
+
+unfoldable pub done_in : List Text → List Text → Reading
+done_in names [] = Err WrongWords
+done_in names (n ∷ []) = Err WrongWords
+done_in names (n ∷ s ∷ []) = do
+  name ← name_in n
+  stamp ← file_stamp_or_none_in s
+  after ← added names name
+  Ok (Done name stamp, after)
+done_in names (n ∷ s ∷ w ∷ ws) = Err WrongWords
+
+-- a form without words
+unfoldable pub no_words_in : Command Text → List Text → List Text → Reading
+no_words_in form names [] = Ok (form, names)
+no_words_in form names (w ∷ ws) = Err WrongWords
+
+-- the words after that of the kind, where there is one
+unfoldable pub form_in : Option Kind → List Text → List Text → Reading
+form_in None names args = Err UnknownCommand
+form_in (Some kinds.File) names args = file_in names args
+form_in (Some kinds.Gone) names args = one_name_in Gone names args
+form_in (Some kinds.Lock) names args = one_name_in Lock names args
+form_in (Some kinds.Unlock) names args = one_name_in Unlock names args
+form_in (Some kinds.Start) names args = one_name_in Start names args
+form_in (Some kinds.IfChange) names args = names_form_in IfChange names args
+form_in (Some kinds.IfCreate) names args = names_form_in IfCreate names args
+form_in (Some kinds.Always) names args = one_name_in Always names args
+form_in (Some kinds.Stamp) names args = stamp_in names args
+form_in (Some kinds.Done) names args = done_in names args
+form_in (Some kinds.Failed) names args = one_name_in Failed names args
+form_in (Some kinds.Ood) names args = no_words_in Ood names args
+form_in (Some kinds.Targets) names args = no_words_in Targets names args
+form_in (Some kinds.Sources) names args = no_words_in Sources names args
+
+-- by the first word
+unfoldable pub words_in : List Text → List Text → Reading
+words_in names [] = Err UnknownCommand
+words_in names (word ∷ args) = form_in (kind_named word) names args
+
+-- the words after a space, where there is one
+abbrev pub words_after : Option (Bor Text) → List Text
+words_after None = []
+words_after (Some text) = words_of text.now
+
+-- a line without its LF
+unfoldable pub line_in : List Text → Text → Reading
+line_in names line =
+    if nat_lt 8192 (length line) then Err LineTooLong
+    else (if has_bad_byte line then Err BadByte
+    else words_in names (words_of line))
+
+-- a line of a script, after so many commands; it may be skipped
+unfoldable pub script_line_in : ℕ → List Text → Text
+    → Result (Option (Command Text) × List Text) LineFault
+script_line_in count names line =
+    if nat_lt 8192 (length line) then Err LineTooLong
+    else (if is_skipped line then Ok (None, names)
+    else (if count == 4096 then Err TooManyLines
+    else (line_in names line >>= λ x. Ok (Some x.0, x.1))))
+
+-- what a private reader returned, seen by `view`, is what reading gives, unless memory ran out
+abbrev pub Reads : {X Y : Type 0} → (X → Y) → Result X Unread → Result Y LineFault → Type 0
+Reads view (Ok x) reading = reading ≡ Ok (view x)
+Reads view (Err unread.Memory) reading = Unit {0}
+Reads view (Err (unread.Fault fault)) reading = reading ≡ Err fault

@@ -1,0 +1,88 @@
+ghost use Rattle.std.specs.Prelude.{◌≡◌, ◌≢◌, ◌∷◌, [], List, Some, MatchOption, IfOk, length, map, false, ◌==◌};
+ghost use Rattle.std.specs.List.{list_any};
+ghost use Rattle.redo_model.specs.Names.{Text};
+ghost use Rattle.redo_text.specs.Questions.{words_of};
+ghost use Rattle.redo_text.specs.Reading.{words_after};
+
+use crate::scan::place_of;
+use std::alloc::{AllocError, Global};
+
+/// The first word of a text, and what stands after its space, where it has one.
+#[inline]
+pub(crate) fn cut_word(text: &[u8]) -> (&[u8], Option<&[u8]>)
+    ensures { words_of text.now ≡ result.0.now ∷ words_after result.1 }
+{
+    match place_of(text, b' ') {
+        Some(end) => (&text[..end], Some(&text[end + 1..])),
+        None => (text, None),
+    }
+}
+
+/// What stands after the first word of a text and its space, where that is this word.
+#[inline]
+pub(crate) fn args_after<'a>(text: &'a [u8], word: &[u8]) -> Option<Option<&'a [u8]>>
+    requires { list_any (λ b. b == 32) word.now ≡ false }
+    ensures { MatchOption result ((args : List Text) → words_of text.now ≢ word.now ∷ args)
+        (λ args. words_of text.now ≡ word.now ∷ words_after args) }
+{
+    let Some(rest) = text.strip_prefix(word) else {
+        return None;
+    };
+    let Some((space, args)) = rest.split_first() else {
+        return Some(None);
+    };
+    if *space == b' ' {
+        Some(Some(args))
+    } else {
+        None
+    }
+}
+
+/// The word, where there is one.
+#[inline]
+pub(crate) fn one(args: Option<&[u8]>) -> Option<&[u8]>
+    ensures { MatchOption result (length (words_after args.entry) ≢ 1)
+        (λ a. words_after args.entry ≡ a.now ∷ []) }
+{
+    let Some(text) = args else {
+        return None;
+    };
+    let (word, others) = cut_word(text);
+    match others {
+        None => Some(word),
+        Some(_) => None,
+    }
+}
+
+/// The words, where there are two.
+#[inline]
+pub(crate) fn two(args: Option<&[u8]>) -> Option<(&[u8], &[u8])>
+    ensures { MatchOption result (length (words_after args.entry) ≢ 2)
+        (λ p. words_after args.entry ≡ p.0.now ∷ p.1.now ∷ []) }
+{
+    let Some(text) = args else {
+        return None;
+    };
+    let (first, others) = cut_word(text);
+    match one(others) {
+        Some(second) => Some((first, second)),
+        None => None,
+    }
+}
+
+/// The pieces of a text between single spaces.
+fn pieces(alloc: Global, text: &[u8]) -> Result<Vec<&[u8]>, AllocError>
+    ensures { IfOk result (λ words. map (λ w. w.now) words.items ≡ words_of text.now) }
+{
+    text.split(|b| *b == b' ').collect(alloc)
+}
+
+/// The words.
+pub(crate) fn words(alloc: Global, args: Option<&[u8]>) -> Result<Vec<&[u8]>, AllocError>
+    ensures { IfOk result (λ words. map (λ w. w.now) words.items ≡ words_after args.entry) }
+{
+    match args {
+        Some(text) => pieces(alloc, text),
+        None => Ok(Vec::new(alloc)),
+    }
+}

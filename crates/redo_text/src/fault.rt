@@ -1,0 +1,112 @@
+ghost use Rattle.std.specs.Prelude.{◌≡◌, ◌↔◌};
+
+use std::alloc::{AllocError, AllocFailed};
+use thiserror::Error;
+
+/// What is wrong with a line. The numbers are those of the faults of reading, of which want of memory is 1.
+#[derive(Clone, Copy, Debug, PartialEq, Eq, Error)]
+pub enum LineFault {
+    #[error("the line is too long")]
+    LineTooLong = 2,
+    #[error("a byte that is no text")]
+    BadByte = 3,
+    #[error("no such command")]
+    UnknownCommand = 4,
+    #[error("not the words of the command")]
+    WrongWords = 5,
+    #[error("not a name")]
+    BadName = 6,
+    #[error("not a file stamp")]
+    BadStamp = 7,
+    #[error("not hexadecimal digits")]
+    BadHex = 8,
+    #[error("too many commands")]
+    TooManyLines = 9,
+    #[error("too many names")]
+    TooManyNames = 10,
+}
+
+/// Why a text could not be read. Lines are counted from 1.
+#[derive(Debug, Drop, Error)]
+pub enum ReadFault {
+    #[error("out of memory")]
+    Memory,
+    #[error("line {line}: {fault}")]
+    Line { line: usize, fault: LineFault },
+}
+
+impl From<AllocError> for ReadFault {
+    ghost use Rattle.std.specs.Prelude.{◌≡◌};
+    ghost use Rattle.redo_text.specs.declared.fault.ReadFault.TheVariants.{Memory};
+
+    ghost from_gives = { λ _ e. e ≡ Memory };
+
+    fn from(_e: AllocError) -> ReadFault {
+        ReadFault::Memory
+    }
+}
+
+impl<T: Drop> From<AllocFailed<T>> for ReadFault {
+    ghost use Rattle.std.specs.Prelude.{◌≡◌};
+    ghost use Rattle.redo_text.specs.declared.fault.ReadFault.TheVariants.{Memory};
+
+    ghost from_gives = { λ _ e. e ≡ Memory };
+
+    fn from(_e: AllocFailed<T>) -> ReadFault {
+        ReadFault::Memory
+    }
+}
+
+/// Why a text could not be read as a reply.
+#[derive(Clone, Copy, Debug, PartialEq, Eq, Error)]
+pub enum ReplyFault {
+    #[error("out of memory")]
+    Memory,
+    /// It is no reply's text, or there is no room for its names.
+    #[error("not a reply")]
+    BadReply,
+}
+
+/// Why a line could not be read, apart from its number.
+#[derive(Debug, Drop)]
+pub(crate) enum Unread {
+    Memory,
+    Fault(LineFault),
+}
+
+impl From<AllocError> for Unread {
+    ghost use Rattle.std.specs.Prelude.{◌≡◌};
+    ghost use Rattle.redo_text.specs.declared.fault.Unread.TheVariants.{Memory};
+
+    ghost from_gives = { λ _ e. e ≡ Memory };
+
+    fn from(_e: AllocError) -> Unread {
+        Unread::Memory
+    }
+}
+
+impl<T: Drop> From<AllocFailed<T>> for Unread {
+    ghost use Rattle.std.specs.Prelude.{◌≡◌};
+    ghost use Rattle.redo_text.specs.declared.fault.Unread.TheVariants.{Memory};
+
+    ghost from_gives = { λ _ e. e ≡ Memory };
+
+    fn from(_e: AllocFailed<T>) -> Unread {
+        Unread::Memory
+    }
+}
+
+/// The fault of the line of this number: only want of memory stays want of memory.
+pub(crate) fn at_line(number: usize, unread: Unread) -> ReadFault
+    ensures memory { (result ≡ ReadFault.Memory) ↔ (unread ≡ Unread.Memory) }
+    ensures fault { (fault : LineFault) → unread ≡ Unread.Fault fault
+        → result ≡ ReadFault.Line number fault }
+{
+    match unread {
+        Unread::Memory => ReadFault::Memory,
+        Unread::Fault(fault) => ReadFault::Line {
+            line: number,
+            fault,
+        },
+    }
+}

@@ -1,0 +1,145 @@
+ghost use Rattle.std.specs.Prelude.{◌<◌, List, length, IfOk, Err};
+ghost use Rattle.redo_names.specs.Names.{text_at, Extends};
+ghost use Rattle.redo_model.specs.Names.{Text};
+ghost use Rattle.redo_model.specs.Command as commands;
+ghost use Rattle.redo_model.specs.Reply as replies;
+ghost use Rattle.redo_model.specs.Renaming.{IsBelow};
+ghost use Rattle.redo_terms.specs.Meaning.{command_of, command_at};
+ghost use Rattle.redo_text.specs.Questions.{words_of};
+ghost use Rattle.redo_text.specs.Reading.{Reads, one_name_in, file_in, stamp_in, done_in, no_words_in, form_in, words_in, words_after};
+ghost use Rattle.redo_text.specs.ReplyReading.{okay_in};
+
+use crate::args::{one, two};
+use crate::fault::{LineFault, Unread};
+use crate::keywords::cut_kind;
+use crate::name_lists::target_and_numbers_of;
+use crate::words::{
+    content_of, file_stamp_of, file_stamp_or_none_of, known_alone, known_name, name_of, number_of,
+};
+use redo_names::Names;
+use redo_terms::{Command, Kind};
+use std::alloc::Global;
+
+/// The number of the one name that a form has.
+#[tactic(auto, using(crate::proofs::Added::extends_same), unfolding(crate::specs::Reading::one_name_in))]
+fn one_name_of(names: &mut Names, args: Option<&[u8]>) -> Result<u32, Unread>
+    ensures reads { (form : Text → commands.Command Text)
+        → Reads (λ n. (form (text_at names.new n), names.new)) result
+        (one_name_in form names.old (words_after args.entry)) }
+    ensures within { IfOk result (λ n. n < length names.new) }
+    ensures kept { Extends names.old names.new }
+{
+    if let Some(number) = known_alone(names, args) {
+        return Ok(number);
+    }
+    let Some(word) = one(args) else {
+        return Err(Unread::Fault(LineFault::WrongWords));
+    };
+    let name = name_of(word)?;
+    number_of(names, None, name)
+}
+
+#[tactic(auto, using(crate::proofs::Added::extends_same), unfolding(crate::specs::Reading::file_in))]
+fn file_of(names: &mut Names, args: Option<&[u8]>) -> Result<Command, Unread>
+    ensures reads { Reads (λ command. (command_at names.new command, names.new)) result
+        (file_in names.old (words_after args.entry)) }
+    ensures within { IfOk result (λ command. IsBelow (length names.new) (command_of command)) }
+    ensures kept { Extends names.old names.new }
+{
+    let Some((n, s)) = two(args) else {
+        return Err(Unread::Fault(LineFault::WrongWords));
+    };
+    let known = known_name(names, n)?;
+    let stamp = file_stamp_of(s)?;
+    let number = number_of(names, known, n)?;
+    Ok(Command::File(number, stamp))
+}
+
+#[tactic(auto, using(crate::proofs::Added::extends_same), unfolding(crate::specs::Reading::stamp_in))]
+fn stamp_of(alloc: Global, names: &mut Names, args: Option<&[u8]>) -> Result<Command, Unread>
+    ensures reads { Reads (λ command. (command_at names.new command, names.new)) result
+        (stamp_in names.old (words_after args.entry)) }
+    ensures within { IfOk result (λ command. IsBelow (length names.new) (command_of command)) }
+    ensures kept { Extends names.old names.new }
+{
+    let Some((n, c)) = two(args) else {
+        return Err(Unread::Fault(LineFault::WrongWords));
+    };
+    let known = known_name(names, n)?;
+    let content = content_of(alloc, c)?;
+    let number = number_of(names, known, n)?;
+    Ok(Command::Stamp(number, content))
+}
+
+#[tactic(auto, using(crate::proofs::Added::extends_same), unfolding(crate::specs::Reading::done_in))]
+fn done_of(names: &mut Names, args: Option<&[u8]>) -> Result<Command, Unread>
+    ensures reads { Reads (λ command. (command_at names.new command, names.new)) result
+        (done_in names.old (words_after args.entry)) }
+    ensures within { IfOk result (λ command. IsBelow (length names.new) (command_of command)) }
+    ensures kept { Extends names.old names.new }
+{
+    let Some((n, s)) = two(args) else {
+        return Err(Unread::Fault(LineFault::WrongWords));
+    };
+    let known = known_name(names, n)?;
+    let stamp = file_stamp_or_none_of(s)?;
+    let number = number_of(names, known, n)?;
+    Ok(Command::Done(number, stamp))
+}
+
+/// Whether a form without words has none.
+#[tactic(auto, unfolding(crate::specs::Reading::no_words_in))]
+pub(crate) fn check_no_words(args: Option<&[u8]>) -> Result<(), Unread>
+    ensures command { (form : commands.Command Text) (names : List Text)
+        → Reads (λ _. (form, names)) result (no_words_in form names (words_after args.entry)) }
+    ensures reply { Reads (λ _. replies.Okay) result (okay_in (words_after args.entry)) }
+{
+    match args {
+        None => Ok(()),
+        Some(_) => Err(Unread::Fault(LineFault::WrongWords)),
+    }
+}
+
+/// The command that a text is, by its first word.
+#[tactic(auto, using(crate::proofs::Added::extends_same), unfolding(crate::specs::Reading::form_in))]
+pub(crate) fn form_of(alloc: Global, names: &mut Names, text: &[u8]) -> Result<Command, Unread>
+    ensures reads { Reads (λ command. (command_at names.new command, names.new)) result
+        (words_in names.old (words_of text.now)) }
+    ensures within { IfOk result (λ command. IsBelow (length names.new) (command_of command)) }
+    ensures kept { Extends names.old names.new }
+{
+    let Some((kind, args)) = cut_kind(text) else {
+        return Err(Unread::Fault(LineFault::UnknownCommand));
+    };
+    match kind {
+        Kind::File => file_of(names, args),
+        Kind::Gone => Ok(Command::Gone(one_name_of(names, args)?)),
+        Kind::Lock => Ok(Command::Lock(one_name_of(names, args)?)),
+        Kind::Unlock => Ok(Command::Unlock(one_name_of(names, args)?)),
+        Kind::Start => Ok(Command::Start(one_name_of(names, args)?)),
+        Kind::IfChange => {
+            let (target, others) = target_and_numbers_of(alloc, names, args)?;
+            Ok(Command::IfChange(target, others))
+        }
+        Kind::IfCreate => {
+            let (target, others) = target_and_numbers_of(alloc, names, args)?;
+            Ok(Command::IfCreate(target, others))
+        }
+        Kind::Always => Ok(Command::Always(one_name_of(names, args)?)),
+        Kind::Stamp => stamp_of(alloc, names, args),
+        Kind::Done => done_of(names, args),
+        Kind::Failed => Ok(Command::Failed(one_name_of(names, args)?)),
+        Kind::Ood => {
+            check_no_words(args)?;
+            Ok(Command::Ood)
+        }
+        Kind::Targets => {
+            check_no_words(args)?;
+            Ok(Command::Targets)
+        }
+        Kind::Sources => {
+            check_no_words(args)?;
+            Ok(Command::Sources)
+        }
+    }
+}

@@ -1,0 +1,46 @@
+ghost use Rattle.std.specs.Prelude.{◌≡◌, List, Some, Err, MatchOption};
+ghost use Rattle.redo_model.specs.Names.{Text};
+ghost use Rattle.redo_text.specs.Texts.{word_of};
+ghost use Rattle.redo_text.specs.Questions.{words_of};
+ghost use Rattle.redo_text.specs.Reading.{words_in, words_after, form_in};
+ghost use Rattle.redo_text.specs.declared.fault.LineFault.TheVariants.{UnknownCommand};
+
+use crate::args::args_after;
+use redo_terms::{Kind, cases};
+
+/// Leads from a text to the kind in whose row its first word stands, and to what stands after that.
+macro_rules! kind_by_front {
+    ([$given:ident] $(($case:ident $(($($field:ident),*))?, $word:literal, $($rest:tt)*))*) => {{
+        $(if let Some(args) = args_after($given, $word) {
+            return Some((Kind::$case, args));
+        })*
+        None
+    }};
+}
+
+/// Leads from a kind to the word in its row.
+macro_rules! word_by_kind {
+    ([$given:ident] $(($case:ident $(($($field:ident),*))?, $word:literal, $($rest:tt)*))*) => {
+        match $given {
+            $(Kind::$case => $word.as_slice(),)*
+        }
+    };
+}
+
+/// The kind of command that the first word of a text says, and what stands after its space,
+/// where it has one.
+#[tactic(auto, using(crate::proofs::Fronts::said))]
+pub(crate) fn cut_kind(text: &[u8]) -> Option<(Kind, Option<&[u8]>)>
+    ensures { (names : List Text)
+        → MatchOption result (words_in names (words_of text.now) ≡ Err UnknownCommand)
+        (λ k. words_in names (words_of text.now) ≡ form_in (Some k.0) names (words_after k.1)) }
+{
+    cases!(kind_by_front text)
+}
+
+/// The word that says which command it is.
+pub(crate) fn keyword(kind: Kind) -> &'static [u8]
+    ensures { result.now ≡ word_of kind }
+{
+    cases!(word_by_kind kind)
+}

@@ -1,0 +1,57 @@
+// What command lines, session files and the texts of replies are.
+ghost use Rattle.std.specs.Prelude.{◌≡◌, List, [], ◌∷◌, None};
+ghost use Rattle.redo_model.specs.Names.{Text};
+ghost use Rattle.redo_model.specs.Command.{Command};
+ghost use Rattle.redo_model.specs.Reply.{Reply};
+ghost use Rattle.redo_text.specs.Texts.{command_text_of, reply_text_of};
+ghost use Rattle.redo_text.specs.Grammar.{HasForm, IsShort, IsCommandLine, IsScript, AddsNames};
+ghost use Rattle.redo_text.specs.Questions.{line_fault};
+ghost use Rattle.redo_text.specs.Faults.{IsReadFault};
+ghost use Rattle.redo_text.specs.declared.fault.ReadFault.{ReadFault};
+ghost use Rattle.redo_text.specs.Replies.{HasReplyForm, IsReplyText};
+
+/// The text of a command is a line of that command, where it is not too long.
+pub fn command_reads_back()
+    ensures { (command : Command Text) → HasForm command → IsShort (command_text_of command)
+        → IsCommandLine (command_text_of command) command }
+{}
+
+/// A line is the line of at most one command.
+pub fn one_command_a_line()
+    ensures { (line : Text) (a b : Command Text) → IsCommandLine line a → IsCommandLine line b
+        → a ≡ b }
+{}
+
+/// The text of a reply is that reply's.
+pub fn reply_reads_back()
+    ensures { (reply : Reply Text) → HasReplyForm reply → IsReplyText (reply_text_of reply) reply }
+{}
+
+/// A text is the text of at most one reply.
+pub fn one_reply_a_text()
+    ensures { (text : Text) (a b : Reply Text) → IsReplyText text a → IsReplyText text b → a ≡ b }
+{}
+
+/// With the same names before, a text is the session file of at most one list of commands, and
+/// leaves one list of names.
+pub fn one_script()
+    ensures { (names : List Text) (text : Text) (a b : List (Command Text)) (n m : List Text)
+        → IsScript names text a n → IsScript names text b m → (a ≡ b) × (n ≡ m) }
+{}
+
+/// A session file has no fault but want of memory.
+pub fn no_read_fault()
+    ensures { (names : List Text) (text : Text) (commands : List (Command Text))
+        (after : List Text) (fault : ReadFault) → IsScript names text commands after
+        → IsReadFault names text fault → fault ≡ ReadFault.Memory }
+{}
+
+/// A line is a command's whose names fit, or it has a fault, and never both.
+pub fn fault_or_command()
+    ensures command { (names : List Text) (line : Text) → line_fault names line ≡ None
+        → (command : Command Text) × (after : List Text)
+        × IsCommandLine line command × AddsNames names (command ∷ []) after }
+    ensures fault { (names : List Text) (line : Text) (command : Command Text) (after : List Text)
+        → IsCommandLine line command → AddsNames names (command ∷ []) after
+        → line_fault names line ≡ None }
+{}

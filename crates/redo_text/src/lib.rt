@@ -1,0 +1,32 @@
+//! How commands and replies are read and printed: lines, session files and the texts of replies.
+#![tactic(auto)]
+
+mod args;
+mod fault;
+mod forms;
+mod keywords;
+mod known;
+mod laws;
+mod name_lists;
+mod numbers;
+mod read;
+mod replies;
+mod reply_kind;
+mod reply_words;
+mod scan;
+mod session_file;
+mod text;
+mod words;
+
+pub use fault::{LineFault, ReadFault, ReplyFault};
+pub use laws::{
+    command_reads_back, fault_or_command, no_read_fault, one_command_a_line, one_reply_a_text,
+    one_script, reply_reads_back,
+};
+pub use name_lists::MOST_LISTED_NAMES;
+pub use numbers::read_number;
+pub use read::{LONGEST_LINE, read_command};
+pub use replies::read_reply;
+pub use scan::place_of;
+pub use session_file::read_script;
+pub use text::{command_text, reply_text};

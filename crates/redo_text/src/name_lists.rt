@@ -1,0 +1,117 @@
+ghost use Rattle.std.specs.Prelude.{◌≡◌, ◌≤◌, ◌∷◌, List, map, length, IfOk, true};
+ghost use Rattle.std.specs.List.{list_all};
+ghost use Rattle.redo_names.specs.Names.{is_name as name_test, text_at, Extends};
+ghost use Rattle.redo_model.specs.Names.{Text};
+ghost use Rattle.redo_model.specs.Command as commands;
+ghost use Rattle.redo_model.specs.Renaming.{AllBelow};
+ghost use Rattle.redo_text.specs.Reading.{Reads, target_and_names_in, all_added, names_form_in, words_after};
+
+use crate::args::words;
+use crate::fault::{LineFault, Unread};
+use crate::known::known_target_and_numbers;
+use crate::words::number_of;
+use redo_names::{MOST_NAMES, Names, is_name};
+use std::alloc::Global;
+
+/// How many names a line has at most after its target.
+pub const MOST_LISTED_NAMES: usize = 64;
+
+/// Whether each word is a name.
+pub(crate) fn are_names(words: &[&[u8]]) -> bool
+    ensures { result ≡ list_all name_test (map (λ w. w.now) words.now) }
+{
+    for word in words {
+        if !is_name(*word) {
+            return false;
+        }
+    }
+    true
+}
+
+/// The word of the target and those of the names after it, of which there are 1 to 64.
+#[tactic(auto, unfolding(crate::specs::Reading::target_and_names_in))]
+fn target_and_names<'a, 'b>(args: &'b [&'a [u8]]) -> Result<(&'a [u8], &'b [&'a [u8]]), Unread>
+    ensures reads { Reads (λ p. (p.0.now, map (λ w. w.now) p.1.now)) result
+        (target_and_names_in (map (λ w. w.now) args.now)) }
+    ensures target { IfOk result (λ p. name_test p.0.now ≡ true) }
+    ensures names { IfOk result (λ p. list_all name_test (map (λ w. w.now) p.1.now) ≡ true) }
+{
+    let [target, others @ ..] = args else {
+        return Err(Unread::Fault(LineFault::WrongWords));
+    };
+    if others.is_empty() {
+        return Err(Unread::Fault(LineFault::WrongWords));
+    }
+    if others.len() > MOST_LISTED_NAMES {
+        return Err(Unread::Fault(LineFault::TooManyNames));
+    }
+    if !are_names(args) {
+        return Err(Unread::Fault(LineFault::BadName));
+    }
+    Ok((*target, others))
+}
+
+/// The numbers of names, each of which is added if it is new.
+pub(crate) fn numbers_of(
+    alloc: Global,
+    names: &mut Names,
+    words: &[&[u8]],
+) -> Result<Vec<u32>, Unread>
+    requires few { length names.old ≤ 65536 }
+    requires names { list_all name_test (map (λ w. w.now) words.now) ≡ true }
+    ensures reads { Reads (λ _. names.new) result
+        (all_added names.old (map (λ w. w.now) words.now)) }
+    ensures numbers { IfOk result
+        (λ numbers. map (text_at names.new) numbers.items ≡ map (λ w. w.now) words.now) }
+    ensures within { IfOk result (λ numbers. AllBelow (length names.new) numbers.items) }
+    ensures kept { Extends names.old names.new }
+{
+    let mut numbers = Vec::new(alloc);
+    for word in words {
+        let number = number_of(names, None, *word)?;
+        numbers.push(number)?;
+    }
+    Ok(numbers)
+}
+
+/// The numbers of the target and of the names that words are.
+#[tactic(auto, using(crate::proofs::Added::extends_same), unfolding(crate::specs::Reading::names_form_in))]
+fn target_and_numbers_in(
+    alloc: Global,
+    names: &mut Names,
+    words: &[&[u8]],
+) -> Result<(u32, Vec<u32>), Unread>
+    ensures reads { (form : Text → List Text → commands.Command Text) → Reads
+        (λ p. (form (text_at names.new p.0) (map (text_at names.new) p.1.items), names.new))
+        result (names_form_in form names.old (map (λ w. w.now) words.now)) }
+    ensures within { IfOk result (λ p. AllBelow (length names.new) (p.0 ∷ p.1.items)) }
+    ensures kept { Extends names.old names.new }
+{
+    prove!(names.len() as usize <= MOST_NAMES);
+    let (target, others) = target_and_names(words)?;
+    let number = number_of(names, None, target)?;
+    let numbers = numbers_of(alloc, names, others)?;
+    Ok((number, numbers))
+}
+
+/// The numbers of the target and of the names that a form has.
+#[tactic(auto, using(crate::proofs::Added::extends_same))]
+pub(crate) fn target_and_numbers_of(
+    alloc: Global,
+    names: &mut Names,
+    args: Option<&[u8]>,
+) -> Result<(u32, Vec<u32>), Unread>
+    ensures reads { (form : Text → List Text → commands.Command Text) → Reads
+        (λ p. (form (text_at names.new p.0) (map (text_at names.new) p.1.items), names.new))
+        result (names_form_in form names.old (words_after args.entry)) }
+    ensures within { IfOk result (λ p. AllBelow (length names.new) (p.0 ∷ p.1.items)) }
+    ensures kept { Extends names.old names.new }
+{
+    // This call says that each is a name.
+    let _ = names.len();
+    if let Some(known) = known_target_and_numbers(alloc, names, args)? {
+        return Ok(known);
+    }
+    let words = words(alloc, args)?;
+    target_and_numbers_in(alloc, names, &words)
+}

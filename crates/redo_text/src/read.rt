@@ -1,0 +1,107 @@
+ghost use Rattle.std.specs.Prelude.{◌≡◌, ◌⊎◌, ◌∷◌, [], List, length, IfOk, IsOkAnd, IfErr, IfSome, true};
+ghost use Rattle.std.specs.Option.{option_map};
+ghost use Rattle.redo_names.specs.Names.{Extends};
+ghost use Rattle.redo_model.specs.Names.{Text};
+ghost use Rattle.redo_model.specs.Command.{Command as CommandOf};
+ghost use Rattle.redo_model.specs.Renaming.{IsBelow};
+ghost use Rattle.redo_terms.specs.Meaning.{command_of, command_at};
+ghost use Rattle.redo_text.specs.Grammar.{IsCommandLine, IsShort, AddsNames, is_skipped as skipped_test};
+ghost use Rattle.redo_text.specs.Questions.{has_bad_byte as bad_byte_test};
+ghost use Rattle.redo_text.specs.Faults.{IsLineFault};
+ghost use Rattle.redo_text.specs.Reading.{Reads, line_in, script_line_in};
+
+use crate::fault::{LineFault, ReadFault, Unread, at_line};
+use crate::forms::form_of;
+use crate::words::has_bad_byte;
+use redo_names::{MOST_NAMES, Names};
+use redo_terms::{Command, MOST_COMMANDS};
+use std::alloc::Global;
+
+/// How many bytes a line has at most, without its LF.
+pub const LONGEST_LINE: usize = 8192;
+
+/// The command that a line is, without its LF.
+#[tactic(auto, using(crate::proofs::Added::extends_same), unfolding(crate::specs::Reading::line_in))]
+fn line_of(alloc: Global, line: &[u8], names: &mut Names) -> Result<Command, Unread>
+    ensures reads { Reads (λ command. (command_at names.new command, names.new)) result
+        (line_in names.old line.now) }
+    ensures too_long { ¬ (IsShort line.now) → result ≡ Err (Unread.Fault LineFault.LineTooLong) }
+    ensures bad_byte { IsShort line.now → bad_byte_test line.now ≡ true
+        → result ≡ Err (Unread.Fault LineFault.BadByte) }
+    ensures within { IfOk result (λ command. IsBelow (length names.new) (command_of command)) }
+    ensures kept { Extends names.old names.new }
+{
+    if line.len() > LONGEST_LINE {
+        return Err(Unread::Fault(LineFault::LineTooLong));
+    }
+    // This call says that the names are not too many.
+    let _ = names.len();
+    match form_of(alloc, names, line) {
+        Ok(command) => Ok(command),
+        Err(_) if has_bad_byte(line) => Err(Unread::Fault(LineFault::BadByte)),
+        Err(unread) => Err(unread),
+    }
+}
+
+/// Reads the command that a line is, without its LF. Faults have line 1. After a fault the old names are a front of the names.
+pub fn read_command(alloc: Global, line: &[u8], names: &mut Names) -> Result<Command, ReadFault>
+    // What is read is a command line, and its names are added.
+    ensures read { IfOk result (λ command. IsCommandLine line.now (command_at names.new command)
+        × AddsNames names.old (command_at names.new command ∷ []) names.new) }
+    // A command line whose names fit is read, unless memory runs out.
+    ensures only { (command : CommandOf Text) (after : List Text) → IsCommandLine line.now command
+        → AddsNames names.old (command ∷ []) after
+        → (result ≡ Err ReadFault.Memory)
+        ⊎ IsOkAnd result (λ read. (command_at names.new read ≡ command) × (names.new ≡ after)) }
+    // A fault is that of the first question about the line that is answered by yes.
+    ensures fault { IfErr result (IsLineFault names.old line.now) }
+    // These two come before want of memory.
+    ensures too_long { ¬ (IsShort line.now)
+        → result ≡ Err (ReadFault.Line 1 LineFault.LineTooLong) }
+    ensures bad_byte { IsShort line.now → bad_byte_test line.now ≡ true
+        → result ≡ Err (ReadFault.Line 1 LineFault.BadByte) }
+    ensures within { IfOk result (λ command. IsBelow (length names.new) (command_of command)) }
+    ensures kept { Extends names.old names.new }
+{
+    prove!(names.len() as usize <= MOST_NAMES);
+    match line_of(alloc, line, names) {
+        Ok(command) => Ok(command),
+        Err(unread) => Err(at_line(1, unread)),
+    }
+}
+
+fn is_skipped(line: &[u8]) -> bool
+    ensures { result ≡ skipped_test line.now }
+{
+    match line {
+        [] | [b'#', ..] => true,
+        _ => false,
+    }
+}
+
+/// Reads a line of a script that has `count` commands so far: nothing, where it is skipped.
+#[tactic(auto, using(crate::proofs::Added::extends_same), unfolding(crate::specs::Reading::script_line_in))]
+pub(crate) fn read_script_line(
+    alloc: Global,
+    line: &[u8],
+    count: usize,
+    names: &mut Names,
+) -> Result<Option<Command>, Unread>
+    ensures reads { Reads (λ read. (option_map (command_at names.new) read, names.new)) result
+        (script_line_in count names.old line.now) }
+    ensures within { IfOk result
+        (λ read. IfSome read (λ command. IsBelow (length names.new) (command_of command))) }
+    ensures kept { Extends names.old names.new }
+{
+    if line.len() > LONGEST_LINE {
+        return Err(Unread::Fault(LineFault::LineTooLong));
+    }
+    if is_skipped(line) {
+        return Ok(None);
+    }
+    if count == MOST_COMMANDS {
+        return Err(Unread::Fault(LineFault::TooManyLines));
+    }
+    let command = line_of(alloc, line, names)?;
+    Ok(Some(command))
+}

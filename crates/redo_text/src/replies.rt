@@ -1,0 +1,66 @@
+ghost use Rattle.std.specs.Prelude.{◌≡◌, ◌⊎◌, ◌≤◌, List, length, IfOk, IsOkAnd};
+ghost use Rattle.redo_names.specs.Names.{Extends};
+ghost use Rattle.redo_model.specs.Names.{Text};
+ghost use Rattle.redo_model.specs.Reply.{Reply as ReplyOf};
+ghost use Rattle.redo_model.specs.Renaming.{IsReplyBelow};
+ghost use Rattle.redo_terms.specs.Meaning.{reply_of, reply_at};
+ghost use Rattle.redo_text.specs.Reading.{Reads};
+ghost use Rattle.redo_text.specs.Replies.{IsReplyText, AddsReplyNames};
+ghost use Rattle.redo_text.specs.ReplyReading.{reply_in};
+
+use crate::fault::{LineFault, ReplyFault, Unread};
+use crate::forms::check_no_words;
+use crate::reply_kind::{ReplyKind, cut_reply_kind};
+use crate::reply_words::{digest_of, grant_of, listed_of, refusal_of_words, some_listed_of};
+use redo_names::{MOST_NAMES, Names};
+use redo_terms::Reply;
+use std::alloc::Global;
+
+/// The reply that a text is, without LF.
+#[tactic(auto, using(crate::proofs::Added::extends_same, crate::proofs::ReplyNames::none_added), unfolding(crate::specs::ReplyReading::reply_in, crate::specs::ReplyReading::reply_args_in))]
+fn text_read(alloc: Global, text: &[u8], names: &mut Names) -> Result<Reply, Unread>
+    requires { length names.old ≤ 65536 }
+    ensures reads { Reads (λ reply. (reply_at names.new reply, names.new)) result
+        (reply_in names.old text.now) }
+    ensures within { IfOk result (λ reply. IsReplyBelow (length names.new) (reply_of reply)) }
+    ensures kept { Extends names.old names.new }
+{
+    let Some((kind, args)) = cut_reply_kind(text) else {
+        return Err(Unread::Fault(LineFault::WrongWords));
+    };
+    match kind {
+        ReplyKind::Okay => {
+            check_no_words(args)?;
+            Ok(Reply::Okay)
+        }
+        ReplyKind::Granted => Ok(Reply::Granted(grant_of(args)?)),
+        ReplyKind::Busy => Ok(Reply::Busy(grant_of(args)?)),
+        ReplyKind::Stale => Ok(Reply::Stale(some_listed_of(alloc, names, args)?)),
+        ReplyKind::Stamped => Ok(Reply::Stamped(digest_of(args)?)),
+        ReplyKind::Ood => Ok(Reply::Ood(listed_of(alloc, names, args)?)),
+        ReplyKind::Targets => Ok(Reply::Targets(listed_of(alloc, names, args)?)),
+        ReplyKind::Sources => Ok(Reply::Sources(listed_of(alloc, names, args)?)),
+        ReplyKind::Refused => Ok(Reply::Refused(refusal_of_words(names, args)?)),
+    }
+}
+
+/// Reads the reply that a text is, without LF. After a fault the old names are a front of the names.
+pub fn read_reply(alloc: Global, text: &[u8], names: &mut Names) -> Result<Reply, ReplyFault>
+    // What is read is a reply's text, and its names are added.
+    ensures read { IfOk result (λ reply. IsReplyText text.now (reply_at names.new reply)
+        × AddsReplyNames names.old (reply_at names.new reply) names.new) }
+    // A reply's text whose names fit is read, unless memory runs out.
+    ensures only { (reply : ReplyOf Text) (after : List Text) → IsReplyText text.now reply
+        → AddsReplyNames names.old reply after
+        → (result ≡ Err ReplyFault.Memory)
+        ⊎ IsOkAnd result (λ read. (reply_at names.new read ≡ reply) × (names.new ≡ after)) }
+    ensures within { IfOk result (λ reply. IsReplyBelow (length names.new) (reply_of reply)) }
+    ensures kept { Extends names.old names.new }
+{
+    prove!(names.len() as usize <= MOST_NAMES);
+    match text_read(alloc, text, names) {
+        Ok(reply) => Ok(reply),
+        Err(Unread::Memory) => Err(ReplyFault::Memory),
+        Err(Unread::Fault(_)) => Err(ReplyFault::BadReply),
+    }
+}

@@ -1,0 +1,95 @@
+ghost use Rattle.std.specs.Prelude.{◌≡◌, ◌⊎◌, ◌<◌, List, [], ◌∷◌, ◌++◌, map, length, position, ◌==◌, MatchOption, IfOk, IsOkAnd, IfErr, OnOk};
+ghost use Rattle.std.specs.List.{AllByRecursion};
+ghost use Rattle.redo_names.specs.Names.{Extends};
+ghost use Rattle.redo_model.specs.Names.{Text};
+ghost use Rattle.redo_model.specs.Command.{Command as CommandOf};
+ghost use Rattle.redo_model.specs.Renaming.{IsBelow};
+ghost use Rattle.redo_terms.specs.Meaning.{command_of, command_at};
+ghost use Rattle.redo_text.specs.Grammar.{lines_of, IsScript, AreScriptLines};
+ghost use Rattle.redo_text.specs.Faults.{IsReadFault};
+ghost use Rattle.redo_text.specs.Reading.{script_line_in};
+
+use crate::fault::{LineFault, ReadFault, Unread, at_line};
+use crate::read::read_script_line;
+use redo_names::{MOST_NAMES, Names};
+use redo_terms::{Command, FileStamp, Script};
+use std::alloc::Global;
+
+fn line_end(text: &[u8]) -> Option<usize>
+    ensures { result ≡ position (λ b. b == 10) text.now }
+{
+    text.iter().position(|b| *b == b'\n')
+}
+
+/// The first line, and what stands after its LF, if it has one.
+fn cut(text: &[u8]) -> (&[u8], Option<&[u8]>)
+    ensures { MatchOption result.1 (lines_of text.now ≡ result.0.now ∷ [])
+        (λ rest. (lines_of text.now ≡ result.0.now ∷ lines_of rest.now)
+        × (length rest.now < length text.now)) }
+{
+    match line_end(text) {
+        Some(end) => (&text[..end], Some(&text[end + 1..])),
+        None => (text, None),
+    }
+}
+
+/// Reads one more line.
+fn take_line(
+    alloc: Global,
+    line: &[u8],
+    commands: &mut Vec<Command>,
+    names: &mut Names,
+) -> Result<(), Unread>
+    requires { AllByRecursion
+        (λ command. IsBelow (length names.old) (command_of command)) commands.old.items }
+    // The lines before, read so far, are read with this line.
+    ensures taken { (start before : List Text)
+        → AreScriptLines start before (map (command_at names.old) commands.old.items) names.old
+        → OnOk result (AreScriptLines start (before ++ line.now ∷ [])
+        (map (command_at names.new) commands.new.items) names.new) }
+    ensures fault { (fault : LineFault) → result ≡ Err (Unread.Fault fault)
+        → script_line_in (length commands.old.items) names.old line.now ≡ Err fault }
+    ensures within { OnOk result (AllByRecursion
+        (λ command. IsBelow (length names.new) (command_of command)) commands.new.items) }
+    ensures kept { Extends names.old names.new }
+{
+    // The check only knows how to move a command where the types within it are met.
+    let _none: Option<FileStamp> = None;
+    if let Some(command) = read_script_line(alloc, line, commands.len(), names)? {
+        commands.push(command)?;
+    }
+    Ok(())
+}
+
+/// Reads the commands of a session file. After a fault the old names are a front of the names.
+pub fn read_script(alloc: Global, text: &[u8], names: &mut Names) -> Result<Script, ReadFault>
+    // What is read is a script, and its names are added.
+    ensures read { IfOk result
+        (λ script. IsScript names.old text.now (map (command_at names.new) script) names.new) }
+    // A script is read, unless memory runs out.
+    ensures only { (commands : List (CommandOf Text)) (after : List Text)
+        → IsScript names.old text.now commands after
+        → (result ≡ Err ReadFault.Memory) ⊎ IsOkAnd result
+        (λ script. (map (command_at names.new) script ≡ commands) × (names.new ≡ after)) }
+    // A fault is that of the first faulty line.
+    ensures fault { IfErr result (IsReadFault names.old text.now) }
+    ensures within { IfOk result (λ script. AllByRecursion
+        (λ command. IsBelow (length names.new) (command_of command)) script) }
+    ensures kept { Extends names.old names.new }
+{
+    prove!(names.len() as usize <= MOST_NAMES);
+    let mut commands = Vec::new(alloc);
+    let mut rest = text;
+    let mut number = 1usize;
+    'lines: loop {
+        let (line, after) = cut(rest);
+        if let Err(unread) = take_line(alloc, line, &mut commands, names) {
+            return Err(at_line(number, unread));
+        }
+        let Some(next) = after else {
+            return Ok(Script::new(commands));
+        };
+        rest = next;
+        number += 1;
+    }
+}

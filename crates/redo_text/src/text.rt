@@ -1,0 +1,182 @@
+ghost use Rattle.std.specs.Prelude.{◌≡◌, ◌<◌, ◌++◌, map, length, decimal, IfOk, OnOk};
+ghost use Rattle.std.specs.List.{flat_map};
+ghost use Rattle.hex.specs.Hex.{encode_lower};
+ghost use Rattle.redo_names.specs.Names.{text_at};
+ghost use Rattle.redo_model.specs.Reply.{Refused};
+ghost use Rattle.redo_model.specs.Renaming.{IsBelow, IsReplyBelow, AllBelow, named_refusal};
+ghost use Rattle.redo_terms.specs.Meaning.{command_of, kind_of, reply_of, refusal_of, command_at, reply_at};
+ghost use Rattle.redo_text.specs.Texts.{after_space, stamp_word, content_word, refusal_words, word_of, command_text_of, reply_text_of};
+
+use crate::keywords::keyword;
+use redo_names::Names;
+use redo_terms::{Command, FileStamp, Kind, Refusal, Reply};
+use std::alloc::{AllocError, Global};
+
+/// Writes a word with the space before it.
+fn put_word(out: &mut Vec<u8>, word: &[u8]) -> Result<(), AllocError>
+    ensures { OnOk result (out.new.items ≡ out.old.items ++ after_space word.now) }
+{
+    out.push(b' ')?;
+    out.extend_from_slice(word)?;
+    Ok(())
+}
+
+/// Writes the names of these numbers.
+fn put_names(out: &mut Vec<u8>, names: &Names, numbers: &[u32]) -> Result<(), AllocError>
+    requires { AllBelow (length names.now) numbers.now }
+    ensures { OnOk result (out.new.items
+        ≡ out.old.items ++ flat_map after_space (map (text_at names.now) numbers.now)) }
+{
+    for number in numbers {
+        put_word(out, names.text(*number))?;
+    }
+    Ok(())
+}
+
+/// Writes a stamp, or `-` for none.
+fn put_stamp_or_none(out: &mut Vec<u8>, stamp: Option<FileStamp>) -> Result<(), AllocError>
+    ensures { OnOk result (out.new.items ≡ out.old.items ++ after_space (stamp_word stamp)) }
+{
+    match stamp {
+        None => put_word(out, b"-"),
+        Some(stamp) => put_word(out, stamp.bytes()),
+    }
+}
+
+/// Writes bytes as hexadecimal digits in lower case.
+fn put_hex(alloc: Global, out: &mut Vec<u8>, bytes: &[u8]) -> Result<(), AllocError>
+    ensures { OnOk result (out.new.items ≡ out.old.items ++ after_space (encode_lower bytes.now)) }
+{
+    put_word(out, hex::encode(alloc, bytes)?.as_bytes())
+}
+
+/// Writes content, or `-` for none.
+fn put_content(alloc: Global, out: &mut Vec<u8>, content: &[u8]) -> Result<(), AllocError>
+    ensures { OnOk result
+        (out.new.items ≡ out.old.items ++ after_space (content_word content.now)) }
+{
+    match content {
+        [] => put_word(out, b"-"),
+        _ => put_hex(alloc, out, content),
+    }
+}
+
+/// Writes what follows a command's word.
+fn put_form(
+    alloc: Global,
+    out: &mut Vec<u8>,
+    command: &Command,
+    names: &Names,
+) -> Result<(), AllocError>
+    requires below { IsBelow (length names.now) (command_of command.now) }
+    requires begun { out.old.items ≡ word_of (kind_of command.now) }
+    ensures { OnOk result (out.new.items ≡ command_text_of (command_at names.now command.now)) }
+{
+    match command {
+        Command::File(n, stamp) => {
+            put_word(out, names.text(*n))?;
+            put_word(out, stamp.bytes())
+        }
+        Command::Gone(n)
+        | Command::Lock(n)
+        | Command::Unlock(n)
+        | Command::Start(n)
+        | Command::Always(n)
+        | Command::Failed(n) => put_word(out, names.text(*n)),
+        Command::IfChange(t, others) | Command::IfCreate(t, others) => {
+            put_word(out, names.text(*t))?;
+            put_names(out, names, others)
+        }
+        Command::Stamp(t, content) => {
+            put_word(out, names.text(*t))?;
+            put_content(alloc, out, content)
+        }
+        Command::Done(t, stamp) => {
+            put_word(out, names.text(*t))?;
+            put_stamp_or_none(out, *stamp)
+        }
+        Command::Ood | Command::Targets | Command::Sources => Ok(()),
+    }
+}
+
+/// The text of a command: its words with single spaces, without LF.
+pub fn command_text(alloc: Global, command: &Command, names: &Names) -> Result<Vec<u8>, AllocError>
+    requires { IsBelow (length names.now) (command_of command.now) }
+    ensures { IfOk result
+        (λ text. text.items ≡ command_text_of (command_at names.now command.now)) }
+{
+    let mut out = Vec::new(alloc);
+    out.extend_from_slice(keyword(command.kind()))?;
+    put_form(alloc, &mut out, command, names)?;
+    Ok(out)
+}
+
+/// Writes a word and a number.
+fn put_numbered(
+    alloc: Global,
+    out: &mut Vec<u8>,
+    word: &[u8],
+    number: u32,
+) -> Result<(), AllocError>
+    ensures { OnOk result
+        (out.new.items ≡ out.old.items ++ word.now ++ after_space (decimal number)) }
+{
+    out.extend_from_slice(word)?;
+    put_word(out, number.to_string(alloc)?.as_bytes())
+}
+
+/// Writes the words for a refusal.
+fn put_refusal(out: &mut Vec<u8>, refusal: Refusal, names: &Names) -> Result<(), AllocError>
+    requires { IsReplyBelow (length names.now) (Refused (refusal_of refusal)) }
+    ensures { OnOk result (out.new.items ≡ out.old.items ++ flat_map after_space
+        (refusal_words (named_refusal (text_at names.now) (refusal_of refusal)))) }
+{
+    match refusal {
+        Refusal::NotLocked => put_word(out, b"not-locked"),
+        Refusal::Building => put_word(out, b"building"),
+        Refusal::NotBuilding => put_word(out, b"not-building"),
+        Refusal::Itself => put_word(out, b"self"),
+        Refusal::Exists(n) => {
+            put_word(out, b"exists")?;
+            put_word(out, names.text(n))
+        }
+    }
+}
+
+/// The text of a reply, without LF.
+pub fn reply_text(alloc: Global, reply: &Reply, names: &Names) -> Result<Vec<u8>, AllocError>
+    requires { IsReplyBelow (length names.now) (reply_of reply.now) }
+    ensures { IfOk result (λ text. text.items ≡ reply_text_of (reply_at names.now reply.now)) }
+{
+    let mut out = Vec::new(alloc);
+    match reply {
+        Reply::Okay => out.extend_from_slice(b"ok")?,
+        Reply::Granted(grant) => put_numbered(alloc, &mut out, b"granted", *grant)?,
+        Reply::Busy(grant) => put_numbered(alloc, &mut out, b"busy", *grant)?,
+        Reply::Stale(stale) => {
+            out.extend_from_slice(b"stale")?;
+            put_names(&mut out, names, stale)?;
+        }
+        Reply::Stamped(digest) => {
+            out.extend_from_slice(b"stamped")?;
+            put_hex(alloc, &mut out, digest)?;
+        }
+        Reply::Ood(ood) => {
+            out.extend_from_slice(keyword(Kind::Ood))?;
+            put_names(&mut out, names, ood)?;
+        }
+        Reply::Targets(targets) => {
+            out.extend_from_slice(keyword(Kind::Targets))?;
+            put_names(&mut out, names, targets)?;
+        }
+        Reply::Sources(sources) => {
+            out.extend_from_slice(keyword(Kind::Sources))?;
+            put_names(&mut out, names, sources)?;
+        }
+        Reply::Refused(refusal) => {
+            out.extend_from_slice(b"refused")?;
+            put_refusal(&mut out, *refusal, names)?;
+        }
+    }
+    Ok(out)
+}

@@ -1,0 +1,52 @@
+use Rattle.std.proofs.Common.{◌≡◌, ◌+◌, ◌-◌, List, ℕ, [], ◌++◌, length, take, drop, take-add, take-append-drop, append-nil, length-drop, sym, ap, ◌∙◌, subst, arith, rules}
+use Rattle.std.proofs.KnownBytes.{Appends-trans}
+use Rattle.std.proofs.lemmas.Grind.{common_steps}
+use Rattle.std.proofs.lemmas.List.{take_all}
+use Rattle.std.specs.Io.KnownBytes.{Appends}
+use Rattle.redo_whole.specs.Watched.{inner_of}
+use Rattle.redo_whole.proofs.whole.write_whole.Goals as goal
+
+-- a write of no byte more leaves a front
+pub returns-in_default-clause-front : goal.returns-in_default-clause-front
+returns-in_default-clause-front g c =
+    let at = c.loop-at.at in
+    let bytes = c.args.bytes.now in
+    let sent = Appends-trans
+    (g.W.Write.contents (inner_of c.args.writer.now))
+    (g.W.Write.contents (inner_of c.loop-at.writer))
+    (g.W.Write.contents (inner_of c.write.new.self))
+    (take at bytes)
+    []
+    c.loop-at.invariant.so_far
+    c.in_default.ensures.sent in (
+      take at bytes ++ [],
+      drop at bytes,
+      sym (ap (λ (front : List ℕ). front ++ drop at bytes)
+          (append-nil (take at bytes)) ∙ take-append-drop at bytes),
+      sent,
+    )
+
+pub loop-at-preserved : goal.loop-at-preserved
+loop-at-preserved g c =
+    let at = c.loop-at.at in
+    let bytes = c.args.bytes.now in
+    let n = c.in-Some.n in
+    let left = length bytes - at in
+    let rest : take left (drop at bytes) ≡ drop at bytes =
+    take_all left (drop at bytes) (omega (arith, length-drop at bytes)) in
+    let sent = Appends-trans
+    (g.W.Write.contents (inner_of c.args.writer.now))
+    (g.W.Write.contents (inner_of c.loop-at.writer))
+    (g.W.Write.contents (inner_of c.write.new.self))
+    (take at bytes)
+    (take n (take left (drop at bytes)))
+    c.loop-at.invariant.so_far
+    c.in-Some.ensures.sent in
+    let joined : take at bytes ++ take n (take left (drop at bytes)) ≡ take (at + n) bytes =
+    ap (λ (more : List ℕ). take at bytes ++ take n more) rest ∙ sym (take-add at n bytes) in
+    record {
+      so_far = subst (λ (front : List ℕ). Appends (g.W.Write.contents (inner_of c.args.writer.now))
+          (g.W.Write.contents (inner_of c.write.new.self)) front) joined sent;
+      within = search rules;
+      flag = grind (arith, common_steps);
+    }

@@ -1,0 +1,98 @@
+ghost use Rattle.std.specs.Prelude.{◌≡◌, ◌||◌, ◌↔◌, ◌≤◌, ◌<◌, false, true, length, is_err, IfOk, IfSome, OnOk, OnErr, IsErrOf};
+ghost use Rattle.std.specs.Io.KnownBytes.{Appends, IsAtEnd};
+ghost use Rattle.redo_whole.specs.Watched.{is_faulted, inner_of, AppendsFront};
+ghost use Rattle.redo_whole.specs.declared.whole.WholeFault.TheVariants.{Memory};
+
+use crate::watched::Watched;
+use std::alloc::{AllocError, Global};
+use std::io::{Read, Write};
+use thiserror::Error;
+
+/// Why a reader was not read to its end.
+#[derive(Debug, Drop, Error)]
+pub enum WholeFault {
+    /// There is no memory for the bytes.
+    #[error("out of memory")]
+    Memory,
+    /// A read failed.
+    #[error("a read failed")]
+    Device,
+    /// More bytes came than the limit allows.
+    #[error("too many bytes")]
+    TooLong,
+}
+
+impl From<AllocError> for WholeFault {
+    ghost from_gives = { λ _ fault. fault ≡ Memory };
+
+    fn from(_: AllocError) -> WholeFault {
+        WholeFault::Memory
+    }
+}
+
+/// Why bytes did not all go out.
+#[derive(Debug, Drop, Error)]
+pub enum WriteFault {
+    /// A write or a flush failed.
+    #[error("a write failed")]
+    Write,
+}
+
+const READ_BYTES: usize = 16384;
+
+/// All the bytes up to the reader's end, where there are at most `limit`.
+///
+/// After an error no read is tried again.
+pub fn read_whole<R: Read>(
+    alloc: Global,
+    reader: &mut Watched<R>,
+    limit: usize,
+) -> Result<Vec<u8>, WholeFault>
+    ensures whole { IfOk result
+        (λ whole. IfSome (R.remaining (inner_of reader.old)) (λ bytes. whole.items ≡ bytes)) }
+    ensures end { OnOk result (IsAtEnd (R.remaining (inner_of reader.new))) }
+    ensures few { IfOk result (λ whole. length whole.items ≤ limit) }
+    ensures too_long { IsErrOf result WholeFault.TooLong
+        → IfSome (R.remaining (inner_of reader.old)) (λ bytes. limit < length bytes) }
+
+    ensures device { IsErrOf result WholeFault.Device → is_faulted reader.new ≡ true }
+    ensures others { ¬ (IsErrOf result WholeFault.Device)
+        → is_faulted reader.new ≡ is_faulted reader.old }
+{
+    let mut whole = Vec::new(alloc);
+    let mut buf = [0u8; READ_BYTES];
+    loop {
+        let Some(n) = reader.read(&mut buf) else {
+            return Err(WholeFault::Device);
+        };
+        if n == 0 {
+            return Ok(whole);
+        }
+        if n > limit - whole.len() {
+            return Err(WholeFault::TooLong);
+        }
+        whole.extend_from_slice(&buf[..n])?;
+    }
+}
+
+/// Writes all the bytes, and takes no memory.
+///
+/// After an error no write is tried again, and a front of the bytes went out.
+pub fn write_whole<W: Write>(writer: &mut Watched<W>, bytes: &[u8]) -> Result<(), WriteFault>
+    ensures whole { OnOk result
+        (Appends (W.contents (inner_of writer.old)) (W.contents (inner_of writer.new)) bytes.now) }
+    ensures front { OnErr result (AppendsFront (W.contents (inner_of writer.old))
+        (W.contents (inner_of writer.new)) bytes.now) }
+    ensures write { is_faulted writer.old ≡ false
+        → (IsErrOf result WriteFault.Write ↔ (is_faulted writer.new ≡ true)) }
+    ensures flag { is_faulted writer.new ≡ (is_faulted writer.old || is_err result) }
+{
+    let mut at = 0;
+    while at < bytes.len() {
+        let Some(n) = writer.write(&bytes[at..]) else {
+            return Err(WriteFault::Write);
+        };
+        at += n;
+    }
+    Ok(())
+}
