@@ -9,6 +9,7 @@ pub mod Held
 pub mod HistoriesByName
 pub mod Lists
 pub mod Members
+pub mod Nexts
 pub mod Naming
 pub mod OneMore
 pub mod RecordsByName
