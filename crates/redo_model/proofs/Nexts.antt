@@ -1,11 +1,12 @@
 -- What a session does next: laws of `next_of`, and of journals by it.
-use Rattle.std.proofs.Common.{◌≡◌, ℕ, suc, ◌+◌, ◌-◌, ◌<◌, ◌≤◌, Bool, true, false, not, ◌||◌, cond, List, [], ◌∷◌, ◌++◌, length, drop, get_or, Option, Some, refl, sym, ap, ◌∙◌, subst, arith}
-use Rattle.std.proofs.lemmas.List.{get_or-drop, length-drop, drop-map}
+use Rattle.std.proofs.Common.{◌≡◌, ℕ, suc, ◌+◌, ◌-◌, ◌<◌, ◌≤◌, Bool, true, false, not, ◌||◌, cond, List, [], ◌∷◌, ◌++◌, length, map, drop, get_or, Option, Some, None, refl, sym, ap, ◌∙◌, subst, arith, append_assoc, append-nil}
+use Rattle.std.proofs.lemmas.List.{get_or-drop, length-drop, drop-map, drop-drop}
+use Rattle.std.proofs.lemmas.Option.{none-some}
 use Rattle.std.specs.List.{AllByRecursion}
 use Rattle.redo_model.specs.Command.{Command, Item, Ood, commands_in}
 use Rattle.redo_model.specs.Reply.{lets_through}
 use Rattle.redo_model.specs.Placed.{PlacedLine}
-use Rattle.redo_model.specs.Journals.{Numbered, first_from, next_of, numbered, IsJournalAfter}
+use Rattle.redo_model.specs.Journals.{Numbered, first_from, next_of, numbered, IsJournalAfter, IsWholeJournal}
 
 module _ {N : Type 0} where
   -- a command of the script, from this number on
@@ -181,3 +182,54 @@ module _ {N : Type 0} where
             → AllByRecursion (λ line. line.number < next.number) lines
         above [] all = tt
         above (line ∷ lines) all = let a = all.0 in let b = from in (omega arith, above lines all.1)
+
+  abbrev pub AllUnguarded : List (Item N) → Type 0
+  AllUnguarded items = AllByRecursion (λ item. item.guarded ≡ false) items
+
+  -- the first of unguarded lines is done
+  plain_first : (through : Bool) (here : ℕ) (item : Item N) (items : List (Item N))
+      → item.guarded ≡ false → first_from through here (item ∷ items)
+      ≡ Some (record { number = here; command = item.command })
+  plain_first true here item items e = refl
+  plain_first false here item items e =
+      ap (λ (b : Bool). cond (not b) (Some (record { number = here; command = item.command }))
+      (first_from false (here + 1) items)) e
+
+  module _ (s : ℕ) (script : List (Item N)) where
+    whole_after : (through : Bool) (items : List (Item N)) (before lines : List (PlacedLine N))
+        → AllUnguarded items → drop (past_of before) script ≡ items
+        → next_of script before ≡ first_from through (past_of before) items
+        → IsJournalAfter s script before lines → next_of script (before ++ lines) ≡ None
+        → map (λ line. line.command) lines ≡ commands_in items
+    whole_after through [] before [] plain rest here is none = refl
+    whole_after through (item ∷ items) before [] plain rest here is none =
+        absurd (none-some _ (sym none ∙ ap (next_of script) (append-nil before) ∙ here
+        ∙ plain_first through (past_of before) item items plain.0))
+    whole_after through [] before (line ∷ lines) plain rest here is none =
+        absurd (none-some _ (sym here ∙ is.1))
+    whole_after through (item ∷ items) before (line ∷ lines) plain rest here is none =
+        let found : Numbered N = record { number = past_of before; command = item.command } in
+        let told : Some found ≡ Some (numbered line) =
+        sym (plain_first through (past_of before) item items plain.0) ∙ sym here ∙ is.1 in
+        let same : found ≡ numbered line = cc in
+        let number : past_of before + 1 ≡ line.number + 1 =
+        ap (λ (n : Numbered N). n.number + 1) same in
+        let past : past_of (before ++ line ∷ []) ≡ line.number + 1 = past_of_more before line in
+        let left : drop (line.number + 1) script ≡ items =
+        ap (λ n. drop n script) (sym number) ∙ sym (drop-drop 1 (past_of before) script)
+        ∙ ap (drop 1) rest in
+        let next : next_of script (before ++ line ∷ [])
+        ≡ first_from (lets_through line.reply) (past_of (before ++ line ∷ [])) items =
+        next_of_more script before line
+        ∙ (λ i. first_from (lets_through line.reply) (sym past i) (left i)) in
+        let more = whole_after (lets_through line.reply) items (before ++ line ∷ []) lines plain.1
+        (ap (λ n. drop n script) past ∙ left) next is.2
+        (ap (next_of script) (append_assoc before (line ∷ []) lines) ∙ none) in
+        let first : line.command ≡ item.command = ap (λ (n : Numbered N). n.command) (sym same) in
+        λ i. first i ∷ more i
+
+    -- where no line is guarded, a whole journal has all commands
+    pub all_done : (lines : List (PlacedLine N)) → AllUnguarded script
+        → IsWholeJournal s script lines → map (λ line. line.command) lines ≡ commands_in script
+    all_done lines plain whole =
+        whole_after true script [] lines plain refl refl whole.0 whole.1
