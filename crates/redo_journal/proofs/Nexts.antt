@@ -1,8 +1,10 @@
 -- How what is next is found: line by line, after the last entry.
-use Rattle.std.proofs.Common.{◌≡◌, ◌↔◌, ℕ, suc, ◌+◌, ◌-◌, ◌<◌, ◌≤◌, Bool, true, false, not, ◌||◌, cond, List, [], ◌∷◌, ◌++◌, length, map, drop, get_or, slice_get, Option, Some, None, refl, sym, ap, ◌∙◌, subst, arith}
+use Rattle.std.proofs.Common.{◌≡◌, ◌↔◌, ℕ, suc, ◌+◌, ◌-◌, ◌<◌, ◌≤◌, Bool, true, false, not, ◌||◌, cond, List, [], ◌∷◌, ◌++◌, length, map, take, drop, get_or, slice_get, Option, Some, None, refl, sym, ap, ◌∙◌, subst, arith}
 use Rattle.std.proofs.Math.Seq.{drop-cons}
 use Rattle.std.proofs.lemmas.List.{length-map, map_push, drop_all, get_or-map}
 use Rattle.std.proofs.lemmas.Option.{slice_get-get_or, none-some}
+use mathlib.Core.Logic.{dite}
+use native.Mathlib.Decide.{ℕ_discrete}
 use Rattle.redo_model.specs.Command as commands
 use Rattle.redo_model.specs.Command.{Ood, commands_in}
 use Rattle.redo_model.specs.Reply.{lets_through}
@@ -12,7 +14,7 @@ use Rattle.redo_terms.specs.Meaning.{command_of, item_of, reply_of}
 use Rattle.redo_terms.specs.declared.script.Item.{Item}
 use Rattle.redo_journal.specs.declared.entry.Entry.{Entry}
 use Rattle.redo_journal.specs.Journals.{line_told}
-use Rattle.redo_journal.specs.Numbers.{numbered_in}
+use Rattle.redo_journal.specs.Numbers.{numbers_in, numbered_in, IsNextAfter, IsNextAt}
 
 abbrev pub first_at : List Item → Bool → ℕ → Option (Numbered ℕ)
 first_at script through at = first_from through at (drop at (map item_of script))
@@ -126,3 +128,23 @@ same_number script next n k found = (
       let both : Some (numbered_in script n) ≡ Some (numbered_in script k) = sym found ∙ is in
       ap number_or both,
 )
+
+-- of the entry at a place, and those before it
+pub at_place : (s : ℕ) (script : List (commands.Item ℕ)) (entries before : List Entry) (at : ℕ)
+    (entry : Entry) → at < length entries → entry ≡ get_or entries at entry
+    → before ≡ take at entries
+    → IsNextAfter s script before entry.line ↔ IsNextAt s script entries at
+at_place s script entries before at entry within is front =
+    let number : Entry → ℕ = λ e. e.line in
+    let here : entry.line ≡ get_or (numbers_in entries) at 0 =
+    ap number is ∙ sym (get_or-map number entries at entry 0 within) in
+    let Next : List Entry × ℕ → Type 0 = λ x. IsNextAfter s script x.0 x.1 in
+    let same : (before, entry.line) ≡ (take at entries, get_or (numbers_in entries) at 0) =
+    λ i. (front i, here i) in
+    (subst Next same, subst Next (sym same))
+
+pub below_next : (P : ℕ → Type 0) (n : ℕ) → ((k : ℕ) → k < n → P k) → P n
+    → (k : ℕ) → k < n + 1 → P k
+below_next P n below here k within = dite (ℕ_discrete k n)
+    (λ same. subst P (sym same) here)
+    (λ other. below k (omega arith))
