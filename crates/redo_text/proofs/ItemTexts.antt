@@ -1,11 +1,11 @@
 -- The text of an item, read as a session file of one line.
-use Rattle.std.proofs.Common.{◌≡◌, ℕ, ◌≤◌, Bool, true, false, ◌||◌, List, [], ◌∷◌, length, Ok, refl, sym, ap, subst, ◌∙◌, arith, ◌==◌}
+use Rattle.std.proofs.Common.{◌≡◌, ℕ, ◌≤◌, Bool, true, false, not, List, [], ◌∷◌, length, Ok, refl, sym, ap, subst, ◌∙◌, arith, ◌==◌}
 use Rattle.std.specs.List.{AllByRecursion}
 use Rattle.std.proofs.lemmas.Bool.Decides.{nat_tests}
 use Rattle.std.proofs.lemmas.List.Elements.{All-from_recursion}
 use Rattle.std.proofs.lemmas.List.Splits.{slice_split_none}
 use Rattle.redo_model.specs.Names.{Text}
-use Rattle.redo_model.specs.Command.{Command, Item}
+use Rattle.redo_model.specs.Command.{Command, Item, Ood}
 use Rattle.redo_text.specs.Texts.{command_text_of, with_guard, item_text_of}
 use Rattle.redo_text.specs.Grammar.{HasForm, IsShort, IsItemLine, AddsNames, is_skipped, lines_of, AreItemLines, AreScriptLines, IsScript}
 use Rattle.redo_text.specs.Questions.{is_text_byte, has_bad_byte}
@@ -27,6 +27,7 @@ item_says item form short =
     }
 
 command_not_skipped : (command : Command Text) → is_skipped (command_text_of command) ≡ false
+command_not_skipped Ood = refl
 command_not_skipped command = refl
 
 not_skipped : (guarded : Bool) (command : Command Text)
@@ -34,19 +35,16 @@ not_skipped : (guarded : Bool) (command : Command Text)
 not_skipped true command = refl
 not_skipped false command = command_not_skipped command
 
-no_line_feed : (b : ℕ) → is_text_byte b ≡ true → (b == 10) ≡ false
+no_line_feed : (b : ℕ) → not (is_text_byte b) ≡ false → (b == 10) ≡ false
 no_line_feed b h = grind (arith, nat_tests)
 
 -- a text of good bytes is one line
 good_bytes : (text : Text) → has_bad_byte text ≡ false
     → AllByRecursion (λ b. (b == 10) ≡ false) text
 good_bytes [] good = tt
-good_bytes (b ∷ bs) good = by (is_text_byte b) refl good
-  where
-    by : (x : Bool) → is_text_byte b ≡ x → (not x || has_bad_byte bs) ≡ false
-        → AllByRecursion (λ c. (c == 10) ≡ false) (b ∷ bs)
-    by true e h = (no_line_feed b e, good_bytes bs h)
-    by false e h = absurd cc
+good_bytes (b ∷ bs) good =
+    let each = neither (not (is_text_byte b)) (has_bad_byte bs) good in
+    (no_line_feed b each.0, good_bytes bs each.1)
 
 one_line : (text : Text) → has_bad_byte text ≡ false → lines_of text ≡ text ∷ []
 one_line text good =
