@@ -1,5 +1,5 @@
 -- How what is next is found: line by line, after the last entry.
-use Rattle.std.proofs.Common.{◌≡◌, ◌↔◌, ℕ, suc, ◌+◌, ◌-◌, ◌<◌, ◌≤◌, Bool, true, false, not, ◌||◌, cond, List, [], ◌∷◌, ◌++◌, length, map, take, drop, get_or, slice_get, Option, Some, None, refl, sym, ap, ◌∙◌, subst, arith}
+use Rattle.std.proofs.Common.{◌≡◌, ◌↔◌, ℕ, suc, ◌+◌, ◌-◌, ◌<◌, ◌≤◌, ◌==◌, Bool, IsTrue, eqb-true, rules, true, false, not, ◌||◌, cond, List, [], ◌∷◌, ◌++◌, length, map, take, drop, get_or, slice_get, Option, Some, None, refl, sym, ap, ◌∙◌, subst, arith}
 use Rattle.std.proofs.Math.Seq.{drop-cons}
 use Rattle.std.proofs.lemmas.List.{length-map, map_push, drop_all, get_or-map}
 use Rattle.std.proofs.lemmas.Option.{slice_get-get_or, none-some}
@@ -85,7 +85,7 @@ last_is [] last got = absurd (none-some _ got)
 last_is (x ∷ []) last got = let same : x ≡ last = cc in ([], λ i. same i ∷ [])
 last_is (x ∷ y ∷ ys) last got =
     let e : length (x ∷ y ∷ ys) - 1 ≡ suc (length (y ∷ ys) - 1) = omega arith in
-    let rest = last_is (y ∷ ys) last (ap (slice_get (x ∷ y ∷ ys)) (sym e) ∙ got) in
+    let rest = last_is (y ∷ ys) last (subst (λ k. slice_get (x ∷ y ∷ ys) k ≡ Some last) e got) in
     (x ∷ rest.0, ap (λ es. x ∷ es) rest.1)
 
 none_is : (entries : List Entry) → slice_get entries (length entries - 1) ≡ None → entries ≡ []
@@ -114,34 +114,36 @@ module _ (s : ℕ) (script : List Item) (entries : List Entry) where
       let told = line_told s (map item_of script) in
       ap (λ es. next_of (map item_of script) (map told es)) (none_is entries none)
 
+eqb-same : (n : ℕ) → (n == n) ≡ true
+eqb-same n = search rules
+
 number_or : Option (Numbered ℕ) → ℕ
 number_or None = 0
 number_or (Some next) = next.number
 
 -- what was found is the next where it has its number
 pub same_number : (script : List (commands.Item ℕ)) (next : Option (Numbered ℕ)) (n k : ℕ)
-    → next ≡ Some (numbered_in script n) → (n ≡ k) ↔ (next ≡ Some (numbered_in script k))
+    → next ≡ Some (numbered_in script n)
+    → IsTrue (n == k) ↔ (next ≡ Some (numbered_in script k))
 unfolding number_or
 same_number script next n k found = (
-  λ e. found ∙ ap (λ m. Some (numbered_in script m)) e,
+  λ e. found ∙ ap (λ m. Some (numbered_in script m)) (eqb-true n k e),
   λ is.
       let both : Some (numbered_in script n) ≡ Some (numbered_in script k) = sym found ∙ is in
-      ap number_or both,
+      let same : n ≡ k = ap number_or both in
+      subst (λ m. IsTrue (n == m)) same (eqb-same n),
 )
 
--- of the entry at a place, and those before it
-pub at_place : (s : ℕ) (script : List (commands.Item ℕ)) (entries before : List Entry) (at : ℕ)
+-- of the entry at a place
+pub at_place : (s : ℕ) (script : List (commands.Item ℕ)) (entries : List Entry) (at : ℕ)
     (entry : Entry) → at < length entries → entry ≡ get_or entries at entry
-    → before ≡ take at entries
-    → IsNextAfter s script before entry.line ↔ IsNextAt s script entries at
-at_place s script entries before at entry within is front =
+    → IsNextAfter s script (take at entries) entry.line ↔ IsNextAt s script entries at
+at_place s script entries at entry within is =
     let number : Entry → ℕ = λ e. e.line in
     let here : entry.line ≡ get_or (numbers_in entries) at 0 =
     ap number is ∙ sym (get_or-map number entries at entry 0 within) in
-    let Next : List Entry × ℕ → Type 0 = λ x. IsNextAfter s script x.0 x.1 in
-    let same : (before, entry.line) ≡ (take at entries, get_or (numbers_in entries) at 0) =
-    λ i. (front i, here i) in
-    (subst Next same, subst Next (sym same))
+    let Next : ℕ → Type 0 = IsNextAfter s script (take at entries) in
+    (subst Next here, subst Next (sym here))
 
 pub below_next : (P : ℕ → Type 0) (n : ℕ) → ((k : ℕ) → k < n → P k) → P n
     → (k : ℕ) → k < n + 1 → P k

@@ -1,4 +1,4 @@
-use Rattle.std.proofs.Common.{◌∙◌, ℕ, map, sym}
+use Rattle.std.proofs.Common.{◌∙◌, map, sym}
 use Rattle.std.proofs.lemmas.Bool.{false≢true}
 use Rattle.redo_terms.specs.Meaning.{item_of}
 use Rattle.redo_journal.specs.Numbers.{IsNextAt}
@@ -9,8 +9,8 @@ pub returns-then-not-is_next : goal.returns-then-not-is_next
 returns-then-not-is_next c s =
     let script = map item_of c.args.script.now in
     let entries = c.args.entries.now in
-    let same = at_place s script entries c.index.result.now c.loop-at.at c.index-entries-at.result
-    c.loop-at-test.true c.index-entries-at.is c.index.ensures.value in (
+    let same = at_place s script entries c.loop-at.at c.index-entries-at.result c.loop-at-test.true
+    c.index-entries-at.is in (
       λ no. absurd (false≢true no),
       λ each. absurd (false≢true (sym c.if-not-is_next.true
           ∙ (c.is_next.ensures s).1 (same.1 (each c.loop-at.at c.loop-at-test.true)))),
@@ -20,7 +20,7 @@ pub loop-at-preserved : goal.loop-at-preserved
 loop-at-preserved c s =
     let script = map item_of c.args.script.now in
     let entries = c.args.entries.now in
-    let same = at_place s script entries c.index.result.now c.loop-at.at c.index-entries-at.result
-    c.loop-at-test.true c.index-entries-at.is c.index.ensures.value in
+    let same = at_place s script entries c.loop-at.at c.index-entries-at.result c.loop-at-test.true
+    c.index-entries-at.is in
     below_next (IsNextAt s script entries) c.loop-at.at (c.loop-at.invariant s)
     (same.0 ((c.is_next.ensures s).0 c.if-not-is_next.false))

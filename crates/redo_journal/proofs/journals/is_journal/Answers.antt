@@ -1,4 +1,4 @@
-use Rattle.std.proofs.Common.{◌≡◌, ◌<◌, ℕ, List, length, map, [], ◌∙◌, sym, subst}
+use Rattle.std.proofs.Common.{◌<◌, ℕ, List, length, map, [], ◌∙◌, sym, subst}
 use Rattle.std.proofs.lemmas.Bool.{false≢true}
 use Rattle.redo_terms.specs.Meaning.{item_of}
 use Rattle.redo_journal.specs.declared.entry.Entry.{Entry}
@@ -23,7 +23,7 @@ returns c =
     let script = map item_of c.args.script.now in
     let journal = c.args.journal.now in
     let entries = journal.entries.items in
-    let same = c.deref-entries.ensures.value in
+    let same = c.deref.ensures.value in
     let each = c.go_by.ensures journal.session in
     let Goes : List Entry → Type 0 =
     λ es. (k : ℕ) → k < length es → IsNextAt journal.session script es k in (

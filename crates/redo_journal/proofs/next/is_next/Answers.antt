@@ -1,7 +1,6 @@
 use Rattle.std.proofs.Common.{sym, ◌∙◌}
 use Rattle.std.proofs.lemmas.Bool.{false≢true}
 use Rattle.std.proofs.lemmas.Option.{none-some}
-use Rattle.redo_model.specs.Journals.{next_of}
 use Rattle.redo_journal.proofs.Nexts.{same_number}
 use Rattle.redo_journal.proofs.next.is_next.Goals as goal
 
