@@ -38,11 +38,10 @@ items_at-Extends old new (c ∷ cs) x below =
 pub AreBelow-Extends : (old new : List Text) (cs : List Item) → Extends old new
     → AreBelow (length old) cs → AreBelow (length new) cs
 AreBelow-Extends old new [] x below = tt
-AreBelow-Extends old new (c ∷ cs) x below =
-    (
-      IsBelow-Extends old new (command_of c.command) x below.0,
-      AreBelow-Extends old new cs x below.1,
-    )
+AreBelow-Extends old new (c ∷ cs) x below = (
+  IsBelow-Extends old new (command_of c.command) x below.0,
+  AreBelow-Extends old new cs x below.1,
+)
 
 pub AreBelow-push : (n : ℕ) (cs : List Item) (c : Item) → AreBelow n cs
     → IsBelow n (command_of c.command) → AreBelow n (cs ++ c ∷ [])
