@@ -13,7 +13,7 @@ pub built-push : (t : ℕ) (b : Bool) (ls : List Line) (l : Line)
 built-push t b [] l = refl
 built-push t b (x ∷ ls) l = built-push t (turn_build x.command x.reply t b) ls l
 
-pub told-push : (s : ℕ) (script : List (commands.Command ℕ)) (xs ys : List Entry) (x : Entry)
+pub told-push : (s : ℕ) (script : List (commands.Item ℕ)) (xs ys : List Entry) (x : Entry)
     → ys ≡ xs ++ x ∷ [] → told s script ys ≡ told s script xs ++ line_told s script x ∷ []
 told-push s script xs ys x e =
     ap (told s script) e ∙ map-append (line_told s script) xs (x ∷ [])

@@ -197,7 +197,7 @@ done c =
     omega arith in
     let won : Lags p c.apply.new.self None seen =
     lags_won p w.store c.apply.new.self (seen_by w) c.apply.ensures.count c.apply.ensures.order
-    c.in-Ok.ensures.applied w.session c.args.number h x small lags named.command
+    c.in-Ok.ensures.applied w.session c.args.number h x small lags named
     (c.in-Ok.ensures.after
     ∙ ap
     (λ z. records_after (naming_of w.store) (records_of w.store) w.session z x)
