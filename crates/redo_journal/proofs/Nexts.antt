@@ -86,7 +86,7 @@ last_is (x ∷ []) last got = let same : x ≡ last = cc in ([], λ i. same i �
 last_is (x ∷ y ∷ ys) last got =
     let e : length (x ∷ y ∷ ys) - 1 ≡ suc (length (y ∷ ys) - 1) = omega arith in
     let rest = last_is (y ∷ ys) last (subst (λ k. slice_get (x ∷ y ∷ ys) k ≡ Some last) e got) in
-    (x ∷ rest.0, ap (λ es. x ∷ es) rest.1)
+    (x ∷ rest.0, λ i. x ∷ rest.1 i)
 
 none_is : (entries : List Entry) → slice_get entries (length entries - 1) ≡ None → entries ≡ []
 none_is [] none = refl
