@@ -1,4 +1,5 @@
 pub mod Nexts
+pub mod Scripts
 pub mod Orders
 pub mod Builds
 pub mod Ways

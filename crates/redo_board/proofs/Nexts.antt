@@ -1,13 +1,9 @@
 -- What a session does next. All else of the board knows `next_of` by these laws alone.
-use Rattle.std.proofs.Common.{◌≡◌, ℕ, zero, suc, ◌+◌, ◌<◌, ◌≤◌, List, [], ◌∷◌, length, get_or, Some, arith}
-use Rattle.std.specs.List.{AllByRecursion}
-use Rattle.redo_model.specs.Command.{Item, Ood, commands_in}
+use Rattle.std.proofs.Common.{◌≡◌, ℕ, ◌+◌, ◌<◌, ◌≤◌, List, [], ◌∷◌, length, Some, arith}
+use Rattle.redo_model.specs.Command.{Item}
 use Rattle.redo_model.specs.Placed.{PlacedLine}
 use Rattle.redo_model.specs.Journals.{Numbered, next_of, IsJournal}
-use Rattle.redo_model.specs.Renaming.{IsBelow}
 use Rattle.redo_model.proofs.Nexts.{past_of, GoUp, IsFrom, next_from, journal_goes_up}
-use Rattle.redo_journal.specs.Plans.{PlanOf, IsPlan, script_of}
-use Rattle.redo_board.specs.Rows.{command}
 
 -- numbers that go up leave room for as many lines
 up_few : (here : ℕ) (first : PlacedLine ℕ) (lines : List (PlacedLine ℕ))
@@ -29,14 +25,3 @@ fewer s script own next is e =
     let within = found.within in
     let a = few own (journal_goes_up s script [] own is) in
     omega arith
-
--- each command of a plan is of the plan's names
-pub command_below : (p : PlanOf) (s k : ℕ) → IsPlan p → IsBelow (length p.names) (command p s k)
-command_below p s k plan = at (script_of p s) k (plan.below s)
-  where
-    at : (xs : List (Item ℕ)) (k : ℕ)
-        → AllByRecursion (λ x. IsBelow (length p.names) x.command) xs
-        → IsBelow (length p.names) (get_or (commands_in xs) k Ood)
-    at [] k all = tt
-    at (x ∷ xs) zero all = all.0
-    at (x ∷ xs) (suc k) all = at xs k all.1

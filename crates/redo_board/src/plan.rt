@@ -5,7 +5,16 @@ ghost use Rattle.redo_journal.specs.Plans.{IsPlan, script_of};
 ghost use Rattle.redo_board.specs.Rows.{command, rows_in, rows_of, takes_row, bit};
 
 use redo_journal::Plan;
-use redo_terms::{Command, FileStamp, Item};
+use redo_terms::{Command, FileStamp, Item, Script};
+
+/// The script of a session.
+pub(crate) fn script(plan: &Plan, session: u8) -> &Script
+    requires { session < length plan.now.scripts }
+    ensures script { map item_of result.now ≡ script_of plan.now session }
+    ensures plan { IsPlan plan.now }
+{
+    &plan.scripts()[session as usize]
+}
 
 /// The lines of a session.
 pub(crate) fn items(plan: &Plan, session: u8) -> &[Item]
@@ -13,7 +22,7 @@ pub(crate) fn items(plan: &Plan, session: u8) -> &[Item]
     ensures items { map item_of result.now ≡ script_of plan.now session }
     ensures plan { IsPlan plan.now }
 {
-    plan.scripts()[session as usize].items()
+    script(plan, session).items()
 }
 
 /// The command of a line of a session.

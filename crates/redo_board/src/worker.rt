@@ -17,7 +17,7 @@ ghost use Rattle.redo_board.specs.Steps.{Enters};
 
 use crate::board::Board;
 use crate::gate::Gate;
-use crate::plan::{command_at, items, session_number};
+use crate::plan::{command_at, items, script, session_number};
 use crate::seat::{Seat, Token};
 use crate::worker::own::{Own, Way};
 use redo_journal::{Entry, Journal, Plan, next_line};
@@ -122,7 +122,7 @@ impl Worker {
             (command plan.now self.now.session number)) }
         ensures none { IfNone result (IsAtEnd plan.now self.now) }
     {
-        next_line(&plan.scripts()[self.session as usize], &self.entries)
+        next_line(script(plan, self.session), &self.entries)
     }
 
     /// Writes the entry of a command into the journal, in which there is room.
