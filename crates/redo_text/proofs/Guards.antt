@@ -33,7 +33,8 @@ guard_is_text false text = refl
 
 same_bytes : (line : Text) → has_bad_byte (unguarded line) ≡ has_bad_byte line
 same_bytes line =
-    sym (ap has_bad_byte (with_its_guard line) ∙ guard_is_text (is_guarded line) (unguarded line))
+    sym (ap has_bad_byte (with_its_guard line)
+    ∙ guard_is_text (is_guarded line) (unguarded line))
 
 pub guard_is_longer : (guarded : Bool) (text : Text) → length text ≤ length (with_guard guarded text)
 guard_is_longer true text = omega arith
@@ -46,8 +47,8 @@ not_longer line =
 
 -- what is asked about what stands after a line's guard is asked about the line
 pub asked_unguarded : (names : List Text) (line : Text) → is_too_long line ≡ false
-    → line_fault names (unguarded line)
-    ≡ first_yes ((has_bad_byte line, BadByte) ∷ word_list_questions names (words_of (unguarded line)))
+    → line_fault names (unguarded line) ≡ first_yes ((has_bad_byte line, BadByte)
+    ∷ word_list_questions names (words_of (unguarded line)))
 unfolding line_fault
 asked_unguarded names line short =
     let fits : is_too_long (unguarded line) ≡ false =
