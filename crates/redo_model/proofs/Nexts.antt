@@ -134,6 +134,15 @@ module _ {N : Type 0} where
       let below = rest.0 in
       (omega arith, rest)
 
+  -- and there are no more of them
+  up_long : (here : ℕ) (line : PlacedLine N) (lines : List (PlacedLine N)) → GoUp here (line ∷ lines)
+      → here + length (line ∷ lines) ≤ past_of (line ∷ lines)
+  up_long here line [] up = let from = up.0 in omega arith
+  up_long here line (second ∷ lines) up =
+      let from = up.0 in
+      let rest = up_long (line.number + 1) second lines up.1 in
+      omega arith
+
   module _ (s : ℕ) (script : List (Item N)) where
     -- the lines of a journal have commands of the script, whose numbers go up
     pub journal_goes_up : (before lines : List (PlacedLine N))
@@ -165,6 +174,23 @@ module _ {N : Type 0} where
         let within = found.within in
         let past = past_of_more before line in
         let rest = journal_fits (before ++ line ∷ []) lines is.2 (omega arith) in
+        omega arith
+
+    journal_long : (own : List (PlacedLine N)) → IsJournalAfter s script [] own
+        → length own ≤ past_of own
+    journal_long [] is = omega arith
+    journal_long (line ∷ lines) is =
+        let long = up_long 0 line lines (journal_goes_up [] (line ∷ lines) is) in omega arith
+
+    -- and fewer, where there is a next
+    pub journal_has_room : (own : List (PlacedLine N)) (next : Numbered N)
+        → IsJournalAfter s script [] own → next_of script own ≡ Some next
+        → length own < length script
+    journal_has_room own next is e =
+        let long = journal_long own is in
+        let found = next_from script own next e in
+        let from = found.from in
+        let within = found.within in
         omega arith
 
     -- what is next after a journal comes after each of its lines
