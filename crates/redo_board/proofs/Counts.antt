@@ -94,7 +94,7 @@ used-more f g [] s k h up l e n = absurd (omega arith)
 used-more f g (x ∷ xs) zero k h up l e n = let a = ap (λ m. rows_in (take m x)) e in
     let c = rows-more x k l in
     let d = rows-up x (f 0) k up in
-    let b = used-same (λ i. f (suc i)) (λ i. g (suc i)) xs (λ i. n (suc i) (λ q. omega arith)) in
+    let b = used-same (λ i. g (suc i)) (λ i. f (suc i)) xs (λ i. n (suc i) (λ q. omega arith)) in
     omega arith
 used-more f g (x ∷ xs) (suc s) k h up l e n =
     let a = ap (λ m. rows_in (take m x)) (n 0 (λ q. omega arith)) in

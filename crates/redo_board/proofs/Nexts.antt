@@ -14,7 +14,7 @@ up_few here first (second ∷ lines) up =
 
 few : (lines : List (PlacedLine ℕ)) → GoUp 0 lines → length lines ≤ past_of lines
 few [] up = omega arith
-few (first ∷ lines) up = up_few 0 first lines up
+few (first ∷ lines) up = let a = up_few 0 first lines up in omega arith
 
 -- a session that does something next has fewer lines than its script
 pub fewer : (s : ℕ) (script : List (Item ℕ)) (own : List (PlacedLine ℕ)) (next : Numbered ℕ)

@@ -3,6 +3,7 @@ use Rattle.std.proofs.Common.{◌≡◌, ◌≢◌, ℕ, ◌+◌, ◌-◌, ◌<�
 use Rattle.std.specs.Prelude.{vec_capacity, vec_len, map, option_map, IfSome}
 use Rattle.std.specs.Option.{unwrap_or, IfNone}
 use Rattle.std.proofs.lemmas.List.{length_push, append-nil, length-map}
+use Rattle.redo_model.specs.Command as commands
 use Rattle.redo_model.specs.Command.{Command, Ood, commands_in, names_in}
 use Rattle.redo_model.specs.Reply.{Reply}
 use Rattle.redo_model.specs.Renaming.{IsBelow, AllBelow}
@@ -50,17 +51,16 @@ pub named_next : (p : PlanOf) (w : Worker) (n : Numbered ℕ) → next_by p w �
 named_next p w n e = sym (next_in_script (script_of p w.session) (journal_of p w) n e).0
 
 -- what is found by the entries and the script is what the session does next, or that it is at its end
-module _ (p : PlanOf) (w : Worker) (items : List Item) (found : Option ℕ)
-    (same : map item_of items ≡ script_of p w.session)
-    (tells : (s : ℕ) → next_of (map item_of items)
-    (map (line_told s (map item_of items)) w.entries.items)
+module _ (p : PlanOf) (w : Worker) (items : List Item) (entries : List Entry) (found : Option ℕ)
+    (same : map item_of items ≡ script_of p w.session) (all : entries ≡ w.entries.items)
+    (tells : (s : ℕ) → next_of (map item_of items) (map (line_told s (map item_of items)) entries)
     ≡ option_map (numbered_in (map item_of items)) found) where
   next_is : next_by p w ≡ option_map (numbered_in (script_of p w.session)) found
   next_is =
       subst
-      (λ script. next_of script (map (line_told w.session script) w.entries.items)
-      ≡ option_map (numbered_in script) found)
-      same (tells w.session)
+      (λ (x : List (commands.Item ℕ) × List Entry). next_of x.0 (map (line_told w.session x.0) x.1)
+      ≡ option_map (numbered_in x.0) found)
+      (λ i. (same i, all i)) (tells w.session)
 
   pub some_next : IfSome found (λ number. IsNextBy p w number (command p w.session number))
   some_next = by found next_is
