@@ -12,7 +12,7 @@ use Rattle.redo_model.specs.Journals.{Numbered, next_of, IsJournal}
 use Rattle.redo_terms.specs.Meaning.{item_of, reply_of}
 use Rattle.redo_terms.specs.declared.script.Item.{Item}
 use Rattle.redo_store.specs.Stored.{Stored}
-use Rattle.redo_model.proofs.Nexts.{next_in_script}
+use Rattle.redo_model.proofs.Nexts.{next_in_script, journal_fits}
 use Rattle.redo_journal.specs.Plans.{PlanOf, IsPlan, script_of}
 use Rattle.redo_journal.specs.Journals.{place_of, line_told}
 use Rattle.redo_journal.specs.Numbers.{numbered_in}
@@ -391,3 +391,16 @@ waits-same p w v u waits session entries seat = record {
   where
     journal : journal_of p u ≡ journal_of p v
     journal = λ i. told (session i) (script_of p (session i)) (entries i).items
+
+-- each step that does something leaves less to do
+pub made_less : (p : PlanOf) (old new : Worker) → Made p old new
+    → length (script_of p (session_of old)) - length (journal_of p new)
+    < length (script_of p (session_of old)) - length (journal_of p old)
+made_less p old new made =
+    let s : ℕ = made.line.session in
+    let journal : IsJournal s (script_of p s) (journal_of p new) =
+    subst (IsJournal s (script_of p s)) made.ends.whole (made.ends.history.of_plan.journals s) in
+    let fits = journal_fits s (script_of p s) [] (journal_of p new) journal (omega arith) in
+    let same = ap (λ t. length (script_of p t)) made.session in
+    let grown = ap length made.grown ∙ length_push (journal_of p old) made.line in
+    omega arith
