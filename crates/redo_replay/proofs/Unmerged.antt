@@ -1,8 +1,8 @@
 -- The entries of journals, the lines that they tell, and how many are left.
 use Rattle.std.proofs.Common.{◌≡◌, ◌≢◌, ℕ, zero, suc, ◌+◌, ◌-◌, ◌<◌, ◌≤◌, List, [], ◌∷◌, ◌++◌, Option, Some, None, refl, sym, ap, ◌∙◌, subst, arith, length, get_or, map, slice_get}
 use Rattle.std.specs.Option.{option_map, unwrap_or}
-use Rattle.std.proofs.lemmas.Option.{slice_get_within}
-use Rattle.std.proofs.lemmas.List.{get_or_default, length-append, length-map}
+
+use Rattle.std.proofs.lemmas.List.{get_or_default, length-map}
 use lib.ListN.{get_or-map}
 use mathlib.Core.Logic.{dite}
 use native.Mathlib.Decide.{ℕ_discrete}
@@ -70,7 +70,7 @@ script_at (x ∷ xs) zero d h = refl
 script_at (x ∷ xs) (suc s) d h = script_at xs s d (omega arith)
 
 -- the command of an item that is there
-command_here : (items : List Item) (i : ℕ) (d : Item) → i < length items → d ≡ get_or items i d
+pub command_here : (items : List Item) (i : ℕ) (d : Item) → i < length items → d ≡ get_or items i d
     → get_or (commands.commands_in (map item_of items)) i commands.Ood ≡ command_of d.command
 command_here items i d h is =
     get_or_default (commands.commands_in (map item_of items)) i commands.Ood
@@ -91,9 +91,8 @@ module _ (items : List Item) (entries : List Entry) (k : ℕ) (e : Entry) (d : I
       → Fits (place_of e.place) (command_of d.command) (reply_of e.reply)
       → FitsScript (map item_of items) (get_or entries k none)
   fits_here line item h =
-      let told = get_or-map item_of commands e.line Ood
-      ∙ ap command_of (get_or_default commands e.line Ood d line ∙ sym cmd) in
-      subst (FitsScript (map item_of commands)) entry_is
+      let told = command_here items e.line d line item in
+      subst (FitsScript (map item_of items)) entry_is
       (subst (λ c. Fits (place_of e.place) c (reply_of e.reply)) (sym told) h)
 
   pub line_here : AreOfScript (map item_of items) entries → e.line < length items
