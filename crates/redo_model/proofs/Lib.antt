@@ -10,6 +10,7 @@ pub mod HistoriesByName
 pub mod Lists
 pub mod Members
 pub mod Nexts
+pub mod Scripts
 pub mod Naming
 pub mod OneMore
 pub mod RecordsByName
