@@ -1,7 +1,6 @@
 -- The entries of journals, the lines that they tell, and how many are left.
 use Rattle.std.proofs.Common.{◌≡◌, ◌≢◌, ℕ, zero, suc, ◌+◌, ◌-◌, ◌<◌, ◌≤◌, List, [], ◌∷◌, ◌++◌, Option, Some, None, refl, sym, ap, ◌∙◌, subst, arith, length, get_or, map, slice_get}
 use Rattle.std.specs.Option.{option_map, unwrap_or}
-
 use Rattle.std.proofs.lemmas.List.{get_or_default, length-map}
 use lib.ListN.{get_or-map}
 use mathlib.Core.Logic.{dite}
@@ -70,16 +69,16 @@ script_at (x ∷ xs) zero d h = refl
 script_at (x ∷ xs) (suc s) d h = script_at xs s d (omega arith)
 
 -- the command of an item that is there
-pub command_here : (items : List Item) (i : ℕ) (d : Item) → i < length items → d ≡ get_or items i d
-    → get_or (commands.commands_in (map item_of items)) i commands.Ood ≡ command_of d.command
-command_here items i d h is =
+pub command_here : (items : List Item) (i : ℕ) (d : Item) → i < length items
+    → get_or (commands.commands_in (map item_of items)) i commands.Ood
+    ≡ command_of (get_or items i d).command
+command_here items i d h =
     get_or_default (commands.commands_in (map item_of items)) i commands.Ood
     (command_of d.command) (let a = length-map items item_of in
     let b = length-map (map item_of items) (λ (item : commands.Item ℕ). item.command) in
     omega arith)
     ∙ get_or-map (λ (item : commands.Item ℕ). item.command) (map item_of items) i (item_of d)
     ∙ ap (λ (item : commands.Item ℕ). item.command) (get_or-map item_of items i d)
-    ∙ ap (λ (item : Item). command_of item.command) (sym is)
 
 -- what is read by an index is what stands there
 module _ (items : List Item) (entries : List Entry) (k : ℕ) (e : Entry) (d : Item)
@@ -87,13 +86,20 @@ module _ (items : List Item) (entries : List Entry) (k : ℕ) (e : Entry) (d : I
   entry_is : e ≡ get_or entries k none
   entry_is = is ∙ get_or_default entries k e none below
 
-  pub fits_here : e.line < length items → d ≡ get_or items e.line d
-      → Fits (place_of e.place) (command_of d.command) (reply_of e.reply)
+  pub fits_here : e.line < length items
+      → Fits (place_of e.place) (command_of (get_or items e.line d).command) (reply_of e.reply)
       → FitsScript (map item_of items) (get_or entries k none)
-  fits_here line item h =
-      let told = command_here items e.line d line item in
+  fits_here line h =
+      let told = command_here items e.line d line in
       subst (FitsScript (map item_of items)) entry_is
       (subst (λ c. Fits (place_of e.place) c (reply_of e.reply)) (sym told) h)
+
+  pub fits_there : e.line < length items → FitsScript (map item_of items) (get_or entries k none)
+      → Fits (place_of e.place) (command_of (get_or items e.line d).command) (reply_of e.reply)
+  fits_there line h =
+      let told = command_here items e.line d line in
+      subst (λ c. Fits (place_of e.place) c (reply_of e.reply)) told
+      (subst (FitsScript (map item_of items)) (sym entry_is) h)
 
   pub line_here : AreOfScript (map item_of items) entries → e.line < length items
   line_here h =

@@ -15,7 +15,7 @@ journal_fits-requires c =
     ≡ map item_of c.items.result.now =
     script_at c.args.scripts.now s c.index-scripts-s.result
     (let a = c.requires.sized in let b = c.checking-test.true in omega arith)
-    ∙ ap (map item_of) (sym c.index-scripts-s.is ∙ sym c.items.ensures.commands) in
+    ∙ ap (map item_of) (sym c.index-scripts-s.is ∙ sym c.items.ensures.items) in
     of_script c.args.scripts.now js s c.deref.result.now c.items.result.now here script
     (c.requires.lines s)
 
@@ -29,7 +29,7 @@ returns-then-not-journal_fits c =
     ≡ map item_of c.items.result.now =
     script_at c.args.scripts.now s c.index-scripts-s.result
     (let a = c.requires.sized in let b = c.checking-test.true in omega arith)
-    ∙ ap (map item_of) (sym c.index-scripts-s.is ∙ sym c.items.ensures.commands) in
+    ∙ ap (map item_of) (sym c.index-scripts-s.is ∙ sym c.items.ensures.items) in
     let bad = c.if-not-journal_fits.ensures in (
       s,
       bad.0,
@@ -47,7 +47,7 @@ checking-preserved c =
     ≡ map item_of c.items.result.now =
     script_at c.args.scripts.now s c.index-scripts-s.result
     (let a = c.requires.sized in let b = c.checking-test.true in omega arith)
-    ∙ ap (map item_of) (sym c.index-scripts-s.is ∙ sym c.items.ensures.commands) in
+    ∙ ap (map item_of) (sym c.index-scripts-s.is ∙ sym c.items.ensures.items) in
     next_below
     (λ (u : ℕ). (k : ℕ)
     → FitsAt (slice_index_or (scripts_of c.args.scripts.now) u []) (entries_of js u) k)
