@@ -30,9 +30,12 @@ list_first-requires-clause-numbers g c =
 pub reserve-requires : goal.reserve-requires
 reserve-requires g c =
     let e = c.catch_up.ensures in
-    numbers_at c.args.plan.now c.args.self.now c.loop-self.self c.catch_up.new.self
-    (record { number = c.args.number; command = command_of c.args.command.now })
-    c.requires.command.next c.loop-self.invariant.2 e.same.0 e.same.1 e.seat e.works
+    record {
+      numbers =
+          numbers_at c.args.plan.now c.args.self.now c.loop-self.self c.catch_up.new.self
+          (record { number = c.args.number; command = command_of c.args.command.now })
+          c.requires.command.next c.loop-self.invariant.2 e.same.0 e.same.1 e.seat e.works;
+    }
 
 pub returns-in_err-reserve-clause-err : goal.returns-in_err-reserve-clause-err
 returns-in_err-reserve-clause-err g c =
