@@ -64,7 +64,7 @@ asked_more names more kept (command ∷ script) asked = (
 )
 
 -- names that were known stay so
-kept : (names : List Text) (texts : List Text) (scripts : List (List (Command Text)))
+kept : (names : List Text) (texts : List Text) (scripts : List (List (Item Text)))
     (after : List Text) → AreAccepted names (map Some texts) scripts after → (n : Text)
     → IsKnown names n → IsKnown after n
 kept names [] [] after same n known = subst (λ (ns : List Text). IsKnown ns n) (sym same) known
@@ -75,7 +75,7 @@ kept names (t ∷ texts) (s ∷ scripts) after (middle, is, are) n known =
     (subst (λ (ns : List Text). IsKnown ns n) (sym is.1.named.0)
     (known-with_names names (flat_map names_in s) n known))
 
-pub all_asked : (names : List Text) (texts : List Text) (scripts : List (List (Command Text)))
+pub all_asked : (names : List Text) (texts : List Text) (scripts : List (List (Item Text)))
     (after : List Text) → AreAccepted names (map Some texts) scripts after
     → AllByRecursion (AreAsked after) scripts
 all_asked names [] [] after same = tt
@@ -90,7 +90,7 @@ all_asked names (t ∷ texts) (s ∷ scripts) after (middle, is, are) =
       all_asked middle texts scripts after are,
     )
 
-pub few_names : (names : List Text) (texts : List Text) (scripts : List (List (Command Text)))
+pub few_names : (names : List Text) (texts : List Text) (scripts : List (List (Item Text)))
     (after : List Text) → AreAccepted names (map Some texts) scripts after
     → length names ≤ 65536 → length after ≤ 65536
 few_names names [] [] after same few = omega (arith, few, ap length same)
@@ -99,7 +99,7 @@ few_names names (t ∷ texts) [] after are few = absurd are
 few_names names (t ∷ texts) (s ∷ scripts) after (middle, is, are) few =
     few_names middle texts scripts after are is.1.named.1
 
-pub asked_at : (names : List Text) (scripts : List (List (Command Text))) (s : ℕ)
+pub asked_at : (names : List Text) (scripts : List (List (Item Text))) (s : ℕ)
     → AllByRecursion (AreAsked names) scripts → s < length scripts
     → AreAsked names (get_or scripts s [])
 asked_at names [] s all less = absurd (omega (arith, less))

@@ -64,7 +64,7 @@ flag_at flag files at file within =
 
 -- the fault of the file that is read, where those before it are accepted
 pub IsCause-read : {X : Type 0} (known : X → Option Text) (flag : X → Bool) (initial files : List X)
-    (at : ℕ) (d file : X) (names : List Text) (scripts : List (List (Command Text)))
+    (at : ℕ) (d file : X) (names : List Text) (scripts : List (List (Item Text)))
     (fault : TextFault)
     → length files ≡ length initial → at < length initial
     → AreAccepted [] (take at (map known initial)) scripts names

@@ -35,9 +35,9 @@ one_after names text a b m n p q =
     (one_list _ a b p.said q.said) ∙ sym q.named.0
 
 -- a file of those that are accepted, after those before it
-no_read : (names : List Text) (texts : List Text) (scripts : List (List (Command Text)))
+no_read : (names : List Text) (texts : List Text) (scripts : List (List (Item Text)))
     (after : List Text) → AreAccepted names (map Some texts) scripts after
-    → (k : ℕ) → k < length (map Some texts) → (before : List (List (Command Text)))
+    → (k : ℕ) → k < length (map Some texts) → (before : List (List (Item Text)))
     (middle : List Text) → AreAccepted names (take k (map Some texts)) before middle
     → (text : Text) × (get_or (map Some texts) k None ≡ Some text) × (length text ≤ 67108864)
     × ((line : ℕ) (fault : LineFault) → IsFirstFault middle text line fault → ⊥)
@@ -60,7 +60,7 @@ no_read names (t ∷ ts) (s ∷ scripts) after (m, is, are) (suc k) less (b ∷ 
     (subst (λ (ns : List Text). AreAccepted ns (take k (map Some ts)) before middle)
     (one_after names t b s n m other.1 is.1) front)
 
-module _ (texts : List Text) (scripts : List (List (Command Text))) (names : List Text)
+module _ (texts : List Text) (scripts : List (List (Item Text))) (names : List Text)
     (some : 1 ≤ length (map Some texts)) (few : length (map Some texts) ≤ 64)
     (are : AreAccepted [] (map Some texts) scripts names) where
   only_for : (flags : List Bool) (out : Bool) (fault : TextFault)

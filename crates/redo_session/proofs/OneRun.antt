@@ -69,13 +69,13 @@ one_run commands a b p q =
     (one_said commands a p ∙ sym (one_said commands b q)) p.legal q.legal
 
 -- the commands of one file
-record IsOnly (file : Text) (scripts : List (List (Command Text))) : Type 0 where
+record IsOnly (file : Text) (scripts : List (List (Item Text))) : Type 0 where
   script : List (Command Text)
   names : List Text
   whole : scripts ≡ script ∷ []
   is : IsScript [] file script names
 
-only_script : (file : Text) (scripts : List (List (Command Text))) (names : List Text)
+only_script : (file : Text) (scripts : List (List (Item Text))) (names : List Text)
     → AreAccepted [] (Some file ∷ []) scripts names → IsOnly file scripts
 only_script file [] names are = absurd are
 only_script file (script ∷ []) names are = record {
@@ -97,8 +97,8 @@ one_run_text file a b (scripts, (some, few, (names, are)), (lines, run, is))
     let first : scripts ≡ q.script ∷ [] =
     p.whole ∙ ap (λ (cs : List (Command Text)). cs ∷ []) commands in
     let same : lines ≡ more =
-    one_run q.script lines more (subst (λ (all : List (List (Command Text))). IsRun all lines)
-    first run) (subst (λ (all : List (List (Command Text))). IsRun all more) q.whole
+    one_run q.script lines more (subst (λ (all : List (List (Item Text))). IsRun all lines)
+    first run) (subst (λ (all : List (List (Item Text))). IsRun all more) q.whole
     other_run) in
     let scripts_same : scripts ≡ others = first ∙ sym q.whole in
     is ∙ (λ i. run_text_of (sessions_below (length (scripts_same i))) (same i)) ∙ sym is_other

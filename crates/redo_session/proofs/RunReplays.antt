@@ -31,7 +31,7 @@ Replays text =
 abbrev command_in : Line Text → Command Text
 command_in line = line.command
 
-module _ (names : List Text) (scripts : List (List (Command Text))) (few : length scripts ≤ 64)
+module _ (names : List Text) (scripts : List (List (Item Text))) (few : length scripts ≤ 64)
     (room : length names ≤ 65536) (asked : AllByRecursion (AreAsked names) scripts)
     (lines : List (Line Text)) (run : IsRun scripts lines) where
   -- each line's command is one of a script
