@@ -2,7 +2,7 @@
 use Rattle.std.proofs.Common.{ℕ, zero, suc, ◌<◌, ◌≤◌, Some, List, [], ◌∷◌, ◌++◌, length, map, get_or, sym, ap, subst, arith}
 use Rattle.std.specs.List.{AllByRecursion, flat_map}
 use Rattle.redo_model.specs.Names.{Text}
-use Rattle.redo_model.specs.Command.{Command, names_in}
+use Rattle.redo_model.specs.Command.{Command, Item, commands_in, names_in}
 use Rattle.redo_text.specs.Grammar.{IsScript}
 use Rattle.redo_session.specs.Runs.{AreAccepted}
 use Rattle.redo_session.proofs.CommandsSaid.{IsSaid, commands_said}

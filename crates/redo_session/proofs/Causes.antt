@@ -3,7 +3,7 @@ use Rattle.std.proofs.Common.{◌≡◌, ℕ, ◌<◌, ◌≤◌, Bool, false, O
 use Rattle.std.specs.Prelude.{IsTrue, slice_index_or, IfSome}
 use Rattle.std.proofs.lemmas.List.{get_or-map, length-map, get_or-set_same, get_or-set_other, map-set}
 use Rattle.redo_model.specs.Names.{Text}
-use Rattle.redo_model.specs.Command.{Command}
+use Rattle.redo_model.specs.Command.{Item}
 use Rattle.redo_session.specs.declared.fault.TextFault.{TextFault}
 use Rattle.redo_session.specs.declared.fault.TextFault.TheVariants.{Memory, Read, TooManySessions, NoSession, Write, Device, TooLong}
 use Rattle.redo_text.specs.Faults.{IsFirstFault}

@@ -4,7 +4,7 @@ use Rattle.std.specs.List.{AllByRecursion, flat_map}
 use Rattle.std.proofs.lemmas.List.{length-map}
 use Rattle.redo_model.specs.Names.{Text, texts}
 use Rattle.redo_model.specs.State.{empty}
-use Rattle.redo_model.specs.Command.{Command, names_in}
+use Rattle.redo_model.specs.Command.{Command, Item, commands_in, names_in}
 use Rattle.redo_model.specs.History.{Line, part_of, Legal}
 use Rattle.redo_text.specs.Grammar.{with_names}
 use Rattle.redo_replay.specs.Histories.{history_text_of}
