@@ -14,8 +14,8 @@ pub record IsAsked (names : List Text) (command : Command Text) : Type 0 where
   pub known : AreKnown names (names_in command)
 
 -- so is each of a script, which isn't too long
-pub record AreAsked (names : List Text) (script : List (Command Text)) : Type 0 where
-  pub each : AllByRecursion (IsAsked names) script
+pub record AreAsked (names : List Text) (script : List (Item Text)) : Type 0 where
+  pub each : AllByRecursion (IsAsked names) (commands_in script)
   pub few : length script ≤ 4096
 
 known_front : (names ts us : List Text) → AreKnown names (ts ++ us) → AreKnown names ts
@@ -41,13 +41,14 @@ each_asked names (command ∷ script) said known =
       each_asked names script said.1 (known_back names (names_in command) rest known),
     )
 
-script_asked : (before : List Text) (text : Text) (script : List (Command Text))
+script_asked : (before : List Text) (text : Text) (script : List (Item Text))
     (after : List Text) → IsScript before text script after → AreAsked after script
 script_asked before text script after is = record {
   each =
-      each_asked after script (commands_said _ script is.said)
-      (subst (λ (ns : List Text). AreKnown ns (flat_map names_in script)) (sym is.named.0)
-      (added_are_known before (flat_map names_in script)));
+      let commands = commands_in script in
+      each_asked after commands (commands_said _ script is.said)
+      (subst (λ (ns : List Text). AreKnown ns (flat_map names_in commands)) (sym is.named.0)
+      (added_are_known before (flat_map names_in commands)));
   few = is.few;
 }
 
@@ -73,7 +74,7 @@ kept names (t ∷ texts) [] after are n known = absurd are
 kept names (t ∷ texts) (s ∷ scripts) after (middle, is, are) n known =
     kept middle texts scripts after are n
     (subst (λ (ns : List Text). IsKnown ns n) (sym is.1.named.0)
-    (known-with_names names (flat_map names_in s) n known))
+    (known-with_names names (flat_map names_in (commands_in s)) n known))
 
 pub all_asked : (names : List Text) (texts : List Text) (scripts : List (List (Item Text)))
     (after : List Text) → AreAccepted names (map Some texts) scripts after
@@ -84,7 +85,8 @@ all_asked names (t ∷ texts) [] after are = absurd are
 all_asked names (t ∷ texts) (s ∷ scripts) after (middle, is, are) =
     let here = script_asked names t s middle is.1 in (
       record {
-        each = asked_more middle after (kept middle texts scripts after are) s here.each;
+        each = asked_more middle after (kept middle texts scripts after are) (commands_in s)
+            here.each;
         few = here.few;
       },
       all_asked middle texts scripts after are,
