@@ -1,5 +1,5 @@
 -- The run text of files is a history, and its lines are legal.
-use Rattle.std.proofs.Common.{◌*◌, ◌<◌, ◌≤◌, suc, Bool, true, false, not, ◌||◌, cond, get_or, List, [], ◌∷◌, ◌++◌, Some, length, map, sym, ap, subst, arith}
+use Rattle.std.proofs.Common.{ℕ, ◌*◌, ◌<◌, ◌≤◌, suc, Bool, true, false, not, ◌||◌, cond, get_or, List, [], ◌∷◌, ◌++◌, Some, length, map, sym, ap, subst, arith}
 use Rattle.std.specs.List.{AllByRecursion, flat_map}
 use Rattle.std.proofs.lemmas.List.{length-map}
 use Rattle.redo_model.specs.Names.{Text, texts}
