@@ -12,10 +12,12 @@ returns-then-not-fits c =
     let line = line_here items entries c.fitting.k c.index-entries-k.result
     c.index-items-entry.result c.fitting-test.true c.index-entries-k.is c.requires in (
       c.fitting.k,
-      c.fitting-test.true,
-      λ fits. false≢true (c.if-not-fits.ensures.1 (fits_there items entries c.fitting.k
-          c.index-entries-k.result c.index-items-entry.result c.fitting-test.true
-          c.index-entries-k.is line fits)),
+      (
+        c.fitting-test.true,
+        λ fits. false≢true (c.if-not-fits.ensures.1 (fits_there items entries c.fitting.k
+            c.index-entries-k.result c.index-items-entry.result c.fitting-test.true
+            c.index-entries-k.is line fits)),
+      ),
     )
 
 pub fitting-preserved : goal.fitting-preserved
