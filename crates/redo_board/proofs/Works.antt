@@ -1,21 +1,18 @@
 -- A worker after a step.
 use Rattle.std.proofs.Common.{◌≡◌, ◌≢◌, ℕ, ◌+◌, ◌-◌, ◌<◌, ◌≤◌, List, [], ◌∷◌, ◌++◌, length, get_or, Option, Some, None, refl, sym, ap, ◌∙◌, subst, inl, arith}
-use Rattle.std.specs.Prelude.{vec_capacity, vec_len, map, option_map, IfSome}
-use Rattle.std.specs.Option.{unwrap_or, IfNone}
+use Rattle.std.specs.Prelude.{vec_capacity, vec_len}
+use Rattle.std.specs.Option.{unwrap_or}
 use Rattle.std.proofs.lemmas.List.{length_push, append-nil, length-map}
-use Rattle.redo_model.specs.Command as commands
 use Rattle.redo_model.specs.Command.{Command, Ood, commands_in, names_in}
 use Rattle.redo_model.specs.Reply.{Reply}
 use Rattle.redo_model.specs.Renaming.{IsBelow, AllBelow}
 use Rattle.redo_model.specs.Placed.{Place, part_of}
-use Rattle.redo_model.specs.Journals.{Numbered, next_of, IsJournal}
-use Rattle.redo_terms.specs.Meaning.{item_of, reply_of}
-use Rattle.redo_terms.specs.declared.script.Item.{Item}
+use Rattle.redo_model.specs.Journals.{Numbered, IsJournal}
+use Rattle.redo_terms.specs.Meaning.{reply_of}
 use Rattle.redo_store.specs.Stored.{Stored}
 use Rattle.redo_model.proofs.Nexts.{next_in_script, journal_fits}
 use Rattle.redo_journal.specs.Plans.{PlanOf, IsPlan, script_of}
 use Rattle.redo_journal.specs.Journals.{place_of, line_told}
-use Rattle.redo_journal.specs.Numbers.{numbered_in}
 use Rattle.redo_journal.specs.declared.entry.Entry.{Entry}
 use Rattle.redo_board.specs.Rows.{rows_of, command}
 use Rattle.redo_board.specs.Core.{Line, Begins, row}
@@ -23,7 +20,7 @@ use Rattle.redo_board.specs.Histories.{EndsWith}
 use Rattle.redo_board.specs.Views.{Part, ViewOf, view}
 use Rattle.redo_board.specs.Rule.{HasPart, Told}
 use Rattle.redo_board.specs.Plays.{Goes, Claims, Lost, made, next, own, own_way}
-use Rattle.redo_board.specs.Shown.{NeedsNoRow, IsNextBy, IsAtEnd, session_of, journal_of, seen_by, next_by, told, past, rows_up_to}
+use Rattle.redo_board.specs.Shown.{NeedsNoRow, IsNextBy, session_of, journal_of, seen_by, next_by, told, past, rows_up_to}
 use Rattle.redo_board.specs.Kept.{IsBoardOf, Works, WorksAt, Lags, view_of}
 use Rattle.redo_board.specs.Own.{Says, Notes, names_of, has, way_by}
 use Rattle.redo_board.specs.Outcomes.{Made, Waits}
@@ -49,39 +46,6 @@ plan_is p w k = subst IsPlan (ap (λ (v : ViewOf). v.plan) k.view) k.told.plan
 pub named_next : (p : PlanOf) (w : Worker) (n : Numbered ℕ) → next_by p w ≡ Some n
     → n.command ≡ command p w.session n.number
 named_next p w n e = sym (next_in_script (script_of p w.session) (journal_of p w) n e).0
-
--- what is found by the entries and the script is what the session does next, or that it is at its end
-module _ (p : PlanOf) (w : Worker) (items : List Item) (entries : List Entry) (found : Option ℕ)
-    (same : map item_of items ≡ script_of p w.session) (all : entries ≡ w.entries.items)
-    (tells : (s : ℕ) → next_of (map item_of items) (map (line_told s (map item_of items)) entries)
-    ≡ option_map (numbered_in (map item_of items)) found) where
-  next_is : next_by p w ≡ option_map (numbered_in (script_of p w.session)) found
-  next_is =
-      subst
-      (λ (x : List (commands.Item ℕ) × List Entry). next_of x.0 (map (line_told w.session x.0) x.1)
-      ≡ option_map (numbered_in x.0) found)
-      (λ i. (same i, all i)) (tells w.session)
-
-  pub some_next : IfSome found (λ number. IsNextBy p w number (command p w.session number))
-  some_next = by found next_is
-    where
-      by : (o : Option ℕ) → next_by p w ≡ option_map (numbered_in (script_of p w.session)) o
-          → IfSome o (λ number. IsNextBy p w number (command p w.session number))
-      by None e = tt
-      by (Some k) e = record {
-        next = e;
-        within =
-            (next_in_script (script_of p w.session) (journal_of p w)
-            (numbered_in (script_of p w.session) k) e).1;
-      }
-
-  pub none_next : IfNone found (IsAtEnd p w)
-  none_next = by found next_is
-    where
-      by : (o : Option ℕ) → next_by p w ≡ option_map (numbered_in (script_of p w.session)) o
-          → IfNone o (IsAtEnd p w)
-      by None e = e
-      by (Some k) e = tt
 
 -- what a session does next is of the plan's names
 pub next_below : (p : PlanOf) (w : Worker) (n : Numbered ℕ) → Works p w → next_by p w ≡ Some n

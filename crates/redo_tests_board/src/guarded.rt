@@ -7,7 +7,7 @@ use redo_journal::{Journal, Place};
 use std::sync::atomic::{AtomicU64, Ordering};
 use std::test::Fail;
 
-/// A gate that keeps which lines of the first sessions it was told of: a bit for each line.
+/// A gate that keeps which lines it was told of: a bit for each.
 #[derive(Drop)]
 struct Told {
     before: AtomicU64,
@@ -56,7 +56,8 @@ fn entries_of(journals: &[Journal]) -> impl Iterator<Item = (u32, Place)> {
 }
 
 /// Each guarded line that is skipped follows a busy or a refused reply.
-const SKIPS: &str = "? lock T\nlock T\n? start T\n? unlock T\nunlock T\n? start T\n? ood\ntargets\n";
+const SKIPS: &str = "? lock T\nlock T\n? start T\n? unlock T\n\
+    unlock T\n? start T\n? ood\ntargets\n";
 
 #[test]
 fn skipped_lines_make_no_step(rt: HostRuntime) -> Result<(), Fail> {

@@ -1,4 +1,4 @@
-use Rattle.redo_board.proofs.Works.{some_next, none_next}
+use Rattle.redo_board.proofs.Found.{some_next, none_next}
 use Rattle.redo_board.proofs.worker.Worker.next.Goals as goal
 
 pub returns-clause-some : goal.returns-clause-some
