@@ -48,13 +48,15 @@ rows-take (x ∷ xs) zero = omega arith
 rows-take (x ∷ xs) (suc n) = let a = rows-take xs n in omega arith
 
 rows_next : (xs : List (Item ℕ)) (n : ℕ) → n < length xs
-    → rows_in (take (suc n) xs) ≡ rows_in (take n xs) + bit (takes_row (get_or (commands_in xs) n Ood))
+    → rows_in (take (suc n) xs)
+    ≡ rows_in (take n xs) + bit (takes_row (get_or (commands_in xs) n Ood))
 rows_next [] n l = absurd (omega arith)
 rows_next (x ∷ xs) zero l = omega arith
 rows_next (x ∷ xs) (suc n) l = let a = rows_next xs n (omega arith) in omega arith
 
 pub rows-more : (xs : List (Item ℕ)) (n : ℕ) → n < length xs
-    → rows_in (take (n + 1) xs) ≡ rows_in (take n xs) + bit (takes_row (get_or (commands_in xs) n Ood))
+    → rows_in (take (n + 1) xs)
+    ≡ rows_in (take n xs) + bit (takes_row (get_or (commands_in xs) n Ood))
 rows-more xs n l =
     ap (λ m. rows_in (take m xs)) (let e : n + 1 ≡ suc n = omega arith in e) ∙ rows_next xs n l
 

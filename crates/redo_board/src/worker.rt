@@ -80,9 +80,9 @@ impl Worker {
         })
     }
 
-    /// Does the next line of the script that is unguarded, or that the latest reply lets through, and
-    /// says whether there was one. Where memory runs out its command isn't done, and the next step
-    /// does it.
+    /// Does the next line of the script that is unguarded, or that the latest reply lets through,
+    /// and says whether there was one. Where memory runs out its command isn't done, and the next
+    /// step does it.
     pub fn step<G: Gate>(
         &mut self,
         alloc: Global,
