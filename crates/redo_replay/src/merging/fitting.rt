@@ -63,7 +63,11 @@ fn journal_fits(items: &[Item], entries: &[Entry]) -> bool
 {
     'fitting: for k in 0..entries.len() {
         let entry = &entries[k];
-        if !fits(&items[entry.line as usize].command, &entry.reply, entry.place) {
+        if !fits(
+            &items[entry.line as usize].command,
+            &entry.reply,
+            entry.place,
+        ) {
             return false;
         }
     }
