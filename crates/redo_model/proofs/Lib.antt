@@ -5,6 +5,7 @@ pub mod Changed
 pub mod CommonPath
 pub mod Cycle
 pub mod Digests
+pub mod FailedMark
 pub mod Held
 pub mod HistoriesByName
 pub mod Lists

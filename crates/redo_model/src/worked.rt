@@ -5,7 +5,7 @@ ghost use Rattle.redo_model.specs.History.{Legal};
 ghost use Rattle.redo_model.specs.Names.{texts};
 ghost use Rattle.redo_model.specs.Reply.{Granted, Okay};
 ghost use Rattle.redo_model.specs.Reply as replies;
-ghost use Rattle.redo_model.specs.Inside.Worked.{appearance, common_path, cycle, order_of_refusals, with_reply};
+ghost use Rattle.redo_model.specs.Inside.Worked.{appearance, common_path, cycle, failed_mark, order_of_refusals, with_reply};
 
 /// One session builds a target from a source, and asks for all lists.
 pub fn common_path_is_legal()
@@ -45,4 +45,14 @@ pub fn cycle_is_legal()
 /// A cycle without a reason isn't out of date.
 pub fn cycle_out_of_date_is_not_legal()
     ensures { Legal texts (with_reply 13 (replies.Ood (codes "a" ∷ codes "b" ∷ [])) cycle) → ⊥ }
+{}
+
+/// What was built from a failed target is out of date once that is built, though its content is the same.
+pub fn failed_mark_is_legal()
+    ensures { Legal texts failed_mark }
+{}
+
+/// A failed target isn't known by its content.
+pub fn failed_mark_by_content_is_not_legal()
+    ensures { Legal texts (with_reply 11 (replies.Ood []) failed_mark) → ⊥ }
 {}

@@ -53,14 +53,6 @@ marked_or_not m t = elim (cases_Bool (get_or m.marks t false)) [
   | inr off ↦ inr (λ on. false≢true (sym off ∙ on))
 ]
 
-pub grows_same : (m : Marked) → Grows m m
-grows_same m = record {
-  sized = refl;
-  keeps = λ t on. on;
-  behind = ([], sym (append-nil m.queue));
-  queued = λ t. (λ q. inl q, λ s. elim s [ inl q ↦ q | inr w ↦ absurd (w.1 w.0) ]);
-}
-
 pub grows_then : {a b c : Marked} → Grows a b → Grows b c → Grows a c
 grows_then {a = a} {b = b} {c = c} f g = record {
   sized = g.sized ∙ f.sized;
@@ -173,16 +165,6 @@ enters_then R both f g = record {
       | inl old ↦ inl ((f.each t).1 (inl old))
       | inr r ↦ elim ((both t).0 r) [ inl p ↦ inl ((f.each t).1 (inr p)) | inr x ↦ inr x ]
     ]),
-  );
-}
-
-pub enters_same : {P : ℕ → Type 0} {a b : Marked} (R : ℕ → Type 0)
-    → ((t : ℕ) → R t ↔ P t) → Enters P a b → Enters R a b
-enters_same R same f = record {
-  grown = f.grown;
-  each = λ t. (
-    λ on. elim ((f.each t).0 on) [ inl old ↦ inl old | inr p ↦ inr ((same t).1 p) ],
-    λ s. (f.each t).1 (elim s [ inl old ↦ inl old | inr r ↦ inr ((same t).0 r) ]),
   );
 }
 

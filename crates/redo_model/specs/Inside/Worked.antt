@@ -109,3 +109,23 @@ cycle =
     ∷ said 0 (Done a (Some (codes "3"))) Okay
     ∷ said 0 Ood (replies.Ood [])
     ∷ []
+
+-- a target fails after its content was told, is what another one is built from, and is then built
+-- with the same content
+abbrev pub failed_mark : List (Line Text)
+failed_mark =
+    let failing = codes "X" in
+    let target = codes "T" in
+    said 0 (Lock failing) (Granted 1)
+    ∷ said 0 (Start failing) Okay
+    ∷ said 0 (Stamp failing (codes "abc")) (Stamped digest_of_abc)
+    ∷ said 0 (Failed failing) Okay
+    ∷ said 0 (Lock target) (Granted 1)
+    ∷ said 0 (Start target) Okay
+    ∷ said 0 (IfChange target (failing ∷ [])) (Stale (failing ∷ []))
+    ∷ said 0 (Done target (Some (codes "1"))) Okay
+    ∷ said 0 (Start failing) Okay
+    ∷ said 0 (Stamp failing (codes "abc")) (Stamped digest_of_abc)
+    ∷ said 0 (Done failing (Some (codes "1"))) Okay
+    ∷ said 0 Ood (replies.Ood (target ∷ []))
+    ∷ []
