@@ -1,6 +1,6 @@
 ghost use Rattle.std.specs.Prelude.{◌≡◌, ◌≢◌, ◌↔◌, ◌⊎◌, [], map, string_bytes, IfOk, IfErr, IfSome, IsSome, OnOk, IsOkAnd};
 ghost use Rattle.clap.specs.Words.{app_of, kind_of, subcommand_rows_of};
-ghost use Rattle.redo_cli.specs.Words.{redodb, Asks, AreFaultless, AskFor};
+ghost use Rattle.redo_job.specs.Words.{redodb, Asks, AreFaultless, AskFor};
 
 use crate::fault::Fault;
 use crate::task::Job;
@@ -98,77 +98,5 @@ pub fn job(alloc: Global, words: &[String]) -> Result<Job, Fault>
         Ok(Some(job)) => Ok(job),
         Ok(None) => Err(Fault::Usage),
         Err(_) => Err(Fault::Memory),
-    }
-}
-
-#[cfg(test)]
-mod tests {
-    use super::job;
-    use crate::fault::Fault;
-    use crate::task::Job;
-    use std::alloc::{AllocError, Global};
-    use std::test::Fail;
-
-    /// The job of the words in a line.
-    fn asked(alloc: Global, line: &str) -> Result<Result<Job, Fault>, AllocError> {
-        let mut words = Vec::new(alloc);
-        for word in line.split_whitespace() {
-            words.push(word.to_string(alloc)?)?;
-        }
-        Ok(job(alloc, &words))
-    }
-
-    #[test]
-    fn words_that_ask(rt: HostRuntime) -> Result<(), Fail> {
-        let alloc = rt.alloc();
-        assert!(rt; matches!(asked(alloc, "")?, Ok(Job::Input)));
-        for (line, want) in [
-            ("run a", "Run([\"a\"])"),
-            ("run a a", "Run([\"a\", \"a\"])"),
-            ("run b a run", "Run([\"b\", \"a\", \"run\"])"),
-            ("run help", "Run([\"help\"])"),
-            ("run -", "Run([\"-\"])"),
-            ("run -- -x", "Run([\"-x\"])"),
-            ("replay a", "Replay(\"a\")"),
-            ("replay -", "Replay(\"-\")"),
-            ("replay -- --help", "Replay(\"--help\")"),
-        ] {
-            let Ok(job) = asked(alloc, line)? else {
-                return Err(Fail::from(AllocError));
-            };
-            assert_eq!(rt; format!(in alloc; "{job:?}")?.as_str(), want, "{line}");
-        }
-        Ok(())
-    }
-
-    #[test]
-    fn words_that_ask_for_nothing(rt: HostRuntime) -> Result<(), Fail> {
-        let alloc = rt.alloc();
-        for line in [
-            "run",
-            "run --",
-            "run -x",
-            "run a --all",
-            "run --help",
-            "run -h a",
-            "replay",
-            "replay a b",
-            "replay --help",
-            "help",
-            "help run",
-            "--help",
-            "-h",
-            "-V",
-            "--version",
-            "-",
-            "--",
-            "a",
-            "Run a",
-            "running a",
-            "ru a",
-        ] {
-            assert!(rt; matches!(asked(alloc, line)?, Err(Fault::Usage)), "{line}");
-        }
-        Ok(())
     }
 }

@@ -1,6 +1,5 @@
-use super::finish;
-use crate::fault::Fault;
 use redo_command::{LineFault, Reply, Watched};
+use redo_job::{Fault, finish};
 use redo_replay::{HistoryFault, ReplayFault, Verdict};
 use redo_session::TextFault;
 use std::alloc::{AllocError, Global};

@@ -11,8 +11,8 @@ use Rattle.redo_replay.specs.declared.fault.ReplayFault.{ReplayFault}
 use Rattle.redo_replay.specs.declared.fault.ReplayFault.TheVariants as replays
 use Rattle.redo_replay.specs.declared.verdict.Verdict.{Verdict}
 use Rattle.redo_replay.specs.declared.verdict.Verdict.TheVariants.{Same, Differs}
-use Rattle.redo_cli.specs.declared.fault.Fault.{Fault}
-use Rattle.redo_cli.specs.declared.fault.Fault.TheVariants.{Memory, Usage, CannotOpen, Text, Replay}
+use Rattle.redo_job.specs.declared.fault.Fault.{Fault}
+use Rattle.redo_job.specs.declared.fault.Fault.TheVariants.{Memory, Usage, CannotOpen, Text, Replay}
 
 -- the word for a line's fault
 abbrev pub word_of : LineFault → List ℕ

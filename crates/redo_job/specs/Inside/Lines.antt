@@ -3,8 +3,8 @@ use Rattle.redo_session.specs.declared.fault.TextFault.{TextFault}
 use Rattle.redo_session.specs.declared.fault.TextFault.TheVariants as texts
 use Rattle.redo_replay.specs.declared.fault.ReplayFault.{ReplayFault}
 use Rattle.redo_replay.specs.declared.fault.ReplayFault.TheVariants as replays
-use Rattle.redo_cli.specs.declared.fault.Fault.{Fault}
-use Rattle.redo_cli.specs.declared.fault.Fault.TheVariants.{Memory, Text, Replay}
+use Rattle.redo_job.specs.declared.fault.Fault.{Fault}
+use Rattle.redo_job.specs.declared.fault.Fault.TheVariants.{Memory, Text, Replay}
 
 -- a run's fault as the program's: want of memory is its own
 abbrev pub run_fault : TextFault → Fault

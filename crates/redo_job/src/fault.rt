@@ -22,7 +22,7 @@ pub enum Fault {
 
 impl From<TextFault> for Fault {
     ghost use Rattle.std.specs.Prelude.{◌≡◌};
-    ghost use Rattle.redo_cli.specs.Inside.Lines.{run_fault};
+    ghost use Rattle.redo_job.specs.Inside.Lines.{run_fault};
 
     ghost from_gives = { λ run fault. fault ≡ run_fault run };
 
@@ -36,7 +36,7 @@ impl From<TextFault> for Fault {
 
 impl From<ReplayFault> for Fault {
     ghost use Rattle.std.specs.Prelude.{◌≡◌};
-    ghost use Rattle.redo_cli.specs.Inside.Lines.{replay_fault};
+    ghost use Rattle.redo_job.specs.Inside.Lines.{replay_fault};
 
     ghost from_gives = { λ replay fault. fault ≡ replay_fault replay };
 

@@ -1,7 +1,7 @@
 ghost use Rattle.std.specs.Prelude.{◌≡◌, IfErr, OnOk, OnErr, false, true};
 ghost use Rattle.redo_whole.specs.Watched.{is_faulted};
 ghost use Rattle.redo_replay.specs.Devices.{Writes, WritesNothing};
-ghost use Rattle.redo_cli.specs.Lines.{word_of, file_name, text_line, history_line, replay_line, fault_line, said, said_of, in_line, status_of};
+ghost use Rattle.redo_job.specs.Lines.{word_of, file_name, text_line, history_line, replay_line, fault_line, said, said_of, in_line, status_of};
 
 use crate::fault::Fault;
 use itoa::Buffer;
@@ -177,6 +177,3 @@ pub fn finish<W: Write>(
         }
     }
 }
-
-#[cfg(test)]
-mod tests;
