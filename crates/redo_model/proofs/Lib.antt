@@ -10,6 +10,8 @@ pub mod Held
 pub mod HistoriesByName
 pub mod Lists
 pub mod Members
+pub mod Nexts
+pub mod Scripts
 pub mod Naming
 pub mod OneMore
 pub mod RecordsByName

@@ -4,6 +4,8 @@
 #[cfg(test)]
 mod gates;
 #[cfg(test)]
+mod guarded;
+#[cfg(test)]
 mod histories;
 #[cfg(test)]
 mod leaving;

@@ -1,14 +1,15 @@
--- The kind of a command, and what a command means under the names of its numbers.
+-- The kind of a command, and what commands and lines of scripts mean under the names of their numbers.
 use Rattle.std.specs.Prelude.{List}
 use Rattle.redo_names.specs.Names.{text_at}
 use Rattle.redo_model.specs.Names.{Text}
 use Rattle.redo_model.specs.Command as commands
-use Rattle.redo_model.specs.Renaming.{named_command}
+use Rattle.redo_model.specs.Renaming.{named_command, named_item}
 use Rattle.redo_terms.specs.declared.command.Command.{Command}
 use Rattle.redo_terms.specs.declared.command.Command.TheVariants.{File, Gone, Lock, Unlock, Start, IfChange, IfCreate, Always, Stamp, Done, Failed, Ood, Targets, Sources}
+use Rattle.redo_terms.specs.declared.script.Item.{Item}
 use Rattle.redo_terms.specs.declared.kind.Kind.{Kind}
 use Rattle.redo_terms.specs.declared.kind.Kind.TheVariants as kinds
-use Rattle.redo_terms.specs.Meaning.{command_of}
+use Rattle.redo_terms.specs.Meaning.{command_of, item_of}
 
 abbrev pub kind_of : Command → Kind
 kind_of (File n stamp) = kinds.File
@@ -29,3 +30,6 @@ kind_of Sources = kinds.Sources
 -- under the names that the numbers stand for
 abbrev pub command_at : List Text → Command → commands.Command Text
 command_at names command = named_command (text_at names) (command_of command)
+
+abbrev pub item_at : List Text → Item → commands.Item Text
+item_at names item = named_item (text_at names) (item_of item)
