@@ -139,7 +139,7 @@ fn scripts(rt: HostRuntime) -> Result<(), Fail> {
         read_script(alloc, text, &mut names),
         are_first(&names, &NAMES)
     );
-    let kinds = script.commands().iter().map(|command| command.kind());
+    let kinds = script.items().iter().map(|item| item.command.kind());
     assert!(&rt; kinds.eq(KINDS));
     assert!(&rt; names.len() == 8 && are_first(&names, &NAMES));
     Ok(())
