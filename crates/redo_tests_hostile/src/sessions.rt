@@ -1,20 +1,24 @@
 //! Damaged session files.
-use crate::damage::{badly_damaged, one_damaged};
+use crate::damage::{badly_damaged, one_damaged, with_guards};
 use crate::judged::judge_file;
 use crate::random::Random;
 use crate::seeds::{files, long_file};
 use crate::tally::Tally;
 use std::test::Fail;
 
-/// Each file runs, and its history replays, or it has the fault that the plain reader names.
+/// Each file runs, and its history replays, or it has the fault that the plain reader names. Every
+/// other file has some guards.
 #[test]
 fn damaged_session_files(rt: HostRuntime) -> Result<(), Fail> {
     let alloc = rt.alloc();
     let mut random = Random::new(1);
     let mut tally = Tally::new(alloc)?;
     let all = files(alloc)?;
-    for _ in 0..30_000 {
-        let damaged = one_damaged(alloc, &mut random, &all)?;
+    for number in 0..30_000 {
+        let mut damaged = one_damaged(alloc, &mut random, &all)?;
+        if number % 2 == 0 {
+            damaged = with_guards(alloc, &mut random, &damaged)?;
+        }
         judge_file(&rt, &damaged, &mut tally)?;
     }
     tally.check(&rt, 30_000, 50, &[0, 2, 3, 4, 5, 6, 7, 8, 10]);
