@@ -1,18 +1,15 @@
 -- A chain through a target without a file is legal.
-use Rattle.std.proofs.Common.{◌≡◌, ◌⊎◌, ℕ, false, List, [], ◌∷◌, Some, None, take, refl, ap, subst, sym, inl, inr}
-use Rattle.std.specs.Prelude.{codes, bytes_eq, IsTrue, IsSome, Contains}
+use Rattle.std.proofs.Common.{◌≡◌, ◌⊎◌, ℕ, false, [], ◌∷◌, take, refl, inl, inr}
+use Rattle.std.specs.Prelude.{codes, bytes_eq}
 use Rattle.redo_model.specs.Names.{Text, texts, IsListed}
-use Rattle.redo_model.specs.State.{Records, Mark, Digest, Builds, File, Absent, Pending, Idle, empty, target_state, mark_of}
-use Rattle.redo_model.specs.OutOfDate.{HasFile, HasReason, HasRow, OutOfDate, IsTarget, IsStale, IsSource}
-use Rattle.redo_model.specs.Reply.{Stamped}
+use Rattle.redo_model.specs.State.{Records, empty}
+use Rattle.redo_model.specs.OutOfDate.{HasFile, OutOfDate, IsTarget, IsStale}
 use Rattle.redo_model.specs.History.{Legal, left_by}
-use Rattle.redo_model.specs.Inside.Worked.{chain_through_a_target_without_a_file}
+use Rattle.redo_model.specs.Inside.Worked.{chain_without_a_file}
 use Rattle.redo_model.proofs.Texts.{texts_are_names}
-use Rattle.redo_model.proofs.Digests.{digest_of_abc}
 use Rattle.redo_model.proofs.Answered.{◌▸◌}
-use Rattle.redo_model.proofs.Members.{contains_first, contains_later, contains_cases, contains_none}
-use Rattle.redo_model.proofs.UpToDate.{idle_up_to_date, idle_without_reason, built_without_reason, built_on_one, nothing_listed, one_listed, two_listed, none_stale, one_stale, up_to_date_without_reasons, at_one, at_two}
-use Rattle.redo_model.proofs.FewTargets.{at_three, rowless_up_to_date, on_one_up_to_date, lone_out, lone_fresh, second_out, neither_out}
+use Rattle.redo_model.proofs.UpToDate.{built_without_reason, built_on_one, two_listed, none_stale}
+use Rattle.redo_model.proofs.FewTargets.{at_three, rowless_up_to_date, on_one_up_to_date}
 
 abbrev library : Text
 library = codes "lib"
@@ -25,7 +22,7 @@ program = codes "top"
 
 -- the records after the first k lines
 abbrev after : ℕ → Records Text
-after k = (left_by texts empty (take k chain_through_a_target_without_a_file)).records
+after k = (left_by texts empty (take k chain_without_a_file)).records
 
 fresh_at_5 : IsStale (after 5) library → ⊥
 fresh_at_5 (inl out) =
@@ -56,7 +53,7 @@ out_at_12 : IsListed texts (λ t. HasFile (after 12) t × OutOfDate (after 12) t
     (library ∷ program ∷ [])
 out_at_12 =
     two_listed texts_are_names library program refl (refl, ([], inl (λ e. cc)))
-    (refl, (group ∷ library ∷ [], ((λ e. cc), refl), ((λ e. cc), refl), inl (λ e. cc)))
+    (refl, (group ∷ library ∷ [], (((λ e. cc), refl), (((λ e. cc), refl), inl (λ e. cc)))))
     (at_three texts_are_names library group program
     (λ t. HasFile (after 12) t × OutOfDate (after 12) t → (library ≡ t) ⊎ (program ≡ t))
     (λ h. inl refl)
@@ -75,7 +72,7 @@ targets_at_12 =
     (λ h. inr refl)
     (λ n e f g h. absurd (no_file_at_12 n e f g h.0)))
 
-pub chain_legal : Legal texts chain_through_a_target_without_a_file
+pub chain_legal : Legal texts chain_without_a_file
 chain_legal =
     refl ▸ refl ▸ refl ▸ refl ▸ refl
     ▸ ([], none_stale texts_are_names (after 5) library fresh_at_5, refl)

@@ -1,18 +1,15 @@
 -- The history of change rows is legal.
-use Rattle.std.proofs.Common.{◌≡◌, ◌⊎◌, ℕ, false, List, [], ◌∷◌, Some, None, take, refl, ap, subst, sym, inl, inr}
-use Rattle.std.specs.Prelude.{codes, bytes_eq, IsTrue, IsSome, Contains}
+use Rattle.std.proofs.Common.{◌≡◌, ℕ, false, [], ◌∷◌, Some, None, take, refl, inl, inr}
+use Rattle.std.specs.Prelude.{codes, bytes_eq}
 use Rattle.redo_model.specs.Names.{Text, texts, IsListed}
-use Rattle.redo_model.specs.State.{Records, Mark, Digest, Builds, File, Absent, Pending, Idle, empty, target_state, mark_of}
-use Rattle.redo_model.specs.OutOfDate.{HasFile, HasReason, HasRow, OutOfDate, IsTarget, IsStale, IsSource}
-use Rattle.redo_model.specs.Reply.{Stamped}
+use Rattle.redo_model.specs.State.{Records, Mark, File, Idle, empty, target_state, mark_of}
+use Rattle.redo_model.specs.OutOfDate.{HasFile, HasReason, HasRow, IsStale, IsSource}
 use Rattle.redo_model.specs.History.{Legal, left_by}
 use Rattle.redo_model.specs.Inside.Worked.{change_rows}
 use Rattle.redo_model.proofs.Texts.{texts_are_names}
-use Rattle.redo_model.proofs.Digests.{digest_of_abc}
 use Rattle.redo_model.proofs.Answered.{◌▸◌}
-use Rattle.redo_model.proofs.Members.{contains_first, contains_later, contains_cases, contains_none}
-use Rattle.redo_model.proofs.UpToDate.{idle_up_to_date, idle_without_reason, built_without_reason, built_on_one, nothing_listed, one_listed, two_listed, none_stale, one_stale, up_to_date_without_reasons, at_one, at_two}
-use Rattle.redo_model.proofs.FewTargets.{at_three, rowless_up_to_date, on_one_up_to_date, lone_out, lone_fresh, second_out, neither_out}
+use Rattle.redo_model.proofs.UpToDate.{idle_up_to_date, built_without_reason, nothing_listed, one_listed, none_stale, at_one, at_two}
+use Rattle.redo_model.proofs.FewTargets.{at_three, lone_out, lone_fresh}
 
 abbrev target : Text
 target = codes "T"

@@ -1,18 +1,15 @@
 -- The history of created rows is legal.
-use Rattle.std.proofs.Common.{◌≡◌, ◌⊎◌, ℕ, false, List, [], ◌∷◌, Some, None, take, refl, ap, subst, sym, inl, inr}
-use Rattle.std.specs.Prelude.{codes, bytes_eq, IsTrue, IsSome, Contains}
+use Rattle.std.proofs.Common.{◌≡◌, ℕ, false, [], ◌∷◌, take, refl, inl, inr}
+use Rattle.std.specs.Prelude.{codes, bytes_eq, IsTrue}
 use Rattle.redo_model.specs.Names.{Text, texts, IsListed}
-use Rattle.redo_model.specs.State.{Records, Mark, Digest, Builds, File, Absent, Pending, Idle, empty, target_state, mark_of}
-use Rattle.redo_model.specs.OutOfDate.{HasFile, HasReason, HasRow, OutOfDate, IsTarget, IsStale, IsSource}
-use Rattle.redo_model.specs.Reply.{Stamped}
+use Rattle.redo_model.specs.State.{Records, Idle, empty, target_state}
+use Rattle.redo_model.specs.OutOfDate.{HasFile, HasReason, IsSource}
 use Rattle.redo_model.specs.History.{Legal, left_by}
 use Rattle.redo_model.specs.Inside.Worked.{created_rows}
 use Rattle.redo_model.proofs.Texts.{texts_are_names}
-use Rattle.redo_model.proofs.Digests.{digest_of_abc}
 use Rattle.redo_model.proofs.Answered.{◌▸◌}
-use Rattle.redo_model.proofs.Members.{contains_first, contains_later, contains_cases, contains_none}
-use Rattle.redo_model.proofs.UpToDate.{idle_up_to_date, idle_without_reason, built_without_reason, built_on_one, nothing_listed, one_listed, two_listed, none_stale, one_stale, up_to_date_without_reasons, at_one, at_two}
-use Rattle.redo_model.proofs.FewTargets.{at_three, rowless_up_to_date, on_one_up_to_date, lone_out, lone_fresh, second_out, neither_out}
+use Rattle.redo_model.proofs.UpToDate.{built_without_reason, one_listed, at_one, at_two}
+use Rattle.redo_model.proofs.FewTargets.{lone_out, lone_fresh}
 
 abbrev target : Text
 target = codes "T"
@@ -29,12 +26,11 @@ after k = (left_by texts empty (take k created_rows)).records
 
 none_appeared : (n : Text) → IsTrue ((after 5).rows.created target n) → HasFile (after 5) n → ⊥
 none_appeared =
-    at_three texts_are_names first second target
+    at_two texts_are_names first second
     (λ n. IsTrue ((after 5).rows.created target n) → HasFile (after 5) n → ⊥)
     (λ row file. cc)
     (λ row file. cc)
-    (λ row file. cc)
-    (λ n e f g row file. let none = rw (e, f, g) at row in cc)
+    (λ n e f row file. let none = rw (e, f) at row in cc)
 
 no_reason : HasReason (after 5) target → ⊥
 no_reason =
@@ -62,7 +58,8 @@ created_rows_legal =
     ▸ refl
     ▸ (
       target ∷ [],
-      lone_out texts_are_names (after 7) target idle_at_7 refl (inr (inr (inl (first, refl, refl)))),
+      lone_out texts_are_names (after 7) target idle_at_7 refl
+          (inr (inr (inl (first, refl, refl)))),
       refl,
     )
     ▸ (first ∷ [], sources, refl)

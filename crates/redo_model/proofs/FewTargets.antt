@@ -1,15 +1,15 @@
 -- How lists are shown to be right where few names are targets.
-use Rattle.std.proofs.Common.{◌≡◌, ◌⊎◌, false, List, [], ◌∷◌, Some, None, sym, subst, refl, inl, inr}
-use Rattle.std.specs.Prelude.{IsTrue, IsSome}
+use Rattle.std.proofs.Common.{◌≡◌, ◌⊎◌, false, [], ◌∷◌, None, refl, inl, inr}
 use Rattle.redo_model.specs.Names.{Naming, IsListed}
 use Rattle.redo_model.specs.Inside.Names.{IsNaming}
 use Rattle.redo_model.specs.State.{Records, Idle, target_state}
-use Rattle.redo_model.specs.OutOfDate.{HasFile, HasReason, HasRow, Depends, Chain, OutOfDate, IsTarget}
+use Rattle.redo_model.specs.OutOfDate.{HasFile, HasReason, Depends, OutOfDate, IsTarget}
 use Rattle.redo_model.proofs.UpToDate.{up_to_date_without_reasons, idle_up_to_date, idle_without_reason, nothing_listed, one_listed, at_one, at_two}
 
 module _ {N : Type 0} {naming : Naming N} (law : IsNaming naming) where
   pub at_three : (x y z : N) (Q : N → Type 0) → Q x → Q y → Q z
-      → ((n : N) → naming.same x n ≡ false → naming.same y n ≡ false → naming.same z n ≡ false → Q n)
+      → ((n : N) → naming.same x n ≡ false → naming.same y n ≡ false
+      → naming.same z n ≡ false → Q n)
       → (n : N) → Q n
   at_three x y z Q here there yonder other =
       at_one law x Q here

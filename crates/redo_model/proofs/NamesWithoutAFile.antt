@@ -1,18 +1,16 @@
 -- The history of names without a file is legal.
-use Rattle.std.proofs.Common.{◌≡◌, ◌⊎◌, ℕ, false, List, [], ◌∷◌, Some, None, take, refl, ap, subst, sym, inl, inr}
-use Rattle.std.specs.Prelude.{codes, bytes_eq, IsTrue, IsSome, Contains}
+use Rattle.std.proofs.Common.{◌≡◌, ℕ, false, [], ◌∷◌, Some, None, take, refl, inl, inr}
+use Rattle.std.specs.Prelude.{codes, bytes_eq, Contains}
 use Rattle.redo_model.specs.Names.{Text, texts, IsListed}
-use Rattle.redo_model.specs.State.{Records, Mark, Digest, Builds, File, Absent, Pending, Idle, empty, target_state, mark_of}
-use Rattle.redo_model.specs.OutOfDate.{HasFile, HasReason, HasRow, OutOfDate, IsTarget, IsStale, IsSource}
-use Rattle.redo_model.specs.Reply.{Stamped}
+use Rattle.redo_model.specs.State.{Records, Mark, Absent, Idle, empty, target_state, mark_of}
+use Rattle.redo_model.specs.OutOfDate.{HasReason, IsStale, IsSource}
 use Rattle.redo_model.specs.History.{Legal, left_by}
 use Rattle.redo_model.specs.Inside.Worked.{names_without_a_file}
 use Rattle.redo_model.proofs.Texts.{texts_are_names}
-use Rattle.redo_model.proofs.Digests.{digest_of_abc}
 use Rattle.redo_model.proofs.Answered.{◌▸◌}
 use Rattle.redo_model.proofs.Members.{contains_first, contains_later, contains_cases, contains_none}
-use Rattle.redo_model.proofs.UpToDate.{idle_up_to_date, idle_without_reason, built_without_reason, built_on_one, nothing_listed, one_listed, two_listed, none_stale, one_stale, up_to_date_without_reasons, at_one, at_two}
-use Rattle.redo_model.proofs.FewTargets.{at_three, rowless_up_to_date, on_one_up_to_date, lone_out, lone_fresh, second_out, neither_out}
+use Rattle.redo_model.proofs.UpToDate.{built_without_reason, one_listed, two_listed, at_one, at_two}
+use Rattle.redo_model.proofs.FewTargets.{lone_out, lone_fresh}
 
 abbrev target : Text
 target = codes "T"
@@ -30,9 +28,10 @@ after k = (left_by texts empty (take k names_without_a_file)).records
 stale : IsListed texts (λ n. Contains (second ∷ first ∷ second ∷ []) n × IsStale (after 2) n)
     (first ∷ second ∷ [])
 stale =
-    two_listed texts_are_names first second refl
-    (contains_later second (first ∷ second ∷ []) first (contains_first first (second ∷ [])),
-      inr (refl, refl))
+    two_listed texts_are_names first second refl (
+      contains_later second (first ∷ second ∷ []) first (contains_first first (second ∷ [])),
+      inr (refl, refl),
+    )
     (contains_first second (first ∷ second ∷ []), inr (refl, refl))
     (λ n h. elim (contains_cases second (first ∷ second ∷ []) n h.0) [
       | inl e ↦ inr e

@@ -1,8 +1,8 @@
 -- The history of a target's own reasons is legal.
-use Rattle.std.proofs.Common.{◌≡◌, ℕ, false, [], ◌∷◌, take, refl, inl, inr}
-use Rattle.std.specs.Prelude.{codes, bytes_eq, length}
+use Rattle.std.proofs.Common.{ℕ, [], ◌∷◌, take, refl, inl, inr}
+use Rattle.std.specs.Prelude.{codes}
 use Rattle.redo_model.specs.Names.{Text, texts}
-use Rattle.redo_model.specs.State.{Records, Idle, empty, target_state}
+use Rattle.redo_model.specs.State.{Records, empty}
 use Rattle.redo_model.specs.OutOfDate.{HasReason}
 use Rattle.redo_model.specs.History.{Legal, left_by}
 use Rattle.redo_model.specs.Inside.Worked.{own_reasons}

@@ -1,18 +1,15 @@
 -- The history of rows of both kinds is legal.
-use Rattle.std.proofs.Common.{◌≡◌, ◌⊎◌, ℕ, false, List, [], ◌∷◌, Some, None, take, refl, ap, subst, sym, inl, inr}
-use Rattle.std.specs.Prelude.{codes, bytes_eq, IsTrue, IsSome, Contains}
-use Rattle.redo_model.specs.Names.{Text, texts, IsListed}
-use Rattle.redo_model.specs.State.{Records, Mark, Digest, Builds, File, Absent, Pending, Idle, empty, target_state, mark_of}
-use Rattle.redo_model.specs.OutOfDate.{HasFile, HasReason, HasRow, OutOfDate, IsTarget, IsStale, IsSource}
-use Rattle.redo_model.specs.Reply.{Stamped}
+use Rattle.std.proofs.Common.{◌≡◌, ℕ, [], ◌∷◌, Some, None, take, refl, inl, inr}
+use Rattle.std.specs.Prelude.{codes, IsTrue}
+use Rattle.redo_model.specs.Names.{Text, texts}
+use Rattle.redo_model.specs.State.{Records, Mark, Builds, empty, mark_of}
+use Rattle.redo_model.specs.OutOfDate.{HasFile, HasReason, OutOfDate, IsStale}
 use Rattle.redo_model.specs.History.{Legal, left_by}
 use Rattle.redo_model.specs.Inside.Worked.{rows_of_both_kinds}
 use Rattle.redo_model.proofs.Texts.{texts_are_names}
-use Rattle.redo_model.proofs.Digests.{digest_of_abc}
 use Rattle.redo_model.proofs.Answered.{◌▸◌}
-use Rattle.redo_model.proofs.Members.{contains_first, contains_later, contains_cases, contains_none}
-use Rattle.redo_model.proofs.UpToDate.{idle_up_to_date, idle_without_reason, built_without_reason, built_on_one, nothing_listed, one_listed, two_listed, none_stale, one_stale, up_to_date_without_reasons, at_one, at_two}
-use Rattle.redo_model.proofs.FewTargets.{at_three, rowless_up_to_date, on_one_up_to_date, lone_out, lone_fresh, second_out, neither_out}
+use Rattle.redo_model.proofs.UpToDate.{idle_without_reason, built_without_reason, nothing_listed, none_stale, up_to_date_without_reasons, at_one, at_two}
+use Rattle.redo_model.proofs.FewTargets.{rowless_up_to_date, second_out, neither_out}
 
 abbrev target : Text
 target = codes "T"
@@ -26,11 +23,10 @@ after k = (left_by texts empty (take k rows_of_both_kinds)).records
 
 created_at_7 : (n : Text) → IsTrue ((after 7).rows.created target n) → HasFile (after 7) n → ⊥
 created_at_7 =
-    at_two texts_are_names target other
+    at_one texts_are_names other
     (λ n. IsTrue ((after 7).rows.created target n) → HasFile (after 7) n → ⊥)
     (λ row file. cc)
-    (λ row file. cc)
-    (λ n e f row file. let none = rw (e, f) at row in cc)
+    (λ n e row file. let none = rw e at row in cc)
 
 target_at_7 : OutOfDate (after 7) target → ⊥
 target_at_7 =
@@ -47,11 +43,10 @@ fresh_at_11 (inr lost) = let idle = lost.0 in cc
 
 created_at_14 : (n : Text) → IsTrue ((after 14).rows.created target n) → HasFile (after 14) n → ⊥
 created_at_14 =
-    at_two texts_are_names target other
+    at_one texts_are_names other
     (λ n. IsTrue ((after 14).rows.created target n) → HasFile (after 14) n → ⊥)
     (λ row file. cc)
-    (λ row file. cc)
-    (λ n e f row file. let none = rw (e, f) at row in cc)
+    (λ n e row file. let none = rw e at row in cc)
 
 rows_at_14 : (n : Text) (mark : Mark) → (after 14).rows.change target n ≡ Some mark
     → mark ≡ mark_of (after 14) n

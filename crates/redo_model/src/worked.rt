@@ -5,7 +5,7 @@ ghost use Rattle.redo_model.specs.History.{Legal};
 ghost use Rattle.redo_model.specs.Names.{texts};
 ghost use Rattle.redo_model.specs.Reply.{Granted, Okay};
 ghost use Rattle.redo_model.specs.Reply as replies;
-ghost use Rattle.redo_model.specs.Inside.Worked.{appearance, chain_through_a_target_without_a_file, change_rows, common_path, contents_and_builds, created_rows, cycle, failed_mark, names_without_a_file, order_of_refusals, own_reasons, refusals_and_locks, rows_of_both_kinds, with_reply};
+ghost use Rattle.redo_model.specs.Inside.Worked.{appearance, chain_without_a_file, change_rows, common_path, contents_and_builds, created_rows, cycle, failed_mark, names_without_a_file, order_of_refusals, own_reasons, refusals_and_locks, rows_of_both_kinds, with_reply};
 
 /// One session builds a target from a source, and asks for all lists.
 pub fn common_path_is_legal()
@@ -47,7 +47,7 @@ pub fn cycle_out_of_date_is_not_legal()
     ensures { Legal texts (with_reply 13 (replies.Ood (codes "a" ∷ codes "b" ∷ [])) cycle) → ⊥ }
 {}
 
-/// What was built from a failed target is out of date once that is built, though its content is the same.
+/// What was built from a failed target is out of date once that is built, with the same content.
 pub fn failed_mark_is_legal()
     ensures { Legal texts failed_mark }
 {}
@@ -57,7 +57,7 @@ pub fn failed_mark_by_content_is_not_legal()
     ensures { Legal texts (with_reply 11 (replies.Ood []) failed_mark) → ⊥ }
 {}
 
-/// A target is out of date for its always row, while it is built, and while its file isn't the one of its build.
+/// A target is out of date for its always row, while it is built, and while its file is another one.
 pub fn own_reasons_are_legal()
     ensures { Legal texts own_reasons }
 {}
@@ -119,12 +119,12 @@ pub fn dependence_by_a_created_row_is_not_legal()
 
 /// What is out of date is so through a target without a file.
 pub fn chain_is_legal()
-    ensures { Legal texts chain_through_a_target_without_a_file }
+    ensures { Legal texts chain_without_a_file }
 {}
 
 /// A chain isn't cut at a target without a file.
 pub fn cut_chain_is_not_legal()
-    ensures { Legal texts (with_reply 12 (replies.Ood (codes "lib" ∷ [])) chain_through_a_target_without_a_file) → ⊥ }
+    ensures { Legal texts (with_reply 12 (replies.Ood (codes "lib" ∷ [])) chain_without_a_file) → ⊥ }
 {}
 
 /// Each refusal to a session that doesn't build, and locks of two names.

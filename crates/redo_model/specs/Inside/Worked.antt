@@ -154,7 +154,7 @@ own_reasons =
     ∷ said 0 Targets (replies.Targets (target ∷ []))
     ∷ []
 
--- a change row takes the place of an older one on its name alone, and goes when the next build starts
+-- a change row takes the place of an older one on its name, and goes when the next build starts
 abbrev pub change_rows : List (Line Text)
 change_rows =
     let target = codes "T" in
@@ -265,8 +265,8 @@ rows_of_both_kinds =
     ∷ []
 
 -- a chain of change rows that leads through a target without a file
-abbrev pub chain_through_a_target_without_a_file : List (Line Text)
-chain_through_a_target_without_a_file =
+abbrev pub chain_without_a_file : List (Line Text)
+chain_without_a_file =
     let library = codes "lib" in
     let group = codes "all" in
     let program = codes "top" in
@@ -307,7 +307,8 @@ refusals_and_locks =
     ∷ said 1 (IfCreate target (target ∷ [])) (Refused NotBuilding)
     ∷ said 0 (File (codes "z") (codes "1")) Okay
     ∷ said 0 (File (codes "x") (codes "1")) Okay
-    ∷ said 0 (IfCreate target (codes "y" ∷ codes "z" ∷ codes "x" ∷ [])) (Refused (Exists (codes "z")))
+    ∷ said 0 (IfCreate target (codes "y" ∷ codes "z" ∷ codes "x" ∷ []))
+    (Refused (Exists (codes "z")))
     ∷ said 1 (Lock other) (Granted 1)
     ∷ said 0 (Failed target) Okay
     ∷ said 0 (Always target) (Refused NotBuilding)

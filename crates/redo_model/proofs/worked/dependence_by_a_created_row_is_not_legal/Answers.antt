@@ -8,5 +8,7 @@ use Rattle.redo_model.proofs.worked.dependence_by_a_created_row_is_not_legal.Goa
 
 pub returns : goal.returns
 returns c wrong =
-    let e = same_reply 7 (Ood []) (Ood (codes "T" ∷ [])) rows_of_both_kinds refl rows_of_both_kinds_legal wrong in
+    let e =
+    same_reply 7 (Ood []) (Ood (codes "T" ∷ [])) rows_of_both_kinds
+    refl rows_of_both_kinds_legal wrong in
     cc

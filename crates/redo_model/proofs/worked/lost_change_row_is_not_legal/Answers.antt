@@ -8,5 +8,6 @@ use Rattle.redo_model.proofs.worked.lost_change_row_is_not_legal.Goals as goal
 
 pub returns : goal.returns
 returns c wrong =
-    let e = same_reply 11 (Ood (codes "T" ∷ [])) (Ood []) change_rows refl change_rows_legal wrong in
+    let e =
+    same_reply 11 (Ood (codes "T" ∷ [])) (Ood []) change_rows refl change_rows_legal wrong in
     cc

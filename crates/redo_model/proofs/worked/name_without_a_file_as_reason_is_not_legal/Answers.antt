@@ -8,5 +8,7 @@ use Rattle.redo_model.proofs.worked.name_without_a_file_as_reason_is_not_legal.G
 
 pub returns : goal.returns
 returns c wrong =
-    let e = same_reply 4 (Ood []) (Ood (codes "T" ∷ [])) names_without_a_file refl names_without_a_file_legal wrong in
+    let e =
+    same_reply 4 (Ood []) (Ood (codes "T" ∷ [])) names_without_a_file
+    refl names_without_a_file_legal wrong in
     cc

@@ -8,5 +8,7 @@ use Rattle.redo_model.proofs.worked.source_of_a_created_row_is_not_left_out.Goal
 
 pub returns : goal.returns
 returns c wrong =
-    let e = same_reply 8 (Sources (codes "y" ∷ [])) (Sources []) created_rows refl created_rows_legal wrong in
+    let e =
+    same_reply 8 (Sources (codes "y" ∷ [])) (Sources []) created_rows
+    refl created_rows_legal wrong in
     cc

@@ -8,5 +8,7 @@ use Rattle.redo_model.proofs.worked.unseen_build_is_not_legal.Goals as goal
 
 pub returns : goal.returns
 returns c wrong =
-    let e = same_reply 17 (Ood (codes "app" ∷ [])) (Ood []) contents_and_builds refl contents_and_builds_legal wrong in
+    let e =
+    same_reply 17 (Ood (codes "app" ∷ [])) (Ood []) contents_and_builds
+    refl contents_and_builds_legal wrong in
     cc
