@@ -1,5 +1,5 @@
-use Rattle.std.proofs.Common.{◌≡◌, ℕ, ◌+◌, ◌-◌, ◌≤◌, ◌++◌, [], ap, subst, sym, ◌∙◌, arith, List}
-use Rattle.redo_board.specs.Views.{Part, ViewOf, view}
+use Rattle.std.proofs.Common.{◌≡◌, ℕ, ◌+◌, ◌-◌, ◌++◌, [], ap, subst, sym, ◌∙◌, arith, List}
+use Rattle.redo_board.specs.Views.{ViewOf, view}
 use Rattle.redo_board.specs.Rule.{range, met, longer}
 use Rattle.redo_board.specs.Core.{Begins, row_words}
 use Rattle.redo_board.specs.Histories.{IsHistoryOf, words_of}
