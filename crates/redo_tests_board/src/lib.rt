@@ -2,6 +2,10 @@
 #![tactic(auto)]
 
 #[cfg(test)]
+mod counts;
+#[cfg(test)]
+mod drawn;
+#[cfg(test)]
 mod gates;
 #[cfg(test)]
 mod histories;
@@ -13,6 +17,8 @@ mod order;
 mod outcomes;
 #[cfg(test)]
 mod plans;
+#[cfg(test)]
+mod random;
 #[cfg(test)]
 mod refusals;
 #[cfg(test)]
