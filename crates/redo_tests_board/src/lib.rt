@@ -28,6 +28,8 @@ mod seats;
 #[cfg(test)]
 mod threads;
 #[cfg(test)]
+mod told;
+#[cfg(test)]
 mod whole_runs;
 #[cfg(test)]
 mod worked;
