@@ -15,6 +15,7 @@ pub mod NoFault
 pub mod OneRun
 pub mod Outcomes
 pub mod Parts
+pub mod Printed
 pub mod RepliesFit
 pub mod RunReplays
 pub mod RunTexts

@@ -1,7 +1,7 @@
 -- The lines of one session, as they are printed.
-use Rattle.std.proofs.Common.{◌≡◌, ℕ, ◌+◌, ◌<◌, Bool, true, false, cond, eqb, List, [], ◌∷◌, refl, ap, ◌∙◌, map, drop, get_or, length}
+use Rattle.std.proofs.Common.{◌≡◌, ◌≢◌, ℕ, ◌+◌, ◌<◌, Bool, true, false, cond, eqb, List, [], ◌∷◌, refl, ap, ◌∙◌, map, drop, get_or, length}
 use Rattle.std.specs.List.{AllByRecursion}
-use Rattle.std.proofs.lemmas.Bool.{eq-eqb}
+use Rattle.std.proofs.lemmas.Bool.{eq-eqb, ne_eqb}
 use Rattle.std.proofs.lemmas.List.{drop_more}
 use Rattle.redo_model.specs.Names.{Text}
 use Rattle.redo_model.specs.Reply as replies
@@ -25,10 +25,12 @@ module _ (names : List Text) (s : ℕ) (lines : List Line) (k : ℕ) (d : Line)
   from_here = ap (replies_in names s) (drop_more lines k d less)
 
   -- a line of another session is passed over
-  pub of_another : eqb (get_or lines k d).session s ≡ false
+  pub of_another : (get_or lines k d).session ≢ s
       → replies_in names s (drop k lines) ≡ replies_in names s (drop (k + 1) lines)
   of_another other =
-      from_here ∙ ap (replies_with names s (get_or lines k d) (drop (k + 1) lines)) other
+      from_here
+      ∙ ap (replies_with names s (get_or lines k d) (drop (k + 1) lines))
+      (ne_eqb (get_or lines k d).session s other)
 
   -- the session's own has the next reply
   pub of_own : (get_or lines k d).session ≡ s

@@ -1,4 +1,4 @@
-ghost use Rattle.std.specs.Prelude.{◌≡◌, ◌≤◌, ◌<◌, ◌+◌, ◌++◌, ℕ, List, drop, length, map, codes, decimal, IfOk, OnOk, slice_index_or};
+ghost use Rattle.std.specs.Prelude.{◌≡◌, ◌≤◌, ◌<◌, ◌+◌, ◌++◌, ◌⊎◌, ◌||◌, ℕ, List, true, false, not, drop, length, map, codes, decimal, IfOk, IsTrue, OnOk, slice_index_or};
 ghost use Rattle.redo_model.specs.Names.{Text};
 ghost use Rattle.redo_model.specs.History.{part_of};
 ghost use Rattle.redo_model.specs.Renaming.{IsBelow, IsReplyBelow};
@@ -27,11 +27,20 @@ fn own_from(session: u8, lines: &[Line], from: usize) -> usize
     ensures same { (names : List Text) → replies_in names session (drop result lines.now)
         ≡ replies_in names session (drop from lines.now) }
 {
-    let mut at = from;
-    while at < lines.len() && lines[at].session != session {
-        at += 1;
+    for at in from..lines.len() {
+        if lines[at].session == session {
+            return at;
+        }
     }
-    at
+    lines.len()
+}
+
+/// Whether the session's next line, if there is one, is of this item.
+fn is_answered(item: &Item, through: bool, at: usize, count: usize) -> bool
+    ensures yes { IsTrue result → (at < count) × ((through || not item.now.guarded) ≡ true) }
+    ensures no { ¬ (IsTrue result) → (count ≤ at) ⊎ ((through || not item.now.guarded) ≡ false) }
+{
+    at < count && (through || !item.guarded)
 }
 
 /// Prints a line of a script with the reply to it.
@@ -106,14 +115,14 @@ fn put_session(
     let mut through = true;
     let mut at = own_from(session, lines, 0);
     for item in items {
-        if at < lines.len() && (through || !item.guarded) {
-            let reply = &lines[at].reply;
-            put_done(alloc, text, item, reply, names)?;
-            through = reply.lets_through();
-            at = own_from(session, lines, at + 1);
-        } else {
+        if !is_answered(item, through, at, lines.len()) {
             put_skipped(alloc, text, item, names)?;
+            continue;
         }
+        let reply = &lines[at].reply;
+        put_done(alloc, text, item, reply, names)?;
+        through = reply.lets_through();
+        at = own_from(session, lines, at + 1);
     }
     Ok(())
 }

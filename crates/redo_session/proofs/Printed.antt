@@ -1,0 +1,102 @@
+-- What is printed of a script, from one of its lines on.
+use Rattle.std.proofs.Common.{◌≡◌, ℕ, ◌+◌, ◌<◌, ◌≤◌, Bool, true, false, not, ◌||◌, cond, List, [], ◌∷◌, ◌++◌, refl, sym, ap, ◌∙◌, map, drop, get_or, length}
+use Rattle.std.proofs.lemmas.List.{at_drop_more, at_drop_all}
+use Rattle.redo_names.specs.Names.{text_at}
+use Rattle.redo_model.specs.Names.{Text}
+use Rattle.redo_model.specs.Command as model
+use Rattle.redo_model.specs.Reply as replies
+use Rattle.redo_model.specs.Reply.{lets_through}
+use Rattle.redo_model.specs.Renaming.{named_reply}
+use Rattle.redo_terms.specs.Meaning.{reply_at, reply_of}
+use Rattle.redo_terms.specs.Inside.Meaning.{item_at}
+use Rattle.redo_terms.specs.declared.script.Item.{Item}
+use Rattle.redo_terms.specs.declared.reply.Line.{Line}
+use Rattle.redo_session.specs.RunTexts.{done_text_of, skipped_text_of, script_text_of}
+use Rattle.redo_session.specs.Inside.Printed.{replies_in}
+use Rattle.redo_session.proofs.Parts.{of_own}
+
+-- names don't change who is let through
+lets_named : {N M : Type 0} (name : N → M) (reply : replies.Reply N)
+    → lets_through (named_reply name reply) ≡ lets_through reply
+lets_named name replies.Okay = refl
+lets_named name (replies.Granted g) = refl
+lets_named name (replies.Busy g) = refl
+lets_named name (replies.Stale ns) = refl
+lets_named name (replies.Stamped digest) = refl
+lets_named name (replies.Ood ns) = refl
+lets_named name (replies.Targets ns) = refl
+lets_named name (replies.Sources ns) = refl
+lets_named name (replies.Refused refusal) = refl
+
+-- the text from item i on, where the session's next line is the one at this place or comes after it
+abbrev pub text_from : List Text → ℕ → List Item → List Line → Bool → ℕ → ℕ → Text
+text_from names s items lines through i at =
+    script_text_of through (map (item_at names) (drop i items))
+    (replies_in names s (drop at lines))
+
+module _ (names : List Text) (s : ℕ) (items : List Item) (lines : List Line) (through : Bool)
+    (i at : ℕ) (d : Item) (less : i < length items) where
+  abbrev here : model.Item Text
+  here = item_at names (get_or items i d)
+
+  abbrev rest : List (model.Item Text)
+  rest = map (item_at names) (drop (i + 1) items)
+
+  one_more : (told : List (replies.Reply Text))
+      → script_text_of through (map (item_at names) (drop i items)) told
+      ≡ script_text_of through (here ∷ rest) told
+  one_more told =
+      at_drop_more (λ (xs : List Item). script_text_of through (map (item_at names) xs) told)
+      items i d less
+
+  -- the line has the reply to it
+  pub done_here : (line : Line) (later : ℕ) → at < length lines
+      → (get_or lines at line).session ≡ s
+      → (through || not (get_or items i d).guarded) ≡ true
+      → replies_in names s (drop later lines) ≡ replies_in names s (drop (at + 1) lines)
+      → text_from names s items lines through i at
+      ≡ done_text_of here (reply_at names (get_or lines at line).reply)
+      ++ text_from names s items lines (lets_through (reply_of (get_or lines at line).reply))
+      (i + 1) later
+  done_here line later there own done same =
+      let reply = (get_or lines at line).reply in
+      let told = replies_in names s (drop (at + 1) lines) in
+      one_more (replies_in names s (drop at lines))
+      ∙ ap (script_text_of through (here ∷ rest)) (of_own names s lines at line there own)
+      ∙ ap (λ (b : Bool). cond b
+      (done_text_of here (reply_at names reply)
+      ++ script_text_of (lets_through (reply_at names reply)) rest told)
+      (skipped_text_of here ++ script_text_of through rest (reply_at names reply ∷ told))) done
+      ∙ ap (λ (b : Bool). done_text_of here (reply_at names reply) ++ script_text_of b rest told)
+      (lets_named (text_at names) (reply_of reply))
+      ∙ ap (λ (rs : List (replies.Reply Text)). done_text_of here (reply_at names reply)
+      ++ script_text_of (lets_through (reply_of reply)) rest rs) (sym same)
+
+  -- no line of the session is left
+  pub skipped_past : length lines ≤ at
+      → text_from names s items lines through i at
+      ≡ skipped_text_of here ++ text_from names s items lines through (i + 1) at
+  skipped_past past =
+      let none = at_drop_all (replies_in names s) lines at past in
+      one_more (replies_in names s (drop at lines))
+      ∙ ap (script_text_of through (here ∷ rest)) none
+      ∙ ap (λ (rs : List (replies.Reply Text)). skipped_text_of here
+      ++ script_text_of through rest rs) (sym none)
+
+  -- it is guarded, and not let through
+  pub skipped_here : (line : Line) → at < length lines → (get_or lines at line).session ≡ s
+      → (through || not (get_or items i d).guarded) ≡ false
+      → text_from names s items lines through i at
+      ≡ skipped_text_of here ++ text_from names s items lines through (i + 1) at
+  skipped_here line there own stopped =
+      let reply = (get_or lines at line).reply in
+      let told = replies_in names s (drop (at + 1) lines) in
+      let next = of_own names s lines at line there own in
+      one_more (replies_in names s (drop at lines))
+      ∙ ap (script_text_of through (here ∷ rest)) next
+      ∙ ap (λ (b : Bool). cond b
+      (done_text_of here (reply_at names reply)
+      ++ script_text_of (lets_through (reply_at names reply)) rest told)
+      (skipped_text_of here ++ script_text_of through rest (reply_at names reply ∷ told))) stopped
+      ∙ ap (λ (rs : List (replies.Reply Text)). skipped_text_of here
+      ++ script_text_of through rest rs) (sym next)
