@@ -1,4 +1,4 @@
-use Rattle.std.proofs.Common.{◌≡◌, ℕ, ◌<◌, ◌≤◌, List, [], ◌∷◌, ◌++◌, map, length, get_or, take, true, refl, sym, subst, ◌∙◌, arith, Vec}
+use Rattle.std.proofs.Common.{◌≡◌, ℕ, ◌+◌, ◌<◌, ◌≤◌, List, [], ◌∷◌, ◌++◌, map, length, get_or, take, true, refl, sym, subst, ◌∙◌, arith, Vec}
 use Rattle.std.specs.Global.{Global}
 use Rattle.std.proofs.lemmas.List.{map_push, take_more}
 use Rattle.std.proofs.lemmas.Result.{err_from_is_err_and}
@@ -38,7 +38,18 @@ returns-in_err-number-clause-left c =
     c.in_err-number.ensures.left c.in_err-number.ensures.reads)
 
 pub returns-in_err-push-clause-left : goal.returns-in_err-push-clause-left
-returns-in_err-push-clause-left c = ?
+returns-in_err-push-clause-left c =
+    let words = c.args.words.now in
+    let i = c.loop-word.word-index in
+    let lt : i < length (texts_of words) = omega (arith, length-texts words) in
+    let so_far = c.loop-word.invariant in
+    let p =
+    err_from_is_err_and c.from_residual-in_err-push.result
+    c.from_residual-in_err-push.ensures.1 in
+    rw (p.1, p.2)
+    (front_kept c.args.names.now c.number_of.new.names (texts_of words) (i + 1)
+    (front_more c.args.names.now c.loop-word.names c.number_of.new.names (texts_of words) i _
+    so_far.few lt (text_of words i _ refl) c.in_ok-number.ensures.reads so_far.front))
 
 pub loop-word-preserved : goal.loop-word-preserved
 loop-word-preserved c =
