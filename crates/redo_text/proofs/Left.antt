@@ -114,8 +114,11 @@ pub words_left : (names : List Text) (text : Text) (kind : Kind) (args after : L
 words_left names text kind args after why words left =
     elim left [
       | inl same ↦ inl same
-      | inr some ↦ inr (good some.0, subst (λ (l : List Text). LeavesFront names l after why)
-          (sym (ap (drop 1) words)) some.1)
+      | inr some ↦ inr (
+        good some.0,
+        subst (λ (l : List Text). LeavesFront names l after why)
+            (sym (ap (drop 1) words)) some.1,
+      )
     ]
   where
     good : list_all is_name args ≡ true → has_bad_byte text ≡ false
