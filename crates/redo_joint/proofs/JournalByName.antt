@@ -1,10 +1,10 @@
 -- Journals under other names.
-use Rattle.std.proofs.Common.{◌≡◌, ℕ, List, [], ◌∷◌, ◌++◌, length, map, option_map, slice_get, Option, Some, None, refl, sym, ap, ◌∙◌, subst}
+use Rattle.std.proofs.Common.{◌≡◌, ℕ, List, [], ◌∷◌, ◌++◌, length, map, option_map, slice_get, Option, Some, None, refl, ap, ◌∙◌, subst}
 use Rattle.std.proofs.lemmas.List.{length-map, map_push}
 use Rattle.std.proofs.lemmas.Option.{slice_get-map}
 use Rattle.redo_model.specs.Command.{Command}
 use Rattle.redo_model.specs.Placed.{PlacedLine}
-use Rattle.redo_model.specs.Journals.{Numbered, next_of, numbered, IsJournalAfter, IsJournal, IsWholeJournal}
+use Rattle.redo_model.specs.Journals.{Numbered, next_of, IsJournalAfter, IsJournal, IsWholeJournal}
 use Rattle.redo_model.specs.Renaming.{named_command}
 use Rattle.redo_joint.specs.Named.{named_placed_line}
 

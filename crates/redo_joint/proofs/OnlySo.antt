@@ -1,11 +1,11 @@
 -- By which lines a legal placed history goes on.
-use Rattle.std.proofs.Common.{◌≡◌, ℕ, ◌+◌, ◌-◌, ◌/◌, ◌%◌, true, false, List, [], ◌∷◌, ◌++◌, Some, map, subst, sym, arith}
+use Rattle.std.proofs.Common.{◌≡◌, ℕ, ◌+◌, ◌-◌, ◌/◌, ◌%◌, List, [], map, subst, arith}
 use Rattle.std.proofs.lemmas.List.{map_push}
 use Rattle.redo_model.specs.Names.{Naming}
 use Rattle.redo_model.specs.Inside.Names.{IsNaming}
 use Rattle.redo_model.specs.State.{empty}
 use Rattle.redo_model.specs.History.{left_by, Legal}
-use Rattle.redo_model.specs.Placed.{Place, Row, Granted, Busy, Released, PlacedLine, line_of, Fits, Follows, part_of, rows_in, grants_in, releases_in, IsPlaced}
+use Rattle.redo_model.specs.Placed.{Granted, Busy, PlacedLine, line_of, Fits, Follows, part_of, grants_in, releases_in, IsPlaced}
 use Rattle.redo_model.specs.Inside.Words.{claim_word_of}
 use Rattle.redo_model.proofs.OneMore.{legal_front}
 use Rattle.redo_joint.specs.ByRows.{Stands, records_left}

@@ -1,10 +1,10 @@
 -- Placed histories that were worked out by hand, to believe the definitions by.
 use Rattle.std.specs.Prelude.{ℕ, List, [], ◌∷◌, codes}
 use Rattle.redo_model.specs.Names.{Text}
-use Rattle.redo_model.specs.Command.{Command, File, Lock, Start}
+use Rattle.redo_model.specs.Command.{File, Lock, Start}
 use Rattle.redo_model.specs.Reply.{Reply, Okay}
 use Rattle.redo_model.specs.Reply as replies
-use Rattle.redo_model.specs.Placed.{Place, Row, Granted, PlacedLine}
+use Rattle.redo_model.specs.Placed.{Row, Granted, PlacedLine}
 use Rattle.redo_model.specs.Inside.Merging.{placed_at, shared}
 
 -- the first session tells of a file, locks the target and starts it; the second tells of a file
@@ -26,3 +26,7 @@ two_locks = one_lock 0 (codes "a") ∷ one_lock 1 (codes "b") ∷ []
 
 abbrev pub two_locks_turned : List (PlacedLine Text)
 two_locks_turned = one_lock 1 (codes "b") ∷ one_lock 0 (codes "a") ∷ []
+
+-- a script that locks and unlocks the target
+abbrev pub one_hold : List (Command Text)
+one_hold = Lock shared ∷ Unlock shared ∷ []

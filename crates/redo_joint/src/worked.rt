@@ -1,8 +1,8 @@
-//! Placed histories that were worked out by hand: their words, what a session had seen, journals, and which order comes
-//! first.
+//! Placed histories that were worked out by hand: their words, what a session had seen, journals, and
+//! which order comes first.
 
-ghost use Rattle.std.specs.Prelude.{◌≡◌, ◌∷◌, [], map};
-ghost use Rattle.redo_joint.specs.Worked.{three_rows, two_locks, two_locks_turned};
+ghost use Rattle.std.specs.Prelude.{◌≡◌, ◌∷◌, ◌++◌, [], map};
+ghost use Rattle.redo_joint.specs.Worked.{one_hold, three_rows, two_locks, two_locks_turned};
 ghost use Rattle.redo_model.specs.Command.{Lock, Unlock};
 ghost use Rattle.redo_model.specs.History.{Legal};
 ghost use Rattle.redo_model.specs.Inside.Merging.{first_journal, merging, second_journal, shared};
@@ -21,8 +21,8 @@ pub fn words_by_hand()
     ensures released { claim_word_of texts merging shared ≡ 3 }
 {}
 
-/// A session had seen all rows up to its latest one, and of a target that it was told of all grants up to that one and
-/// the releases before it; and no more.
+/// A session had seen all rows up to its latest one, and of a target all grants up to the one that it
+/// was told of, and the releases before that one; and no more.
 pub fn seen_by_hand()
     ensures row { HasSeen (part_of 0 three_rows) (Row 1) }
     ensures no_later_row { HasSeen (part_of 1 three_rows) (Row 2) → ⊥ }
@@ -33,13 +33,13 @@ pub fn seen_by_hand()
 
 /// A journal has the commands of its script in their order, and is whole at the script's end.
 pub fn journals_by_hand()
-    ensures whole { IsWholeJournal 0 (Lock shared ∷ Unlock shared ∷ []) first_journal }
-    ensures goes_on { IsWholeJournal 0 (Lock shared ∷ Unlock shared ∷ Lock shared ∷ []) first_journal → ⊥ }
+    ensures whole { IsWholeJournal 0 one_hold first_journal }
+    ensures goes_on { IsWholeJournal 0 (one_hold ++ Lock shared ∷ []) first_journal → ⊥ }
     ensures other_order { IsJournal 0 (Unlock shared ∷ Lock shared ∷ []) first_journal → ⊥ }
-    ensures other_session { IsJournal 1 (Lock shared ∷ Unlock shared ∷ []) first_journal → ⊥ }
+    ensures other_session { IsJournal 1 one_hold first_journal → ⊥ }
 {}
 
-/// Where two orders are placed, that in which the first session goes first is no later, and the other is later.
+/// Of two orders that are placed, the one in which the first session goes first comes first.
 pub fn first_session_goes_first()
     ensures placed { IsPlaced texts two_locks }
     ensures turned { IsPlaced texts two_locks_turned }

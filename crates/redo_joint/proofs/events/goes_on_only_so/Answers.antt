@@ -14,19 +14,22 @@ pub returns-clause-grant : goal.returns-clause-grant
 returns-clause-grant c lines s number g t command reply on =
     let line = line_at s number command reply (Granted t g) in
     let h = only_so texts_are_names lines line on in
-    let w = word_at_grant texts_are_names lines t g (front_placed texts_are_names lines line on) h.1 in
+    let placed = front_placed texts_are_names lines line on in
+    let w = word_at_grant texts_are_names lines t g placed h.1 in
     (h.0.0, h.0.1, w.0, w.1)
 
 pub returns-clause-busy : goal.returns-clause-busy
 returns-clause-busy c lines s number g t command reply on =
     let line = line_at s number command reply (Busy t g) in
     let h = only_so texts_are_names lines line on in
-    let w = word_at_busy texts_are_names lines t g (front_placed texts_are_names lines line on) h.1 in
+    let placed = front_placed texts_are_names lines line on in
+    let w = word_at_busy texts_are_names lines t g placed h.1 in
     (h.0.0, h.0.1, w.0, w.1)
 
 pub returns-clause-release : goal.returns-clause-release
 returns-clause-release c lines s number g t command reply on =
     let line = line_at s number command reply (Released t g) in
     let h = only_so texts_are_names lines line on in
-    let w = word_at_busy texts_are_names lines t g (front_placed texts_are_names lines line on) h.1 in
+    let placed = front_placed texts_are_names lines line on in
+    let w = word_at_busy texts_are_names lines t g placed h.1 in
     (h.0.0, h.0.1, w.1, h.2.0, h.2.1)
