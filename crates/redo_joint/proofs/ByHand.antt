@@ -13,15 +13,21 @@ number_in (Granted t g) = g
 number_in (Busy t g) = g
 number_in (Released t g) = g
 
-pub row_seen : HasSeen (part_of 0 three_rows) (Row 1)
+pub row_seen : HasSeen (part_of 0 three_rows) (Row 2)
 row_seen = (2, omega arith, inr (inr (inl refl)))
+
+pub earlier_row_seen : HasSeen (part_of 0 three_rows) (Row 1)
+earlier_row_seen = (2, omega arith, inr (inr (inl refl)))
 
 pub later_row_unseen : HasSeen (part_of 1 three_rows) (Row 2) → ⊥
 later_row_unseen (r, below, inl e) = let k : 1 ≡ r = ap number_in e in absurd (omega arith)
 later_row_unseen (r, below, inr none) = none
 
-pub grant_seen : HasSeen (second_journal 1) (Granted shared 1)
+pub grant_seen : HasSeen (second_journal 1) (Granted shared 2)
 grant_seen = (2, omega arith, omega arith, inl (inr (inl refl)))
+
+pub earlier_grant_seen : HasSeen (second_journal 1) (Granted shared 1)
+earlier_grant_seen = (2, omega arith, omega arith, inl (inr (inl refl)))
 
 pub release_seen : HasSeen (second_journal 1) (Released shared 1)
 release_seen = (2, omega arith, omega arith, inl (inr (inl refl)))

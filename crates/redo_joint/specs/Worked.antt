@@ -1,7 +1,7 @@
 -- Placed histories that were worked out by hand, to believe the definitions by.
 use Rattle.std.specs.Prelude.{ℕ, List, [], ◌∷◌, codes}
 use Rattle.redo_model.specs.Names.{Text}
-use Rattle.redo_model.specs.Command.{File, Lock, Start}
+use Rattle.redo_model.specs.Command.{Command, File, Lock, Unlock, Start}
 use Rattle.redo_model.specs.Reply.{Reply, Okay}
 use Rattle.redo_model.specs.Reply as replies
 use Rattle.redo_model.specs.Placed.{Row, Granted, PlacedLine}

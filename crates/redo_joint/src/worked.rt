@@ -24,9 +24,11 @@ pub fn words_by_hand()
 /// A session had seen all rows up to its latest one, and of a target all grants up to the one that it
 /// was told of, and the releases before that one; and no more.
 pub fn seen_by_hand()
-    ensures row { HasSeen (part_of 0 three_rows) (Row 1) }
+    ensures row { HasSeen (part_of 0 three_rows) (Row 2) }
+    ensures earlier_row { HasSeen (part_of 0 three_rows) (Row 1) }
     ensures no_later_row { HasSeen (part_of 1 three_rows) (Row 2) → ⊥ }
-    ensures grant { HasSeen (second_journal 1) (Granted shared 1) }
+    ensures grant { HasSeen (second_journal 1) (Granted shared 2) }
+    ensures earlier_grant { HasSeen (second_journal 1) (Granted shared 1) }
     ensures release { HasSeen (second_journal 1) (Released shared 1) }
     ensures no_later_release { HasSeen (second_journal 1) (Released shared 2) → ⊥ }
 {}
