@@ -8,6 +8,7 @@ use crate::outcomes::{ran, tries_of};
 use crate::plans::plan_of;
 use crate::seats::close;
 use crate::threads::journals_of;
+use crate::told::tell;
 use crate::worked::{COMMON_PATH, COMMON_PATH_HISTORY, LOST_TRY, LOST_TRY_HISTORY, lost_try};
 use crate::workers::work;
 use redo_board::{Board, Open, Seat};
@@ -21,7 +22,10 @@ use std::thread::Threads;
 fn planned(rt: &impl Abort, alloc: Global, files: &[&str]) -> Result<Plan, AllocError> {
     match plan_of(rt, alloc, files) {
         Ok(plan) => Ok(plan),
-        Err(_) => plan_of(rt, alloc, files),
+        Err(_) => {
+            tell(alloc);
+            plan_of(rt, alloc, files)
+        }
     }
 }
 
@@ -33,7 +37,10 @@ fn opened(alloc: Global, plan: &Plan) -> Result<(Board, Seat), AllocError>
 {
     match Board::open(alloc, plan) {
         Ok(opened) => Ok(opened),
-        Err(_) => Board::open(alloc, plan),
+        Err(_) => {
+            tell(alloc);
+            Board::open(alloc, plan)
+        }
     }
 }
 
@@ -41,7 +48,10 @@ fn opened(alloc: Global, plan: &Plan) -> Result<(Board, Seat), AllocError>
 fn gated(alloc: Global) -> Result<Holds, AllocError> {
     match lost_try(alloc) {
         Ok(gate) => Ok(gate),
-        Err(_) => lost_try(alloc),
+        Err(_) => {
+            tell(alloc);
+            lost_try(alloc)
+        }
     }
 }
 
@@ -54,7 +64,10 @@ fn merged(
 ) -> Result<Vec<u8>, AllocError> {
     match history_of(rt, alloc, plan, journals) {
         Ok(history) => Ok(history),
-        Err(_) => history_of(rt, alloc, plan, journals),
+        Err(_) => {
+            tell(alloc);
+            history_of(rt, alloc, plan, journals)
+        }
     }
 }
 
@@ -95,7 +108,10 @@ fn refused_after_the_lost_row(rt: HostRuntime) -> Result<(), AllocError> {
     assert!(rt; plan.scripts().len() == 2);
     let journals = match lost(&rt, alloc, &plan) {
         Ok(journals) => journals,
-        Err(_) => lost(&rt, alloc, &plan)?,
+        Err(_) => {
+            tell(alloc);
+            lost(&rt, alloc, &plan)?
+        }
     };
     assert!(rt; tries_of(&journals, 0) == 6 && tries_of(&journals, 1) == 5);
     let history = merged(&rt, alloc, &plan, &journals)?;
@@ -117,10 +133,16 @@ fn run_with_each_request_refused(rt: HostRuntime) -> Result<(), RunFault> {
     let plan = planned(&rt, alloc, &TWO_SESSIONS)?;
     let (_outcome, history) = match ran(&rt, alloc, &plan, &Open) {
         Ok(left) => left,
-        Err(RunFault::Memory) => ran(&rt, alloc, &plan, &Open)?,
+        Err(RunFault::Memory) => {
+            tell(alloc);
+            ran(&rt, alloc, &plan, &Open)?
+        }
     };
     match replays(&rt, alloc, &history, 13) {
         Ok(()) => Ok(()),
-        Err(_) => Ok(replays(&rt, alloc, &history, 13)?),
+        Err(_) => {
+            tell(alloc);
+            Ok(replays(&rt, alloc, &history, 13)?)
+        }
     }
 }
