@@ -8,6 +8,8 @@ use redo_journal::Plan;
 use redo_session::{RunFault, run};
 use std::alloc::{AllocError, Global};
 use std::process::Abort;
+use std::sync::Wait;
+use std::thread::Threads;
 
 /// What the sessions ask.
 const COMMANDS: [&str; 16] = [
@@ -64,18 +66,27 @@ fn shuffle(random: &mut Random, turns: &mut [usize]) {
     }
 }
 
-/// Plans of one to four sessions, whose workers take their steps on one thread in drawn orders.
+/// The rows and the exchanges of a drawn plan, whose steps are taken on one thread in a drawn order.
+fn drawn_schedule(
+    rt: &impl Abort,
+    alloc: Global,
+    random: &mut Random,
+    sessions: usize,
+) -> Result<(u32, u32), AllocError> {
+    let plan = drawn_plan(rt, alloc, random, sessions, 12)?;
+    let mut turns = first_schedule(alloc, &plan)?;
+    assert_eq!(rt; turns.len(), sessions.wrapping_mul(12));
+    shuffle(random, &mut turns);
+    check_schedule(rt, alloc, &plan, &turns)
+}
+
+/// Plans of one to four sessions.
 #[test]
 fn drawn_schedules(rt: HostRuntime) -> Result<(), AllocError> {
-    let alloc = rt.alloc();
     let mut random = Random::new(1);
     let (mut rows, mut exchanges) = (0u32, 0u32);
     for number in 0..600 {
-        let plan = drawn_plan(&rt, alloc, &mut random, number % 4 + 1, 12)?;
-        let mut turns = first_schedule(alloc, &plan)?;
-        assert_eq!(rt; turns.len(), 12 * (number % 4 + 1));
-        shuffle(&mut random, &mut turns);
-        let counted = check_schedule(&rt, alloc, &plan, &turns)?;
+        let counted = drawn_schedule(&rt, rt.alloc(), &mut random, number % 4 + 1)?;
         rows = rows.wrapping_add(counted.0);
         exchanges = exchanges.wrapping_add(counted.1);
     }
@@ -86,19 +97,28 @@ fn drawn_schedules(rt: HostRuntime) -> Result<(), AllocError> {
     Ok(())
 }
 
-/// Plans of four sessions, each on a thread of its own.
+/// The rows and the exchanges of a drawn plan of four sessions, each on a thread of its own.
+fn drawn_run<R: Threads + Wait + Abort + Sync>(
+    rt: &R,
+    alloc: Global,
+    random: &mut Random,
+) -> Result<(u32, u32), RunFault> {
+    let plan = drawn_plan(rt, alloc, random, 4, 32)?;
+    let gate = Counts::new(alloc)?;
+    let outcome = run(rt, alloc, &plan, &gate)?;
+    assert_eq!(rt; outcome.history.len(), 128);
+    let rows = check_counts(rt, &outcome.history, &outcome.journals, &gate);
+    Ok((rows, gate.all()))
+}
+
 #[test]
 fn drawn_runs(rt: HostRuntime) -> Result<(), RunFault> {
-    let alloc = rt.alloc();
     let mut random = Random::new(2);
     let (mut rows, mut exchanges) = (0u32, 0u32);
     for _ in 0..100 {
-        let plan = drawn_plan(&rt, alloc, &mut random, 4, 32)?;
-        let gate = Counts::new(alloc)?;
-        let outcome = run(&rt, alloc, &plan, &gate)?;
-        assert_eq!(rt; outcome.history.len(), 128);
-        rows = rows.wrapping_add(check_counts(&rt, &outcome.history, &outcome.journals, &gate));
-        exchanges = exchanges.wrapping_add(gate.all());
+        let counted = drawn_run(&rt, rt.alloc(), &mut random)?;
+        rows = rows.wrapping_add(counted.0);
+        exchanges = exchanges.wrapping_add(counted.1);
     }
     assert!(rt;
         rows >= 8_000 && rows <= 11_000 && exchanges >= 20_000,
