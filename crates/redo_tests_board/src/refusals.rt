@@ -93,7 +93,10 @@ fn lost<R: Threads + Abort + Sync>(
     requires { length plan.now.scripts ≡ 2 }
 {
     let gate = gated(alloc)?;
-    let (rows, journals) = journals_of(rt, alloc, plan, &gate)?;
+    let Ok((rows, journals)) = journals_of(rt, alloc, plan, &gate) else {
+        tell(alloc);
+        return Err(AllocError);
+    };
     if !gate.are_met() {
         return Err(AllocError);
     }
@@ -108,10 +111,7 @@ fn refused_after_the_lost_row(rt: HostRuntime) -> Result<(), AllocError> {
     assert!(rt; plan.scripts().len() == 2);
     let journals = match lost(&rt, alloc, &plan) {
         Ok(journals) => journals,
-        Err(_) => {
-            tell(alloc);
-            lost(&rt, alloc, &plan)?
-        }
+        Err(_) => lost(&rt, alloc, &plan)?,
     };
     assert!(rt; tries_of(&journals, 0) == 6 && tries_of(&journals, 1) == 5);
     let history = merged(&rt, alloc, &plan, &journals)?;
