@@ -113,7 +113,10 @@ fn lost<R: Threads + Abort + Sync>(
     requires { length plan.now.scripts ≡ 2 }
 {
     let gate = gated(alloc)?;
-    let (rows, journals) = journals_of(rt, alloc, plan, &gate)?;
+    let Ok((rows, journals)) = journals_of(rt, alloc, plan, &gate) else {
+        tell(alloc);
+        return Err(AllocError);
+    };
     if !gate.are_met() {
         return Err(AllocError);
     }
