@@ -2,9 +2,9 @@ ghost use Rattle.std.specs.Prelude.{◌≡◌, ◌≤◌, ◌<◌, ◌+◌, ◌+
 ghost use Rattle.redo_model.specs.Names.{Text};
 ghost use Rattle.redo_model.specs.History.{part_of};
 ghost use Rattle.redo_model.specs.Renaming.{IsBelow, IsReplyBelow};
-ghost use Rattle.redo_terms.specs.Meaning.{command_of, reply_of, line_at, reply_at};
+ghost use Rattle.redo_terms.specs.Meaning.{command_of, item_of, reply_of, line_at, reply_at};
 ghost use Rattle.redo_terms.specs.Inside.Meaning.{item_at};
-ghost use Rattle.redo_journal.specs.Plans.{AreBelow};
+ghost use Rattle.redo_journal.specs.Plans.{AreBelow, IsPlan, script_of};
 ghost use Rattle.redo_replay.specs.Histories.{ended};
 ghost use Rattle.redo_session.specs.Outcomes.{scripts_named};
 ghost use Rattle.redo_session.specs.RunTexts.{done_text_of, skipped_text_of, session_text_of, run_text_of, sessions_below};
@@ -127,6 +127,15 @@ fn put_session(
     Ok(())
 }
 
+/// The lines of a session's script.
+fn items_of(plan: &Plan, session: usize) -> &[Item]
+    requires { session < length plan.now.scripts }
+    ensures items { map item_of result.now ≡ script_of plan.now session }
+    ensures plan { IsPlan plan.now }
+{
+    plan.scripts()[session].items()
+}
+
 /// The run text: the history, and then each session's script.
 pub fn run_text(alloc: Global, plan: &Plan, outcome: &Outcome) -> Result<Vec<u8>, AllocError>
     requires { AreLinesBelow plan.now.names outcome.now.history.items }
@@ -135,11 +144,17 @@ pub fn run_text(alloc: Global, plan: &Plan, outcome: &Outcome) -> Result<Vec<u8>
         (map (line_at plan.now.names) outcome.now.history.items)) }
 {
     let names = plan.names();
-    let scripts = plan.scripts();
     let mut text = history_text(alloc, &outcome.history, names)?;
-    for session in 0..scripts.len() {
-        let items = scripts[session].items();
-        put_session(alloc, &mut text, session as u8, items, &outcome.history, names)?;
+    for session in 0..plan.scripts().len() {
+        let items = items_of(plan, session);
+        put_session(
+            alloc,
+            &mut text,
+            session as u8,
+            items,
+            &outcome.history,
+            names,
+        )?;
     }
     Ok(text)
 }

@@ -6,4 +6,4 @@ use Rattle.redo_session.proofs.printed.run_text.Given as goal
 
 abbrev pub invariant-loop-session : goal.invariant-loop-session
 invariant-loop-session l = l.text.items ≡ run_text_of (scripts_named l.plan)
-    (sessions_below l.session) (map (line_at l.names) l.outcome.history.items)
+    (sessions_below l.session) (map (line_at l.plan.names) l.outcome.history.items)
