@@ -1,6 +1,7 @@
 ghost use Rattle.std.specs.Prelude.{◌≡◌, ◌<◌, length, map};
 ghost use Rattle.redo_model.specs.Renaming.{IsBelow};
-ghost use Rattle.redo_terms.specs.Meaning.{command_of, item_of};
+ghost use Rattle.redo_terms.specs.Meaning.{command_of};
+ghost use Rattle.redo_terms.specs.Inside.Meaning.{item_of};
 ghost use Rattle.redo_journal.specs.Plans.{IsPlan, script_of};
 ghost use Rattle.redo_store.specs.Tables.{tables_count};
 

@@ -10,7 +10,8 @@ use Rattle.redo_model.specs.Command.{Ood, commands_in}
 use Rattle.redo_model.specs.Reply.{lets_through}
 use Rattle.redo_model.specs.Journals.{Numbered, first_from, next_of}
 use Rattle.redo_model.proofs.Nexts.{next_of_more}
-use Rattle.redo_terms.specs.Meaning.{command_of, item_of, reply_of}
+use Rattle.redo_terms.specs.Meaning.{command_of, reply_of}
+use Rattle.redo_terms.specs.Inside.Meaning.{item_of}
 use Rattle.redo_terms.specs.declared.script.Item.{Item}
 use Rattle.redo_journal.specs.declared.entry.Entry.{Entry}
 use Rattle.redo_journal.specs.Journals.{line_told}

@@ -6,7 +6,8 @@ use Rattle.redo_model.specs.Names.{Text}
 use Rattle.redo_model.specs.Command as commands
 use Rattle.redo_model.specs.Renaming.{IsBelow}
 use Rattle.redo_terms.specs.declared.script.Item.{Item}
-use Rattle.redo_terms.specs.Meaning.{command_of, item_of}
+use Rattle.redo_terms.specs.Meaning.{command_of}
+use Rattle.redo_terms.specs.Inside.Meaning.{item_of}
 
 -- names, and for each session the lines of its script, over the numbers of the names
 pub record PlanOf : Type 0 where

@@ -1,6 +1,6 @@
 ghost use Rattle.std.specs.Prelude.{◌≡◌, ◌↔◌, ◌<◌, ℕ, IsTrue, length, map};
 ghost use Rattle.redo_model.specs.Journals.{IsJournal};
-ghost use Rattle.redo_terms.specs.Meaning.{item_of};
+ghost use Rattle.redo_terms.specs.Inside.Meaning.{item_of};
 ghost use Rattle.redo_journal.specs.Journals.{told_by, AreJournals};
 ghost use Rattle.redo_journal.specs.Numbers.{IsNextAt};
 

@@ -1,6 +1,6 @@
 ghost use Rattle.std.specs.Prelude.{◌≡◌, ℕ, ◌↔◌, ◌||◌, not, IsTrue, drop, map, option_map};
 ghost use Rattle.redo_model.specs.Journals.{first_from, next_of};
-ghost use Rattle.redo_terms.specs.Meaning.{item_of};
+ghost use Rattle.redo_terms.specs.Inside.Meaning.{item_of};
 ghost use Rattle.redo_journal.specs.Journals.{line_told};
 ghost use Rattle.redo_journal.specs.Numbers.{numbered_in, IsNextAfter};
 

@@ -11,7 +11,8 @@ use Rattle.redo_model.specs.Reply as replies
 use Rattle.redo_model.specs.Renaming.{IsBelow}
 use Rattle.redo_terms.specs.declared.script.Item.{Item}
 use Rattle.redo_terms.specs.declared.reply.Line.{Line}
-use Rattle.redo_terms.specs.Meaning.{item_of, reply_of, line_of}
+use Rattle.redo_terms.specs.Meaning.{reply_of, line_of}
+use Rattle.redo_terms.specs.Inside.Meaning.{item_of}
 use Rattle.redo_model.specs.Placed.{PlacedLine, Fits}
 use Rattle.redo_model.specs.Placed as placed
 use Rattle.redo_joint.proofs.Exchange.{In}

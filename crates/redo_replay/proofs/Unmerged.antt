@@ -10,7 +10,8 @@ use Rattle.redo_model.specs.Placed.{PlacedLine, Fits}
 use Rattle.redo_model.specs.Journals.{IsJournal, IsJournalAfter}
 use Rattle.redo_model.proofs.Nexts.{past_of, next_in_script, journal_fits}
 use Rattle.redo_terms.specs.declared.script.Item.{Item}
-use Rattle.redo_terms.specs.Meaning.{command_of, item_of, reply_of}
+use Rattle.redo_terms.specs.Meaning.{command_of, reply_of}
+use Rattle.redo_terms.specs.Inside.Meaning.{item_of}
 use Rattle.redo_journal.specs.declared.entry.Entry.{Entry}
 use Rattle.redo_journal.specs.declared.entry.Journal.{Journal}
 use Rattle.redo_journal.specs.Plans.{PlanOf, scripts_of, script_of}

@@ -1,7 +1,8 @@
 //! One history of what several sessions did.
 
 ghost use Rattle.std.specs.Prelude.{◌≡◌, ◌↔◌, ℕ, ◌<◌, ◌≤◌, ◌+◌, IsTrue, IfOk, OnOk, MatchOption, MatchBool, length, map, slice_index, slice_index_or};
-ghost use Rattle.redo_terms.specs.Meaning.{item_of, line_of};
+ghost use Rattle.redo_terms.specs.Meaning.{line_of};
+ghost use Rattle.redo_terms.specs.Inside.Meaning.{item_of};
 ghost use Rattle.redo_model.specs.Placed as placed;
 ghost use Rattle.redo_journal.specs.Journals.{AreJournals, line_told};
 ghost use Rattle.redo_replay.specs.Merges.{AreMerged};

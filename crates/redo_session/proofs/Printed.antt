@@ -11,8 +11,8 @@ use Rattle.redo_model.specs.Reply.{lets_through}
 use Rattle.redo_model.specs.Renaming.{IsBelow, named_item, named_reply}
 use Rattle.redo_model.specs.History as histories
 use Rattle.redo_model.specs.History.{part_of}
-use Rattle.redo_terms.specs.Meaning.{item_of, line_at, reply_at, reply_of}
-use Rattle.redo_terms.specs.Inside.Meaning.{item_at}
+use Rattle.redo_terms.specs.Meaning.{line_at, reply_at, reply_of}
+use Rattle.redo_terms.specs.Inside.Meaning.{item_at, item_of}
 use Rattle.redo_terms.specs.declared.script.Item.{Item}
 use Rattle.redo_terms.specs.declared.reply.Line.{Line}
 use Rattle.redo_journal.specs.Plans.{PlanOf, IsPlan, AreBelow, script_of}

@@ -9,7 +9,8 @@ use Rattle.redo_model.specs.History.{Line}
 use Rattle.redo_model.specs.Renaming.{named_item}
 use Rattle.redo_terms.specs.declared.script.Item.{Item}
 use Rattle.redo_session.specs.RunTexts.{run_text_of, sessions_below}
-use Rattle.redo_terms.specs.Meaning.{item_of, line_at}
+use Rattle.redo_terms.specs.Meaning.{line_at}
+use Rattle.redo_terms.specs.Inside.Meaning.{item_of}
 use Rattle.redo_terms.specs.declared.reply.Line as coded
 use Rattle.redo_journal.specs.Plans.{PlanOf, scripts_of}
 use Rattle.redo_session.specs.Runs.{IsRun, IsRunText}

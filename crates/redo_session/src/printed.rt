@@ -2,8 +2,8 @@ ghost use Rattle.std.specs.Prelude.{◌≡◌, ◌≤◌, ◌<◌, ◌+◌, ◌+
 ghost use Rattle.redo_model.specs.Names.{Text};
 ghost use Rattle.redo_model.specs.History.{part_of};
 ghost use Rattle.redo_model.specs.Renaming.{IsBelow, IsReplyBelow};
-ghost use Rattle.redo_terms.specs.Meaning.{command_of, item_of, reply_of, line_at, reply_at};
-ghost use Rattle.redo_terms.specs.Inside.Meaning.{item_at};
+ghost use Rattle.redo_terms.specs.Meaning.{command_of, reply_of, line_at, reply_at};
+ghost use Rattle.redo_terms.specs.Inside.Meaning.{item_at, item_of};
 ghost use Rattle.redo_journal.specs.Plans.{AreBelow, IsPlan, script_of};
 ghost use Rattle.redo_replay.specs.Histories.{ended};
 ghost use Rattle.redo_session.specs.Outcomes.{scripts_named};

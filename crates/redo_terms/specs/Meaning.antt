@@ -8,7 +8,6 @@ use Rattle.redo_model.specs.History as histories
 use Rattle.redo_model.specs.Renaming.{named_reply, named_line}
 use Rattle.redo_terms.specs.declared.command.Command.{Command}
 use Rattle.redo_terms.specs.declared.command.Command.TheVariants.{File, Gone, Lock, Unlock, Start, IfChange, IfCreate, Always, Stamp, Done, Failed, Ood, Targets, Sources}
-use Rattle.redo_terms.specs.declared.script.Item.{Item}
 use Rattle.redo_terms.specs.declared.reply.Refusal.{Refusal}
 use Rattle.redo_terms.specs.declared.reply.Refusal.TheVariants.{NotLocked, Building, NotBuilding, Itself, Exists}
 use Rattle.redo_terms.specs.declared.reply.Reply.{Reply}
@@ -30,9 +29,6 @@ command_of (Failed t) = commands.Failed t
 command_of Ood = commands.Ood
 command_of Targets = commands.Targets
 command_of Sources = commands.Sources
-
-abbrev pub item_of : Item → commands.Item ℕ
-item_of item = record { guarded = item.guarded; command = command_of item.command }
 
 abbrev pub refusal_of : Refusal → replies.Refusal ℕ
 refusal_of NotLocked = replies.NotLocked

@@ -4,7 +4,8 @@ ghost use Rattle.std.specs.Prelude.{◌≡◌, ◌↔◌, ℕ, ◌<◌, [], IsTr
 ghost use Rattle.redo_model.specs.Command as commands;
 ghost use Rattle.redo_model.specs.Placed as placed;
 ghost use Rattle.redo_model.specs.Placed.{Fits};
-ghost use Rattle.redo_terms.specs.Meaning.{command_of, item_of, reply_of};
+ghost use Rattle.redo_terms.specs.Meaning.{command_of, reply_of};
+ghost use Rattle.redo_terms.specs.Inside.Meaning.{item_of};
 ghost use Rattle.redo_journal.specs.Plans.{scripts_of};
 ghost use Rattle.redo_journal.specs.Journals.{place_of};
 ghost use Rattle.redo_replay.specs.Inside.Merging.{entries_of, AllFit, AreOfScript, FitsAt, MisfitsAt, OneMisfits};

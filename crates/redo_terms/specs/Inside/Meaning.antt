@@ -1,5 +1,5 @@
--- The kind of a command, and what commands and lines of scripts mean under the names of their numbers.
-use Rattle.std.specs.Prelude.{List}
+-- The kind of a command, what an item means, and what both mean over the names of their numbers.
+use Rattle.std.specs.Prelude.{ℕ, List}
 use Rattle.redo_names.specs.Names.{text_at}
 use Rattle.redo_model.specs.Names.{Text}
 use Rattle.redo_model.specs.Command as commands
@@ -9,7 +9,7 @@ use Rattle.redo_terms.specs.declared.command.Command.TheVariants.{File, Gone, Lo
 use Rattle.redo_terms.specs.declared.script.Item.{Item}
 use Rattle.redo_terms.specs.declared.kind.Kind.{Kind}
 use Rattle.redo_terms.specs.declared.kind.Kind.TheVariants as kinds
-use Rattle.redo_terms.specs.Meaning.{command_of, item_of}
+use Rattle.redo_terms.specs.Meaning.{command_of}
 
 abbrev pub kind_of : Command → Kind
 kind_of (File n stamp) = kinds.File
@@ -26,6 +26,9 @@ kind_of (Failed t) = kinds.Failed
 kind_of Ood = kinds.Ood
 kind_of Targets = kinds.Targets
 kind_of Sources = kinds.Sources
+
+abbrev pub item_of : Item → commands.Item ℕ
+item_of item = record { guarded = item.guarded; command = command_of item.command }
 
 -- under the names that the numbers stand for
 abbrev pub command_at : List Text → Command → commands.Command Text

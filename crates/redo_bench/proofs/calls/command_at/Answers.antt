@@ -3,7 +3,8 @@ use Rattle.std.proofs.lemmas.List.{length-map}
 use Rattle.std.specs.List.{AllByRecursion}
 use Rattle.redo_model.specs.Renaming.{IsBelow}
 use Rattle.redo_terms.specs.declared.script.Item.{Item}
-use Rattle.redo_terms.specs.Meaning.{command_of, item_of}
+use Rattle.redo_terms.specs.Meaning.{command_of}
+use Rattle.redo_terms.specs.Inside.Meaning.{item_of}
 use Rattle.redo_bench.proofs.calls.command_at.Goals as goal
 
 below_at : (n : ℕ) (xs : List Item) (k : ℕ) (x : Item) → k < length xs

@@ -1,6 +1,7 @@
 use Rattle.std.proofs.Common.{◌≡◌, ◌+◌, [], ◌∷◌, ◌++◌, map, take, arith, sym, ap, ◌∙◌}
 use Rattle.std.proofs.lemmas.List.{take_more, map-append}
-use Rattle.redo_terms.specs.Meaning.{command_of, item_of}
+use Rattle.redo_terms.specs.Meaning.{command_of}
+use Rattle.redo_terms.specs.Inside.Meaning.{item_of}
 use Rattle.redo_board.specs.Rows.{rows_in, takes_row}
 use Rattle.redo_board.proofs.Counts.{rows-push, bit-small}
 use Rattle.redo_board.proofs.plan.rows_in.Goals as goal

@@ -1,6 +1,6 @@
 use Rattle.std.proofs.Common.{◌∙◌, map, sym}
 use Rattle.std.proofs.lemmas.Bool.{false≢true}
-use Rattle.redo_terms.specs.Meaning.{item_of}
+use Rattle.redo_terms.specs.Inside.Meaning.{item_of}
 use Rattle.redo_journal.specs.Numbers.{IsNextAt}
 use Rattle.redo_journal.proofs.Nexts.{at_place, below_next}
 use Rattle.redo_journal.proofs.journals.go_by.Goals as goal

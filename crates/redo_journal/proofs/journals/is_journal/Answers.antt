@@ -1,6 +1,6 @@
 use Rattle.std.proofs.Common.{◌<◌, ℕ, List, length, map, [], ◌∙◌, sym, subst}
 use Rattle.std.proofs.lemmas.Bool.{false≢true}
-use Rattle.redo_terms.specs.Meaning.{item_of}
+use Rattle.redo_terms.specs.Inside.Meaning.{item_of}
 use Rattle.redo_journal.specs.declared.entry.Entry.{Entry}
 use Rattle.redo_journal.specs.Numbers.{IsNextAt}
 use Rattle.redo_journal.proofs.Told.{is_told, told_own, told_next}

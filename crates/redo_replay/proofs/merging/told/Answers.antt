@@ -1,5 +1,5 @@
 use Rattle.std.proofs.Common.{map, sym, ◌∙◌}
-use Rattle.redo_terms.specs.Meaning.{item_of}
+use Rattle.redo_terms.specs.Inside.Meaning.{item_of}
 use Rattle.redo_replay.proofs.Unmerged.{command_here}
 use Rattle.redo_replay.proofs.merging.told.Goals as goal
 

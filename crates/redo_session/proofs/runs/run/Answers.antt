@@ -1,6 +1,7 @@
 use Rattle.std.proofs.Common.{◌≡◌, ℕ, List, length, map, ap, sym, subst, ◌∙◌}
 use Rattle.std.proofs.lemmas.List.{length-map}
-use Rattle.redo_terms.specs.Meaning.{item_of, line_of}
+use Rattle.redo_terms.specs.Meaning.{line_of}
+use Rattle.redo_terms.specs.Inside.Meaning.{item_of}
 use Rattle.redo_terms.specs.declared.script.Item.{Item}
 use Rattle.redo_model.specs.Command as model
 use Rattle.redo_journal.specs.Plans.{PlanOf, scripts_of}

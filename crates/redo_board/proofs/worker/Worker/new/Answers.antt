@@ -3,7 +3,7 @@ use Rattle.std.proofs.lemmas.List.{length-map}
 use Rattle.redo_model.specs.Names.{texts}
 use Rattle.redo_model.specs.Inside.Renaming.{OrdersAlike, numbering}
 use Rattle.redo_store.specs.Stored.{order_of}
-use Rattle.redo_terms.specs.Meaning.{item_of}
+use Rattle.redo_terms.specs.Inside.Meaning.{item_of}
 use Rattle.redo_journal.specs.Plans.{script_of}
 use Rattle.redo_board.specs.Core.{Line}
 use Rattle.redo_board.specs.Own.{Says}

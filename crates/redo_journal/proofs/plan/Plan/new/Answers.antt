@@ -1,7 +1,7 @@
 use Rattle.std.proofs.Common.{List, length, map, sym, ◌∙◌, arith}
 use Rattle.std.proofs.lemmas.List.{length-map}
 use Rattle.redo_terms.specs.declared.script.Item.{Item}
-use Rattle.redo_terms.specs.Meaning.{item_of}
+use Rattle.redo_terms.specs.Inside.Meaning.{item_of}
 use Rattle.redo_journal.proofs.Plans.{some_at, below_at, short_of}
 use Rattle.redo_journal.proofs.plan.Plan.new.Goals as goal
 

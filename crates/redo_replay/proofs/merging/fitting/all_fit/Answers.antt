@@ -1,5 +1,5 @@
 use Rattle.std.proofs.Common.{arith, ℕ, ◌≡◌, [], ap, sym, ◌∙◌, map, get_or, slice_index_or}
-use Rattle.redo_terms.specs.Meaning.{item_of}
+use Rattle.redo_terms.specs.Inside.Meaning.{item_of}
 use Rattle.redo_journal.specs.Plans.{scripts_of}
 use Rattle.redo_replay.specs.Inside.Merging.{entries_of, FitsAt}
 use Rattle.redo_replay.proofs.Unmerged.{next_below, entries_at, script_at, of_script, fits_back, misfit_back}

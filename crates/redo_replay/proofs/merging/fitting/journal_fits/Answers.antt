@@ -1,6 +1,6 @@
 use Rattle.std.proofs.Common.{refl, ℕ, map, slice_index_or}
 use Rattle.std.proofs.lemmas.Bool.{false≢true}
-use Rattle.redo_terms.specs.Meaning.{item_of}
+use Rattle.redo_terms.specs.Inside.Meaning.{item_of}
 use Rattle.redo_replay.specs.Inside.Merging.{FitsScript, none}
 use Rattle.redo_replay.proofs.Unmerged.{next_below, fits_here, fits_there, line_here}
 use Rattle.redo_replay.proofs.merging.fitting.journal_fits.Goals as goal

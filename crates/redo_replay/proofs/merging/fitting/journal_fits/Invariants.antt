@@ -1,5 +1,5 @@
 use Rattle.std.proofs.Common.{ℕ, ◌<◌, map, slice_index_or}
-use Rattle.redo_terms.specs.Meaning.{item_of}
+use Rattle.redo_terms.specs.Inside.Meaning.{item_of}
 use Rattle.redo_replay.specs.Inside.Merging.{FitsScript, none}
 use Rattle.redo_replay.proofs.merging.fitting.journal_fits.Given as goal
 
