@@ -11,13 +11,13 @@ pub mod HistoriesByName
 pub mod Lists
 pub mod Members
 pub mod Nexts
-pub mod Scripts
 pub mod Naming
 pub mod OneMore
 pub mod RecordsByName
 pub mod Refused
 pub mod Region
 pub mod RepliesByName
+pub mod Scripts
 pub mod StepsByName
 pub mod Texts
 pub mod Unique

@@ -123,26 +123,6 @@ module _ {N : Type 0} where
   GoUp here [] = Unit {0}
   GoUp here (line ∷ lines) = (here ≤ line.number) × GoUp (line.number + 1) lines
 
-  -- each is below the number after the last
-  pub all_below : (here : ℕ) (lines : List (PlacedLine N)) → GoUp here lines
-      → AllByRecursion (λ line. line.number < past_of lines) lines
-  all_below here [] up = tt
-  all_below here (line ∷ []) up = (omega arith, tt)
-  all_below here (line ∷ second ∷ lines) up =
-      let rest = all_below (line.number + 1) (second ∷ lines) up.1 in
-      let above = up.1.0 in
-      let below = rest.0 in
-      (omega arith, rest)
-
-  -- and there are no more of them
-  up_long : (here : ℕ) (line : PlacedLine N) (lines : List (PlacedLine N)) → GoUp here (line ∷ lines)
-      → here + length (line ∷ lines) ≤ past_of (line ∷ lines)
-  up_long here line [] up = let from = up.0 in omega arith
-  up_long here line (second ∷ lines) up =
-      let from = up.0 in
-      let rest = up_long (line.number + 1) second lines up.1 in
-      omega arith
-
   module _ (s : ℕ) (script : List (Item N)) where
     -- the lines of a journal have commands of the script, whose numbers go up
     pub journal_goes_up : (before lines : List (PlacedLine N))
@@ -152,16 +132,6 @@ module _ {N : Type 0} where
       (next_from script before (numbered line) is.1).from,
       subst (λ here. GoUp here lines) (past_of_more before line)
           (journal_goes_up (before ++ line ∷ []) lines is.2),
-    )
-
-    pub journal_in_script : (before lines : List (PlacedLine N))
-        → IsJournalAfter s script before lines
-        → AllByRecursion (λ line. (get_or (commands_in script) line.number Ood ≡ line.command)
-        × (line.number < length script)) lines
-    journal_in_script before [] is = tt
-    journal_in_script before (line ∷ lines) is = (
-      next_in_script script before (numbered line) is.1,
-      journal_in_script (before ++ line ∷ []) lines is.2,
     )
 
     -- a journal has no more lines than the script
@@ -175,39 +145,6 @@ module _ {N : Type 0} where
         let past = past_of_more before line in
         let rest = journal_fits (before ++ line ∷ []) lines is.2 (omega arith) in
         omega arith
-
-    journal_long : (own : List (PlacedLine N)) → IsJournalAfter s script [] own
-        → length own ≤ past_of own
-    journal_long [] is = omega arith
-    journal_long (line ∷ lines) is =
-        let long = up_long 0 line lines (journal_goes_up [] (line ∷ lines) is) in omega arith
-
-    -- and fewer, where there is a next
-    pub journal_has_room : (own : List (PlacedLine N)) (next : Numbered N)
-        → IsJournalAfter s script [] own → next_of script own ≡ Some next
-        → length own < length script
-    journal_has_room own next is e =
-        let long = journal_long own is in
-        let found = next_from script own next e in
-        let from = found.from in
-        let within = found.within in
-        omega arith
-
-    -- what is next after a journal comes after each of its lines
-    pub next_above : (own : List (PlacedLine N)) (next : Numbered N)
-        → IsJournalAfter s script [] own → next_of script own ≡ Some next
-        → AllByRecursion (λ line. line.number < next.number) own
-    next_above own next is e =
-        above own (all_below 0 own (journal_goes_up [] own is))
-      where
-        from : past_of own ≤ next.number
-        from = (next_from script own next e).from
-
-        above : (lines : List (PlacedLine N))
-            → AllByRecursion (λ line. line.number < past_of own) lines
-            → AllByRecursion (λ line. line.number < next.number) lines
-        above [] all = tt
-        above (line ∷ lines) all = let a = all.0 in let b = from in (omega arith, above lines all.1)
 
   abbrev pub AllUnguarded : List (Item N) → Type 0
   AllUnguarded items = AllByRecursion (λ item. item.guarded ≡ false) items

@@ -86,7 +86,7 @@ module _ {N : Type 0} where
 
 -- other names change nothing of it
 module _ {N M : Type 0} (name : N → M) where
-  lets_named : (reply : Reply N) → lets_through (named_reply name reply) ≡ lets_through reply
+  pub lets_named : (reply : Reply N) → lets_through (named_reply name reply) ≡ lets_through reply
   lets_named Okay = refl
   lets_named (Granted g) = refl
   lets_named (Busy g) = refl

@@ -8,9 +8,10 @@ use Rattle.redo_model.specs.Names.{Text}
 use Rattle.redo_model.specs.Command as model
 use Rattle.redo_model.specs.Reply as replies
 use Rattle.redo_model.specs.Reply.{lets_through}
-use Rattle.redo_model.specs.Renaming.{IsBelow, named_item, named_reply}
+use Rattle.redo_model.specs.Renaming.{IsBelow, named_item}
 use Rattle.redo_model.specs.History as histories
 use Rattle.redo_model.specs.History.{part_of}
+use Rattle.redo_model.proofs.Scripts.{lets_named}
 use Rattle.redo_terms.specs.Meaning.{line_at, reply_at, reply_of}
 use Rattle.redo_terms.specs.Inside.Meaning.{item_at, item_of}
 use Rattle.redo_terms.specs.declared.script.Item.{Item}
@@ -22,19 +23,6 @@ use Rattle.redo_session.specs.RunTexts.{done_text_of, skipped_text_of, script_te
 use Rattle.redo_session.specs.Inside.Printed.{replies_in}
 use Rattle.redo_session.proofs.Outcomes.{all-unmapped}
 use Rattle.redo_session.proofs.Parts.{of_own}
-
--- names don't change who is let through
-lets_named : {N M : Type 0} (name : N → M) (reply : replies.Reply N)
-    → lets_through (named_reply name reply) ≡ lets_through reply
-lets_named name replies.Okay = refl
-lets_named name (replies.Granted g) = refl
-lets_named name (replies.Busy g) = refl
-lets_named name (replies.Stale ns) = refl
-lets_named name (replies.Stamped digest) = refl
-lets_named name (replies.Ood ns) = refl
-lets_named name (replies.Targets ns) = refl
-lets_named name (replies.Sources ns) = refl
-lets_named name (replies.Refused refusal) = refl
 
 -- the text from item i on, where the session's next line is the one at this place or comes after it
 abbrev pub text_from : List Text → ℕ → List Item → List Line → Bool → ℕ → ℕ → Text
