@@ -1,5 +1,5 @@
 -- The lines of one session, as they are printed.
-use Rattle.std.proofs.Common.{◌≡◌, ◌≢◌, ℕ, ◌+◌, ◌<◌, Bool, true, false, cond, eqb, List, [], ◌∷◌, refl, ap, ◌∙◌, map, drop, get_or, length}
+use Rattle.std.proofs.Common.{◌≡◌, ◌≢◌, ℕ, ◌+◌, ◌<◌, Bool, true, false, cond, eqb, List, [], ◌∷◌, refl, sym, ap, ◌∙◌, map, drop, get_or, length}
 use Rattle.std.specs.List.{AllByRecursion}
 use Rattle.std.proofs.lemmas.Bool.{eq-eqb, ne_eqb}
 use Rattle.std.proofs.lemmas.List.{drop_more}
@@ -17,29 +17,28 @@ replies_with names s line lines own =
     let rest = part_of s (map (line_at names) lines) in
     map (λ l. l.reply) (cond own (line_at names line ∷ rest) rest)
 
-module _ (names : List Text) (s : ℕ) (lines : List Line) (k : ℕ) (d : Line)
-    (less : k < length lines) where
+module _ (names : List Text) (s : ℕ) (lines : List Line) (k : ℕ) (line : Line)
+    (less : k < length lines) (is : line ≡ get_or lines k line) where
   from_here : replies_in names s (drop k lines)
-      ≡ replies_with names s (get_or lines k d) (drop (k + 1) lines)
-      (eqb (get_or lines k d).session s)
-  from_here = ap (replies_in names s) (drop_more lines k d less)
+      ≡ replies_with names s line (drop (k + 1) lines) (eqb line.session s)
+  from_here =
+      ap (replies_in names s) (drop_more lines k line less)
+      ∙ ap (λ (l : Line). replies_with names s l (drop (k + 1) lines) (eqb l.session s)) (sym is)
 
   -- a line of another session is passed over
-  pub of_another : (get_or lines k d).session ≢ s
+  pub of_another : line.session ≢ s
       → replies_in names s (drop k lines) ≡ replies_in names s (drop (k + 1) lines)
   of_another other =
       from_here
-      ∙ ap (replies_with names s (get_or lines k d) (drop (k + 1) lines))
-      (ne_eqb (get_or lines k d).session s other)
+      ∙ ap (replies_with names s line (drop (k + 1) lines)) (ne_eqb line.session s other)
 
   -- the session's own has the next reply
-  pub of_own : (get_or lines k d).session ≡ s
+  pub of_own : line.session ≡ s
       → replies_in names s (drop k lines)
-      ≡ reply_at names (get_or lines k d).reply ∷ replies_in names s (drop (k + 1) lines)
+      ≡ reply_at names line.reply ∷ replies_in names s (drop (k + 1) lines)
   of_own own =
       from_here
-      ∙ ap (replies_with names s (get_or lines k d) (drop (k + 1) lines))
-      (eq-eqb (get_or lines k d).session s own)
+      ∙ ap (replies_with names s line (drop (k + 1) lines)) (eq-eqb line.session s own)
 
 -- where all lines are of session 0, they are its part
 pub whole_part : {N : Type 0} (lines : List (histories.Line N))

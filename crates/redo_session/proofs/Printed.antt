@@ -1,7 +1,7 @@
 -- What is printed of a script, line by line, and of the scripts of a plan.
-use Rattle.std.proofs.Common.{◌≡◌, ℕ, suc, ◌+◌, ◌<◌, ◌≤◌, Bool, true, false, not, ◌||◌, cond, List, [], ◌∷◌, ◌++◌, refl, sym, ap, subst, ◌∙◌, map, drop, get_or, length, codes, decimal, arith, append_assoc}
+use Rattle.std.proofs.Common.{◌≡◌, ◌⊎◌, inl, inr, ℕ, suc, ◌+◌, ◌<◌, ◌≤◌, Bool, true, false, not, ◌||◌, cond, List, [], ◌∷◌, ◌++◌, refl, sym, ap, subst, ◌∙◌, map, drop, get_or, length, codes, decimal, arith, append_assoc}
 use Rattle.std.specs.List.{AllByRecursion}
-use Rattle.std.proofs.lemmas.List.{at_drop_more, at_drop_all, flat_map_more, get_or-map, length-map}
+use Rattle.std.proofs.lemmas.List.{at_drop_more, at_drop_all, flat_map_more, get_or_default, get_or-map, length-map}
 use Rattle.std.proofs.lemmas.Simd.{map-map}
 use Rattle.redo_names.specs.Names.{text_at}
 use Rattle.redo_model.specs.Names.{Text}
@@ -30,10 +30,14 @@ text_from names s items lines through i at =
     script_text_of through (map (item_at names) (drop i items))
     (replies_in names s (drop at lines))
 
+some_line : (lines : List Line) (k : ℕ) → k < length lines → Line
+some_line [] k less = absurd (omega (arith, less))
+some_line (line ∷ lines) k less = line
+
 module _ (names : List Text) (s : ℕ) (items : List Item) (lines : List Line) (through : Bool)
-    (i at : ℕ) (d : Item) (less : i < length items) where
+    (i at : ℕ) (item : Item) (less : i < length items) (is : item ≡ get_or items i item) where
   abbrev here : model.Item Text
-  here = item_at names (get_or items i d)
+  here = item_at names item
 
   abbrev rest : List (model.Item Text)
   rest = map (item_at names) (drop (i + 1) items)
@@ -43,33 +47,31 @@ module _ (names : List Text) (s : ℕ) (items : List Item) (lines : List Line) (
       ≡ script_text_of through (here ∷ rest) told
   one_more told =
       at_drop_more (λ (xs : List Item). script_text_of through (map (item_at names) xs) told)
-      items i d less
+      items i item less
+      ∙ ap (λ (x : Item). script_text_of through (item_at names x ∷ rest) told) (sym is)
 
   -- the line has the reply to it
-  pub done_here : (line : Line) (later : ℕ) → at < length lines
-      → (get_or lines at line).session ≡ s
-      → (through || not (get_or items i d).guarded) ≡ true
+  pub done_line : (line : Line) (later : ℕ) → at < length lines → line ≡ get_or lines at line
+      → line.session ≡ s → (through || not item.guarded) ≡ true
       → replies_in names s (drop later lines) ≡ replies_in names s (drop (at + 1) lines)
       → text_from names s items lines through i at
-      ≡ done_text_of here (reply_at names (get_or lines at line).reply)
-      ++ text_from names s items lines (lets_through (reply_of (get_or lines at line).reply))
-      (i + 1) later
-  done_here line later there own done same =
-      let reply = (get_or lines at line).reply in
+      ≡ done_text_of here (reply_at names line.reply)
+      ++ text_from names s items lines (lets_through (reply_of line.reply)) (i + 1) later
+  done_line line later there it own done same =
+      let reply = reply_at names line.reply in
       let told = replies_in names s (drop (at + 1) lines) in
       one_more (replies_in names s (drop at lines))
-      ∙ ap (script_text_of through (here ∷ rest)) (of_own names s lines at line there own)
+      ∙ ap (script_text_of through (here ∷ rest)) (of_own names s lines at line there it own)
       ∙ ap (λ (b : Bool). cond b
-      (done_text_of here (reply_at names reply)
-      ++ script_text_of (lets_through (reply_at names reply)) rest told)
-      (skipped_text_of here ++ script_text_of through rest (reply_at names reply ∷ told))) done
-      ∙ ap (λ (b : Bool). done_text_of here (reply_at names reply) ++ script_text_of b rest told)
-      (lets_named (text_at names) (reply_of reply))
-      ∙ ap (λ (rs : List (replies.Reply Text)). done_text_of here (reply_at names reply)
-      ++ script_text_of (lets_through (reply_of reply)) rest rs) (sym same)
+      (done_text_of here reply ++ script_text_of (lets_through reply) rest told)
+      (skipped_text_of here ++ script_text_of through rest (reply ∷ told))) done
+      ∙ ap (λ (b : Bool). done_text_of here reply ++ script_text_of b rest told)
+      (lets_named (text_at names) (reply_of line.reply))
+      ∙ ap (λ (rs : List (replies.Reply Text)). done_text_of here reply
+      ++ script_text_of (lets_through (reply_of line.reply)) rest rs) (sym same)
 
   -- no line of the session is left
-  pub skipped_past : length lines ≤ at
+  skipped_past : length lines ≤ at
       → text_from names s items lines through i at
       ≡ skipped_text_of here ++ text_from names s items lines through (i + 1) at
   skipped_past past =
@@ -80,22 +82,31 @@ module _ (names : List Text) (s : ℕ) (items : List Item) (lines : List Line) (
       ++ script_text_of through rest rs) (sym none)
 
   -- it is guarded, and not let through
-  pub skipped_here : (line : Line) → at < length lines → (get_or lines at line).session ≡ s
-      → (through || not (get_or items i d).guarded) ≡ false
+  skipped_here : (line : Line) → at < length lines → line ≡ get_or lines at line
+      → line.session ≡ s → (through || not item.guarded) ≡ false
       → text_from names s items lines through i at
       ≡ skipped_text_of here ++ text_from names s items lines through (i + 1) at
-  skipped_here line there own stopped =
-      let reply = (get_or lines at line).reply in
+  skipped_here line there it own stopped =
+      let reply = reply_at names line.reply in
       let told = replies_in names s (drop (at + 1) lines) in
-      let next = of_own names s lines at line there own in
+      let next = of_own names s lines at line there it own in
       one_more (replies_in names s (drop at lines))
       ∙ ap (script_text_of through (here ∷ rest)) next
       ∙ ap (λ (b : Bool). cond b
-      (done_text_of here (reply_at names reply)
-      ++ script_text_of (lets_through (reply_at names reply)) rest told)
-      (skipped_text_of here ++ script_text_of through rest (reply_at names reply ∷ told))) stopped
+      (done_text_of here reply ++ script_text_of (lets_through reply) rest told)
+      (skipped_text_of here ++ script_text_of through rest (reply ∷ told))) stopped
       ∙ ap (λ (rs : List (replies.Reply Text)). skipped_text_of here
       ++ script_text_of through rest rs) (sym next)
+
+  pub skipped_line : ((line : Line) → at < length lines → (get_or lines at line).session ≡ s)
+      → (length lines ≤ at) ⊎ ((at < length lines) × ((through || not item.guarded) ≡ false))
+      → text_from names s items lines through i at
+      ≡ skipped_text_of here ++ text_from names s items lines through (i + 1) at
+  skipped_line own (inl past) = skipped_past past
+  skipped_line own (inr (there, stopped)) =
+      let some = some_line lines at there in
+      let line = get_or lines at some in
+      skipped_here line there (get_or_default lines at some line there) (own some there) stopped
 
 -- behind the header all of the script is left
 pub session_begins : (names : List Text) (s : ℕ) (items : List Item) (lines : List Line)

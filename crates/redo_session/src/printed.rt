@@ -38,7 +38,8 @@ fn own_from(session: u8, lines: &[Line], from: usize) -> usize
 /// Whether the session's next line, if there is one, is of this item.
 fn is_answered(item: &Item, through: bool, at: usize, count: usize) -> bool
     ensures yes { IsTrue result → (at < count) × ((through || not item.now.guarded) ≡ true) }
-    ensures no { ¬ (IsTrue result) → (count ≤ at) ⊎ ((through || not item.now.guarded) ≡ false) }
+    ensures no { ¬ (IsTrue result)
+        → (count ≤ at) ⊎ ((at < count) × ((through || not item.now.guarded) ≡ false)) }
 {
     at < count && (through || !item.guarded)
 }

@@ -1,8 +1,11 @@
-use Rattle.std.proofs.Common.{◌∙◌, sym}
+use Rattle.std.proofs.Common.{◌≡◌, ◌≢◌, ◌<◌, ◌∙◌, ap, sym, length, arith}
+use Rattle.redo_terms.specs.declared.reply.Line.{Line}
 use Rattle.redo_session.proofs.Parts.{of_another}
 use Rattle.redo_session.proofs.printed.own_from.Goals as goal
 
 pub loop-at-preserved : goal.loop-at-preserved
 loop-at-preserved c names =
-    sym (of_another names c.args.session c.args.lines.now c.loop-at.at c.index-lines-at.result ?
-    ?) ∙ c.loop-at.invariant names
+    let line = c.index-lines-at.result in
+    let less : c.loop-at.at < length c.args.lines.now = omega arith in
+    sym (of_another names c.args.session c.args.lines.now c.loop-at.at line less
+    c.index-lines-at.is c.if-session-session.false) ∙ c.loop-at.invariant names
