@@ -1,4 +1,4 @@
-ghost use Rattle.std.specs.Prelude.{◌≡◌, ◌≤◌, ◌<◌, ◌+◌, ◌++◌, ◌⊎◌, ◌||◌, ℕ, List, true, false, not, drop, length, map, codes, decimal, IfOk, IsTrue, OnOk, slice_index_or};
+ghost use Rattle.std.specs.Prelude.{◌≡◌, ◌≤◌, ◌<◌, ◌+◌, ◌++◌, ◌⊎◌, ◌||◌, ℕ, List, true, false, not, drop, length, map, codes, decimal, IfOk, OnOk, slice_index_or};
 ghost use Rattle.redo_model.specs.Names.{Text};
 ghost use Rattle.redo_model.specs.History.{part_of};
 ghost use Rattle.redo_model.specs.Renaming.{IsBelow, IsReplyBelow};
@@ -37,8 +37,8 @@ fn own_from(session: u8, lines: &[Line], from: usize) -> usize
 
 /// Whether the session's next line, if there is one, is of this item.
 fn is_answered(item: &Item, through: bool, at: usize, count: usize) -> bool
-    ensures yes { IsTrue result → (at < count) × ((through || not item.now.guarded) ≡ true) }
-    ensures no { ¬ (IsTrue result)
+    ensures yes { result ≡ true → (at < count) × ((through || not item.now.guarded) ≡ true) }
+    ensures no { result ≡ false
         → (count ≤ at) ⊎ ((at < count) × ((through || not item.now.guarded) ≡ false)) }
 {
     at < count && (through || !item.guarded)
