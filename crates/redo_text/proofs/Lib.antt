@@ -9,6 +9,7 @@ pub mod Fronts
 pub mod Guards
 pub mod ItemTexts
 pub mod LineLaws
+pub mod Left
 pub mod Lines
 pub mod NameLists
 pub mod Numbered
