@@ -44,8 +44,10 @@ AreAccepted-length names (f ∷ files) (s ∷ scripts) after are =
 script_below-Extends : (old new : List Text) (script : List Item) → Extends old new
     → IsScriptBelow old script → IsScriptBelow new script
 script_below-Extends old new [] x below = tt
-script_below-Extends old new (c ∷ cs) x below =
-    (IsBelow-Extends old new (command_of c.command) x below.0, script_below-Extends old new cs x below.1)
+script_below-Extends old new (c ∷ cs) x below = (
+  IsBelow-Extends old new (command_of c.command) x below.0,
+  script_below-Extends old new cs x below.1,
+)
 
 -- one more script under more names
 pub AreScriptsBelow-append : (old new : List Text) (scripts : List (List Item))

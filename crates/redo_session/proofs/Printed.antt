@@ -128,8 +128,8 @@ session_begins names s items lines before text at printed same =
     (sym (length-map items (item_at names)))
 
 -- what was printed, one thing more, and what is left
-pub goes_on : (before text more left rest after : Text) → text ≡ before ++ more → left ≡ more ++ rest
-    → before ++ left ≡ after → text ++ rest ≡ after
+pub goes_on : (before text more left rest after : Text) → text ≡ before ++ more
+    → left ≡ more ++ rest → before ++ left ≡ after → text ++ rest ≡ after
 goes_on before text more left rest after printed parted all =
     ap (λ (t : Text). t ++ rest) printed ∙ append_assoc before more rest
     ∙ ap (λ (t : Text). before ++ t) (sym parted) ∙ all

@@ -32,7 +32,8 @@ named_here names (script ∷ scripts) =
 pub run_text_here : (p : PlanOf) (names : List Text) (scripts : List (List Item))
     (history : List coded.Line) (text : Text) → p ≡ plan_here names scripts
     → IsRun (scripts_named p) (map (line_at p.names) history)
-    → text ≡ run_text_of (scripts_named p) (sessions_below (length p.scripts)) (map (line_at p.names) history)
+    → text ≡ run_text_of (scripts_named p) (sessions_below (length p.scripts))
+    (map (line_at p.names) history)
     → IsRunText (scripts_at names scripts) text
 run_text_here p names scripts history text same run is =
     let lines : List (Line Text) = map (line_at p.names) history in
