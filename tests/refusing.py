@@ -15,7 +15,7 @@ class Sweep:
 
     def __init__(self, library, variable, run, tells=True):
         self.library, self.variable, self.run, self.tells = library, variable, run, tells
-        self.told = self.spared = 0
+        self.refused = self.told = self.spared = self.untold = 0
         self.wrong = []
 
     def step(self, at, report):
@@ -30,14 +30,18 @@ class Sweep:
             return True
         os.remove(report)
         told += answered
+        spared = min(spared, 1)
         if running:
             fault = fault or f"{running} threads not joined"
-        if self.tells and (told, min(spared, 1)) not in ([(0, 1), (1, 0)] if refused else [(0, 0)]):
+        if self.tells and told + spared != refused:
             fault = fault or f"{refused} refused, {told} told, {spared} spared"
         if fault:
             self.wrong.append(f"request {at}: {fault}")
-        self.told += told if self.tells else refused
-        self.spared += min(spared, 1) if self.tells else 0
+        self.refused += refused
+        if self.tells:
+            self.told += told
+            self.spared += spared
+            self.untold += max(refused - told - spared, 0)
         return bool(refused)
 
     def all(self):

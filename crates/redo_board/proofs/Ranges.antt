@@ -1,5 +1,5 @@
 -- Fresh seats: ranges of sessions, and how they are cut.
-use Rattle.std.proofs.Common.{◌≡◌, ◌≢◌, ℕ, zero, suc, ◌+◌, ◌-◌, ◌<◌, ◌≤◌, cond, lt-ltb, le-ltb, List, [], ◌∷◌, length, get_or, refl, sym, ap, ◌∙◌, subst, ⊎_elim, arith}
+use Rattle.std.proofs.Common.{◌≡◌, ◌≢◌, ℕ, zero, suc, ◌+◌, ◌-◌, ◌<◌, ◌≤◌, cond, lt-ltb, le-ltb, List, [], ◌∷◌, ◌++◌, length, get_or, refl, sym, ap, ◌∙◌, subst, ⊎_elim, arith}
 use Rattle.std.proofs.lemmas.List.{get_or_past}
 use mathlib.Core.Logic.{dite}
 use mathlib.Core.Option.{some, some-injective, some-ne-none}
@@ -66,6 +66,17 @@ from-range m n (suc k) a b = dite (dec_lt n m)
         ap (λ t. cond t (from m (range (n + 1) k)) ((n, []) ∷ from m (range (n + 1) k)))
         (le-ltb n m a)
         ∙ ap (λ (t : List Part). (n, []) ∷ t) (from-all m (n + 1) k (omega arith))
+
+-- ranges side by side
+pub range-append : (n a b : ℕ) → range n a ++ range (n + a) b ≡ range n (a + b)
+range-append n zero b =
+    ap (λ m. range m b) (let e : n + 0 ≡ n = omega arith in e)
+    ∙ ap (range n) (let e : b ≡ 0 + b = omega arith in e)
+range-append n (suc a) b =
+    ap (λ (t : List Part). (n, []) ∷ t)
+    (ap (λ m. range (n + 1) a ++ range m b) (let e : n + suc a ≡ n + 1 + a = omega arith in e)
+    ∙ range-append (n + 1) a b)
+    ∙ ap (range n) (let e : suc (a + b) ≡ suc a + b = omega arith in e)
 
 pub fresh_told : (p : PlanOf) (n k : ℕ) → IsPlan p → Told (view p (range n k) [] [])
 fresh_told p n k plan = record { log = []; plan = plan; legal = tt; fits = range_fits p n k }

@@ -3,14 +3,8 @@
 
 ghost use Rattle.std.specs.Prelude.{◌≡◌, ◌⊎◌, ℕ, ◌<◌, length, IfOk, IfErr};
 
-mod fault;
-mod finish;
-mod task;
-mod words;
-
-use fault::Fault;
-use finish::finish;
 use redo_command::Watched;
+use redo_job::{Fault, Job, finish, job};
 use redo_replay::{ReplayFault, Verdict, replay_text};
 use redo_session::{TextFault, run_texts};
 use std::io::Read;
@@ -19,7 +13,6 @@ use std::rt::{Env, Files};
 use std::sync::Wait;
 use std::thread::Threads;
 use std::{env, fs, io};
-use task::Job;
 
 /// The words after the program's name.
 fn given_words<R: Env + AllocGlobal>(rt: &R) -> Result<Vec<String>, Fault> {
@@ -116,7 +109,7 @@ fn done<R: Threads + Wait + Sync + Files + Input + Print + AllocGlobal>(
 
 fn asked<R: Env + AllocGlobal>(rt: &R) -> Result<Job, Fault> {
     let words = given_words(rt)?;
-    words::job(rt.alloc(), &words)
+    job(rt.alloc(), &words)
 }
 
 fn main(rt: HostRuntime) -> ExitCode {

@@ -72,7 +72,7 @@ module _ {N : Type 0} (naming : Naming N) where
   row_words_more lines line = words_more [] lines line
 
   -- a claim word by grants and releases
-  word_is : (lines : List (PlacedLine N)) (t : N) → Paired naming lines
+  pub word_is : (lines : List (PlacedLine N)) (t : N) → Paired naming lines
       → claim_word_of naming lines t ≡ grants_in naming lines t + releases_in naming lines t
   word_is lines t pair = elim (pair.pairs t) [
     | inl e ↦ let a : zero_if (eqb (grants_in naming lines t) (releases_in naming lines t))

@@ -14,3 +14,6 @@ pub mod FromName
 pub mod Standing
 pub mod TwoSessions
 pub mod OneOrder
+pub mod JournalByName
+pub mod OnlySo
+pub mod ByHand

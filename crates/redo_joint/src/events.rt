@@ -63,3 +63,30 @@ pub fn release_goes_on()
         let g = (claim_word_of texts lines t - 1) / 2 + 1 in
         GoesOnBy texts lines (placed_at s number (Unlock t) Okay (Released t g)) }
 {}
+
+/// By no other line does a legal placed history go on.
+pub fn goes_on_only_so()
+    ensures row { (lines : List (PlacedLine Text)) (s number r : ℕ) (command : Command Text)
+        (reply : Reply Text) →
+        GoesOnBy texts lines (placed_at s number command reply (Row r)) →
+        let held = holds_by texts (part_of s lines) (target_of command) in
+        (r ≡ rows_in lines) × (is_claim command reply ≡ false)
+        × Replies texts (records_left texts lines) s held command reply }
+    ensures grant { (lines : List (PlacedLine Text)) (s number g : ℕ) (t : Text)
+        (command : Command Text) (reply : Reply Text) →
+        GoesOnBy texts lines (placed_at s number command reply (Granted t g)) →
+        (command ≡ Lock t) × (reply ≡ replies.Granted g)
+        × (claim_word_of texts lines t % 2 ≡ 0) × (g ≡ claim_word_of texts lines t / 2 + 1) }
+    ensures busy { (lines : List (PlacedLine Text)) (s number g : ℕ) (t : Text)
+        (command : Command Text) (reply : Reply Text) →
+        GoesOnBy texts lines (placed_at s number command reply (Busy t g)) →
+        (command ≡ Lock t) × (reply ≡ replies.Busy g) × (claim_word_of texts lines t % 2 ≡ 1)
+        × (g ≡ (claim_word_of texts lines t - 1) / 2 + 1) }
+    ensures release { (lines : List (PlacedLine Text)) (s number g : ℕ) (t : Text)
+        (command : Command Text) (reply : Reply Text) →
+        GoesOnBy texts lines (placed_at s number command reply (Released t g)) →
+        (command ≡ Unlock t) × (reply ≡ Okay)
+        × (g ≡ (claim_word_of texts lines t - 1) / 2 + 1)
+        × (holds_by texts (part_of s lines) (Some t) ≡ true)
+        × (is_built_by s (target_state (records_left texts lines) t) ≡ false) }
+{}

@@ -7,3 +7,4 @@ pub mod histories;
 pub mod merging;
 pub mod renaming;
 pub mod words;
+pub mod worked;

@@ -2,10 +2,12 @@
 
 ghost use Rattle.std.specs.Prelude.{◌≡◌, List, map, ℕ};
 ghost use Rattle.redo_joint.specs.Named.{AreToldBelow, IsPlacedBelow, named_journals, named_placed_line};
-ghost use Rattle.redo_model.specs.Journals.{IsFirstJointOrder, IsJointOrder};
+ghost use Rattle.redo_model.specs.Command.{Command};
+ghost use Rattle.redo_model.specs.Journals.{IsFirstJointOrder, IsJointOrder, IsJournal, IsWholeJournal};
 ghost use Rattle.redo_model.specs.Names.{Text, numbers, texts};
 ghost use Rattle.redo_model.specs.Placed.{PlacedLine};
 ghost use Rattle.redo_model.specs.Inside.Renaming.{IsRenaming, Renaming};
+ghost use Rattle.redo_model.specs.Renaming.{named_command};
 ghost use Rattle.std.specs.List.{AllByRecursion};
 ghost use Rattle.std.specs.declared.cmp.Ordering.{Ordering};
 
@@ -45,4 +47,14 @@ pub fn first_joint_order_by_name()
         ((lines : List (PlacedLine ℕ)) → IsJointOrder (numbers order) journals lines → ⊥) →
         (lines : List (PlacedLine Text)) →
         IsJointOrder texts (named_journals to.name journals) lines → ⊥ }
+{}
+
+/// A journal over numbers, under their names, is one over the names; and a whole one a whole one.
+pub fn journal_by_name()
+    ensures journal { (name : ℕ → Text) (s : ℕ) (script : List (Command ℕ))
+        (lines : List (PlacedLine ℕ)) → IsJournal s script lines →
+        IsJournal s (map (named_command name) script) (map (named_placed_line name) lines) }
+    ensures whole { (name : ℕ → Text) (s : ℕ) (script : List (Command ℕ))
+        (lines : List (PlacedLine ℕ)) → IsWholeJournal s script lines →
+        IsWholeJournal s (map (named_command name) script) (map (named_placed_line name) lines) }
 {}

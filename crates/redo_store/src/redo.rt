@@ -1,9 +1,9 @@
-ghost use Rattle.std.specs.Prelude.{◌≡◌, ◌+◌, ◌^◌, ◌<◌, Some, None, length, slice_set, IfOk, OnOk, OnErr};
+ghost use Rattle.std.specs.Prelude.{◌≡◌, ◌+◌, ◌^◌, ◌<◌, Some, None, length, slice_set, IfOk, IsOk, IsSome, OnOk, OnErr};
 ghost use Rattle.redo_model.specs.Names.{texts, numbers};
 ghost use Rattle.redo_model.specs.State.{empty};
 ghost use Rattle.redo_model.specs.Command as commands;
 ghost use Rattle.redo_model.specs.Command.{asked_lock};
-ghost use Rattle.redo_model.specs.Step.{Answers, after, is_held_by, holds_target, records_after};
+ghost use Rattle.redo_model.specs.Step.{Answers, after, is_held_by, holds_target, records_after, verdict_of};
 ghost use Rattle.redo_model.specs.Renaming.{IsBelow, IsReplyBelow};
 ghost use Rattle.redo_model.specs.Inside.Renaming.{OrdersAlike, numbering};
 ghost use Rattle.redo_terms.specs.Meaning.{command_of, reply_of};
@@ -79,7 +79,8 @@ impl Redo {
         })
     }
 
-    /// The reply to a session's command, and its change. Want of memory changes neither the state nor the calls.
+    /// The reply to a session's command, and its change. Want of memory changes neither the state nor the calls, and is
+    /// no answer to a lock or to a command that is refused.
     pub fn call(
         &mut self,
         alloc: Global,
@@ -97,6 +98,11 @@ impl Redo {
             (λ reply. IsReplyBelow (tables_count self.old) (reply_of reply)) }
         ensures count { tables_count self.new ≡ tables_count self.old }
         ensures order { tables_order self.new ≡ tables_order self.old }
+        ensures lock { IsSome (asked_lock (command_of command.now)) → IsOk result }
+        ensures refused { IsSome (verdict_of (numbers (tables_order self.old))
+            (state_of self.old).records session
+            (holds_target (state_of self.old).locks session (command_of command.now))
+            (command_of command.now)) → IsOk result }
         ensures err { OnErr result (IsAsBefore self.old self.new) }
     {
         match asked_lock(command) {
@@ -182,6 +188,9 @@ impl Redo {
             (λ reply. IsReplyBelow (tables_count self.old) (reply_of reply)) }
         ensures count { tables_count self.new ≡ tables_count self.old }
         ensures order { tables_order self.new ≡ tables_order self.old }
+        ensures refused { IsSome (verdict_of (tables_naming self.old) (tables_records self.old)
+            session (holds_target (locks_of self.old) session (command_of command.now))
+            (command_of command.now)) → IsOk result }
         ensures err { OnErr result (IsAsBefore self.old self.new) }
     {
         let holds = self.holds_target(session, command);
@@ -205,6 +214,8 @@ impl Redo {
         ensures calls { OnOk result (calls_of self.new ≡ calls_of self.old + 1) }
         ensures count { tables_count self.new ≡ tables_count self.old }
         ensures order { tables_order self.new ≡ tables_order self.old }
+        ensures refused { IsSome (verdict_of (tables_naming self.old) (tables_records self.old)
+            session holds (command_of command.now)) → IsOk result }
         ensures err { OnErr result (IsAsBefore self.old self.new) }
     {
         let calls = self.calls + 1;

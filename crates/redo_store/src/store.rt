@@ -78,7 +78,7 @@ impl Store {
     }
 
     /// The reply to a session's command, which is no lock. `holds` says whether the session holds its target. Only
-    /// lists of names take memory.
+    /// lists of names take memory, and a refusal takes none.
     pub fn reply(
         &self,
         alloc: Global,
@@ -92,6 +92,8 @@ impl Store {
             s holds (command_of command.now) (reply_of reply)) }
         ensures below { IfOk result (λ reply. IsReplyBelow (count_of self.now) (reply_of reply)) }
         ensures ok { lists_names (command_of command.now) ≡ false → IsOk result }
+        ensures refused { IsSome (verdict_of (naming_of self.now) (records_of self.now) s holds
+            (command_of command.now)) → IsOk result }
     {
         match self.refusal(s, command, holds) {
             Some(refusal) => Ok(Reply::Refused(refusal)),

@@ -4,6 +4,8 @@
 #[cfg(test)]
 mod devices;
 #[cfg(test)]
+mod finish;
+#[cfg(test)]
 mod names;
 #[cfg(test)]
 mod texts;

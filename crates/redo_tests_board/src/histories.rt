@@ -55,6 +55,29 @@ fn are_below(count: u32, lines: &[Line]) -> bool
         && is_reply_below(count, &line.reply))
 }
 
+/// The history that the journals are merged to.
+pub(crate) fn merged(
+    rt: &impl Abort,
+    alloc: Global,
+    plan: &Plan,
+    journals: &[Journal],
+) -> Result<Vec<Line>, AllocError> {
+    assert!(rt; are_journals(plan, journals));
+    Ok(merge(alloc, plan, journals)?.expect(rt, "a joint order"))
+}
+
+/// The text of a history.
+pub(crate) fn text_of(
+    rt: &impl Abort,
+    alloc: Global,
+    plan: &Plan,
+    lines: &[Line],
+) -> Result<Vec<u8>, AllocError> {
+    let names = plan.names();
+    assert!(rt; are_below(names.len(), lines));
+    history_text(alloc, lines, names)
+}
+
 /// The text of the history that the journals are merged to.
 pub(crate) fn history_of(
     rt: &impl Abort,
@@ -62,11 +85,8 @@ pub(crate) fn history_of(
     plan: &Plan,
     journals: &[Journal],
 ) -> Result<Vec<u8>, AllocError> {
-    assert!(rt; are_journals(plan, journals));
-    let lines = merge(alloc, plan, journals)?.expect(rt, "a joint order");
-    let names = plan.names();
-    assert!(rt; are_below(names.len(), &lines));
-    history_text(alloc, &lines, names)
+    let lines = merged(rt, alloc, plan, journals)?;
+    text_of(rt, alloc, plan, &lines)
 }
 
 /// The database answers as the history says that it did, line by line, and it has so many lines.

@@ -1,7 +1,7 @@
 //! A worker that leaves before its script's end.
-ghost use Rattle.std.specs.Prelude.{◌≡◌, ◌+◌, length, IfOk};
-ghost use Rattle.redo_board.specs.Shown.{session_of};
-ghost use Rattle.redo_board.specs.Kept.{IsBoardOf, WorksAt};
+ghost use Rattle.std.specs.Prelude.{◌≡◌, ◌+◌, ◌<◌, length, IfOk};
+ghost use Rattle.redo_board.specs.Shown.{first_of, end_of};
+ghost use Rattle.redo_board.specs.Kept.{IsBoardOf, SitsAt, IsFresh};
 ghost use Rattle.redo_tests_board.specs.Workers.{HasFrom};
 
 use crate::histories::{history_of, rows_in};
@@ -9,7 +9,7 @@ use crate::outcomes::tries_of;
 use crate::plans::plan_of;
 use crate::seats::{close, meet, split};
 use crate::workers::worker_of;
-use redo_board::{Board, Open, Seat, Worker};
+use redo_board::{Board, Open, Seat};
 use redo_journal::{Journal, Plan};
 use std::alloc::{AllocError, Global};
 use std::process::Abort;
@@ -20,19 +20,21 @@ const FILES: [&str; 2] = [
     "lock t\nfile t 1\nood\nunlock t\n",
 ];
 
-/// Does so many commands of the worker's script, and leaves.
+/// Does so many commands of the seat's session, and leaves.
 fn leave_after(
     rt: &impl Abort,
     alloc: Global,
     board: &Board,
     plan: &Plan,
-    mut worker: Worker,
+    seat: Seat,
     commands: u32,
 ) -> Result<(Seat, Journal), AllocError>
-    requires { IsBoardOf plan.now board.now × WorksAt plan.now board.now worker }
-    ensures { IfOk result (λ r. HasFrom plan.now board.now (session_of worker)
-        (session_of worker + 1) r.0) }
+    requires board { IsBoardOf plan.now board.now × SitsAt plan.now board.now seat }
+    requires fresh { IsFresh seat × (end_of seat ≡ first_of seat + 1) }
+    requires session { first_of seat < length plan.now.scripts }
+    ensures { IfOk result (λ r. HasFrom plan.now board.now (first_of seat) (end_of seat) r.0) }
 {
+    let mut worker = worker_of(alloc, board, plan, seat)?;
     for _ in 0..commands {
         assert!(rt; worker.step(alloc, board, plan, &Open)?);
     }
@@ -50,10 +52,8 @@ fn leave_apart(
 {
     let (board, seat) = Board::open(alloc, plan)?;
     let (left, right) = split(&board, plan, seat, 1);
-    let first = worker_of(alloc, &board, plan, left)?;
-    let second = worker_of(alloc, &board, plan, right)?;
-    let (left, journal) = leave_after(rt, alloc, &board, plan, first, 3)?;
-    let (right, other) = leave_after(rt, alloc, &board, plan, second, 4)?;
+    let (left, journal) = leave_after(rt, alloc, &board, plan, left, 3)?;
+    let (right, other) = leave_after(rt, alloc, &board, plan, right, 4)?;
     let all = meet(&board, plan, left, right);
     let rows = close(board, plan, all);
     Ok((rows, vec![in alloc; journal, other]?))
@@ -70,15 +70,25 @@ const WANT: &str = "history 7\n\
     2 unlock t => refused not-locked\n";
 
 /// The other goes on, and loses the rows of the one that left.
+fn check_left(
+    rt: &impl Abort,
+    alloc: Global,
+    plan: &Plan,
+    journals: &[Journal],
+) -> Result<(), AllocError> {
+    assert!(rt; rows_in(journals) == 5);
+    assert!(rt; tries_of(journals, 0) == 2 && tries_of(journals, 1) == 5);
+    let history = history_of(rt, alloc, plan, journals)?;
+    assert!(rt; history.as_slice() == WANT.as_bytes());
+    Ok(())
+}
+
 #[test]
 fn leaves_in_the_middle(rt: HostRuntime) -> Result<(), AllocError> {
     let alloc = rt.alloc();
     let plan = plan_of(&rt, alloc, &FILES)?;
     assert!(rt; plan.scripts().len() == 2);
     let (rows, journals) = leave_apart(&rt, alloc, &plan)?;
-    assert!(rt; rows == 5 && rows_in(&journals) == 5);
-    assert!(rt; tries_of(&journals, 0) == 2 && tries_of(&journals, 1) == 5);
-    let history = history_of(&rt, alloc, &plan, &journals)?;
-    assert!(rt; history.as_slice() == WANT.as_bytes());
-    Ok(())
+    assert!(rt; rows == 5);
+    check_left(&rt, alloc, &plan, &journals)
 }

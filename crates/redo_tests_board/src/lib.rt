@@ -2,6 +2,10 @@
 #![tactic(auto)]
 
 #[cfg(test)]
+mod counts;
+#[cfg(test)]
+mod drawn;
+#[cfg(test)]
 mod gates;
 #[cfg(test)]
 mod histories;
@@ -14,6 +18,8 @@ mod outcomes;
 #[cfg(test)]
 mod plans;
 #[cfg(test)]
+mod random;
+#[cfg(test)]
 mod refusals;
 #[cfg(test)]
 mod schedules;
@@ -21,6 +27,8 @@ mod schedules;
 mod seats;
 #[cfg(test)]
 mod threads;
+#[cfg(test)]
+mod told;
 #[cfg(test)]
 mod whole_runs;
 #[cfg(test)]

@@ -8,6 +8,7 @@ use crate::outcomes::{ran, tries_of};
 use crate::plans::plan_of;
 use crate::seats::close;
 use crate::threads::journals_of;
+use crate::told::tell;
 use crate::worked::{COMMON_PATH, COMMON_PATH_HISTORY, LOST_TRY, LOST_TRY_HISTORY, lost_try};
 use crate::workers::work;
 use redo_board::{Board, Open, Seat};
@@ -15,13 +16,17 @@ use redo_journal::{Journal, Plan};
 use redo_session::RunFault;
 use std::alloc::{AllocError, Global};
 use std::process::Abort;
+use std::sync::Wait;
 use std::thread::Threads;
 
 /// The plan of these files. Where a request is refused, the next try succeeds.
 fn planned(rt: &impl Abort, alloc: Global, files: &[&str]) -> Result<Plan, AllocError> {
     match plan_of(rt, alloc, files) {
         Ok(plan) => Ok(plan),
-        Err(_) => plan_of(rt, alloc, files),
+        Err(_) => {
+            tell(alloc);
+            plan_of(rt, alloc, files)
+        }
     }
 }
 
@@ -33,7 +38,10 @@ fn opened(alloc: Global, plan: &Plan) -> Result<(Board, Seat), AllocError>
 {
     match Board::open(alloc, plan) {
         Ok(opened) => Ok(opened),
-        Err(_) => Board::open(alloc, plan),
+        Err(_) => {
+            tell(alloc);
+            Board::open(alloc, plan)
+        }
     }
 }
 
@@ -41,7 +49,10 @@ fn opened(alloc: Global, plan: &Plan) -> Result<(Board, Seat), AllocError>
 fn gated(alloc: Global) -> Result<Holds, AllocError> {
     match lost_try(alloc) {
         Ok(gate) => Ok(gate),
-        Err(_) => lost_try(alloc),
+        Err(_) => {
+            tell(alloc);
+            lost_try(alloc)
+        }
     }
 }
 
@@ -54,8 +65,34 @@ fn merged(
 ) -> Result<Vec<u8>, AllocError> {
     match history_of(rt, alloc, plan, journals) {
         Ok(history) => Ok(history),
-        Err(_) => history_of(rt, alloc, plan, journals),
+        Err(_) => {
+            tell(alloc);
+            history_of(rt, alloc, plan, journals)
+        }
     }
+}
+
+/// The journal of the one session, which does its whole script.
+fn done_alone(rt: &impl Abort, alloc: Global, plan: &Plan) -> Result<Journal, AllocError>
+    requires { length plan.now.scripts ≡ 1 }
+{
+    let (board, seat) = opened(alloc, plan)?;
+    let (seat, journal) = work(rt, alloc, &board, plan, &Open, seat)?;
+    assert!(rt; close(board, plan, seat) == 7 && journal.tries == 7);
+    Ok(journal)
+}
+
+/// The journals are merged to this history.
+fn check_history(
+    rt: &impl Abort,
+    alloc: Global,
+    plan: &Plan,
+    journals: &[Journal],
+    want: &str,
+) -> Result<(), AllocError> {
+    let history = merged(rt, alloc, plan, journals)?;
+    assert!(rt; history.as_slice() == want.as_bytes());
+    Ok(())
 }
 
 #[test]
@@ -63,12 +100,8 @@ fn every_request_refused(rt: HostRuntime) -> Result<(), AllocError> {
     let alloc = rt.alloc();
     let plan = planned(&rt, alloc, &[COMMON_PATH])?;
     assert!(rt; plan.scripts().len() == 1);
-    let (board, seat) = opened(alloc, &plan)?;
-    let (seat, journal) = work(&rt, alloc, &board, &plan, &Open, seat)?;
-    assert!(rt; close(board, &plan, seat) == 7 && journal.tries == 7);
-    let history = merged(&rt, alloc, &plan, &[journal])?;
-    assert!(rt; history.as_slice() == COMMON_PATH_HISTORY.as_bytes());
-    Ok(())
+    let journal = done_alone(&rt, alloc, &plan)?;
+    check_history(&rt, alloc, &plan, &[journal], COMMON_PATH_HISTORY)
 }
 
 /// The journals of the lost try. Without a thread of its own, a session waits in vain for the other.
@@ -80,7 +113,10 @@ fn lost<R: Threads + Abort + Sync>(
     requires { length plan.now.scripts ≡ 2 }
 {
     let gate = gated(alloc)?;
-    let (rows, journals) = journals_of(rt, alloc, plan, &gate)?;
+    let Ok((rows, journals)) = journals_of(rt, alloc, plan, &gate) else {
+        tell(alloc);
+        return Err(AllocError);
+    };
     if !gate.are_met() {
         return Err(AllocError);
     }
@@ -88,19 +124,28 @@ fn lost<R: Threads + Abort + Sync>(
     Ok(journals)
 }
 
+/// The same. Where a request or the start of a thread is refused, the next try succeeds.
+fn lost_again<R: Threads + Abort + Sync>(
+    rt: &R,
+    alloc: Global,
+    plan: &Plan,
+) -> Result<Vec<Journal>, AllocError>
+    requires { length plan.now.scripts ≡ 2 }
+{
+    match lost(rt, alloc, plan) {
+        Ok(journals) => Ok(journals),
+        Err(_) => lost(rt, alloc, plan),
+    }
+}
+
 #[test]
 fn refused_after_the_lost_row(rt: HostRuntime) -> Result<(), AllocError> {
     let alloc = rt.alloc();
     let plan = planned(&rt, alloc, &LOST_TRY)?;
     assert!(rt; plan.scripts().len() == 2);
-    let journals = match lost(&rt, alloc, &plan) {
-        Ok(journals) => journals,
-        Err(_) => lost(&rt, alloc, &plan)?,
-    };
+    let journals = lost_again(&rt, alloc, &plan)?;
     assert!(rt; tries_of(&journals, 0) == 6 && tries_of(&journals, 1) == 5);
-    let history = merged(&rt, alloc, &plan, &journals)?;
-    assert!(rt; history.as_slice() == LOST_TRY_HISTORY.as_bytes());
-    Ok(())
+    check_history(&rt, alloc, &plan, &journals, LOST_TRY_HISTORY)
 }
 
 /// Two sessions that want one target.
@@ -109,18 +154,32 @@ const TWO_SESSIONS: [&str; 2] = [
     "lock t\nstart t\nfile a 2\nood\nlock t\ntargets\n",
 ];
 
-/// Where a request or the start of a thread is refused, a run answers that, and the next one
+/// The history of a run. Where a request or the start of a thread is refused, the run answers that, and the next one
 /// succeeds.
+fn ran_again<R: Threads + Wait + Sync>(
+    rt: &R,
+    alloc: Global,
+    plan: &Plan,
+) -> Result<Vec<u8>, RunFault> {
+    match ran(rt, alloc, plan, &Open) {
+        Ok((_, history)) => Ok(history),
+        Err(RunFault::Memory) => {
+            tell(alloc);
+            Ok(ran(rt, alloc, plan, &Open)?.1)
+        }
+    }
+}
+
 #[test]
 fn run_with_each_request_refused(rt: HostRuntime) -> Result<(), RunFault> {
     let alloc = rt.alloc();
     let plan = planned(&rt, alloc, &TWO_SESSIONS)?;
-    let (_outcome, history) = match ran(&rt, alloc, &plan, &Open) {
-        Ok(left) => left,
-        Err(RunFault::Memory) => ran(&rt, alloc, &plan, &Open)?,
-    };
+    let history = ran_again(&rt, alloc, &plan)?;
     match replays(&rt, alloc, &history, 13) {
         Ok(()) => Ok(()),
-        Err(_) => Ok(replays(&rt, alloc, &history, 13)?),
+        Err(_) => {
+            tell(alloc);
+            Ok(replays(&rt, alloc, &history, 13)?)
+        }
     }
 }

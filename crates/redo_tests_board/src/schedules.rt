@@ -2,13 +2,14 @@
 ghost use Rattle.std.specs.Prelude.{length, All, IfOk};
 ghost use Rattle.redo_board.specs.Kept.{IsBoardOf, SitsAt, IsFreshOf, WorksAt};
 
-use crate::histories::{history_of, replays};
+use crate::counts::{Counts, check_counts};
+use crate::histories::{merged, replays, text_of};
 use crate::order::{advance, first_schedule};
 use crate::plans::plan_of;
 use crate::seats::split;
 use crate::workers::worker_of;
-use redo_board::{Board, Open, Seat, Worker};
-use redo_journal::{Journal, Plan};
+use redo_board::{Board, Seat, Worker};
+use redo_journal::{Journal, Place, Plan};
 use std::alloc::{AllocError, Global};
 use std::process::Abort;
 
@@ -66,21 +67,53 @@ fn workers_of(
     Ok(workers)
 }
 
+/// Takes one step, whose command was ready as often as it tried an exchange: as often as its row is
+/// past the session's row before it. So many rows were passed by then.
+fn take_turn(
+    rt: &impl Abort,
+    alloc: Global,
+    board: &Board,
+    plan: &Plan,
+    gate: &Counts,
+    worker: &mut Worker,
+    passed: u32,
+) -> Result<u32, AllocError>
+    requires { IsBoardOf plan.now board.now × WorksAt plan.now board.now worker.old }
+    ensures { WorksAt plan.now board.now worker.new }
+{
+    let (ready, tries) = (gate.all(), worker.tries());
+    assert!(rt; worker.step(alloc, board, plan, gate)?);
+    let entry = worker.last().expect(rt, "an entry");
+    let passes = match entry.place {
+        Place::Row(row) => row.wrapping_add(1),
+        _ => passed,
+    };
+    assert_eq!(rt; gate.all().wrapping_sub(ready), passes.wrapping_sub(passed));
+    assert_eq!(rt;
+        worker.tries().wrapping_sub(tries),
+        passes.wrapping_sub(passed)
+    );
+    Ok(passes)
+}
+
 /// Takes the steps in this order.
 fn take_turns(
     rt: &impl Abort,
     alloc: Global,
     board: &Board,
     plan: &Plan,
+    gate: &Counts,
     workers: &mut [Worker],
     turns: &[usize],
 ) -> Result<(), AllocError>
     requires board { IsBoardOf plan.now board.now }
     requires workers { All (WorksAt plan.now board.now) workers.old }
 {
+    let mut passed = [0; 4];
     for &turn in turns {
-        assert!(rt; turn < workers.len());
-        assert!(rt; workers[turn].step(alloc, board, plan, &Open)?);
+        assert!(rt; turn < workers.len() && turn < 4);
+        let before = passed[turn];
+        passed[turn] = take_turn(rt, alloc, board, plan, gate, &mut workers[turn], before)?;
     }
     Ok(())
 }
@@ -94,19 +127,23 @@ fn journals_of(alloc: Global, workers: Vec<Worker>) -> Result<Vec<Journal>, Allo
     Ok(journals)
 }
 
-/// The history of this schedule is legal.
-fn check_schedule(
+/// The history of this schedule is legal, and agrees with what was counted: so many rows, and so
+/// many exchanges.
+pub(crate) fn check_schedule(
     rt: &impl Abort,
     alloc: Global,
     plan: &Plan,
     turns: &[usize],
-) -> Result<(), AllocError> {
+) -> Result<(u32, u32), AllocError> {
     let (board, seat) = Board::open(alloc, plan)?;
     let mut workers = workers_of(alloc, &board, plan, seat)?;
-    take_turns(rt, alloc, &board, plan, &mut workers, turns)?;
+    let gate = Counts::new(alloc)?;
+    take_turns(rt, alloc, &board, plan, &gate, &mut workers, turns)?;
     let journals = journals_of(alloc, workers)?;
-    let history = history_of(rt, alloc, plan, &journals)?;
-    replays(rt, alloc, &history, turns.len())
+    let lines = merged(rt, alloc, plan, &journals)?;
+    let history = text_of(rt, alloc, plan, &lines)?;
+    replays(rt, alloc, &history, turns.len())?;
+    Ok((check_counts(rt, &lines, &journals, &gate), gate.all()))
 }
 
 /// How many schedules the plan has; the history of each is legal.

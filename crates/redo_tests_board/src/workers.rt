@@ -4,6 +4,7 @@ ghost use Rattle.redo_board.specs.Shown.{first_of, end_of, session_of};
 ghost use Rattle.redo_board.specs.Kept.{IsBoardOf, SitsAt, IsFresh, WorksAt};
 ghost use Rattle.redo_tests_board.specs.Workers.{HasFrom, left_by};
 
+use crate::told::tell;
 use redo_board::{Board, Gate, Seat, Worker};
 use redo_journal::{Journal, Place, Plan};
 use std::alloc::{AllocError, Global};
@@ -23,10 +24,13 @@ pub(crate) fn worker_of(
 {
     match Worker::new(alloc, plan, seat) {
         Ok(worker) => Ok(worker),
-        Err(seat) => match Worker::new(alloc, plan, seat) {
-            Ok(worker) => Ok(worker),
-            Err(_) => Err(AllocError),
-        },
+        Err(seat) => {
+            tell(alloc);
+            match Worker::new(alloc, plan, seat) {
+                Ok(worker) => Ok(worker),
+                Err(_) => Err(AllocError),
+            }
+        }
     }
 }
 
@@ -54,6 +58,7 @@ pub(crate) fn step<G: Gate>(
     match worker.step(alloc, board, plan, gate) {
         Ok(made) => Ok(made),
         Err(_) => {
+            tell(alloc);
             assert!(rt; last_of(worker) == last);
             worker.step(alloc, board, plan, gate)
         }

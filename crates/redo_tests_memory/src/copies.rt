@@ -89,39 +89,57 @@ fn check_reply(
     Ok(())
 }
 
+/// The line is read as a command that has this text.
+fn check_command_line(
+    rt: &impl Abort,
+    alloc: Global,
+    names: &mut Names,
+    line: &str,
+) -> Result<(), Fail> {
+    let text = line.as_bytes();
+    let command = again!(
+        rt,
+        alloc,
+        ReadFault::Memory,
+        read_command(alloc, text, names),
+        are_first(names, &NAMES)
+    );
+    Ok(check_command(rt, alloc, &command, names, line)?)
+}
+
 #[test]
 fn commands(rt: HostRuntime) -> Result<(), Fail> {
-    let alloc = rt.alloc();
-    let mut names = Names::new(alloc);
+    let mut names = Names::new(rt.alloc());
     for line in COMMANDS.lines() {
-        let text = line.as_bytes();
-        let command = again!(
-            &rt,
-            alloc,
-            ReadFault::Memory,
-            read_command(alloc, text, &mut names),
-            are_first(&names, &NAMES)
-        );
-        check_command(&rt, alloc, &command, &names, line)?;
+        check_command_line(&rt, rt.alloc(), &mut names, line)?;
     }
     assert!(&rt; names.len() == 8 && are_first(&names, &NAMES));
     Ok(())
 }
 
+/// The line is read as a reply that has this text.
+fn check_reply_line(
+    rt: &impl Abort,
+    alloc: Global,
+    names: &mut Names,
+    line: &str,
+) -> Result<(), Fail> {
+    let text = line.as_bytes();
+    let reply = again!(
+        rt,
+        alloc,
+        ReplyFault::Memory,
+        read_reply(alloc, text, names),
+        are_first(names, &NAMES)
+    );
+    Ok(check_reply(rt, alloc, &reply, names, line)?)
+}
+
 #[test]
 fn replies(rt: HostRuntime) -> Result<(), Fail> {
-    let alloc = rt.alloc();
-    let mut names = Names::new(alloc);
+    let mut names = Names::new(rt.alloc());
     for line in REPLIES.lines() {
-        let text = line.as_bytes();
-        let reply = again!(
-            &rt,
-            alloc,
-            ReplyFault::Memory,
-            read_reply(alloc, text, &mut names),
-            are_first(&names, &NAMES)
-        );
-        check_reply(&rt, alloc, &reply, &names, line)?;
+        check_reply_line(&rt, rt.alloc(), &mut names, line)?;
     }
     assert!(&rt; names.len() == 8 && are_first(&names, &NAMES));
     Ok(())

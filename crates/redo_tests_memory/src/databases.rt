@@ -1,12 +1,13 @@
 //! The database for one thread.
 ghost use Rattle.std.specs.Prelude.{◌≡◌, false, None, length, IfOk};
 ghost use Rattle.redo_model.specs.Command.{asked_lock};
-ghost use Rattle.redo_terms.specs.Meaning.{command_of};
+ghost use Rattle.redo_model.specs.Renaming.{IsBelow, IsReplyBelow};
+ghost use Rattle.redo_terms.specs.Meaning.{command_of, reply_of};
 ghost use Rattle.redo_store.specs.Tables.{tables_count};
 ghost use Rattle.redo_store.specs.Stored.{count_of};
 
 use crate::told::again;
-use redo_command::{Command, ReadFault, read_command, reply_text};
+use redo_command::{Command, ReadFault, Reply, read_command, reply_text};
 use redo_names::{Names, NamesFault, is_name};
 use redo_store::{Redo, Store};
 use std::alloc::{AllocError, Global};
@@ -56,6 +57,42 @@ fn parts_of(line: &str) -> Option<(bool, &str, &str)> {
     Some((session == "2", command, reply))
 }
 
+/// The command of a line of known names, whose numbers are below two.
+fn command_of_line(
+    rt: &impl Abort,
+    alloc: Global,
+    names: &mut Names,
+    line: &str,
+) -> Result<Command, Fail>
+    ensures { IfOk result (λ command. (length names.new ≡ 2)
+        × IsBelow 2 (command_of command)) }
+{
+    let text = line.as_bytes();
+    let command = again!(
+        rt,
+        alloc,
+        ReadFault::Memory,
+        read_command(alloc, text, names)
+    );
+    assert!(rt; names.len() == 2);
+    Ok(command)
+}
+
+/// The reply has this text.
+fn check_text(
+    rt: &impl Abort,
+    alloc: Global,
+    reply: &Reply,
+    names: &Names,
+    want: &str,
+) -> Result<(), Fail>
+    requires { IsReplyBelow (length names.now) (reply_of reply.now) }
+{
+    let text = again!(rt, alloc, AllocError, reply_text(alloc, reply, names));
+    assert_eq!(rt; text.as_slice(), want.as_bytes());
+    Ok(())
+}
+
 /// The database of two names.
 #[derive(Drop)]
 struct Asked {
@@ -68,16 +105,9 @@ impl Asked {
     /// A line of a history: what the session asks is answered so.
     fn check_line(&mut self, rt: &impl Abort, alloc: Global, line: &str) -> Result<(), Fail> {
         let (is_second, text, want) = parts_of(line).ok_or("a line")?;
-        let text = text.as_bytes();
-        let names = &mut self.names;
-        let command = again!(
-            rt,
-            alloc,
-            ReadFault::Memory,
-            read_command(alloc, text, names)
-        );
+        let command = command_of_line(rt, alloc, &mut self.names, text)?;
         let calls = self.redo.calls();
-        assert!(rt; self.names.len() == 2 && calls < 100);
+        assert!(rt; calls < 100);
         let session = u8::from(is_second);
         let reply = again!(
             rt,
@@ -86,26 +116,29 @@ impl Asked {
             self.redo.call(alloc, session, &command),
             self.redo.calls() == calls
         );
-        let text = again!(
-            rt,
-            alloc,
-            AllocError,
-            reply_text(alloc, &reply, &self.names)
-        );
-        assert_eq!(rt; text.as_slice(), want.as_bytes(), "{line:?}");
+        check_text(rt, alloc, &reply, &self.names, want)
+    }
+
+    fn check_lines(&mut self, rt: &impl Abort, alloc: Global, lines: &str) -> Result<(), Fail> {
+        for line in lines.lines() {
+            self.check_line(rt, alloc, line)?;
+        }
+        assert_eq!(rt; self.redo.calls() as usize, lines.lines().count());
         Ok(())
     }
 }
 
+fn redo_of(rt: &impl Abort, alloc: Global, names: &Names) -> Result<Redo, Fail>
+    requires { length names.now ≡ 2 }
+    ensures { IfOk result (λ redo. tables_count redo ≡ 2) }
+{
+    Ok(again!(rt, alloc, AllocError, Redo::new(alloc, names)))
+}
+
 fn check_lines(rt: &impl Abort, alloc: Global, texts: [&str; 2], lines: &str) -> Result<(), Fail> {
     let names = two_names(rt, alloc, texts)?;
-    let redo = again!(rt, alloc, AllocError, Redo::new(alloc, &names));
-    let mut asked = Asked { redo, names };
-    for line in lines.lines() {
-        asked.check_line(rt, alloc, line)?;
-    }
-    assert_eq!(rt; asked.redo.calls() as usize, lines.lines().count());
-    Ok(())
+    let redo = redo_of(rt, alloc, &names)?;
+    Asked { redo, names }.check_lines(rt, alloc, lines)
 }
 
 #[test]
@@ -132,55 +165,88 @@ struct Stored {
 }
 
 impl Stored {
-    /// A line of a history of one session, which holds the target. Room is made first, or with the change.
-    fn check_line(&mut self, rt: &impl Abort, alloc: Global, line: &str) -> Result<(), Fail> {
-        let (_, text, want) = parts_of(line).ok_or("a line")?;
-        let text = text.as_bytes();
-        let names = &mut self.names;
-        let command = again!(
-            rt,
-            alloc,
-            ReadFault::Memory,
-            read_command(alloc, text, names)
-        );
+    /// Room for the command is made, and nothing else is done.
+    fn reserve(&mut self, rt: &impl Abort, alloc: Global, command: &Command) -> Result<(), Fail>
+        requires numbers { IsBelow 2 (command_of command.now) }
+        requires no_lock { asked_lock (command_of command.now) ≡ None }
+    {
         let applied = self.store.applied();
-        assert!(rt; self.names.len() == 2 && applied < 100);
-        if is_lock(&command) {
-            return Ok(());
-        }
-        if self.is_reserved {
-            again!(
-                rt,
-                alloc,
-                AllocError,
-                self.store.reserve(&command),
-                self.store.applied() == applied
-            );
-            assert!(rt; self.store.has_room(&command));
-        }
-        let reply = again!(
-            rt,
-            alloc,
-            AllocError,
-            self.store.reply(alloc, 0, &command, true)
-        );
-        let text = again!(
-            rt,
-            alloc,
-            AllocError,
-            reply_text(alloc, &reply, &self.names)
-        );
-        assert_eq!(rt; text.as_slice(), want.as_bytes(), "{line:?}");
-        assert!(rt; self.store.applied() == applied);
         again!(
             rt,
             alloc,
             AllocError,
-            self.store.apply(0, &command, true),
+            self.store.reserve(command),
+            self.store.applied() == applied
+        );
+        assert!(rt; self.store.has_room(command) && self.store.applied() == applied);
+        Ok(())
+    }
+
+    /// The command has this reply.
+    fn check_reply(
+        &self,
+        rt: &impl Abort,
+        alloc: Global,
+        command: &Command,
+        want: &str,
+    ) -> Result<(), Fail>
+        requires numbers { IsBelow 2 (command_of command.now) }
+        requires no_lock { asked_lock (command_of command.now) ≡ None }
+    {
+        assert!(rt; self.names.len() == 2);
+        let reply = again!(
+            rt,
+            alloc,
+            AllocError,
+            self.store.reply(alloc, 0, command, true)
+        );
+        check_text(rt, alloc, &reply, &self.names, want)
+    }
+
+    /// The command's change is made.
+    fn apply(&mut self, rt: &impl Abort, alloc: Global, command: &Command) -> Result<(), Fail>
+        requires numbers { IsBelow 2 (command_of command.now) }
+        requires no_lock { asked_lock (command_of command.now) ≡ None }
+    {
+        let applied = self.store.applied();
+        assert!(rt; applied < 100);
+        again!(
+            rt,
+            alloc,
+            AllocError,
+            self.store.apply(0, command, true),
             self.store.applied() == applied
         );
         Ok(())
     }
+
+    /// A line of a history of one session, which holds the target. Room is made first, or with the change.
+    fn check_line(&mut self, rt: &impl Abort, alloc: Global, line: &str) -> Result<(), Fail> {
+        let (_, text, want) = parts_of(line).ok_or("a line")?;
+        let command = command_of_line(rt, alloc, &mut self.names, text)?;
+        if is_lock(&command) {
+            return Ok(());
+        }
+        if self.is_reserved {
+            self.reserve(rt, alloc, &command)?;
+        }
+        self.check_reply(rt, alloc, &command, want)?;
+        self.apply(rt, alloc, &command)
+    }
+
+    fn check_lines(&mut self, rt: &impl Abort, alloc: Global, lines: &str) -> Result<(), Fail> {
+        for line in lines.lines() {
+            self.check_line(rt, alloc, line)?;
+        }
+        Ok(())
+    }
+}
+
+fn store_of(rt: &impl Abort, alloc: Global, names: &Names) -> Result<Store, Fail>
+    requires { length names.now ≡ 2 }
+    ensures { IfOk result (λ store. count_of store ≡ 2) }
+{
+    Ok(again!(rt, alloc, AllocError, Store::new(alloc, names)))
 }
 
 fn check_stored(
@@ -191,16 +257,12 @@ fn check_stored(
 ) -> Result<(), Fail> {
     assert!(rt; number < 3);
     let names = two_names(rt, alloc, NAMES[number])?;
-    let store = again!(rt, alloc, AllocError, Store::new(alloc, &names));
     let mut stored = Stored {
-        store,
+        store: store_of(rt, alloc, &names)?,
         names,
         is_reserved,
     };
-    for line in HISTORIES[number].lines() {
-        stored.check_line(rt, alloc, line)?;
-    }
-    Ok(())
+    stored.check_lines(rt, alloc, HISTORIES[number])
 }
 
 #[test]

@@ -29,15 +29,9 @@ fn read(alloc: Global, text: &str) -> Result<Result<History, HistoryFault>, Allo
     }
 }
 
-/// The verdict on the text is written, alone and by a replay of the text; the history is written as it was read.
-pub(crate) fn check_verdict(
-    rt: &impl Abort,
-    alloc: Global,
-    text: &str,
-    want: &str,
-) -> Result<(), Fail> {
-    let history = again!(rt, alloc, AllocError, read(alloc, text))?;
-    let verdict = again!(rt, alloc, AllocError, replay(alloc, &history));
+/// The verdict on the history is written so.
+fn check_said(rt: &impl Abort, alloc: Global, history: &History, want: &str) -> Result<(), Fail> {
+    let verdict = again!(rt, alloc, AllocError, replay(alloc, history));
     let said = again!(
         rt,
         alloc,
@@ -45,15 +39,31 @@ pub(crate) fn check_verdict(
         verdict_text(alloc, &verdict, history.names())
     );
     assert_eq!(rt; said.as_slice(), want.as_bytes());
-    let lines = history.lines();
+    Ok(())
+}
+
+/// The history is written as it was read.
+fn check_told(rt: &impl Abort, alloc: Global, history: &History, text: &str) -> Result<(), Fail> {
     let told = again!(
         rt,
         alloc,
         AllocError,
-        history_text(alloc, lines, history.names())
+        history_text(alloc, history.lines(), history.names())
     );
     assert!(rt; text.as_bytes().starts_with(told.as_slice()));
     Ok(())
+}
+
+/// The verdict on the text is written so, and the text as it was read.
+pub(crate) fn check_verdict(
+    rt: &impl Abort,
+    alloc: Global,
+    text: &str,
+    want: &str,
+) -> Result<(), Fail> {
+    let history = again!(rt, alloc, AllocError, read(alloc, text))?;
+    check_said(rt, alloc, &history, want)?;
+    check_told(rt, alloc, &history, text)
 }
 
 fn check_replay(rt: &impl Abort, alloc: Global, text: &str, want: &str) -> Result<(), Fail> {

@@ -47,15 +47,23 @@ fn planned(rt: &impl Abort, alloc: Global, files: &[&str]) -> Result<Plan, Alloc
     }
 }
 
-/// The run of one file, and its text.
+/// The plan is run, and the run's text is right.
+fn check_run<R: Threads + Wait + Abort + Sync>(
+    rt: &R,
+    alloc: Global,
+    plan: &Plan,
+) -> Result<(), Fail> {
+    let outcome = again!(rt, alloc, RunFault::Memory, run(rt, alloc, plan, &Open));
+    let text = again!(rt, alloc, AllocError, run_text(alloc, plan, &outcome));
+    assert!(rt; is_right(&text));
+    Ok(())
+}
+
 #[test]
 fn one_run(rt: HostRuntime) -> Result<(), Fail> {
     let alloc = rt.alloc();
     let plan = again!(&rt, alloc, AllocError, planned(&rt, alloc, &[FILE]));
-    let outcome = again!(&rt, alloc, RunFault::Memory, run(&rt, alloc, &plan, &Open));
-    let text = again!(&rt, alloc, AllocError, run_text(alloc, &plan, &outcome));
-    assert!(&rt; is_right(&text));
-    Ok(())
+    check_run(&rt, alloc, &plan)
 }
 
 /// A run of these files. The writer has room.

@@ -7,6 +7,7 @@ pub mod FormsFound
 pub mod FormsRead
 pub mod Fronts
 pub mod LineLaws
+pub mod Left
 pub mod Lines
 pub mod NameLists
 pub mod Numbered

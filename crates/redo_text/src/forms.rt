@@ -1,4 +1,4 @@
-ghost use Rattle.std.specs.Prelude.{◌<◌, List, length, IfOk, Err};
+ghost use Rattle.std.specs.Prelude.{◌≡◌, ◌<◌, List, length, IfOk, IfErr, OnErr, Err};
 ghost use Rattle.redo_names.specs.Names.{text_at};
 ghost use Rattle.redo_names.specs.Inside.Names.{Extends};
 ghost use Rattle.redo_model.specs.Names.{Text};
@@ -8,7 +8,7 @@ ghost use Rattle.redo_model.specs.Renaming.{IsBelow};
 ghost use Rattle.redo_terms.specs.Meaning.{command_of};
 ghost use Rattle.redo_terms.specs.Inside.Meaning.{command_at};
 ghost use Rattle.redo_text.specs.Questions.{words_of};
-ghost use Rattle.redo_text.specs.Inside.Reading.{Reads, one_name_in, file_in, stamp_in, done_in, no_words_in, form_in, words_in, words_after};
+ghost use Rattle.redo_text.specs.Inside.Reading.{Reads, LeavesWords, one_name_in, file_in, stamp_in, done_in, no_words_in, form_in, words_in, words_after};
 ghost use Rattle.redo_text.specs.Inside.ReplyReading.{okay_in};
 
 use crate::args::{one, two};
@@ -29,6 +29,7 @@ fn one_name_of(names: &mut Names, args: Option<&[u8]>) -> Result<u32, Unread>
         → Reads (λ n. (form (text_at names.new n), names.new)) result
         (one_name_in form names.old (words_after args.entry)) }
     ensures within { IfOk result (λ n. n < length names.new) }
+    ensures left { OnErr result (names.new ≡ names.old) }
     ensures kept { Extends names.old names.new }
 {
     if let Some(number) = known_alone(names, args) {
@@ -46,6 +47,7 @@ fn file_of(names: &mut Names, args: Option<&[u8]>) -> Result<Command, Unread>
     ensures reads { Reads (λ command. (command_at names.new command, names.new)) result
         (file_in names.old (words_after args.entry)) }
     ensures within { IfOk result (λ command. IsBelow (length names.new) (command_of command)) }
+    ensures left { OnErr result (names.new ≡ names.old) }
     ensures kept { Extends names.old names.new }
 {
     let Some((n, s)) = two(args) else {
@@ -62,6 +64,7 @@ fn stamp_of(alloc: Global, names: &mut Names, args: Option<&[u8]>) -> Result<Com
     ensures reads { Reads (λ command. (command_at names.new command, names.new)) result
         (stamp_in names.old (words_after args.entry)) }
     ensures within { IfOk result (λ command. IsBelow (length names.new) (command_of command)) }
+    ensures left { OnErr result (names.new ≡ names.old) }
     ensures kept { Extends names.old names.new }
 {
     let Some((n, c)) = two(args) else {
@@ -78,6 +81,7 @@ fn done_of(names: &mut Names, args: Option<&[u8]>) -> Result<Command, Unread>
     ensures reads { Reads (λ command. (command_at names.new command, names.new)) result
         (done_in names.old (words_after args.entry)) }
     ensures within { IfOk result (λ command. IsBelow (length names.new) (command_of command)) }
+    ensures left { OnErr result (names.new ≡ names.old) }
     ensures kept { Extends names.old names.new }
 {
     let Some((n, s)) = two(args) else {
@@ -103,11 +107,12 @@ pub(crate) fn check_no_words(args: Option<&[u8]>) -> Result<(), Unread>
 }
 
 /// The command that a text is, by its first word.
-#[tactic(auto, using(crate::proofs::Added::extends_same), unfolding(crate::specs::Inside::Reading::form_in))]
+#[tactic(auto, using(crate::proofs::Added::extends_same, crate::proofs::Left::same_left, crate::proofs::Left::same_left_on), unfolding(crate::specs::Inside::Reading::form_in))]
 pub(crate) fn form_of(alloc: Global, names: &mut Names, text: &[u8]) -> Result<Command, Unread>
     ensures reads { Reads (λ command. (command_at names.new command, names.new)) result
         (words_in names.old (words_of text.now)) }
     ensures within { IfOk result (λ command. IsBelow (length names.new) (command_of command)) }
+    ensures left { IfErr result (LeavesWords names.old text.now names.new) }
     ensures kept { Extends names.old names.new }
 {
     let Some((kind, args)) = cut_kind(text) else {

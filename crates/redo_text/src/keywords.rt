@@ -1,4 +1,4 @@
-ghost use Rattle.std.specs.Prelude.{◌≡◌, List, Some, Err, MatchOption};
+ghost use Rattle.std.specs.Prelude.{◌≡◌, ◌∷◌, List, Some, Err, IfSome, MatchOption};
 ghost use Rattle.redo_model.specs.Names.{Text};
 ghost use Rattle.redo_text.specs.Texts.{word_of};
 ghost use Rattle.redo_text.specs.Questions.{words_of};
@@ -31,9 +31,10 @@ macro_rules! word_by_kind {
 /// where it has one.
 #[tactic(auto, using(crate::proofs::Fronts::said))]
 pub(crate) fn cut_kind(text: &[u8]) -> Option<(Kind, Option<&[u8]>)>
-    ensures { (names : List Text)
+    ensures reads { (names : List Text)
         → MatchOption result (words_in names (words_of text.now) ≡ Err UnknownCommand)
         (λ k. words_in names (words_of text.now) ≡ form_in (Some k.0) names (words_after k.1)) }
+    ensures words { IfSome result (λ k. words_of text.now ≡ word_of k.0 ∷ words_after k.1) }
 {
     cases!(kind_by_front text)
 }

@@ -1,11 +1,11 @@
-ghost use Rattle.std.specs.Prelude.{◌≡◌, ◌≤◌, ◌∷◌, List, map, length, IfOk, true};
+ghost use Rattle.std.specs.Prelude.{◌≡◌, ◌≤◌, ◌∷◌, List, map, length, IfOk, IfErr, true};
 ghost use Rattle.std.specs.List.{list_all};
 ghost use Rattle.redo_names.specs.Names.{is_name as name_test, text_at};
 ghost use Rattle.redo_names.specs.Inside.Names.{Extends};
 ghost use Rattle.redo_model.specs.Names.{Text};
 ghost use Rattle.redo_model.specs.Command as commands;
 ghost use Rattle.redo_model.specs.Renaming.{AllBelow};
-ghost use Rattle.redo_text.specs.Inside.Reading.{Reads, target_and_names_in, all_added, names_form_in, words_after};
+ghost use Rattle.redo_text.specs.Inside.Reading.{Reads, LeavesFront, LeavesSome, target_and_names_in, all_added, names_form_in, words_after};
 
 use crate::args::words;
 use crate::fault::{LineFault, Unread};
@@ -65,6 +65,8 @@ pub(crate) fn numbers_of(
     ensures numbers { IfOk result
         (λ numbers. map (text_at names.new) numbers.items ≡ map (λ w. w.now) words.now) }
     ensures within { IfOk result (λ numbers. AllBelow (length names.new) numbers.items) }
+    ensures left { IfErr result
+        (LeavesFront names.old (map (λ w. w.now) words.now) names.new) }
     ensures kept { Extends names.old names.new }
 {
     let mut numbers = Vec::new(alloc);
@@ -86,6 +88,7 @@ fn target_and_numbers_in(
         (λ p. (form (text_at names.new p.0) (map (text_at names.new) p.1.items), names.new))
         result (names_form_in form names.old (map (λ w. w.now) words.now)) }
     ensures within { IfOk result (λ p. AllBelow (length names.new) (p.0 ∷ p.1.items)) }
+    ensures left { IfErr result (LeavesSome names.old (map (λ w. w.now) words.now) names.new) }
     ensures kept { Extends names.old names.new }
 {
     prove!(names.len() as usize <= MOST_NAMES);
@@ -106,6 +109,7 @@ pub(crate) fn target_and_numbers_of(
         (λ p. (form (text_at names.new p.0) (map (text_at names.new) p.1.items), names.new))
         result (names_form_in form names.old (words_after args.entry)) }
     ensures within { IfOk result (λ p. AllBelow (length names.new) (p.0 ∷ p.1.items)) }
+    ensures left { IfErr result (LeavesSome names.old (words_after args.entry) names.new) }
     ensures kept { Extends names.old names.new }
 {
     // This call says that each is a name.

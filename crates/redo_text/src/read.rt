@@ -8,8 +8,8 @@ ghost use Rattle.redo_terms.specs.Meaning.{command_of};
 ghost use Rattle.redo_terms.specs.Inside.Meaning.{command_at};
 ghost use Rattle.redo_text.specs.Grammar.{IsCommandLine, IsShort, AddsNames, is_skipped as skipped_test};
 ghost use Rattle.redo_text.specs.Questions.{has_bad_byte as bad_byte_test};
-ghost use Rattle.redo_text.specs.Inside.Faults.{IsLineFault};
-ghost use Rattle.redo_text.specs.Inside.Reading.{Reads, line_in, script_line_in};
+ghost use Rattle.redo_text.specs.Inside.Faults.{IsLineFault, LeavesNames};
+ghost use Rattle.redo_text.specs.Inside.Reading.{Reads, LeavesWords, line_in, script_line_in};
 
 use crate::fault::{LineFault, ReadFault, Unread, at_line};
 use crate::forms::form_of;
@@ -33,6 +33,7 @@ fn line_of(alloc: Global, line: &[u8], names: &mut Names) -> Result<Command, Unr
     ensures bad_byte { IsShort line.now → bad_byte_test line.now ≡ true
         → result ≡ Err (Unread.Fault LineFault.BadByte) }
     ensures within { IfOk result (λ command. IsBelow (length names.new) (command_of command)) }
+    ensures left { IfErr result (LeavesWords names.old line.now names.new) }
     ensures kept { Extends names.old names.new }
 {
     if line.len() > LONGEST_LINE {
@@ -47,7 +48,9 @@ fn line_of(alloc: Global, line: &[u8], names: &mut Names) -> Result<Command, Unr
     }
 }
 
-/// Reads the command that a line is, without its LF. Faults have line 1. After a fault the old names are a front of the names.
+/// Reads the command that a line is, without its LF. Faults have line 1.
+///
+/// After a fault of the line the names are as before, but where they would be too many.
 pub fn read_command(alloc: Global, line: &[u8], names: &mut Names) -> Result<Command, ReadFault>
     // What is read is a command line, and its names are added.
     ensures read { IfOk result (λ command. IsCommandLine line.now (command_at names.new command)
@@ -65,6 +68,7 @@ pub fn read_command(alloc: Global, line: &[u8], names: &mut Names) -> Result<Com
     ensures bad_byte { IsShort line.now → bad_byte_test line.now ≡ true
         → result ≡ Err (ReadFault.Line 1 LineFault.BadByte) }
     ensures within { IfOk result (λ command. IsBelow (length names.new) (command_of command)) }
+    ensures left { IfErr result (LeavesNames names.old line.now names.new) }
     ensures kept { Extends names.old names.new }
 {
     prove!(names.len() as usize <= MOST_NAMES);

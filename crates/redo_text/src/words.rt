@@ -1,4 +1,4 @@
-ghost use Rattle.std.specs.Prelude.{◌≡◌, ◌∷◌, [], ◌<◌, length, IfOk, IfSome, true};
+ghost use Rattle.std.specs.Prelude.{◌≡◌, ◌∷◌, [], ◌<◌, length, IfOk, IfSome, OnErr, true};
 ghost use Rattle.redo_names.specs.Names.{is_name as name_test, text_at};
 ghost use Rattle.redo_names.specs.Inside.Names.{Extends};
 ghost use Rattle.redo_model.specs.Names.{Text};
@@ -99,6 +99,7 @@ pub(crate) fn number_of(names: &mut Names, known: Option<u32>, name: &[u8]) -> R
     ensures reads { Reads (λ _. names.new) result (added names.old name.now) }
     ensures number { IfOk result (λ n. text_at names.new n ≡ name.now) }
     ensures within { IfOk result (λ n. n < length names.new) }
+    ensures left { OnErr result (names.new ≡ names.old) }
     ensures kept { Extends names.old names.new }
 {
     if let Some(number) = known {

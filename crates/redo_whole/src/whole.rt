@@ -1,7 +1,7 @@
 ghost use Rattle.std.specs.Prelude.{◌≡◌, ◌||◌, ◌↔◌, ◌≤◌, ◌<◌, false, true, length, is_err, IfOk, IfSome, OnOk, OnErr, IsErrOf};
 ghost use Rattle.std.specs.Io.KnownBytes.{Appends, IsAtEnd};
 ghost use Rattle.redo_whole.specs.Watched.{is_faulted, inner_of};
-ghost use Rattle.redo_whole.specs.Inside.Watched.{AppendsFront};
+ghost use Rattle.redo_whole.specs.Inside.Watched.{AppendsFront, ConsumesSome};
 ghost use Rattle.redo_whole.specs.declared.whole.WholeFault.TheVariants.{Memory};
 
 use crate::watched::Watched;
@@ -55,6 +55,10 @@ pub fn read_whole<R: Read>(
     ensures few { IfOk result (λ whole. length whole.items ≤ limit) }
     ensures too_long { IsErrOf result WholeFault.TooLong
         → IfSome (R.remaining (inner_of reader.old)) (λ bytes. limit < length bytes) }
+    // Memory is asked for only for bytes that came, and that the limit allows.
+    ensures memory { IsErrOf result WholeFault.Memory
+        → ConsumesSome (R.remaining (inner_of reader.old)) (R.remaining (inner_of reader.new))
+        limit }
 
     ensures device { IsErrOf result WholeFault.Device → is_faulted reader.new ≡ true }
     ensures others { ¬ (IsErrOf result WholeFault.Device)

@@ -1,8 +1,8 @@
 -- Histories that were worked out by hand, to believe the definitions by.
-use Rattle.std.specs.Prelude.{ℕ, zero, suc, List, [], ◌∷◌, Some, codes}
+use Rattle.std.specs.Prelude.{ℕ, zero, suc, List, [], ◌∷◌, Some, None, codes}
 use Rattle.redo_model.specs.Names.{Text}
-use Rattle.redo_model.specs.Command.{Command, File, Gone, Lock, Unlock, Start, IfChange, IfCreate, Stamp, Done, Failed, Ood, Targets, Sources}
-use Rattle.redo_model.specs.Reply.{Reply, NotLocked, Building, NotBuilding, Itself, Okay, Granted, Busy, Stale, Stamped, Refused}
+use Rattle.redo_model.specs.Command.{Command, File, Gone, Lock, Unlock, Start, IfChange, IfCreate, Always, Stamp, Done, Failed, Ood, Targets, Sources}
+use Rattle.redo_model.specs.Reply.{Reply, NotLocked, Building, NotBuilding, Itself, Exists, Okay, Granted, Busy, Stale, Stamped, Refused}
 use Rattle.redo_model.specs.Reply as replies
 use Rattle.redo_model.specs.History.{Line}
 
@@ -128,4 +128,194 @@ failed_mark =
     ∷ said 0 (Stamp failing (codes "abc")) (Stamped digest_of_abc)
     ∷ said 0 (Done failing (Some (codes "1"))) Okay
     ∷ said 0 Ood (replies.Ood (target ∷ []))
+    ∷ []
+
+-- a target is out of date for its always row, while it is built, and while its file isn't the one
+-- that its build left
+abbrev pub own_reasons : List (Line Text)
+own_reasons =
+    let target = codes "T" in
+    said 0 (Lock target) (Granted 1)
+    ∷ said 0 (Start target) Okay
+    ∷ said 0 (Always target) Okay
+    ∷ said 0 (Done target (Some (codes "1"))) Okay
+    ∷ said 0 Ood (replies.Ood (target ∷ []))
+    ∷ said 0 (Start target) Okay
+    ∷ said 0 Ood (replies.Ood (target ∷ []))
+    ∷ said 0 (Done target (Some (codes "10"))) Okay
+    ∷ said 0 Ood (replies.Ood [])
+    ∷ said 0 (File target (codes "1")) Okay
+    ∷ said 0 Ood (replies.Ood (target ∷ []))
+    ∷ said 0 (Gone target) Okay
+    ∷ said 0 Ood (replies.Ood [])
+    ∷ said 0 Targets (replies.Targets [])
+    ∷ said 0 (File target (codes "10")) Okay
+    ∷ said 0 Ood (replies.Ood [])
+    ∷ said 0 Targets (replies.Targets (target ∷ []))
+    ∷ []
+
+-- a change row takes the place of an older one on its name, and goes when the next build starts
+abbrev pub change_rows : List (Line Text)
+change_rows =
+    let target = codes "T" in
+    let first = codes "x" in
+    let second = codes "y" in
+    said 0 (File first (codes "1")) Okay
+    ∷ said 0 (File second (codes "1")) Okay
+    ∷ said 0 (Lock target) (Granted 1)
+    ∷ said 0 (Start target) Okay
+    ∷ said 0 (IfChange target (first ∷ [])) Okay
+    ∷ said 0 (File first (codes "10")) Okay
+    ∷ said 0 (IfChange target (first ∷ [])) Okay
+    ∷ said 0 (IfChange target (second ∷ [])) Okay
+    ∷ said 0 (Done target (Some (codes "1"))) Okay
+    ∷ said 0 Ood (replies.Ood [])
+    ∷ said 0 (File first (codes "1")) Okay
+    ∷ said 0 Ood (replies.Ood (target ∷ []))
+    ∷ said 0 (Gone first) Okay
+    ∷ said 0 Ood (replies.Ood (target ∷ []))
+    ∷ said 0 Sources (replies.Sources (second ∷ []))
+    ∷ said 0 (Start target) Okay
+    ∷ said 0 (Done target (Some (codes "10"))) Okay
+    ∷ said 0 Ood (replies.Ood [])
+    ∷ said 0 Sources (replies.Sources [])
+    ∷ []
+
+-- names without a file are stale, and tell of a change once they have one
+abbrev pub names_without_a_file : List (Line Text)
+names_without_a_file =
+    let target = codes "T" in
+    let first = codes "p" in
+    let second = codes "q" in
+    said 0 (Lock target) (Granted 1)
+    ∷ said 0 (Start target) Okay
+    ∷ said 0 (IfChange target (second ∷ first ∷ second ∷ [])) (Stale (first ∷ second ∷ []))
+    ∷ said 0 (Done target (Some (codes "1"))) Okay
+    ∷ said 0 Ood (replies.Ood [])
+    ∷ said 0 (File first (codes "1")) Okay
+    ∷ said 0 Ood (replies.Ood (target ∷ []))
+    ∷ said 0 Sources (replies.Sources (first ∷ []))
+    ∷ []
+
+-- a target is built without files of two names, and one of them appears
+abbrev pub created_rows : List (Line Text)
+created_rows =
+    let target = codes "T" in
+    let first = codes "y" in
+    let second = codes "q" in
+    said 0 (Lock target) (Granted 1)
+    ∷ said 0 (Start target) Okay
+    ∷ said 0 (IfCreate target (first ∷ [])) Okay
+    ∷ said 0 (IfCreate target (second ∷ [])) Okay
+    ∷ said 0 (Done target (Some (codes "5"))) Okay
+    ∷ said 0 Ood (replies.Ood [])
+    ∷ said 0 (File first (codes "1")) Okay
+    ∷ said 0 Ood (replies.Ood (target ∷ []))
+    ∷ said 0 Sources (replies.Sources (first ∷ []))
+    ∷ []
+
+-- what was built is known by its content where that was told, else by the number of builds
+abbrev pub contents_and_builds : List (Line Text)
+contents_and_builds =
+    let library = codes "lib" in
+    let program = codes "app" in
+    said 0 (Lock library) (Granted 1)
+    ∷ said 0 (Start library) Okay
+    ∷ said 0 (Stamp library (codes "abc")) (Stamped digest_of_abc)
+    ∷ said 0 (Done library (Some (codes "1"))) Okay
+    ∷ said 0 (Lock program) (Granted 1)
+    ∷ said 0 (Start program) Okay
+    ∷ said 0 (IfChange program (library ∷ [])) Okay
+    ∷ said 0 (Done program (Some (codes "1"))) Okay
+    ∷ said 0 (Start library) Okay
+    ∷ said 0 (Done library (Some (codes "1"))) Okay
+    ∷ said 0 Ood (replies.Ood (program ∷ []))
+    ∷ said 0 (Start program) Okay
+    ∷ said 0 (IfChange program (library ∷ [])) Okay
+    ∷ said 0 (Done program (Some (codes "1"))) Okay
+    ∷ said 0 Ood (replies.Ood [])
+    ∷ said 0 (Start library) Okay
+    ∷ said 0 (Done library (Some (codes "1"))) Okay
+    ∷ said 0 Ood (replies.Ood (program ∷ []))
+    ∷ []
+
+-- a created row on a target is no change row on it, and stands beside one
+abbrev pub rows_of_both_kinds : List (Line Text)
+rows_of_both_kinds =
+    let target = codes "T" in
+    let other = codes "x" in
+    said 0 (Lock other) (Granted 1)
+    ∷ said 0 (Start other) Okay
+    ∷ said 0 (Failed other) Okay
+    ∷ said 0 (Lock target) (Granted 1)
+    ∷ said 0 (Start target) Okay
+    ∷ said 0 (IfCreate target (other ∷ [])) Okay
+    ∷ said 0 (Done target (Some (codes "1"))) Okay
+    ∷ said 0 Ood (replies.Ood [])
+    ∷ said 0 (Start other) Okay
+    ∷ said 0 (Done other None) Okay
+    ∷ said 0 (Start target) Okay
+    ∷ said 0 (IfChange target (other ∷ [])) Okay
+    ∷ said 0 (IfCreate target (other ∷ [])) Okay
+    ∷ said 0 (Done target (Some (codes "1"))) Okay
+    ∷ said 0 Ood (replies.Ood [])
+    ∷ said 0 (Start other) Okay
+    ∷ said 0 (Done other None) Okay
+    ∷ said 0 Ood (replies.Ood (target ∷ []))
+    ∷ []
+
+-- a chain of change rows that leads through a target without a file
+abbrev pub chain_without_a_file : List (Line Text)
+chain_without_a_file =
+    let library = codes "lib" in
+    let group = codes "all" in
+    let program = codes "top" in
+    said 0 (Lock library) (Granted 1)
+    ∷ said 0 (Start library) Okay
+    ∷ said 0 (Done library (Some (codes "1"))) Okay
+    ∷ said 0 (Lock group) (Granted 1)
+    ∷ said 0 (Start group) Okay
+    ∷ said 0 (IfChange group (library ∷ [])) Okay
+    ∷ said 0 (Done group None) Okay
+    ∷ said 0 (Lock program) (Granted 1)
+    ∷ said 0 (Start program) Okay
+    ∷ said 0 (IfChange program (group ∷ [])) Okay
+    ∷ said 0 (Done program (Some (codes "1"))) Okay
+    ∷ said 0 (File library (codes "10")) Okay
+    ∷ said 0 Ood (replies.Ood (library ∷ program ∷ []))
+    ∷ said 0 Targets (replies.Targets (library ∷ program ∷ []))
+    ∷ []
+
+-- what is refused to a session that doesn't build, which name exists, and two locks
+abbrev pub refusals_and_locks : List (Line Text)
+refusals_and_locks =
+    let target = codes "T" in
+    let other = codes "U" in
+    said 0 (Lock target) (Granted 1)
+    ∷ said 0 (Lock target) (Busy 1)
+    ∷ said 0 (Always target) (Refused NotBuilding)
+    ∷ said 0 (Stamp target []) (Refused NotBuilding)
+    ∷ said 0 (Done target None) (Refused NotBuilding)
+    ∷ said 0 (Failed target) (Refused NotBuilding)
+    ∷ said 0 (IfCreate target (target ∷ [])) (Refused NotBuilding)
+    ∷ said 0 (Start target) Okay
+    ∷ said 1 (Start target) (Refused NotLocked)
+    ∷ said 1 (Always target) (Refused NotBuilding)
+    ∷ said 1 (Stamp target []) (Refused NotBuilding)
+    ∷ said 1 (Failed target) (Refused NotBuilding)
+    ∷ said 1 (IfChange target (target ∷ [])) (Refused NotBuilding)
+    ∷ said 1 (IfCreate target (target ∷ [])) (Refused NotBuilding)
+    ∷ said 0 (File (codes "z") (codes "1")) Okay
+    ∷ said 0 (File (codes "x") (codes "1")) Okay
+    ∷ said 0 (IfCreate target (codes "y" ∷ codes "z" ∷ codes "x" ∷ []))
+    (Refused (Exists (codes "z")))
+    ∷ said 1 (Lock other) (Granted 1)
+    ∷ said 0 (Failed target) Okay
+    ∷ said 0 (Always target) (Refused NotBuilding)
+    ∷ said 0 (Unlock target) Okay
+    ∷ said 0 (Lock other) (Busy 1)
+    ∷ said 1 (Unlock other) Okay
+    ∷ said 0 (Lock target) (Granted 2)
+    ∷ said 0 (Done target (Some (codes "1"))) (Refused NotBuilding)
+    ∷ said 0 (Start target) Okay
     ∷ []

@@ -1,9 +1,11 @@
 -- The fault of a line that is read alone, and that of a session file.
-use Rattle.std.specs.Prelude.{◌≡◌, List, Some, ⊤}
+use Rattle.std.specs.Prelude.{◌≡◌, ◌⊎◌, List, ◌++◌, drop, length, Some, ⊤}
 use Rattle.redo_model.specs.Names.{Text}
 use Rattle.redo_text.specs.declared.fault.ReadFault.{ReadFault}
 use Rattle.redo_text.specs.declared.fault.ReadFault.TheVariants as faults
-use Rattle.redo_text.specs.Questions.{line_fault}
+use Rattle.redo_text.specs.declared.fault.LineFault.TheVariants.{TooManyNames}
+use Rattle.redo_text.specs.Grammar.{with_names}
+use Rattle.redo_text.specs.Questions.{line_fault, words_of}
 use Rattle.redo_text.specs.Faults.{IsFirstFault}
 
 -- the fault of a line that is read alone, which counts as line 1; for want of memory nothing is
@@ -17,3 +19,19 @@ IsLineFault names line (faults.Line number fault) =
 abbrev pub IsReadFault : List Text → Text → ReadFault → Type 0
 IsReadFault names text faults.Memory = ⊤
 IsReadFault names text (faults.Line number fault) = IsFirstFault names text number fault
+
+-- after are the names, and after them the new ones of the first of these words
+pub record AddsFront (names words after : List Text) : Type 0 where
+  pub own : List Text
+  pub rest : List Text
+  pub words_are : words ≡ own ++ rest
+  pub adds : after ≡ with_names names own
+
+-- what an error of a line leaves: the names before it, but where its own are too many: then these,
+-- or as many of its names added as there is room for; for want of memory some of its names may be
+-- added
+abbrev pub LeavesNames : List Text → Text → List Text → ReadFault → Type 0
+LeavesNames names line after faults.Memory = AddsFront names (drop 1 (words_of line)) after
+LeavesNames names line after (faults.Line number TooManyNames) =
+    (after ≡ names) ⊎ (AddsFront names (drop 1 (words_of line)) after × (length after ≡ 65536))
+LeavesNames names line after (faults.Line number fault) = after ≡ names

@@ -1,6 +1,6 @@
 -- The steps of the private readers, which no public clause cites: what each gives, or the fault
 -- where it fails.
-use Rattle.std.specs.Prelude.{◌≡◌, ℕ, List, [], ◌∷◌, ◌++◌, length, Option, Some, None, Result, Ok, Err, not, nat_lt, nat_le, ◌==◌, if◌then◌else◌, codes, bytes_eq, slice_get, true}
+use Rattle.std.specs.Prelude.{◌≡◌, ◌⊎◌, ℕ, List, [], ◌∷◌, ◌++◌, drop, length, Option, Some, None, Result, Ok, Err, not, nat_lt, nat_le, ◌==◌, if◌then◌else◌, codes, bytes_eq, slice_get, true, false, ⊤}
 use Rattle.std.specs.Borrow.{Bor}
 use Rattle.std.specs.List.{list_all}
 use Rattle.hex.specs.Hex.{decode_of}
@@ -17,6 +17,7 @@ use Rattle.redo_text.specs.declared.fault.LineFault.{LineFault}
 use Rattle.redo_text.specs.declared.fault.LineFault.TheVariants.{LineTooLong, BadByte, UnknownCommand, WrongWords, BadName, BadStamp, BadHex, TooManyLines, TooManyNames}
 use Rattle.redo_text.specs.declared.fault.Unread.{Unread}
 use Rattle.redo_text.specs.declared.fault.Unread.TheVariants as unread
+use Rattle.redo_text.specs.Inside.Faults.{AddsFront}
 
 infixl 10 ◌>>=◌
 abbrev pub ◌>>=◌ : {A B : Type 0} → Result A LineFault → (A → Result B LineFault)
@@ -175,3 +176,23 @@ abbrev pub Reads : {X Y : Type 0} → (X → Y) → Result X Unread → Result Y
 Reads view (Ok x) reading = reading ≡ Ok (view x)
 Reads view (Err unread.Memory) reading = Unit {0}
 Reads view (Err (unread.Fault fault)) reading = reading ≡ Err fault
+
+-- a fault met while names are added: they are too many
+abbrev pub IsFull : List Text → Unread → Type 0
+IsFull after unread.Memory = ⊤
+IsFull after (unread.Fault fault) = (fault ≡ TooManyNames) × (length after ≡ 65536)
+
+-- an error leaves the names with some of these words, which are names
+abbrev pub LeavesFront : List Text → List Text → List Text → Unread → Type 0
+LeavesFront names words after why = AddsFront names words after × IsFull after why
+
+-- an error leaves the names, or all the words are names and some of them are added
+abbrev pub LeavesSome : List Text → List Text → List Text → Unread → Type 0
+LeavesSome names words after why =
+    (after ≡ names) ⊎ ((list_all is_name words ≡ true) × LeavesFront names words after why)
+
+-- an error leaves the names, or the text has no bad byte and some of its words are added
+abbrev pub LeavesWords : List Text → Text → List Text → Unread → Type 0
+LeavesWords names text after why =
+    (after ≡ names)
+    ⊎ ((has_bad_byte text ≡ false) × LeavesFront names (drop 1 (words_of text)) after why)

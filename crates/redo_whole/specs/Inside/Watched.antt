@@ -1,8 +1,13 @@
--- Bytes that grow by a front of what was to be sent.
-use Rattle.std.specs.Prelude.{◌≡◌, ℕ, Option, List, ◌++◌}
-use Rattle.std.specs.Io.KnownBytes.{Appends}
+-- Bytes that grow by a front of what was to be sent, or lose some of what is to be read.
+use Rattle.std.specs.Prelude.{◌≡◌, ℕ, ◌<◌, ◌≤◌, Option, List, ◌++◌, length}
+use Rattle.std.specs.Io.KnownBytes.{Appends, Consumes}
 
 -- known bytes grow by a front of these bytes
 abbrev pub AppendsFront : Option (List ℕ) → Option (List ℕ) → List ℕ → Type 0
 AppendsFront old new bytes =
     (sent : List ℕ) × (rest : List ℕ) × (bytes ≡ sent ++ rest) × Appends old new sent
+
+-- known bytes begin with at least one and at most so many, and lose them
+abbrev pub ConsumesSome : Option (List ℕ) → Option (List ℕ) → ℕ → Type 0
+ConsumesSome old new most =
+    (taken : List ℕ) × (0 < length taken) × (length taken ≤ most) × Consumes old new taken

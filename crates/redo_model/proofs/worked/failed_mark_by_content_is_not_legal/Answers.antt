@@ -8,5 +8,6 @@ use Rattle.redo_model.proofs.worked.failed_mark_by_content_is_not_legal.Goals as
 
 pub returns : goal.returns
 returns c wrong =
-    let e = same_reply 11 (Ood (codes "T" ∷ [])) (Ood []) failed_mark refl failed_mark_legal wrong in
+    let e =
+    same_reply 11 (Ood (codes "T" ∷ [])) (Ood []) failed_mark refl failed_mark_legal wrong in
     cc

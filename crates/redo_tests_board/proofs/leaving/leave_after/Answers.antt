@@ -1,5 +1,7 @@
+use Rattle.std.proofs.Common.{◌≡◌, sym, ◌∙◌, subst}
 use Rattle.redo_board.specs.declared.worker.Worker.{Worker}
-use Rattle.redo_board.specs.Shown.{session_of}
+use Rattle.redo_board.specs.Shown.{first_of, session_of}
+use Rattle.redo_tests_board.specs.Workers.{HasFrom}
 use Rattle.redo_tests_board.proofs.SessionWorkers.{left_from}
 use Rattle.redo_tests_board.proofs.leaving.leave_after.Goals as goal
 
@@ -9,5 +11,8 @@ returns g c =
     let b = c.args.board.now in
     let w : Worker = c.loop.worker in
     let at = c.loop.invariant in
-    left_from p b w c.leave.result.0 c.leave.result.1 (c.leave.ensures.leaves p b at.0)
-    (session_of c.args.worker) at.1
+    let seat = c.leave.result.0 in
+    let first = first_of c.args.seat in
+    let is : session_of w ≡ first = at.1 ∙ c.in_ok-worker.ensures.session in
+    subst (λ n. HasFrom p b first n seat) (sym c.requires.fresh.1)
+    (left_from p b w seat c.leave.result.1 (c.leave.ensures.leaves p b at.0) first is)

@@ -6,8 +6,8 @@ use Rattle.redo_text.specs.Questions.{words_of}
 use Rattle.redo_text.proofs.Fronts.{unsaid}
 use Rattle.redo_text.proofs.keywords.cut_kind.Goals as goal
 
-pub returns : goal.returns
-returns c =
+pub returns-clause-reads : goal.returns-clause-reads
+returns-clause-reads c =
     unsaid c.args.text.now (λ kind. elim kind as
     (λ k. (args : List Text) → words_of c.args.text.now ≢ word_of k ∷ args) [
       | kinds.File ↦ c.in_default.ensures

@@ -3,6 +3,7 @@ use Rattle.std.specs.Global.{Global}
 use Rattle.std.proofs.lemmas.Result.{err_from_is_err_and}
 use Rattle.redo_names.specs.Names.{text_at}
 use Rattle.redo_text.proofs.Added.{text_at-Extends}
+use Rattle.redo_text.proofs.Left.{some_left}
 use Rattle.redo_text.proofs.NameLists.{texts_of, fails_alike, form_without_target, form_without_names, form_with_names}
 use Rattle.redo_text.proofs.name_lists.target_and_numbers_in.Goals as goal
 
@@ -46,3 +47,13 @@ returns-clause-reads c form =
     (form_with_names form c.args.names.now (texts_of c.args.words.now) _ _
     c.number_of.new.names new c.len.ensures.names.few c.in_ok-target.ensures.reads
     c.in_ok-number.ensures.reads c.in_ok-numbers.ensures.reads)
+
+pub returns-in_err-numbers-clause-left : goal.returns-in_err-numbers-clause-left
+returns-in_err-numbers-clause-left c =
+    let p =
+    err_from_is_err_and c.from_residual-in_err-numbers.result
+    c.from_residual-in_err-numbers.ensures.1 in
+    rw (p.1, p.2)
+    (some_left c.args.names.now c.number_of.new.names c.numbers_of.new.names
+    (texts_of c.args.words.now) _ _ c.in_err-numbers.field-0.0 c.len.ensures.names.few
+    c.in_ok-target.ensures.reads c.in_ok-number.ensures.reads c.in_err-numbers.ensures.left)

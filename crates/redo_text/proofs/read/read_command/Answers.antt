@@ -10,6 +10,7 @@ use Rattle.redo_terms.specs.Inside.Meaning.{command_at}
 use Rattle.redo_text.specs.Inside.Reading.{Reading, Reads, line_in}
 use Rattle.redo_text.proofs.Steps.{same_given}
 use Rattle.redo_text.proofs.FaultOrCommand.{unread_fault}
+use Rattle.redo_text.proofs.Left.{names_left}
 use Rattle.redo_text.proofs.LineLaws.{line_found, line_only}
 use Rattle.redo_text.proofs.read.read_command.Goals as goal
 
@@ -53,3 +54,8 @@ returns-in-Err-clause-fault c =
     (λ (read : numbered.Command). (command_at c.line_of.new.names read, c.line_of.new.names))
     c.args.names.now c.args.line.now c.in-Err.unread c.at_line.result c.len.ensures.names.few
     c.in-Err.ensures.reads c.at_line.ensures.memory.1 c.at_line.ensures.fault
+
+pub returns-in-Err-clause-left : goal.returns-in-Err-clause-left
+returns-in-Err-clause-left c =
+    names_left c.args.names.now c.args.line.now c.line_of.new.names c.in-Err.unread
+    c.at_line.result c.in-Err.ensures.left c.at_line.ensures.memory.1 c.at_line.ensures.fault

@@ -1,9 +1,11 @@
-use Rattle.std.proofs.Common.{◌≡◌, ℕ, ap, subst, ◌∙◌, arith, List}
-use Rattle.redo_board.specs.Views.{ViewOf}
+use Rattle.std.proofs.Common.{◌≡◌, ℕ, ◌+◌, ◌-◌, ◌++◌, [], ap, subst, sym, ◌∙◌, arith, List}
+use Rattle.redo_board.specs.Views.{ViewOf, view}
+use Rattle.redo_board.specs.Rule.{range, met, longer}
 use Rattle.redo_board.specs.Core.{Begins, row_words}
 use Rattle.redo_board.specs.Histories.{IsHistoryOf, words_of}
 use Rattle.redo_board.proofs.Ended.{history-of, seen-of}
 use Rattle.redo_board.proofs.Joins.{meets, looks}
+use Rattle.redo_board.proofs.Ranges.{range-append}
 use Rattle.redo_board.proofs.seat.Seat.meet.Goals as goal
 
 pub join_seat-requires : goal.join_seat-requires
@@ -56,4 +58,40 @@ returns-clause-together c =
           words c.args.other.seat.me.0.seen
           (subst (Begins (row_words v.plan look.log)) (ap (λ m. m.0.also) e) look.before.also);
       seen = words c.load.new.seat.me.0.seen look.fits.seen;
+    }
+
+pub returns-clause-fresh : goal.returns-clause-fresh
+returns-clause-fresh c = λ first middle below a b.
+    let s = c.args.self in
+    let o = c.args.other in
+    let p = s.seat.me.0.plan in
+    let v : ViewOf = c.join_seat.new.seat.me.0 in
+    let side : s.first + (s.end - s.first) ≡ o.first =
+    (let x = a.fresh.ordered in let y = a.end in let z = b.first in omega arith) in
+    let count : s.end - s.first + (o.end - o.first) ≡ o.end - s.first =
+    (let x = a.fresh.ordered in let y = b.fresh.ordered in let z = a.end in let u = b.first in
+    omega arith) in
+    let parts : range s.first (s.end - s.first) ++ range o.first (o.end - o.first)
+    ≡ range s.first (o.end - s.first) =
+    ap (λ m. range s.first (s.end - s.first) ++ range m (o.end - o.first)) (sym side)
+    ∙ range-append s.first (s.end - s.first) (o.end - o.first)
+    ∙ ap (range s.first) count in
+    let q : c.load.new.seat.me.0 ≡ view p (range s.first (o.end - s.first)) [] [] =
+    c.load.ensures.2.0.now
+    ∙ ap (λ (x : ViewOf). view x.plan x.parts (longer x.seen x.also) [])
+    (ap (λ m. m.0) c.join_seat.ensures.2
+    ∙ (λ i. met (a.fresh.view i) (b.fresh.view i)))
+    ∙ ap (λ l. view p l [] []) parts in
+    record {
+      fresh = record {
+        ordered =
+            (let x = a.fresh.ordered in let y = b.fresh.ordered in let z = a.end in
+            let u = b.first in omega arith);
+        view =
+            q
+            ∙ ap (λ x. view x (range s.first (o.end - s.first)) [] [])
+            (sym (ap (λ (x : ViewOf). x.plan) q));
+      };
+      first = a.first;
+      end = b.end;
     }

@@ -1,0 +1,179 @@
+ghost use Rattle.std.specs.Prelude.{◌≡◌, IfErr, OnOk, OnErr, false, true};
+ghost use Rattle.redo_whole.specs.Watched.{is_faulted};
+ghost use Rattle.redo_replay.specs.Devices.{Writes, WritesNothing};
+ghost use Rattle.redo_job.specs.Lines.{word_of, file_name, text_line, history_line, replay_line, fault_line, said, said_of, in_line, status_of};
+
+use crate::fault::Fault;
+use itoa::Buffer;
+use redo_command::{LineFault, Watched, WriteFault, write_whole};
+use redo_replay::{HistoryFault, ReplayFault, Verdict};
+use redo_session::TextFault;
+use std::io::Write;
+
+fn word(fault: LineFault) -> &'static str
+    ensures { result.now ≡ word_of fault }
+{
+    match fault {
+        LineFault::LineTooLong => "line-too-long",
+        LineFault::BadByte => "bad-byte",
+        LineFault::UnknownCommand => "unknown-command",
+        LineFault::WrongWords => "wrong-words",
+        LineFault::BadName => "bad-name",
+        LineFault::BadStamp => "bad-stamp",
+        LineFault::BadHex => "bad-hex",
+        LineFault::TooManyLines => "too-many-lines",
+        LineFault::TooManyNames => "too-many-names",
+    }
+}
+
+fn name(files: &[String], file: usize) -> &str
+    ensures { result.now ≡ file_name files.now file }
+{
+    match files.get(file) {
+        Some(name) => name.as_str(),
+        None => "-",
+    }
+}
+
+/// `redodb: TEXT`.
+fn say<W: Write>(err: &mut Watched<W>, text: &str) -> Result<(), WriteFault>
+    ensures line { OnOk result (Writes W.contents err.old err.new (said text.now)) }
+    ensures failed { OnErr result (is_faulted err.new ≡ true) }
+{
+    write_whole(err, b"redodb: ")?;
+    write_whole(err, text.as_bytes())?;
+    write_whole(err, b"\n")
+}
+
+/// `redodb: FILE: TEXT`.
+fn say_of_file<W: Write>(err: &mut Watched<W>, name: &str, text: &str) -> Result<(), WriteFault>
+    ensures line { OnOk result (Writes W.contents err.old err.new (said_of name.now text.now)) }
+    ensures failed { OnErr result (is_faulted err.new ≡ true) }
+{
+    write_whole(err, b"redodb: ")?;
+    write_whole(err, name.as_bytes())?;
+    write_whole(err, b": ")?;
+    write_whole(err, text.as_bytes())?;
+    write_whole(err, b"\n")
+}
+
+/// `redodb: FILE: line L: WORD`.
+fn say_line<W: Write>(
+    err: &mut Watched<W>,
+    name: &str,
+    line: usize,
+    word: &str,
+) -> Result<(), WriteFault>
+    ensures line { OnOk result
+        (Writes W.contents err.old err.new (said_of name.now (in_line line word.now))) }
+    ensures failed { OnErr result (is_faulted err.new ≡ true) }
+{
+    let mut digits = Buffer::new();
+    write_whole(err, b"redodb: ")?;
+    write_whole(err, name.as_bytes())?;
+    write_whole(err, b": line ")?;
+    write_whole(err, digits.format(line).as_bytes())?;
+    write_whole(err, b": ")?;
+    write_whole(err, word.as_bytes())?;
+    write_whole(err, b"\n")
+}
+
+/// Writes the line of a run's fault.
+fn tell_text<W: Write>(
+    err: &mut Watched<W>,
+    files: &[String],
+    fault: &TextFault,
+) -> Result<(), WriteFault>
+    ensures line { OnOk result (Writes W.contents err.old err.new (text_line files.now fault.now)) }
+    ensures failed { OnErr result (is_faulted err.new ≡ true) }
+{
+    match fault {
+        TextFault::Memory => say(err, "memory"),
+        TextFault::Read { file, line, fault } => {
+            say_line(err, name(files, *file), *line, word(*fault))
+        }
+        TextFault::TooManySessions => say(err, "too many sessions"),
+        TextFault::NoSession => say(err, "no session"),
+        TextFault::Write => say(err, "write"),
+        TextFault::Device { file } => say_of_file(err, name(files, *file), "read"),
+        TextFault::TooLong { file } => say_of_file(err, name(files, *file), "too long"),
+    }
+}
+
+/// Writes the line of a history's fault.
+fn tell_history<W: Write>(
+    err: &mut Watched<W>,
+    files: &[String],
+    fault: HistoryFault,
+) -> Result<(), WriteFault>
+    ensures line { OnOk result (Writes W.contents err.old err.new (history_line files.now fault)) }
+    ensures failed { OnErr result (is_faulted err.new ≡ true) }
+{
+    let name = name(files, 0);
+    match fault {
+        HistoryFault::Memory => say(err, "memory"),
+        HistoryFault::BadHeader => say_of_file(err, name, "bad header"),
+        HistoryFault::Cut => say_of_file(err, name, "cut"),
+        HistoryFault::BadSession(line) => say_line(err, name, line, "bad-session"),
+        HistoryFault::BadLine(line, fault) => say_line(err, name, line, word(fault)),
+        HistoryFault::BadReply(line) => say_line(err, name, line, "bad-reply"),
+    }
+}
+
+/// Writes the line of a replay's fault.
+fn tell_replay<W: Write>(
+    err: &mut Watched<W>,
+    files: &[String],
+    fault: ReplayFault,
+) -> Result<(), WriteFault>
+    ensures line { OnOk result (Writes W.contents err.old err.new (replay_line files.now fault)) }
+    ensures failed { OnErr result (is_faulted err.new ≡ true) }
+{
+    match fault {
+        ReplayFault::Memory => say(err, "memory"),
+        ReplayFault::History(fault) => tell_history(err, files, fault),
+        ReplayFault::Device => say_of_file(err, name(files, 0), "read"),
+        ReplayFault::TooLong => say_of_file(err, name(files, 0), "too long"),
+        ReplayFault::Write => say(err, "write"),
+    }
+}
+
+/// Writes the fault's line.
+fn tell<W: Write>(err: &mut Watched<W>, files: &[String], fault: &Fault) -> Result<(), WriteFault>
+    ensures line { OnOk result
+        (Writes W.contents err.old err.new (fault_line files.now fault.now)) }
+    ensures failed { OnErr result (is_faulted err.new ≡ true) }
+{
+    match fault {
+        Fault::Memory => say(err, "memory"),
+        Fault::Usage => say(err, "usage"),
+        Fault::CannotOpen { file } => say_of_file(err, name(files, *file), "cannot open"),
+        Fault::Text(fault) => tell_text(err, files, fault),
+        Fault::Replay(fault) => tell_replay(err, files, *fault),
+    }
+}
+
+/// Writes the fault's line to `err`, if there is a fault, and answers the program's status: 1 for a
+/// history that differs, 2 for a fault, and else 0. FILE is the word in `files`, or `-` where there
+/// is none. It takes no memory, and a fault of `err` changes nothing in the answer.
+pub fn finish<W: Write>(
+    answer: &Result<Option<Verdict>, Fault>,
+    files: &[String],
+    err: &mut Watched<W>,
+) -> u8
+    ensures status { result ≡ status_of answer.now }
+    ensures silent { OnOk answer.now (WritesNothing W.contents err.old err.new) }
+
+    // The line is written wherever `err` notes no failure.
+    ensures line { IfErr answer.now (λ fault. is_faulted err.new ≡ false
+        → Writes W.contents err.old err.new (fault_line files.now fault)) }
+{
+    match answer {
+        Ok(None | Some(Verdict::Same(_))) => 0,
+        Ok(Some(Verdict::Differs { .. })) => 1,
+        Err(fault) => {
+            let _ = tell(err, files, fault);
+            2
+        }
+    }
+}

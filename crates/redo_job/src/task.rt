@@ -1,0 +1,28 @@
+use std::slice;
+
+/// What the words ask for.
+#[derive(Debug, Drop)]
+pub enum Job {
+    /// One session, from standard input.
+    Input,
+    /// One session for each file, in this order.
+    Run(Vec<String>),
+    /// The replay of the history in this file.
+    Replay(String),
+}
+
+impl Job {
+    ghost use Rattle.std.specs.Prelude.{◌≡◌};
+    ghost use Rattle.redo_job.specs.Inside.Words.{files_of};
+
+    /// The files that it reads.
+    pub fn files(&self) -> &[String]
+        ensures { result.now ≡ files_of self.now }
+    {
+        match self {
+            Job::Input => &[],
+            Job::Run(files) => files,
+            Job::Replay(file) => slice::from_ref(file),
+        }
+    }
+}

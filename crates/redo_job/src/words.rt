@@ -1,0 +1,102 @@
+ghost use Rattle.std.specs.Prelude.{◌≡◌, ◌≢◌, ◌↔◌, ◌⊎◌, [], map, string_bytes, IfOk, IfErr, IfSome, IsSome, OnOk, IsOkAnd};
+ghost use Rattle.clap.specs.Words.{app_of, kind_of, subcommand_rows_of};
+ghost use Rattle.redo_job.specs.Words.{redodb, Asks, AreFaultless, AskFor};
+
+use crate::fault::Fault;
+use crate::task::Job;
+use clap::error::ErrorKind;
+use clap::{Arg, ArgAction, ArgMatches, Command, Error};
+use std::alloc::{AllocError, Global};
+
+/// `run FILE...` and `replay FILE`.
+fn command<'a>(alloc: Global) -> Result<Command<'a>, AllocError>
+    ensures { IfOk result (λ command. app_of command ≡ redodb) }
+{
+    let files = Arg::new(alloc, "FILE")
+        .required(true)
+        .num_args(1..)
+        .action(ArgAction::Append);
+    let file = Arg::new(alloc, "FILE")
+        .required(true)
+        .action(ArgAction::Set);
+    let run = Command::new(alloc, "run").arg(files)?;
+    let replay = Command::new(alloc, "replay").arg(file)?;
+    Command::new(alloc, "redodb")
+        .no_binary_name(true)
+        .subcommand_required(true)
+        .subcommand(run)?
+        .subcommand(replay)
+}
+
+fn copies(alloc: Global, texts: &[&str]) -> Result<Vec<String>, AllocError>
+    ensures { IfOk result (λ copies. map string_bytes copies.items
+        ≡ map (λ text. text.now) texts.now) }
+{
+    let mut copies = Vec::new(alloc);
+    for text in texts {
+        copies.push(text.to_string(alloc)?)?;
+    }
+    Ok(copies)
+}
+
+/// `None` where the matches are those of another command.
+fn job_of(alloc: Global, matches: &ArgMatches<'_>) -> Result<Option<Job>, AllocError>
+    ensures asked { IfOk result (λ found. IfSome found (Asks (subcommand_rows_of matches.now))) }
+    ensures only { (job : Job) → Asks (subcommand_rows_of matches.now) job
+        → IfOk result (λ found. IsSome found) }
+{
+    match matches.subcommand() {
+        Some(("run", run)) => match run.get_strs("FILE") {
+            Some(files) => Ok(Some(Job::Run(copies(alloc, files)?))),
+            None => Ok(None),
+        },
+        Some(("replay", replay)) => match replay.get_str("FILE") {
+            Some(file) => Ok(Some(Job::Replay(file.to_string(alloc)?))),
+            None => Ok(None),
+        },
+        _ => Ok(None),
+    }
+}
+
+/// Whatever is refused for another cause than memory is no use of the program, a call for help
+/// included.
+fn refusal(error: &Error) -> Fault
+    ensures memory { (result ≡ Fault.Memory) ↔ (kind_of error.now ≡ ErrorKind.OutOfMemory) }
+    ensures usage { (result ≡ Fault.Usage) ↔ (kind_of error.now ≢ ErrorKind.OutOfMemory) }
+{
+    match error.kind() {
+        ErrorKind::OutOfMemory => Fault::Memory,
+        _ => Fault::Usage,
+    }
+}
+
+/// The job that the words after the program's name ask for. Without words no memory is taken.
+pub fn job(alloc: Global, words: &[String]) -> Result<Job, Fault>
+    ensures input { IsOkAnd result (λ job. job ≡ Job.Input) ↔ (words.now ≡ []) }
+    ensures others { IfErr result (λ fault. (fault ≡ Fault.Memory) ⊎ (fault ≡ Fault.Usage)) }
+
+    // A job is that of its words, in which clap finds no fault.
+    ensures asked { IfOk result (λ job. words.now ≢ [] → AskFor words.now job) }
+    ensures sound { OnOk result (words.now ≢ [] → AreFaultless words.now) }
+
+    // Words that ask for a job, and in which clap finds no fault, are refused for want of memory
+    // alone.
+    ensures only { (job : Job) → AskFor words.now job → AreFaultless words.now
+        → IfErr result (λ fault. fault ≡ Fault.Memory) }
+{
+    if words.is_empty() {
+        return Ok(Job::Input);
+    }
+    let Ok(command) = command(alloc) else {
+        return Err(Fault::Memory);
+    };
+    let matches = match command.try_get_matches_from(words) {
+        Ok(matches) => matches,
+        Err(error) => return Err(refusal(&error)),
+    };
+    match job_of(alloc, &matches) {
+        Ok(Some(job)) => Ok(job),
+        Ok(None) => Err(Fault::Usage),
+        Err(_) => Err(Fault::Memory),
+    }
+}

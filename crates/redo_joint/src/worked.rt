@@ -1,0 +1,50 @@
+//! Placed histories that were worked out by hand: their words, what a session had seen, journals, and
+//! which order comes first.
+
+ghost use Rattle.std.specs.Prelude.{◌≡◌, ◌∷◌, ◌++◌, [], map};
+ghost use Rattle.redo_joint.specs.Worked.{one_hold, three_rows, two_locks, two_locks_turned};
+ghost use Rattle.redo_model.specs.Command.{Lock, Unlock};
+ghost use Rattle.redo_model.specs.History.{Legal};
+ghost use Rattle.redo_model.specs.Inside.Merging.{first_journal, merging, second_journal, shared};
+ghost use Rattle.redo_model.specs.Inside.Words.{claim_word_of, row_words_of};
+ghost use Rattle.redo_model.specs.Journals.{IsJournal, IsWholeJournal, NoLater};
+ghost use Rattle.redo_model.specs.Names.{texts};
+ghost use Rattle.redo_model.specs.Placed.{Granted, IsPlaced, Released, Row, line_of, part_of};
+ghost use Rattle.redo_model.specs.Seen.{HasSeen};
+
+/// The words of two placed histories.
+pub fn words_by_hand()
+    ensures placed { IsPlaced texts three_rows }
+    ensures legal { Legal texts (map line_of three_rows) }
+    ensures rows { row_words_of texts three_rows ≡ 1 ∷ 8193 ∷ 6 ∷ [] }
+    ensures held { claim_word_of texts three_rows shared ≡ 1 }
+    ensures released { claim_word_of texts merging shared ≡ 3 }
+{}
+
+/// A session had seen all rows up to its latest one, and of a target all grants up to the one that it
+/// was told of, and the releases before that one; and no more.
+pub fn seen_by_hand()
+    ensures row { HasSeen (part_of 0 three_rows) (Row 2) }
+    ensures earlier_row { HasSeen (part_of 0 three_rows) (Row 1) }
+    ensures no_later_row { HasSeen (part_of 1 three_rows) (Row 2) → ⊥ }
+    ensures grant { HasSeen (second_journal 1) (Granted shared 2) }
+    ensures earlier_grant { HasSeen (second_journal 1) (Granted shared 1) }
+    ensures release { HasSeen (second_journal 1) (Released shared 1) }
+    ensures no_later_release { HasSeen (second_journal 1) (Released shared 2) → ⊥ }
+{}
+
+/// A journal has the commands of its script in their order, and is whole at the script's end.
+pub fn journals_by_hand()
+    ensures whole { IsWholeJournal 0 one_hold first_journal }
+    ensures goes_on { IsWholeJournal 0 (one_hold ++ Lock shared ∷ []) first_journal → ⊥ }
+    ensures other_order { IsJournal 0 (Unlock shared ∷ Lock shared ∷ []) first_journal → ⊥ }
+    ensures other_session { IsJournal 1 one_hold first_journal → ⊥ }
+{}
+
+/// Of two orders that are placed, the one in which the first session goes first comes first.
+pub fn first_session_goes_first()
+    ensures placed { IsPlaced texts two_locks }
+    ensures turned { IsPlaced texts two_locks_turned }
+    ensures no_later { NoLater two_locks two_locks_turned }
+    ensures later { NoLater two_locks_turned two_locks → ⊥ }
+{}

@@ -1,0 +1,152 @@
+//! A gate that counts how often each command was ready, and what its counts have to be.
+use redo_board::Gate;
+use redo_command::Line;
+use redo_journal::{Journal, Place};
+use std::alloc::{AllocError, Global};
+use std::process::Abort;
+use std::sync::atomic::{AtomicU32, Ordering};
+
+/// As many sessions, and as many commands of each, as the plans here have at most.
+const SESSIONS: usize = 4;
+
+const COMMANDS: usize = 32;
+
+/// A gate that counts.
+#[derive(Drop)]
+pub(crate) struct Counts {
+    all: AtomicU32,
+    of_sessions: Vec<AtomicU32>,
+    of_commands: Vec<AtomicU32>,
+    /// How often a session was ready for another row than the one after its last try.
+    jumps: AtomicU32,
+}
+
+/// So many zeros.
+fn zeros(alloc: Global, count: usize) -> Result<Vec<AtomicU32>, AllocError> {
+    let mut zeros = Vec::new(alloc);
+    for _ in 0..count {
+        zeros.push(AtomicU32::new(0))?;
+    }
+    Ok(zeros)
+}
+
+/// The count at this place.
+fn load(counts: &[AtomicU32], at: usize) -> u32 {
+    match counts.get(at) {
+        Some(count) => count.load(Ordering::SeqCst),
+        None => 0,
+    }
+}
+
+/// Counts one more at this place, and answers what the count was.
+fn add(counts: &[AtomicU32], at: usize) -> u32 {
+    match counts.get(at) {
+        Some(count) => count.fetch_add(1, Ordering::SeqCst),
+        None => 0,
+    }
+}
+
+/// The place of a command among those of all sessions.
+fn place_of(session: u8, line: u32) -> usize {
+    session as usize * COMMANDS + line as usize % COMMANDS
+}
+
+impl Counts {
+    pub(crate) fn new(alloc: Global) -> Result<Counts, AllocError> {
+        Ok(Counts {
+            all: AtomicU32::new(0),
+            of_sessions: zeros(alloc, SESSIONS)?,
+            of_commands: zeros(alloc, SESSIONS * COMMANDS)?,
+            jumps: AtomicU32::new(0),
+        })
+    }
+
+    /// How often any command was ready.
+    pub(crate) fn all(&self) -> u32 {
+        self.all.load(Ordering::SeqCst)
+    }
+}
+
+impl Gate for Counts {
+    fn before(&self, _session: u8, _line: u32) {}
+
+    fn ready(&self, session: u8, line: u32, row: u32) {
+        self.all.fetch_add(1, Ordering::SeqCst);
+        add(&self.of_commands, place_of(session, line));
+        if add(&self.of_sessions, session as usize) != row {
+            self.jumps.fetch_add(1, Ordering::SeqCst);
+        }
+    }
+
+    fn after(&self, _session: u8, _line: u32) {}
+}
+
+/// How many of a session's entries were passed, and how many rows it had tried by them.
+#[derive(Clone, Copy)]
+struct Passed {
+    entries: usize,
+    tried: u32,
+}
+
+/// Passes the session's next entry, whose row, where it has one, is the history's next: the command
+/// was ready as often as that is past the session's row before.
+fn pass(rt: &impl Abort, gate: &Counts, journal: &Journal, passed: &mut Passed, rows: &mut u32) {
+    let entry = journal.entries.get(passed.entries).expect(rt, "an entry");
+    let ready = load(&gate.of_commands, place_of(journal.session, entry.line));
+    passed.entries = passed.entries.wrapping_add(1);
+    match entry.place {
+        Place::Row(row) => {
+            assert_eq!(rt; row, *rows);
+            *rows = rows.wrapping_add(1);
+            assert_eq!(rt; passed.tried.wrapping_add(ready), *rows);
+            passed.tried = *rows;
+        }
+        _ => assert_eq!(rt; ready, 0),
+    }
+}
+
+/// The history's rows, of which there are so many, agree with the journals' tries and with the
+/// gate's counts: of each command, of each session, and of all.
+pub(crate) fn check_counts(
+    rt: &impl Abort,
+    lines: &[Line],
+    journals: &[Journal],
+    gate: &Counts,
+) -> u32 {
+    assert!(rt; journals.len() <= SESSIONS);
+    let none = Passed {
+        entries: 0,
+        tried: 0,
+    };
+    let mut passed = [none; SESSIONS];
+    let mut rows = 0;
+    for line in lines {
+        let session = line.session as usize;
+        assert!(rt; session < journals.len());
+        pass(
+            rt,
+            gate,
+            &journals[session],
+            &mut passed[session],
+            &mut rows,
+        );
+    }
+    check_sums(rt, journals, &passed, gate);
+    rows
+}
+
+/// Each session has tried the rows up to its last one, each once and in order.
+fn check_sums(rt: &impl Abort, journals: &[Journal], passed: &[Passed], gate: &Counts) {
+    let mut all: u32 = 0;
+    for (journal, passed) in journals.iter().zip(passed) {
+        assert_eq!(rt; passed.entries, journal.entries.len());
+        assert_eq!(rt; journal.tries, passed.tried);
+        assert_eq!(rt;
+            load(&gate.of_sessions, journal.session as usize),
+            passed.tried
+        );
+        all = all.wrapping_add(passed.tried);
+    }
+    assert_eq!(rt; gate.all(), all);
+    assert_eq!(rt; gate.jumps.load(Ordering::SeqCst), 0);
+}

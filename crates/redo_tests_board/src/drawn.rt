@@ -1,0 +1,128 @@
+//! Plans that are drawn, the same for the same seed, and what is counted in them.
+use crate::counts::{Counts, check_counts};
+use crate::order::first_schedule;
+use crate::plans::plan_of;
+use crate::random::Random;
+use crate::schedules::check_schedule;
+use redo_journal::Plan;
+use redo_session::{RunFault, run};
+use std::alloc::{AllocError, Global};
+use std::process::Abort;
+use std::sync::Wait;
+use std::thread::Threads;
+
+/// What the sessions ask.
+const COMMANDS: [&str; 16] = [
+    "lock t\n",
+    "lock t\n",
+    "lock u\n",
+    "unlock t\n",
+    "unlock u\n",
+    "start t\n",
+    "start u\n",
+    "ifchange t a u\n",
+    "ifcreate u b\n",
+    "done t 1\n",
+    "done u -\n",
+    "failed t\n",
+    "file a 1\n",
+    "gone a\n",
+    "ood\n",
+    "sources\n",
+];
+
+/// A session file of so many commands.
+fn file_of(alloc: Global, random: &mut Random, commands: usize) -> Result<String, AllocError> {
+    let mut file = String::new(alloc);
+    for _ in 0..commands {
+        file.push_str(COMMANDS[random.below(16)])?;
+    }
+    Ok(file)
+}
+
+/// A plan of so many sessions, and so many commands of each.
+fn drawn_plan(
+    rt: &impl Abort,
+    alloc: Global,
+    random: &mut Random,
+    sessions: usize,
+    commands: usize,
+) -> Result<Plan, AllocError> {
+    let mut texts = Vec::new(alloc);
+    for _ in 0..sessions {
+        texts.push(file_of(alloc, random, commands)?)?;
+    }
+    let mut files: Vec<&str> = Vec::new(alloc);
+    for text in &texts {
+        files.push(text.as_str())?;
+    }
+    plan_of(rt, alloc, &files)
+}
+
+fn shuffle(random: &mut Random, turns: &mut [usize]) {
+    for at in 0..turns.len() {
+        let other = random.below(turns.len());
+        turns.swap(at, other);
+    }
+}
+
+/// The rows and the exchanges of a drawn plan, whose steps are taken on one thread in a drawn order.
+fn drawn_schedule(
+    rt: &impl Abort,
+    alloc: Global,
+    random: &mut Random,
+    sessions: usize,
+) -> Result<(u32, u32), AllocError> {
+    let plan = drawn_plan(rt, alloc, random, sessions, 12)?;
+    let mut turns = first_schedule(alloc, &plan)?;
+    assert_eq!(rt; turns.len(), sessions.wrapping_mul(12));
+    shuffle(random, &mut turns);
+    check_schedule(rt, alloc, &plan, &turns)
+}
+
+/// Plans of one to four sessions.
+#[test]
+fn drawn_schedules(rt: HostRuntime) -> Result<(), AllocError> {
+    let mut random = Random::new(1);
+    let (mut rows, mut exchanges) = (0u32, 0u32);
+    for number in 0..600 {
+        let counted = drawn_schedule(&rt, rt.alloc(), &mut random, number % 4 + 1)?;
+        rows = rows.wrapping_add(counted.0);
+        exchanges = exchanges.wrapping_add(counted.1);
+    }
+    assert!(rt;
+        rows >= 12_000 && rows <= 15_000 && exchanges >= 30_000,
+        "{rows} {exchanges}"
+    );
+    Ok(())
+}
+
+/// The rows and the exchanges of a drawn plan of four sessions, each on a thread of its own.
+fn drawn_run<R: Threads + Wait + Abort + Sync>(
+    rt: &R,
+    alloc: Global,
+    random: &mut Random,
+) -> Result<(u32, u32), RunFault> {
+    let plan = drawn_plan(rt, alloc, random, 4, 32)?;
+    let gate = Counts::new(alloc)?;
+    let outcome = run(rt, alloc, &plan, &gate)?;
+    assert_eq!(rt; outcome.history.len(), 128);
+    let rows = check_counts(rt, &outcome.history, &outcome.journals, &gate);
+    Ok((rows, gate.all()))
+}
+
+#[test]
+fn drawn_runs(rt: HostRuntime) -> Result<(), RunFault> {
+    let mut random = Random::new(2);
+    let (mut rows, mut exchanges) = (0u32, 0u32);
+    for _ in 0..100 {
+        let counted = drawn_run(&rt, rt.alloc(), &mut random)?;
+        rows = rows.wrapping_add(counted.0);
+        exchanges = exchanges.wrapping_add(counted.1);
+    }
+    assert!(rt;
+        rows >= 8_000 && rows <= 11_000 && exchanges >= 20_000,
+        "{rows} {exchanges}"
+    );
+    Ok(())
+}

@@ -1,0 +1,172 @@
+-- What an error leaves of the names.
+use Rattle.std.proofs.Common.{◌≡◌, ℕ, ◌+◌, ◌<◌, ◌≤◌, Bool, true, false, cond, not, List, [], ◌∷◌, ◌++◌, length, get_or, take, drop, Result, Ok, Err, refl, sym, ap, subst, ◌∙◌, arith, eqb, inl, inr, take-append-drop}
+use Rattle.std.specs.Prelude.{IfErr, OnErr}
+use Rattle.std.specs.List.{list_all, list_any}
+use Rattle.std.proofs.lemmas.Bool.{false≢true}
+use Rattle.std.proofs.lemmas.Bool.Decides.{nat_tests}
+use Rattle.std.proofs.lemmas.List.{take_more}
+use Rattle.redo_names.specs.Names.{is_name, has, with_name}
+use Rattle.redo_model.specs.Names.{Text}
+use Rattle.redo_terms.specs.declared.kind.Kind.{Kind}
+use Rattle.redo_terms.specs.declared.kind.Kind.TheVariants as kinds
+use Rattle.redo_text.specs.declared.fault.LineFault.{LineFault}
+use Rattle.redo_text.specs.declared.fault.LineFault.TheVariants.{TooManyNames}
+use Rattle.redo_text.specs.declared.fault.Unread.{Unread}
+use Rattle.redo_text.specs.declared.fault.Unread.TheVariants as unread
+use Rattle.redo_text.specs.declared.fault.ReadFault.{ReadFault}
+use Rattle.redo_text.specs.declared.fault.ReadFault.TheVariants as faults
+use Rattle.redo_text.specs.Texts.{word_of}
+use Rattle.redo_text.specs.Grammar.{with_names}
+use Rattle.redo_text.specs.Questions.{words_of, has_bad_byte, is_text_byte}
+use Rattle.redo_text.specs.Inside.Faults.{AddsFront, LeavesNames}
+use Rattle.redo_text.specs.Inside.Reading.{Reads, added, target_and_names_in, IsFull, LeavesFront, LeavesSome, LeavesWords}
+use Rattle.redo_text.proofs.Added.{added_is}
+use Rattle.redo_text.proofs.NameLists.{target_and_names_found, all_names, each_name, names_are_visible}
+use Rattle.redo_text.proofs.ScriptParts.{with_names-append}
+use Rattle.redo_text.proofs.Spaced.{IsVisible, line_is_spaced, spaced_is_text}
+
+-- a name that is not added meets a full list
+full_at : (names : List Text) (t : Text) (fault : LineFault) → added names t ≡ Err fault
+    → (fault ≡ TooManyNames) × (length names ≡ 65536)
+full_at names t fault e = by (has names t) (eqb (length names) 65536) refl e
+  where
+    by : (b d : Bool) → eqb (length names) 65536 ≡ d
+        → cond b (Ok names) (cond d (Err TooManyNames) (Ok (names ++ t ∷ []))) ≡ Err fault
+        → (fault ≡ TooManyNames) × (length names ≡ 65536)
+    by true d full h = absurd cc
+    by false true full h = (cc, grind (arith, nat_tests, full))
+    by false false full h = absurd cc
+
+-- the names with the first words, and with one more
+pub front_more : (start names after ws : List Text) (i : ℕ) (w : Text) → length names ≤ 65536
+    → i < length ws → get_or ws i [] ≡ w → added names w ≡ Ok after
+    → names ≡ with_names start (take i ws) → after ≡ with_names start (take (i + 1) ws)
+front_more start names after ws i w few lt at e front =
+    (added_is names w after few e).0
+    ∙ ap (λ (l : List Text). with_name l w) front
+    ∙ sym (with_names-append start (take i ws) (w ∷ []))
+    ∙ ap (with_names start) (ap (λ (t : Text). take i ws ++ t ∷ []) (sym at)
+    ∙ sym (take_more ws i [] lt))
+
+front_at : (start after ws : List Text) (i : ℕ) → after ≡ with_names start (take i ws)
+    → AddsFront start ws after
+front_at start after ws i front = record {
+  own = take i ws;
+  rest = drop i ws;
+  words_are = sym (take-append-drop i ws);
+  adds = front;
+}
+
+-- one word is not added: those before it are
+pub front_left : (start names after ws : List Text) (i : ℕ) (w : Text) (why : Unread)
+    → names ≡ with_names start (take i ws) → after ≡ names
+    → Reads {X = ℕ} {Y = List Text} (λ n. after) (Err why) (added names w)
+    → LeavesFront start ws after why
+front_left start names after ws i w unread.Memory front same reads =
+    (front_at start after ws i (same ∙ front), tt)
+front_left start names after ws i w (unread.Fault fault) front same reads =
+    let full = full_at names w fault reads in
+    (front_at start after ws i (same ∙ front), (full.0, ap length same ∙ full.1))
+
+-- the words before it, and it, are added, and then there is no memory
+pub front_kept : (start after ws : List Text) (i : ℕ) → after ≡ with_names start (take i ws)
+    → LeavesFront start ws after unread.Memory
+front_kept start after ws i front = (front_at start after ws i front, tt)
+
+-- after a target, some of the names are added
+pub some_left : (names mid after args : List Text) (t : Text) (ns : List Text) (why : Unread)
+    → length names ≤ 65536 → target_and_names_in args ≡ Ok (t, ns) → added names t ≡ Ok mid
+    → LeavesFront mid ns after why → LeavesSome names args after why
+some_left names mid after args t ns why few words e left =
+    let found = target_and_names_found args t ns words in
+    let is : mid ≡ with_name names t = (added_is names t mid few e).0 in
+    let front = left.0 in
+    let each : list_all is_name args ≡ true =
+    ap (list_all is_name) found.words ∙ all_names (t ∷ ns) (found.target, found.list.each) in
+    let longer : AddsFront names args after = record {
+      own = t ∷ front.own;
+      rest = front.rest;
+      words_are = found.words ∙ ap (λ (l : List Text). t ∷ l) front.words_are;
+      adds = front.adds ∙ ap (λ (l : List Text). with_names l front.own) is;
+    } in
+    inr (each, (longer, left.1))
+
+word_is_visible : (kind : Kind) → IsVisible (word_of kind)
+word_is_visible kinds.File = refl
+word_is_visible kinds.Gone = refl
+word_is_visible kinds.Lock = refl
+word_is_visible kinds.Unlock = refl
+word_is_visible kinds.Start = refl
+word_is_visible kinds.IfChange = refl
+word_is_visible kinds.IfCreate = refl
+word_is_visible kinds.Always = refl
+word_is_visible kinds.Stamp = refl
+word_is_visible kinds.Done = refl
+word_is_visible kinds.Failed = refl
+word_is_visible kinds.Ood = refl
+word_is_visible kinds.Targets = refl
+word_is_visible kinds.Sources = refl
+
+-- of a text that begins with a command's word
+pub words_left : (names : List Text) (text : Text) (kind : Kind) (args after : List Text)
+    (why : Unread) → words_of text ≡ word_of kind ∷ args → LeavesSome names args after why
+    → LeavesWords names text after why
+words_left names text kind args after why words left =
+    elim left [
+      | inl same ↦ inl same
+      | inr some ↦ inr (
+        good some.0,
+        subst (λ (l : List Text). LeavesFront names l after why)
+            (sym (ap (drop 1) words)) some.1,
+      )
+    ]
+  where
+    good : list_all is_name args ≡ true → has_bad_byte text ≡ false
+    good all =
+        ap has_bad_byte (line_is_spaced text (word_of kind) args words)
+        ∙ spaced_is_text (word_of kind) args (word_is_visible kind)
+        (names_are_visible args (each_name args all))
+
+-- where nothing is added
+pub same_left : {X : Type 0} (result : Result X Unread) (names : List Text) (text : Text)
+    (after : List Text) → after ≡ names → IfErr result (LeavesWords names text after)
+same_left (Ok x) names text after same = tt
+same_left (Err why) names text after same = inl same
+
+pub same_left_on : {X : Type 0} (result : Result X Unread) (names : List Text) (text : Text)
+    (after : List Text) → OnErr result (after ≡ names) → IfErr result (LeavesWords names text after)
+same_left_on (Ok x) names text after same = tt
+same_left_on (Err why) names text after same = inl same
+
+-- where a bad byte is found, nothing was added
+pub bad_left : (names : List Text) (text : Text) (after : List Text) (why : Unread)
+    → has_bad_byte text ≡ true → LeavesWords names text after why → after ≡ names
+bad_left names text after why bad left =
+    elim left [ inl same ↦ same | inr some ↦ absurd (false≢true (sym some.0 ∙ bad)) ]
+
+none_added : (names words : List Text) → AddsFront names words names
+none_added names words = record { own = []; rest = words; words_are = refl; adds = refl }
+
+-- what is left after the error of a line that is read alone
+pub names_left : (names : List Text) (line : Text) (after : List Text) (why : Unread)
+    (result : ReadFault) → LeavesWords names line after why
+    → (why ≡ unread.Memory → result ≡ faults.Memory)
+    → ((fault : LineFault) → why ≡ unread.Fault fault → result ≡ faults.Line 1 fault)
+    → LeavesNames names line after result
+names_left names line after unread.Memory result left memory of_line =
+    subst (LeavesNames names line after) (sym (memory refl)) (by left)
+  where
+    by : LeavesWords names line after unread.Memory → LeavesNames names line after faults.Memory
+    by (inl same) =
+        subst (λ (l : List Text). AddsFront names (drop 1 (words_of line)) l) (sym same)
+        (none_added names (drop 1 (words_of line)))
+    by (inr some) = some.1.0
+names_left names line after (unread.Fault fault) result left memory of_line =
+    subst (LeavesNames names line after) (sym (of_line fault refl)) (by fault left)
+  where
+    by : (f : LineFault) → LeavesWords names line after (unread.Fault f)
+        → LeavesNames names line after (faults.Line 1 f)
+    by TooManyNames (inl same) = inl same
+    by TooManyNames (inr some) = inr (some.1.0, some.1.1.1)
+    by f (inl same) = same
+    by f (inr some) = let other : f ≡ TooManyNames = some.1.1.0 in absurd cc
