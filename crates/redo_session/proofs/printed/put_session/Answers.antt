@@ -3,7 +3,7 @@ use Rattle.redo_terms.specs.Meaning.{reply_at}
 use Rattle.redo_terms.specs.Inside.Meaning.{item_at}
 use Rattle.redo_terms.specs.declared.reply.Line.{Line}
 use Rattle.redo_session.specs.RunTexts.{done_text_of, skipped_text_of}
-use Rattle.redo_session.proofs.Printed.{text_from, session_begins, goes_on, done_line, skipped_line}
+use Rattle.redo_session.proofs.ScriptTexts.{text_from, session_begins, goes_on, done_line, skipped_line}
 use Rattle.redo_session.proofs.printed.put_session.Goals as goal
 
 pub loop-item-init : goal.loop-item-init

@@ -8,7 +8,7 @@ use Rattle.redo_terms.specs.Inside.Meaning.{item_at}
 use Rattle.redo_journal.specs.Plans.{AreBelow}
 use Rattle.redo_session.specs.Outcomes.{scripts_named}
 use Rattle.redo_session.specs.RunTexts.{session_text_of, run_text_of, sessions_below}
-use Rattle.redo_session.proofs.Printed.{script_named, script_below, run_more}
+use Rattle.redo_session.proofs.ScriptTexts.{script_named, script_below, run_more}
 use Rattle.redo_session.proofs.printed.run_text.Goals as goal
 
 pub put_session-requires-clause-items : goal.put_session-requires-clause-items
