@@ -15,9 +15,9 @@ pub mod NoFault
 pub mod OneRun
 pub mod Outcomes
 pub mod Parts
-pub mod Printed
 pub mod RepliesFit
 pub mod RunReplays
 pub mod RunTexts
+pub mod ScriptTexts
 pub mod Served
 pub mod Wholes

@@ -4,7 +4,7 @@ use Rattle.redo_terms.specs.Meaning.{line_at}
 use Rattle.redo_terms.specs.Inside.Meaning.{item_at}
 use Rattle.redo_terms.specs.declared.reply.Line.{Line}
 use Rattle.redo_session.specs.RunTexts.{session_text_of}
-use Rattle.redo_session.proofs.Printed.{text_from}
+use Rattle.redo_session.proofs.ScriptTexts.{text_from}
 use Rattle.redo_session.proofs.printed.put_session.Given as goal
 
 -- with the text of what is left it is the text of the session
