@@ -1,6 +1,5 @@
 -- Sessions at work: how far one is, and what two ranges that meet have done.
 use Rattle.std.proofs.Common.{◌≡◌, ℕ, ◌+◌, ◌-◌, ◌<◌, [], ◌∷◌, length, refl, sym, ap, ◌∙◌, subst, arith}
-use Rattle.std.proofs.lemmas.List.{length_push}
 use Rattle.redo_model.specs.Journals.{next_of, numbered}
 use Rattle.redo_model.proofs.Nexts.{past_of, past_of_more, next_from}
 use Rattle.redo_journal.specs.Plans.{PlanOf, script_of}

@@ -10,12 +10,11 @@ use mathlib.Core.Logic.{dite}
 use native.Mathlib.Decide.{dec_lt}
 use Rattle.redo_names.specs.Names.{text_at}
 use Rattle.redo_model.specs.Names.{Text, texts, Naming}
-use Rattle.redo_model.specs.Command.{Command, Item}
+use Rattle.redo_model.specs.Command.{Item}
 use Rattle.redo_model.specs.History as histories
 use Rattle.redo_model.specs.History.{Legal}
 use Rattle.redo_model.specs.Placed.{Place, Row, Granted, Busy, Released, PlacedLine, line_of, part_of, Fits, IsPlacedAfter}
 use Rattle.redo_model.specs.Journals.{IsWholeJournal, IsJointOrder}
-use Rattle.redo_model.specs.Reply.{Reply}
 use Rattle.redo_model.specs.Renaming.{IsBelow, IsLineBelow, named_command, named_item, named_reply, named_line}
 use Rattle.redo_model.specs.Scripts.{done_by, Does}
 use Rattle.redo_model.proofs.Scripts.{whole_does, done_named}

@@ -1,5 +1,5 @@
 -- What is printed of a script, line by line, and of the scripts of a plan.
-use Rattle.std.proofs.Common.{◌≡◌, ◌⊎◌, inl, inr, ℕ, suc, ◌+◌, ◌<◌, ◌≤◌, Bool, true, false, not, ◌||◌, cond, List, [], ◌∷◌, ◌++◌, refl, sym, ap, subst, ◌∙◌, map, drop, get_or, length, codes, decimal, arith, append_assoc}
+use Rattle.std.proofs.Common.{◌≡◌, ◌⊎◌, inl, inr, ℕ, suc, ◌+◌, ◌<◌, ◌≤◌, Bool, true, false, not, ◌||◌, cond, List, [], ◌∷◌, ◌++◌, sym, ap, subst, ◌∙◌, map, drop, get_or, length, codes, decimal, arith, append_assoc}
 use Rattle.std.specs.List.{AllByRecursion}
 use Rattle.std.proofs.lemmas.List.{at_drop_more, at_drop_all, flat_map_more, get_or_default, get_or-map, length-map}
 use Rattle.std.proofs.lemmas.Simd.{map-map}

@@ -1,12 +1,10 @@
 -- What is printed of a session.
-use Rattle.std.specs.Prelude.{ℕ, Option, Some, None, List, map, codes}
+use Rattle.std.specs.Prelude.{ℕ, List, map}
 use Rattle.redo_model.specs.Names.{Text}
 use Rattle.redo_model.specs.Reply as replies
 use Rattle.redo_model.specs.History.{part_of}
 use Rattle.redo_terms.specs.declared.reply.Line.{Line}
-use Rattle.redo_terms.specs.declared.reply.Reply.{Reply}
-use Rattle.redo_terms.specs.Meaning.{line_at, reply_at}
-use Rattle.redo_text.specs.Texts.{reply_text_of}
+use Rattle.redo_terms.specs.Meaning.{line_at}
 
 -- the replies to the session among these lines
 abbrev pub replies_in : List Text → ℕ → List Line → List (replies.Reply Text)

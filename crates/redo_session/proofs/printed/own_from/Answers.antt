@@ -1,4 +1,4 @@
-use Rattle.std.proofs.Common.{◌≡◌, ◌≢◌, ◌<◌, ◌∙◌, ap, sym, length, arith}
+use Rattle.std.proofs.Common.{◌≢◌, ◌<◌, ◌∙◌, ap, sym, length, arith}
 use Rattle.redo_terms.specs.declared.reply.Line.{Line}
 use Rattle.redo_session.proofs.Parts.{of_another}
 use Rattle.redo_session.proofs.printed.own_from.Goals as goal

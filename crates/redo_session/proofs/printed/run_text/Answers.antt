@@ -1,13 +1,12 @@
 use Rattle.std.proofs.Common.{◌≡◌, ◌<◌, ◌++◌, ◌∙◌, List, [], ap, sym, subst, length, map, get_or, arith}
 use Rattle.std.proofs.lemmas.List.{length-map}
 use Rattle.redo_model.specs.Names.{Text}
-use Rattle.redo_model.specs.Command as model
 use Rattle.redo_model.specs.History.{part_of}
 use Rattle.redo_terms.specs.Meaning.{line_at}
 use Rattle.redo_terms.specs.Inside.Meaning.{item_at, item_of}
 use Rattle.redo_journal.specs.Plans.{AreBelow}
 use Rattle.redo_session.specs.Outcomes.{scripts_named}
-use Rattle.redo_session.specs.RunTexts.{session_text_of, run_text_of, sessions_below}
+use Rattle.redo_session.specs.RunTexts.{session_text_of}
 use Rattle.redo_session.proofs.ScriptTexts.{script_named, script_below, run_more}
 use Rattle.redo_session.proofs.printed.run_text.Goals as goal
 
