@@ -3,7 +3,12 @@
 
 ghost use Rattle.std.specs.Prelude.{◌≡◌, ◌∷◌, [], map};
 ghost use Rattle.redo_joint.specs.Worked.{
-    one_hold, one_hold_and_more, one_hold_turned, three_rows, two_locks, two_locks_turned,
+  one_hold,
+  one_hold_and_more,
+  one_hold_turned,
+  three_rows,
+  two_locks,
+  two_locks_turned,
 };
 ghost use Rattle.redo_model.specs.History.{Legal};
 ghost use Rattle.redo_model.specs.Inside.Merging.{first_journal, merging, second_journal, shared};

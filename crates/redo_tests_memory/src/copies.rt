@@ -5,8 +5,8 @@ ghost use Rattle.redo_terms.specs.Meaning.{command_of, reply_of};
 
 use crate::told::again;
 use redo_command::{
-    Command, Kind, ReadFault, Reply, ReplyFault, command_text, line_text, read_command,
-    read_reply, read_script, reply_text,
+    Command, Kind, ReadFault, Reply, ReplyFault, command_text, line_text, read_command, read_reply,
+    read_script, reply_text,
 };
 use redo_names::Names;
 use std::alloc::{AllocError, Global};
@@ -169,7 +169,12 @@ const GUARDED: &str = "? file a.c 10\n? ifchange a.o a.c b.c lib\n? stamp a.o 61
 /// The text of the one line of a session file is that file.
 fn check_line(rt: &impl Abort, alloc: Global, text: &[u8]) -> Result<(), Fail> {
     let mut names = Names::new(alloc);
-    let script = again!(rt, alloc, ReadFault::Memory, read_script(alloc, text, &mut names));
+    let script = again!(
+        rt,
+        alloc,
+        ReadFault::Memory,
+        read_script(alloc, text, &mut names)
+    );
     let [item] = script.items() else {
         panic!(rt; "not one line");
     };
