@@ -10,6 +10,7 @@ use Rattle.redo_model.specs.Renaming.{named_item}
 use Rattle.redo_journal.specs.Plans.{PlanOf, script_of}
 use Rattle.redo_journal.specs.Journals.{told_by, journals_of}
 use Rattle.redo_journal.specs.declared.entry.Journal.{Journal}
+use Rattle.redo_board.specs.Rows.{naming_of}
 use Rattle.redo_board.specs.Shown.{rows_up_to}
 use Rattle.redo_replay.specs.Merges.{by_number}
 
@@ -20,7 +21,7 @@ scripts_named p = map (λ script. map (named_item (text_at p.names)) script) p.s
 -- all that the session does, and how many rows it tried: those up to its own latest
 pub record IsWholeOf (p : PlanOf) (s : ℕ) (journal : Journal) : Type 0 where
   pub session : journal.session ≡ s
-  pub whole : IsWholeJournal s (script_of p s) (told_by (script_of p s) journal)
+  pub whole : IsWholeJournal (naming_of p) s (script_of p s) (told_by (script_of p s) journal)
   pub tries : journal.tries ≡ rows_up_to 0 (told_by (script_of p s) journal)
 
 -- one journal for each session, in order, each of all that it does

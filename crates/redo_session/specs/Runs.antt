@@ -26,12 +26,13 @@ AreAccepted names (file ∷ files) (script ∷ scripts) after =
     × AreAccepted middle files scripts after
 
 -- one history that holds each session's commands once, in that session's order, each reply the
--- database's at its point; of guarded lines those that the replies let through
+-- database's at its point; of guarded lines those that the replies let through, and at the end of a
+-- session its closing commands
 pub record IsRun (scripts : List (List (Item Text))) (lines : List (Line Text)) : Type 0 where
   pub legal : Legal texts lines
   pub sessions : AllByRecursion (λ line. line.session < length scripts) lines
   pub parts : (s : ℕ) → s < length scripts
-      → Does (slice_index_or scripts s []) (part_of s lines)
+      → Does texts (slice_index_or scripts s []) (part_of s lines)
 
 -- the text of such a run
 abbrev pub IsRunText : List (List (Item Text)) → Text → Type 0

@@ -6,6 +6,7 @@ use Rattle.redo_journal.specs.Journals.{told_by}
 use Rattle.redo_journal.specs.declared.entry.Journal.{Journal}
 use Rattle.redo_board.specs.declared.board.Board.{Board}
 use Rattle.redo_board.specs.declared.seat.Seat.{Seat}
+use Rattle.redo_board.specs.Rows.{naming_of}
 use Rattle.redo_board.specs.Views.{Part}
 use Rattle.redo_board.specs.Shown.{parts_of, rows_up_to}
 use Rattle.redo_board.specs.Kept.{SitsAt, IsFreshOf}
@@ -27,7 +28,7 @@ parts_told p s (journal ∷ journals) =
 -- the session's journal, with nothing left to do, and the rows that it tried
 pub record IsEnded (p : PlanOf) (s : ℕ) (journal : Journal) : Type 0 where
   pub session : journal.session ≡ s
-  pub none : next_of (script_of p s) (told_by (script_of p s) journal) ≡ None
+  pub none : next_of (naming_of p) (script_of p s) (told_by (script_of p s) journal) ≡ None
   pub tries : journal.tries ≡ rows_up_to 0 (told_by (script_of p s) journal)
 
 -- the journals of the sessions from s on
