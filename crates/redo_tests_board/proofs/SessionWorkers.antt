@@ -1,8 +1,8 @@
 -- Workers of the sessions from some one on, and the sessions that seats have.
-use Rattle.std.proofs.Common.{◌≡◌, ℕ, ◌+◌, ◌-◌, ◌<◌, List, [], ◌∷◌, ◌++◌, length, refl, sym, ap, subst, inl, inr, arith}
+use Rattle.std.proofs.Common.{◌≡◌, ℕ, ◌+◌, List, [], ◌∷◌, ◌++◌, length, refl, sym, subst, inl, inr, arith}
 use mathlib.Core.Logic.{dite}
 use native.Mathlib.Decide.{dec_lt}
-use Rattle.redo_journal.specs.Plans.{PlanOf, script_of}
+use Rattle.redo_journal.specs.Plans.{PlanOf}
 use Rattle.redo_journal.specs.declared.entry.Journal.{Journal}
 use Rattle.redo_board.specs.declared.board.Board.{Board}
 use Rattle.redo_board.specs.declared.seat.Seat.{Seat}
@@ -12,9 +12,8 @@ use Rattle.redo_board.specs.Views.{Part}
 use Rattle.redo_board.specs.Rule.{HasPart}
 use Rattle.redo_board.specs.Shown.{IsForAll, parts_of, session_of, journal_of}
 use Rattle.redo_board.specs.Kept.{SitsAt}
-use Rattle.redo_board.specs.Outcomes.{Leaves, Made, Waits}
-use Rattle.redo_board.proofs.Works.{made_less}
-use Rattle.redo_tests_board.specs.Workers.{HasFrom, left_by}
+use Rattle.redo_board.specs.Outcomes.{Leaves}
+use Rattle.redo_tests_board.specs.Workers.{HasFrom}
 
 has_first : (xs ys : List Part) (s : ℕ) (own : List Line) → HasPart xs s own
     → HasPart (xs ++ ys) s own
@@ -63,21 +62,3 @@ left_from p b w seat journal leaves k is = record {
 pub for_all : (p : PlanOf) (b : Board) (seat : Seat) → HasFrom p b 0 (length p.scripts) seat
     → IsForAll p seat
 for_all p b seat has = λ s below. has.each s (omega arith) below
-
--- a step that does something leaves fewer commands
-pub fewer : (p : PlanOf) (old new : Worker) → session_of new ≡ session_of old → Made p old new
-    → left_by p new < left_by p old
-fewer p old new same made =
-    let a = made_less p old new made in
-    let b = ap (λ s. length (script_of p s)) same in
-    omega arith
-
--- and so does the next one after a step that was refused
-pub fewer_later : (p : PlanOf) (old middle new : Worker) → session_of middle ≡ session_of old
-    → session_of new ≡ session_of middle → Waits p old middle → Made p middle new
-    → left_by p new < left_by p old
-fewer_later p old middle new first second waits made =
-    let a = fewer p middle new second made in
-    let b = ap (λ s. length (script_of p s)) first in
-    let d = ap length waits.same in
-    omega arith
