@@ -5,7 +5,7 @@ use Rattle.std.proofs.lemmas.Option.{none-some}
 use Rattle.std.proofs.lemmas.Simd.{map-map}
 use Rattle.redo_model.specs.Names.{Naming}
 use Rattle.redo_model.specs.Command.{Command, Item}
-use Rattle.redo_model.specs.Reply.{Reply, Refusal, Okay, Granted, Busy, Stale, Stamped, Ood, Targets, Sources, Refused, lets_through}
+use Rattle.redo_model.specs.Reply.{Reply, Okay, Granted, Busy, Stale, Stamped, Ood, Targets, Sources, Refused, lets_through}
 use Rattle.redo_model.specs.History.{Line}
 use Rattle.redo_model.specs.Placed.{PlacedLine, line_of}
 use Rattle.redo_model.specs.Journals.{Numbered, first_from, next_line_of, numbered, IsWholeJournal}
