@@ -1,3 +1,1 @@
 pub mod Plans
-mod Told
-mod Nexts
