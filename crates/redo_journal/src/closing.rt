@@ -1,14 +1,13 @@
-//! The commands that let go of what a session holds.
-
-ghost use Rattle.std.specs.Prelude.{◌≡◌, ℕ, ◌<◌, ◌↔◌, IsTrue, IfSome, IsSomeAnd, All, cond, length, map, filter, option_map, unwrap_or, drop};
-ghost use Rattle.redo_model.specs.Command.{Ood, Failed, Unlock, asked_lock};
+ghost use Rattle.std.specs.Prelude.{◌≡◌, ℕ, ◌<◌, ◌↔◌, IsTrue, IfSome, All, cond, length, map, filter, option_map};
+ghost use Rattle.std.specs.Option.{ForSome};
+ghost use Rattle.redo_model.specs.Command.{Failed, Unlock, asked_lock};
 ghost use Rattle.redo_model.specs.Renaming.{IsBelow};
 ghost use Rattle.redo_model.specs.Placed.{line_of};
 ghost use Rattle.redo_model.specs.Closing.{lesser_of, least, closing_of};
 ghost use Rattle.redo_terms.specs.Meaning.{command_of, by_text};
 ghost use Rattle.redo_terms.specs.Inside.Meaning.{item_of};
 ghost use Rattle.redo_journal.specs.Journals.{command_told, lines_told};
-ghost use Rattle.redo_journal.specs.Holds.{Says, hold_at, is_held, locked_in, lesser_held};
+ghost use Rattle.redo_journal.specs.Holds.{Says, is_held, locked_in, lesser_held};
 
 use crate::entry::Entry;
 use crate::holds::{Hold, Holds};

@@ -1,8 +1,8 @@
-ghost use Rattle.std.specs.Prelude.{◌≡◌, ◌↔◌, ◌<◌, ℕ, [], All, IfOk, IsTrue, length, map};
-ghost use Rattle.std.specs.List.{AllByRecursion};
+ghost use Rattle.std.specs.Prelude.{◌≡◌, ◌↔◌, ◌<◌, ℕ, List, [], All, IfOk, IsTrue, length, map};
 ghost use Rattle.redo_model.specs.Journals.{IsJournal};
+ghost use Rattle.redo_model.specs.Names.{Text};
 ghost use Rattle.redo_model.specs.Renaming.{IsBelow};
-ghost use Rattle.redo_terms.specs.Meaning.{by_text, command_of, reply_of};
+ghost use Rattle.redo_terms.specs.Meaning.{by_text, reply_of};
 ghost use Rattle.redo_terms.specs.Inside.Meaning.{item_of};
 ghost use Rattle.redo_journal.specs.Plans.{AreBelow};
 ghost use Rattle.redo_journal.specs.Journals.{command_told, told_by, AreJournals, IsMarked};

@@ -63,14 +63,14 @@ pub fn next_line(script: &Script, entries: &[Entry]) -> Option<u32>
 }
 
 /// The number of a closing command after these entries.
-fn closing_number(script: &Script, entries: &[Entry]) -> u64
+fn closing_number(script: &Script, entries: &[Entry]) -> usize
     ensures { (s : ℕ) → closing_number (map item_of script.now)
         (lines_told s (map item_of script.now) entries.now) ≡ result }
 {
-    let lines = script.items().len() as u64;
+    let lines = script.items().len();
     match entries.last() {
         None => lines,
-        Some(last) => lines.max(u64::from(last.line) + 1),
+        Some(last) => lines.max(last.line as usize + 1),
     }
 }
 
@@ -136,7 +136,7 @@ fn closes(
     let Some(command) = entry.command(script) else {
         return false;
     };
-    closing_number(script, before) == u64::from(entry.line)
+    closing_number(script, before) == entry.line as usize
         && lets_go(command, name, holds.at(name))
 }
 
