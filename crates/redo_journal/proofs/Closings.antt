@@ -152,14 +152,12 @@ least_below naming n (u ∷ names) below t e =
 filter_below : (p : ℕ → Bool) (n : ℕ) (names : List ℕ) → AllBelow n names
     → AllBelow n (filter p names)
 filter_below p n [] below = tt
-filter_below p n (t ∷ names) below = at (p t)
+filter_below p n (t ∷ names) below = at (p t) (filter_below p n names below.1)
   where
-    rest : AllBelow n (filter p names)
-    rest = filter_below p n names below.1
-
-    at : (b : Bool) → AllBelow n (cond b (t ∷ filter p names) (filter p names))
-    at true = (below.0, rest)
-    at false = rest
+    at : (b : Bool) → AllBelow n (filter p names)
+        → AllBelow n (cond b (t ∷ filter p names) (filter p names))
+    at true rest = (below.0, rest)
+    at false rest = rest
 
 lets_go_below : (n t : ℕ) (b : Bool) → t < n → IsBelow n (cond b (Failed t) (Unlock t))
 lets_go_below n t true within = (within, tt)

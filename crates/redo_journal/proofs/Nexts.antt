@@ -27,7 +27,7 @@ module _ (script : List Item) (through : Bool) (at : ℕ) (item : Item) (within 
   stands : get_or (map item_of script) at (item_of item) ≡ item_of item
   stands = get_or-map item_of script at item (item_of item) within ∙ ap item_of (sym is)
 
-  asked : get_or (commands_in (map item_of script)) at Ood ≡ command_of item.command
+  pub asked : get_or (commands_in (map item_of script)) at Ood ≡ command_of item.command
   asked =
       get_or-map (λ (x : commands.Item ℕ). x.command) (map item_of script) at (item_of item) Ood
       long

@@ -42,7 +42,7 @@ fn lesser(names: &Names, name: u32, other: Option<u32>) -> u32
 }
 
 /// Whether the command lets go of the name: its build fails where there is one, else it is unlocked.
-pub(crate) fn lets_go(command: &Command, name: u32, hold: Hold) -> bool
+fn is_letting_go(command: &Command, name: u32, hold: Hold) -> bool
     ensures { IsTrue result
         ↔ (command_of command.now ≡ cond hold.building (Failed name) (Unlock name)) }
 {
@@ -50,6 +50,17 @@ pub(crate) fn lets_go(command: &Command, name: u32, hold: Hold) -> bool
         Command::Failed(failed) => hold.building && *failed == name,
         Command::Unlock(unlocked) => !hold.building && *unlocked == name,
         _ => false,
+    }
+}
+
+/// Whether the entry's command lets go of the name.
+pub(crate) fn lets_go(script: &Script, entry: &Entry, name: u32, hold: Hold) -> bool
+    ensures { IsTrue result ↔ (command_told (map item_of script.now) entry.now
+        ≡ cond hold.building (Failed name) (Unlock name)) }
+{
+    match entry.command(script) {
+        Some(command) => is_letting_go(command, name, hold),
+        None => false,
     }
 }
 

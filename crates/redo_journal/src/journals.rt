@@ -91,7 +91,10 @@ fn is_journal(
             (told_by (map item_of script.now) journal.now)
         × All (IsMarked (map item_of script.now)) journal.now.entries.items)) }
 {
-    if !is_own(session, journal) || !are_marked(script, &journal.entries) {
+    if !is_own(session, journal) {
+        return Ok(false);
+    }
+    if !are_marked(script, &journal.entries) {
         return Ok(false);
     }
     let holds = Holds::new(alloc, names)?;

@@ -64,8 +64,10 @@ pub fn next_line(script: &Script, entries: &[Entry]) -> Option<u32>
 
 /// The number of a closing command after these entries.
 fn closing_number(script: &Script, entries: &[Entry]) -> usize
-    ensures { (s : ℕ) → closing_number (map item_of script.now)
+    ensures number { (s : ℕ) → closing_number (map item_of script.now)
         (lines_told s (map item_of script.now) entries.now) ≡ result }
+    ensures past { length script.now ≤ result }
+    ensures fits { All (λ entry. entry.line < 4294967295) entries.now → result < 4294967296 }
 {
     let lines = script.items().len();
     match entries.last() {
@@ -130,14 +132,13 @@ fn closes(
                 (map line_of (lines_told s (map item_of script.now) before.now)))
             ≡ Some (numbered (line_told s (map item_of script.now) entry.now))) }
 {
-    let Some(name) = holds.least_held(names, script, before) else {
-        return false;
-    };
-    let Some(command) = entry.command(script) else {
-        return false;
-    };
-    closing_number(script, before) == entry.line as usize
-        && lets_go(command, name, holds.at(name))
+    match holds.least_held(names, script, before) {
+        Some(name) => {
+            closing_number(script, before) == entry.line as usize
+                && lets_go(script, entry, name, holds.at(name))
+        }
+        None => false,
+    }
 }
 
 /// Whether the entry is of what is next after the entries before it.
