@@ -74,7 +74,7 @@ module _ (script : List (commands.Item ℕ)) (s : ℕ) (told : List (PlacedLine 
   IsEntrys =
       option_map (closing_after script told) closing ≡ Some (numbered (line_told s script entry))
 
-  found : Numbered ℕ
+  abbrev found : Numbered ℕ
   found = closing_after script told command
 
   pub same_closing : (b : Bool) → closing_number script told ≡ entry.line
@@ -91,11 +91,12 @@ module _ (script : List (commands.Item ℕ)) (s : ℕ) (told : List (PlacedLine 
             alike.1 (sym (ap (λ (n : Numbered ℕ). n.command) same)),
       )
 
-  pub other_number : (closing_number script told ≡ entry.line → ⊥) → IsTrue false ↔ IsEntrys
-  other_number other =
+  pub other_number : (b : Bool) → b ≡ false → (closing_number script told ≡ entry.line → ⊥)
+      → IsTrue b ↔ IsEntrys
+  other_number b not other =
       let after : option_map (closing_after script told) closing ≡ Some found =
       ap (option_map (closing_after script told)) is in (
-        λ no. absurd (false≢true no),
+        λ yes. absurd (false≢true (sym not ∙ yes)),
         λ e.
             let both : Some found ≡ Some (numbered (line_told s script entry)) = sym after ∙ e in
             let same : found ≡ numbered (line_told s script entry) = cc in

@@ -98,17 +98,19 @@ pub fn next_step(
     ensures below { IfSome result (λ next. IfSome next.closing (λ command.
         IsBelow (length names.now) (command_of command))) }
 {
-    if let Some(line) = next_line(script, entries) {
-        return Some(Next {
+    match next_line(script, entries) {
+        Some(line) => Some(Next {
             line,
             closing: None,
-        });
+        }),
+        None => {
+            let command = holds.closing(names, script, entries)?;
+            Some(Next {
+                line: closing_number(script, entries) as u32,
+                closing: Some(command),
+            })
+        }
     }
-    let command = holds.closing(names, script, entries)?;
-    Some(Next {
-        line: closing_number(script, entries) as u32,
-        closing: Some(command),
-    })
 }
 
 /// Whether the entry is of the closing command that comes after the entries before it.

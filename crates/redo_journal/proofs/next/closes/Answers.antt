@@ -1,4 +1,4 @@
-use Rattle.std.proofs.Common.{◌≡◌, ◌↔◌, Bool, IsTrue, cond, map, sym, ap, ◌∙◌, subst}
+use Rattle.std.proofs.Common.{◌≡◌, ◌↔◌, Bool, IsTrue, cond, map, sym, ap, ◌∙◌, subst, ne_eqb}
 use Rattle.redo_model.specs.Command.{Failed, Unlock}
 use Rattle.redo_model.specs.Journals.{numbered}
 use Rattle.redo_terms.specs.Inside.Meaning.{item_of}
@@ -37,4 +37,5 @@ returns-else-closing_number-entry c s says =
     other_number script s (lines_told s script c.args.before.now) c.args.entry.now _ _
     (closing_told c.args.names.now c.args.holds.now s script c.args.before.now says
     c.requires.below c.in-Some.name c.in-Some.ensures.below c.in-Some.ensures.least)
+    _ (ne_eqb c.closing_number.result c.args.entry.now.line c.if-closing_number-entry.false)
     (λ e. c.if-closing_number-entry.false (sym (c.closing_number.ensures.number s) ∙ e))
