@@ -25,13 +25,13 @@ pub says_on : (names : List Text) (old new : List Hold) (lines : List (Line ℕ)
     → Says names old lines → Notes names old line.command line.reply new
     → Says names new (lines ++ line ∷ [])
 says_on names old new lines line says notes = record {
-  each = notes.each ∙ says.each;
+  one_each = notes.one_each ∙ says.one_each;
   held = λ t within.
-      notes.held t (subst (λ n. t < n) (sym says.each) within)
+      notes.held t (subst (λ n. t < n) (sym says.one_each) within)
       ∙ ap (holds_then (by_text names) line.command line.reply t) (says.held t within)
       ∙ sym (holds_push (by_text names) t _ lines line);
   building = λ t within.
-      notes.building t (subst (λ n. t < n) (sym says.each) within)
+      notes.building t (subst (λ n. t < n) (sym says.one_each) within)
       ∙ ap (builds_then (by_text names) line.command line.reply t) (says.building t within)
       ∙ sym (builds_push (by_text names) t _ lines line);
 }

@@ -22,7 +22,7 @@ is_held holds t = (hold_at holds t).held
 
 -- it says what a session with these lines holds and builds
 pub record Says (names : List Text) (holds : List Hold) (lines : List (Line ℕ)) : Type 0 where
-  pub each : length holds ≡ length names
+  pub one_each : length holds ≡ length names
   pub held : (t : ℕ) → t < length names
       → (hold_at holds t).held ≡ closing.holds (by_text names) lines t
   pub building : (t : ℕ) → t < length names
@@ -31,7 +31,7 @@ pub record Says (names : List Text) (holds : List Hold) (lines : List (Line ℕ)
 -- what a command and its reply change
 pub record Notes (names : List Text) (old : List Hold) (x : Command ℕ) (reply : Reply ℕ)
     (new : List Hold) : Type 0 where
-  pub each : length new ≡ length old
+  pub one_each : length new ≡ length old
   pub held : (t : ℕ) → t < length old
       → (hold_at new t).held ≡ closing.holds_then (by_text names) x reply t (hold_at old t).held
   pub building : (t : ℕ) → t < length old

@@ -110,9 +110,9 @@ impl Holds {
             (command_told (map item_of script.now) entry)) entries.now }
         ensures closing { (s : ℕ)
             → Says names.now self.now
-                (map line_of (lines_told s (map item_of script.now) entries.now))
+            (map line_of (lines_told s (map item_of script.now) entries.now))
             → option_map command_of result ≡ closing_of (by_text names.now)
-                (map line_of (lines_told s (map item_of script.now) entries.now)) }
+            (map line_of (lines_told s (map item_of script.now) entries.now)) }
         ensures below { IfSome result (λ command. IsBelow (length names.now)
             (command_of command)) }
     {

@@ -48,12 +48,7 @@ fn note_entry(holds: &mut Holds, script: &Script, entry: &Entry)
 }
 
 /// Whether each entry is of what is next after those before it.
-fn go_by(
-    names: &Names,
-    script: &Script,
-    entries: &[Entry],
-    mut holds: Holds,
-) -> bool
+fn go_by(names: &Names, script: &Script, entries: &[Entry], mut holds: Holds) -> bool
     requires names { Says names.now holds [] }
     requires below { AreBelow (length names.now) script.now }
     requires marked { All (IsMarked (map item_of script.now)) entries.now }
@@ -88,7 +83,7 @@ fn is_journal(
     requires { AreBelow (length names.now) script.now }
     ensures { IfOk result (λ is. IsTrue is
         ↔ (IsJournal (by_text names.now) session (map item_of script.now)
-            (told_by (map item_of script.now) journal.now)
+        (told_by (map item_of script.now) journal.now)
         × All (IsMarked (map item_of script.now)) journal.now.entries.items)) }
 {
     if !is_own(session, journal) {

@@ -78,21 +78,16 @@ fn closing_number(script: &Script, entries: &[Entry]) -> usize
 
 /// What the session with these entries, whose table this is, does next, if there is anything: the
 /// next line of its script, and after these a closing command.
-pub fn next_step(
-    names: &Names,
-    script: &Script,
-    entries: &[Entry],
-    holds: &Holds,
-) -> Option<Next>
+pub fn next_step(names: &Names, script: &Script, entries: &[Entry], holds: &Holds) -> Option<Next>
     requires names { length holds.now ≡ length names.now }
     requires below { All (λ entry. IsBelow (length names.now)
         (command_told (map item_of script.now) entry)) entries.now }
     requires numbers { All (λ entry. entry.line < 4294967295) entries.now }
     ensures next { (s : ℕ)
         → Says names.now holds.now
-            (map line_of (lines_told s (map item_of script.now) entries.now))
+        (map line_of (lines_told s (map item_of script.now) entries.now))
         → next_after names.now s (map item_of script.now) entries.now
-            ≡ option_map (numbered_by (map item_of script.now)) result }
+        ≡ option_map (numbered_by (map item_of script.now)) result }
     ensures marked { IfSome result (λ next. IsSome next.closing
         ↔ (length script.now ≤ next.line)) }
     ensures below { IfSome result (λ next. IfSome next.closing (λ command.
@@ -114,25 +109,19 @@ pub fn next_step(
 }
 
 /// Whether the entry is of the closing command that comes after the entries before it.
-fn closes(
-    names: &Names,
-    script: &Script,
-    before: &[Entry],
-    holds: &Holds,
-    entry: &Entry,
-) -> bool
+fn closes(names: &Names, script: &Script, before: &[Entry], holds: &Holds, entry: &Entry) -> bool
     requires names { length holds.now ≡ length names.now }
     requires below { All (λ entry. IsBelow (length names.now)
         (command_told (map item_of script.now) entry)) before.now }
     ensures { (s : ℕ)
         → Says names.now holds.now
-            (map line_of (lines_told s (map item_of script.now) before.now))
+        (map line_of (lines_told s (map item_of script.now) before.now))
         → IsTrue result
-            ↔ (option_map (closing_after (map item_of script.now)
-                (lines_told s (map item_of script.now) before.now))
-                (closing_of (by_text names.now)
-                (map line_of (lines_told s (map item_of script.now) before.now)))
-            ≡ Some (numbered (line_told s (map item_of script.now) entry.now))) }
+        ↔ (option_map (closing_after (map item_of script.now)
+        (lines_told s (map item_of script.now) before.now))
+        (closing_of (by_text names.now)
+        (map line_of (lines_told s (map item_of script.now) before.now)))
+        ≡ Some (numbered (line_told s (map item_of script.now) entry.now))) }
 {
     match holds.least_held(names, script, before) {
         Some(name) => {
@@ -157,9 +146,9 @@ pub(crate) fn is_next(
     requires marked { IsMarked (map item_of script.now) entry.now }
     ensures { (s : ℕ)
         → Says names.now holds.now
-            (map line_of (lines_told s (map item_of script.now) before.now))
+        (map line_of (lines_told s (map item_of script.now) before.now))
         → IsTrue result
-            ↔ IsNextAfter names.now s (map item_of script.now) before.now entry.now }
+        ↔ IsNextAfter names.now s (map item_of script.now) before.now entry.now }
 {
     match next_line(script, before) {
         Some(number) => number == entry.line,

@@ -50,8 +50,7 @@ returns-then-not-branch c =
     ↔ (IsJournal (by_text ns) k (map item_of c.index-scripts-session.result)
     (told_by (map item_of c.index-scripts-session.result) c.index-journals-session.result)
     × All (IsMarked (map item_of c.index-scripts-session.result))
-    c.index-journals-session.result.entries.items)) c.names.ensures c.in_ok-is_journal.ensures in
-    (
+    c.index-journals-session.result.entries.items)) c.names.ensures c.in_ok-is_journal.ensures in (
       λ no. absurd (false≢true no),
       λ are. absurd (false≢true (sym c.if-not-branch.true
           ∙ told.1 (one.1 (are.each k, are.marked k)))),

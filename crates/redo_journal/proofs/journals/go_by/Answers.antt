@@ -53,7 +53,7 @@ note_entry-requires c =
 
 pub loop-at-init : goal.loop-at-init
 loop-at-init c = record {
-  names = c.requires.names.each;
+  names = c.requires.names.one_each;
   below = λ k d within. absurd (omega arith);
   says = λ _. c.requires.names;
   next = λ s k within. absurd (omega arith);
@@ -83,7 +83,7 @@ loop-at-preserved c =
     (recursion_from_All Below before kept.below)
     ((c.is_next.ensures 0 (kept.says 0)).0 c.if-not-is_next.false) in
     record {
-      names = (c.note_entry.ensures names).each ∙ kept.names;
+      names = (c.note_entry.ensures names).one_each ∙ kept.names;
       below = All-more Below entries at entry c.loop-at-test.true kept.below (subst Below is below);
       says = λ s.
           subst (Says names c.note_entry.new.holds) (sym (grown s))

@@ -8,4 +8,11 @@ use Rattle.redo_journal.specs.Numbers.{IsNextAt}
 use Rattle.redo_journal.proofs.journals.go_by.Given as goal
 
 abbrev pub invariant-loop-at : goal.invariant-loop-at
-invariant-loop-at l = record { names : length l.holds ≡ length l.names ; below : All (λ entry. IsBelow (length l.names) (command_told (map item_of l.script) entry)) (take l.at l.entries) ; says : (s : ℕ) → Says l.names l.holds (map line_of (lines_told s (map item_of l.script) (take l.at l.entries))) ; next : (s k : ℕ) → k < l.at → IsNextAt l.names s (map item_of l.script) l.entries k }
+invariant-loop-at l = record {
+  names : length l.holds ≡ length l.names;
+  below : All (λ entry. IsBelow (length l.names) (command_told (map item_of l.script) entry))
+      (take l.at l.entries);
+  says : (s : ℕ) → Says l.names l.holds
+      (map line_of (lines_told s (map item_of l.script) (take l.at l.entries)));
+  next : (s k : ℕ) → k < l.at → IsNextAt l.names s (map item_of l.script) l.entries k;
+}

@@ -32,5 +32,6 @@ loop-at-preserved c =
           ∙ least_from (by_text names) holds script entries (at - 1) entry c.loop-at.least within
           c.index-entries-at.is
           (c.loop-at.invariant.found
-          ∙ ap (λ k. least (by_text names) (filter (is_held holds) (locked_in script (drop k entries)))) back);
+          ∙ ap (λ k. least (by_text names)
+          (filter (is_held holds) (locked_in script (drop k entries)))) back);
     }
