@@ -66,7 +66,7 @@ fn journal_of(alloc: Global, session: u8, made: &[Made]) -> Result<Journal, Allo
 /// these.
 fn journals_at(alloc: Global, closing: &[(u32, Closing)]) -> Result<Vec<Journal>, AllocError> {
     let mut first = journal_of(alloc, 0, &whole())?;
-    first.entries.truncate(closing.len() + 3);
+    first.entries.truncate(closing.len().saturating_add(3));
     for (entry, (line, closing)) in first.entries.iter_mut().skip(3).zip(closing) {
         entry.line = *line;
         entry.closing = command_of(*closing);
@@ -89,16 +89,16 @@ const CLOSINGS: [(&[(u32, Closing)], bool); 13] = [
     ),
     // The target is building.
     (&[(3, Some((Kind::Unlock, 0)))], false),
-    // It isn't the least.
+    // It isn't the least that is held.
     (&[(3, Some((Kind::Unlock, 1)))], false),
     (&[(3, Some((Kind::Failed, 1)))], false),
+    (&[(3, Some((Kind::Failed, 0))), (4, Some((Kind::Unlock, 1)))], false),
     // The number isn't the next.
     (&[(4, Some((Kind::Failed, 0)))], false),
     (&[(2, Some((Kind::Failed, 0)))], false),
     (&[(3, Some((Kind::Failed, 0))), (3, Some((Kind::Unlock, 0)))], false),
-    // It was failed, or unlocked, before.
+    // It has failed already.
     (&[(3, Some((Kind::Failed, 0))), (4, Some((Kind::Failed, 0)))], false),
-    (&[(3, Some((Kind::Failed, 0))), (4, Some((Kind::Unlock, 1)))], false),
     // No line has this number.
     (&[(3, None)], false),
 ];
@@ -120,21 +120,20 @@ fn journals_with_closing_commands(rt: HostRuntime) -> Result<(), Fail> {
 fn closing_commands_out_of_place(rt: HostRuntime) -> Result<(), Fail> {
     let alloc = rt.alloc();
     let plan = plan_of(alloc, &TEXTS)?;
-    let mut early = journals_at(alloc, &[(3, Some((Kind::Failed, 0)))])?;
-    if let Some(journal) = early.get_mut(0) {
-        journal.entries.remove(2);
-    }
-    assert!(rt; !are_journals(alloc, &plan, &early)?);
-    let mut late = journals_at(alloc, &[])?;
-    if let Some(journal) = late.get_mut(1) {
-        journal.entries.push(Entry {
-            line: 2,
-            closing: Some(Command::Unlock(0)),
-            reply: Reply::Okay,
-            place: Place::Released(0, 2),
-        })?;
-    }
-    assert!(rt; !are_journals(alloc, &plan, &late)?);
+    let unlock = Some((Kind::Unlock, 0));
+    let early = [
+        (0, None, Reply::Granted(1), Place::Granted(0, 1)),
+        (3, unlock, Reply::Okay, Place::Released(0, 1)),
+    ];
+    let late = [
+        (0, None, Reply::Granted(1), Place::Granted(0, 1)),
+        (1, unlock, Reply::Okay, Place::Released(0, 1)),
+        (2, unlock, Reply::Okay, Place::Released(0, 1)),
+    ];
+    let first = [journal_of(alloc, 0, &early)?, journal_of(alloc, 1, &[])?];
+    assert!(rt; !are_journals(alloc, &plan, &first)?);
+    let second = [journal_of(alloc, 0, &[])?, journal_of(alloc, 1, &late)?];
+    assert!(rt; !are_journals(alloc, &plan, &second)?);
     Ok(())
 }
 
