@@ -111,10 +111,10 @@ fn leaves_before_it_lets_go(rt: HostRuntime) -> Result<(), AllocError> {
     let alloc = rt.alloc();
     let plan = plan_of(&rt, alloc, &BROKEN_OFF)?;
     assert!(rt; plan.scripts().len() == 2);
-    for (commands, want) in (2..4).zip(HELD) {
+    for (commands, want_rows, want) in [(2, 1, HELD[0]), (3, 2, HELD[1])] {
         let (rows, journals) = leave_apart(&rt, alloc, &plan, commands, 1)?;
         let history = history_of(&rt, alloc, &plan, &journals)?;
-        assert!(rt; rows == commands as usize - 1 && history.as_slice() == want.as_bytes());
+        assert!(rt; rows == want_rows && history.as_slice() == want.as_bytes());
     }
     Ok(())
 }
