@@ -20,6 +20,7 @@ pub mod Nexts
 pub mod Naming
 pub mod OneMore
 pub mod OwnReasons
+pub mod Parts
 pub mod RecordsByName
 pub mod Refused
 pub mod Region
