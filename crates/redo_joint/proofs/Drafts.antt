@@ -1,5 +1,5 @@
 -- What redo_model is to have.
-use Rattle.std.proofs.Common.{◌≡◌, ℕ, ◌≤◌, ◌⊎◌, List, length, map, Option, Some, None, option_map}
+use Rattle.std.proofs.Common.{◌≡◌, ℕ, ◌⊎◌, List, map, Some, None, option_map}
 use Rattle.std.specs.List.{AllByRecursion}
 use Rattle.std.specs.declared.cmp.Ordering.{Ordering}
 use Rattle.redo_model.specs.Names.{Naming, numbers}
@@ -7,13 +7,10 @@ use Rattle.redo_model.specs.Inside.Names.{IsNaming}
 use Rattle.redo_model.specs.Inside.Renaming.{Renaming, IsRenaming, OrdersAlike}
 use Rattle.redo_model.specs.Renaming.{named_command, named_line, IsBelow}
 use Rattle.redo_model.specs.State.{empty}
-use Rattle.redo_model.specs.Command.{Command, Item, Failed, Unlock}
+use Rattle.redo_model.specs.Command.{Command, Failed, Unlock}
 use Rattle.redo_model.specs.Step.{verdict_of, holds_target}
 use Rattle.redo_model.specs.History.{Line, part_of, left_by, Legal}
-use Rattle.redo_model.specs.Placed.{PlacedLine, line_of}
 use Rattle.redo_model.specs.Closing.{closing_of}
-use Rattle.redo_model.specs.Journals.{Numbered, next_of}
-use Rattle.redo_model.proofs.Nexts.{IsFrom, past_of}
 
 pub closing_by_name : {M : Type 0} {to : Renaming M} (law : IsRenaming to) {naming : Naming M}
     (good : IsNaming naming) (order : ℕ → ℕ → Ordering) (alike : OrdersAlike to naming order)
@@ -30,12 +27,7 @@ module _ {N : Type 0} {naming : Naming N} (law : IsNaming naming) where
   closing_is_accepted lines s command legal e = ?
 
 module _ {N : Type 0} (naming : Naming N) where
-  pub closing_is : (own : List (Line N)) (command : Command N) → closing_of naming own ≡ Some command
+  pub closing_is : (own : List (Line N)) (command : Command N)
+      → closing_of naming own ≡ Some command
       → (t : N) × ((command ≡ Failed t) ⊎ (command ≡ Unlock t))
   closing_is own command e = ?
-
-  pub next_or_closing : (script : List (Item N)) (own : List (PlacedLine N)) (next : Numbered N)
-      → next_of naming script own ≡ Some next
-      → IsFrom script (past_of own) next
-      ⊎ ((length script ≤ next.number) × (closing_of naming (map line_of own) ≡ Some next.command))
-  next_or_closing script own next e = ?
