@@ -20,7 +20,6 @@ use Rattle.redo_model.specs.Journals.{numbered, next_of, IsJournalAfter}
 use Rattle.redo_model.specs.Renaming.{IsBelow, IsLineBelow}
 use Rattle.redo_model.proofs.Nexts.{next_in_script, next_past_script}
 use Rattle.redo_model.proofs.OneMore.{left_by-append, legal_more}
-use Rattle.redo_joint.proofs.Answered.{at_line}
 use Rattle.redo_joint.proofs.ByName.{kept_map}
 use Rattle.redo_joint.proofs.Own.{part_of-own, part_of-other, push_own, push_other}
 use Rattle.redo_joint.proofs.Drafts.{closing_is, closing_is_accepted}

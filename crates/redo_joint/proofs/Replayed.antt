@@ -121,10 +121,10 @@ module _ {naming : Naming ℕ} (law : IsNaming naming) where
 
     at_script : (records : Records ℕ) (own : List (PlacedLine ℕ)) (line : PlacedLine ℕ)
         → line.session < 64 → IsScripted plan line
-        → Replays records own line (script_word_of naming own line)
+        → Replays records own line (script_word_of naming plan own line)
     at_script records own line few is =
         let b = holds_by naming own (target_of line.command) in
-        let word : ℕ = script_word_of naming own line in
+        let word : ℕ = script_word_of naming plan own line in
         let within = is.within in
         let long = short line.session in
         let k : line.number < 4096 = omega arith in
@@ -139,12 +139,12 @@ module _ {naming : Naming ℕ} (law : IsNaming naming) where
         ∙ (λ i. records_after naming records line.session b (is.command i))
 
     at_closing : (records : Records ℕ) (own : List (PlacedLine ℕ)) (line : PlacedLine ℕ)
-        → IsFailing plan line → Replays records own line (closing_word_of line)
+        → IsFailing plan line → Replays records own line (closing_word_of naming plan line)
     at_closing records own line is =
         let s : ℕ = line.session in
         let t : ℕ = is.target in
         let word : ℕ = 4294967296 + 65536 * s + t in
-        let same : closing_word_of line ≡ word =
+        let same : closing_word_of naming plan line ≡ word =
         ap (λ (c : Command ℕ). 4294967296 + 65536 * s + unwrap_or (target_of c) 0) is.command in
         let ec = closing_word s t in
         let es = closing_session s t is.below in
@@ -160,12 +160,12 @@ module _ {naming : Naming ℕ} (law : IsNaming naming) where
         → Replays records own line (row_word_of naming plan own line)
     row_replayed records own line few (inl is) =
         subst (λ b. Replays records own line
-        (cond b (script_word_of naming own line) (closing_word_of line)))
+        (cond b (script_word_of naming plan own line) (closing_word_of naming plan line)))
         (sym ((Decides-ltb line.number (length (plan line.session))).1 is.within))
         (at_script records own line few is)
     row_replayed records own line few (inr is) =
         subst (λ b. Replays records own line
-        (cond b (script_word_of naming own line) (closing_word_of line)))
+        (cond b (script_word_of naming plan own line) (closing_word_of naming plan line)))
         (sym (below_test line.number (length (plan line.session)) is.past))
         (at_closing records own line is)
 
