@@ -1,6 +1,5 @@
 -- A row that a closing line has tells that a build failed.
-use Rattle.std.proofs.Common.{◌≡◌, ◌≢◌, ◌⊎◌, ℕ, ◌<◌, ◌≤◌, Bool, true, false, eqb, List, [], ◌∷◌, ◌++◌, length, map, get_or, Option, Some, None, refl, sym, ap, ◌∙◌, subst, inl, inr, arith}
-use Rattle.std.specs.Prelude.{MatchOption}
+use Rattle.std.proofs.Common.{◌≡◌, ◌⊎◌, ℕ, ◌<◌, ◌≤◌, Bool, true, false, cond, eqb, List, [], ◌∷◌, ◌++◌, length, map, get_or, Some, refl, sym, ap, ◌∙◌, subst, inl, inr, arith}
 use Rattle.std.proofs.lemmas.Bool.{false≢true}
 use Rattle.std.proofs.lemmas.List.{map_push}
 use Rattle.std.specs.List.{AllByRecursion}
@@ -10,19 +9,20 @@ use Rattle.redo_model.specs.Names.{Naming}
 use Rattle.redo_model.specs.Inside.Names.{IsNaming}
 use Rattle.redo_model.specs.State.{State, empty}
 use Rattle.redo_model.specs.Command.{Command, Item, Failed, Unlock, Ood, commands_in}
-use Rattle.redo_model.specs.Reply.{Refusal, Reply, Okay, Refused}
-use Rattle.redo_model.specs.Step.{verdict_of, after, Answers, holds_target}
+use Rattle.redo_model.specs.Reply.{Reply, Okay}
+use Rattle.redo_model.specs.Step.{Answers}
 use Rattle.redo_model.specs.History as histories
 use Rattle.redo_model.specs.History.{left_by, LegalFrom, Legal}
 use Rattle.redo_model.specs.Placed.{Place, Row, Granted, Busy, Released, PlacedLine, line_of, part_of, is_claim, is_row, Fits, IsPlacedAfter}
-use Rattle.redo_model.specs.Closing.{closing_of}
+use Rattle.redo_model.specs.Closing.{builds, closing_of}
 use Rattle.redo_model.specs.Journals.{numbered, next_of, IsJournalAfter}
 use Rattle.redo_model.specs.Renaming.{IsBelow, IsLineBelow}
 use Rattle.redo_model.proofs.Nexts.{next_in_script, next_past_script}
 use Rattle.redo_model.proofs.OneMore.{left_by-append, legal_more}
+use Rattle.redo_model.proofs.Unique.{one_answer}
 use Rattle.redo_joint.proofs.ByName.{kept_map}
 use Rattle.redo_joint.proofs.Own.{part_of-own, part_of-other, push_own, push_other}
-use Rattle.redo_joint.proofs.Drafts.{closing_is, closing_is_accepted}
+use Rattle.redo_joint.proofs.Drafts.{closing_accepted, closing_held}
 
 module _ {N : Type 0} (naming : Naming N) (plan : ℕ → List (Item N)) where
   -- the lines of each session are its journal, after its lines before
@@ -75,27 +75,13 @@ pub record IsFailing (plan : ℕ → List (Item ℕ)) (line : PlacedLine ℕ) : 
 abbrev pub RowTells : (ℕ → List (Item ℕ)) → PlacedLine ℕ → Type 0
 RowTells plan line = IsScripted plan line ⊎ IsFailing plan line
 
--- an accepted unlock isn't refused
-told_okay : {N : Type 0} (verdict : Option (Refusal N)) (reply : Reply N) → verdict ≡ None
-    → MatchOption verdict (reply ≡ Okay) (λ refusal. reply ≡ Refused refusal) → reply ≡ Okay
-told_okay None reply e told = told
-told_okay (Some refusal) reply e told = absurd (cc)
+-- what lets go of a target fails its build, or unlocks it
+letting_cases : (b : Bool) (t : ℕ) (command : Command ℕ) → command ≡ cond b (Failed t) (Unlock t)
+    → (command ≡ Failed t) ⊎ (command ≡ Unlock t)
+letting_cases true t command e = inl e
+letting_cases false t command e = inr e
 
 module _ {naming : Naming ℕ} (law : IsNaming naming) (plan : ℕ → List (Item ℕ)) where
-  -- an accepted unlock has no row
-  no_unlock : (state : State ℕ) (s : ℕ) (command : Command ℕ) (reply : Reply ℕ) (t : ℕ)
-      → command ≡ Unlock t
-      → verdict_of naming state.records s (holds_target state.locks s command) command ≡ None
-      → Answers naming state s command reply → is_claim command reply ≡ true
-  no_unlock state s command reply t e accepted answers =
-      let verdict : verdict_of naming state.records s (holds_target state.locks s (Unlock t))
-      (Unlock t) ≡ None = subst
-      (λ c. verdict_of naming state.records s (holds_target state.locks s c) c ≡ None) e
-      accepted in
-      let okay : reply ≡ Okay = told_okay _ reply verdict
-      (subst (λ c. Answers naming state s c reply) e answers) in
-      λ i. is_claim (e i) (okay i)
-
   failing : (before : List (PlacedLine ℕ)) (line : PlacedLine ℕ)
       → Legal naming (map line_of before)
       → Answers naming (left_by naming empty (map line_of before)) line.session line.command
@@ -107,20 +93,21 @@ module _ {naming : Naming ℕ} (law : IsNaming naming) (plan : ℕ → List (Ite
       let there : closing_of naming (histories.part_of line.session (map line_of before))
       ≡ Some line.command =
       ap (closing_of naming) (part_lines line.session before) ∙ closes in
-      let is = closing_is naming (map line_of (part_of line.session before)) line.command closes in
-      elim is.1 [
+      let own = map line_of (part_of line.session before) in
+      let (t, held, is) = closing_held naming own line.command closes in
+      elim (letting_cases (builds naming own t) t line.command is) [
         | inl failed ↦ record {
           past = past;
-          target = is.0;
+          target = t;
           command = failed;
           below = (subst (IsBelow 65536) failed below).0;
         }
         | inr unlock ↦
-            let claim = no_unlock (left_by naming empty (map line_of before)) line.session
-            line.command line.reply is.0 unlock
-            (closing_is_accepted law (map line_of before) line.session line.command legal there)
-            answers in
-            absurd (false≢true (sym row ∙ claim))
+            let okay : line.reply ≡ Okay =
+            one_answer law (left_by naming empty (map line_of before)) line.session line.command
+            line.reply Okay answers
+            (closing_accepted law (map line_of before) line.session line.command legal there) in
+            absurd (false≢true (sym row ∙ (λ i. is_claim (unlock i) (okay i))))
       ]
 
   told_at : (before lines : List (PlacedLine ℕ)) (line : PlacedLine ℕ)
