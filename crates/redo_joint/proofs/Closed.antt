@@ -17,12 +17,12 @@ use Rattle.redo_model.specs.Placed.{Place, Row, Granted, Busy, Released, PlacedL
 use Rattle.redo_model.specs.Closing.{builds, closing_of}
 use Rattle.redo_model.specs.Journals.{numbered, next_of, IsJournalAfter}
 use Rattle.redo_model.specs.Renaming.{IsBelow, IsLineBelow}
+use Rattle.redo_model.proofs.Letting.{closing_accepted, closing_held}
 use Rattle.redo_model.proofs.Nexts.{next_in_script, next_past_script}
 use Rattle.redo_model.proofs.OneMore.{left_by-append, legal_more}
 use Rattle.redo_model.proofs.Unique.{one_answer}
 use Rattle.redo_joint.proofs.ByName.{kept_map}
 use Rattle.redo_joint.proofs.Own.{part_of-own, part_of-other, push_own, push_other}
-use Rattle.redo_joint.proofs.Drafts.{closing_accepted, closing_held}
 
 module _ {N : Type 0} (naming : Naming N) (plan : ℕ → List (Item N)) where
   -- the lines of each session are its journal, after its lines before

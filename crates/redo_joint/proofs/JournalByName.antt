@@ -14,8 +14,8 @@ use Rattle.redo_model.specs.Journals.{Numbered, first_from, next_line_of, closin
 use Rattle.redo_model.specs.Inside.Names.{IsNaming}
 use Rattle.redo_model.specs.Inside.Renaming.{Renaming, IsRenaming, OrdersAlike}
 use Rattle.redo_model.specs.Renaming.{named_command, named_item, named_line, named_reply, IsBelow}
+use Rattle.redo_model.proofs.ClosingByName.{closing_by_name}
 use Rattle.redo_joint.specs.Named.{named_placed_line}
-use Rattle.redo_joint.proofs.Drafts.{closing_by_name}
 
 module _ {N M : Type 0} (name : N → M) where
   abbrev named_next : Numbered N → Numbered M

@@ -15,7 +15,6 @@ pub mod Standing
 pub mod TwoSessions
 pub mod OneOrder
 pub mod Closed
-pub mod Drafts
 pub mod JournalByName
 pub mod OnlySo
 pub mod ByHand
