@@ -1,6 +1,5 @@
 -- What a session had seen of the placed histories that were worked out by hand.
 use Rattle.std.proofs.Common.{◌≡◌, ℕ, ap, inl, inr, arith, refl}
-use Rattle.redo_model.specs.Names.{Text}
 use Rattle.redo_model.specs.Placed.{Place, Row, Granted, Busy, Released, part_of}
 use Rattle.redo_model.specs.Seen.{HasSeen}
 use Rattle.redo_model.specs.Inside.Merging.{second_journal, shared}
