@@ -11,14 +11,20 @@ ghost use Rattle.redo_model.specs.Placed.{IsPlaced, PlacedLine, part_of};
 ghost use Rattle.redo_model.specs.Inside.Names.{IsNaming};
 ghost use Rattle.redo_model.specs.Inside.Words.{claim_word_of, row_word_of, row_words_of, word_before};
 
-/// The words after one line more.
+/// The words after one line more, over numbers, and the claim words over texts too.
 pub fn words_by_one_more()
     ensures rows { (order : ℕ → ℕ → Ordering) (plan : ℕ → List (Item ℕ))
         (lines : List (PlacedLine ℕ)) (line : PlacedLine ℕ) →
         let word = row_word_of (numbers order) plan (part_of line.session lines) line in
         row_words_of (numbers order) plan (lines ++ line ∷ [])
         ≡ row_words_of (numbers order) plan lines ++ word_before line.place word [] }
-    ensures claims { (lines : List (PlacedLine Text)) (line : PlacedLine Text) (t : Text) →
+    ensures claims { (order : ℕ → ℕ → Ordering) (lines : List (PlacedLine ℕ))
+        (line : PlacedLine ℕ) (t : ℕ) →
+        IsNaming (numbers order) → IsPlaced (numbers order) (lines ++ line ∷ []) →
+        claim_word_of (numbers order) (lines ++ line ∷ []) t
+        ≡ claim_word_of (numbers order) lines t + moved_by (numbers order) line.place t }
+    ensures claims_on_texts { (lines : List (PlacedLine Text)) (line : PlacedLine Text)
+        (t : Text) →
         IsPlaced texts (lines ++ line ∷ []) →
         claim_word_of texts (lines ++ line ∷ []) t
         ≡ claim_word_of texts lines t + moved_by texts line.place t }
