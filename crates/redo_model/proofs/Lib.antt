@@ -14,12 +14,15 @@ pub mod FewTargets
 pub mod Held
 pub mod HistoriesByName
 pub mod Lists
+pub mod Letting
 pub mod Members
 pub mod NamesWithoutAFile
 pub mod Nexts
 pub mod Naming
 pub mod OneMore
+pub mod OwnLines
 pub mod OwnReasons
+pub mod Parts
 pub mod RecordsByName
 pub mod Refused
 pub mod Region
