@@ -1,13 +1,15 @@
-// A malloc and a pthread_create for tests. Refused are the request for memory whose number is FAIL_AT, counted from 1,
-// each one of more bytes than FAIL_ABOVE, and the start of the thread whose number is FAIL_START. At the end the file
-// FAIL_REPORT has four counts: what was refused, what was told, what was spared, and the threads that weren't joined.
-// A test says that it was told of a refusal by a request for as many bytes as MARK, which is never refused. Spared is a
-// refused request after which the same thread at once asks again, for no more.
+// A malloc, a pthread_create and an open for tests. Refused are the request for memory whose number is FAIL_AT, counted
+// from 1, each one of more bytes than FAIL_ABOVE, the start of the thread whose number is FAIL_START, and each opening of
+// a file where FAIL_OPEN is set. At the end the file FAIL_REPORT has four counts: what was refused of memory and threads,
+// what was told, what was spared, and the threads that weren't joined. A test says that it was told of a refusal by a
+// request for as many bytes as MARK, which is never refused. Spared is a refused request after which the same thread at
+// once asks again, for no more.
 #define _GNU_SOURCE
 #include <dlfcn.h>
 #include <errno.h>
 #include <fcntl.h>
 #include <pthread.h>
+#include <stdarg.h>
 #include <stdatomic.h>
 #include <stddef.h>
 #include <stdio.h>
@@ -77,6 +79,18 @@ static int is_refused(size_t bytes) {
 void *malloc(size_t n) { return is_refused(n) ? 0 : __libc_malloc(n); }
 void *calloc(size_t n, size_t m) { return is_refused(m && n > (size_t)-1 / m ? (size_t)-1 : n * m) ? 0 : __libc_calloc(n, m); }
 void *realloc(void *p, size_t n) { return is_refused(n) ? 0 : __libc_realloc(p, n); }
+
+int open(const char *path, int flags, ...) {
+    if (getenv("FAIL_OPEN")) {
+        errno = ENOMEM;
+        return -1;
+    }
+    va_list rest;
+    va_start(rest, flags);
+    mode_t mode = flags & O_CREAT ? va_arg(rest, mode_t) : 0;
+    va_end(rest);
+    return syscall(SYS_openat, AT_FDCWD, path, flags, mode);
+}
 
 int pthread_create(pthread_t *thread, const pthread_attr_t *attributes, void *(*body)(void *), void *given) {
     if (atomic_fetch_add(&starts, 1) + 1 == fail_start) {

@@ -1,12 +1,13 @@
 ghost use Rattle.std.specs.Prelude.{◌≡◌, ◌<◌, length, map};
 ghost use Rattle.redo_model.specs.Renaming.{IsBelow};
 ghost use Rattle.redo_terms.specs.Meaning.{command_of};
+ghost use Rattle.redo_terms.specs.Inside.Meaning.{item_of};
 ghost use Rattle.redo_journal.specs.Plans.{IsPlan, script_of};
 ghost use Rattle.redo_store.specs.Tables.{tables_count};
 
 use crate::plans::plan_of;
 use anyhow::{Result, bail};
-use redo_command::{Command, FileStamp, Reply};
+use redo_command::{Command, FileStamp, Item, Reply};
 use redo_journal::Plan;
 use redo_store::Redo;
 use std::alloc::Global;
@@ -22,13 +23,13 @@ fn takes_row(command: &Command, reply: &Reply) -> bool {
     )
 }
 
-/// The commands of a session.
-fn commands(plan: &Plan, session: usize) -> &[Command]
+/// The lines of a session.
+fn items(plan: &Plan, session: usize) -> &[Item]
     requires { session < length plan.now.scripts }
-    ensures commands { map command_of result.now ≡ script_of plan.now session }
+    ensures items { map item_of result.now ≡ script_of plan.now session }
     ensures plan { IsPlan plan.now }
 {
-    plan.scripts()[session].commands()
+    plan.scripts()[session].items()
 }
 
 /// A session's command of this number.
@@ -39,7 +40,7 @@ fn command_at(plan: &Plan, session: usize, number: usize) -> &Command
 {
     // The check only knows how to move a command where the types within it are met.
     let _none: Option<FileStamp> = None;
-    &commands(plan, session)[number]
+    &items(plan, session)[number].command
 }
 
 /// Calls with the command of this number of each session in turn; answers how many need a row.
@@ -49,7 +50,7 @@ fn round(alloc: Global, plan: &Plan, redo: &mut Redo, number: usize) -> Result<u
 {
     let mut rows: u64 = 0;
     for session in 0..plan.scripts().len() {
-        if number >= commands(plan, session).len() {
+        if number >= items(plan, session).len() {
             continue;
         }
         if redo.calls() >= MOST_CALLS {

@@ -110,9 +110,9 @@ fn step(alloc: Global, plan: &Plan, standing: &mut Standing, journal: &mut Journ
         .get(journal.session as usize)
         .context("no session")?;
     let line = journal.entries.len();
-    let command = script.commands().get(line).context("no command")?;
+    let item = script.items().get(line).context("no command")?;
     let (reply, place) = standing
-        .done(alloc, journal.session, command)
+        .done(alloc, journal.session, &item.command)
         .context("no target")?;
     journal.entries.push(Entry {
         line: line as u32,

@@ -23,7 +23,7 @@ use Rattle.redo_journal.specs.Plans.{PlanOf, IsPlan, script_of}
 use Rattle.redo_board.specs.Rows.{naming_of}
 use Rattle.redo_board.specs.Core.{Core, start, Way, row, claim, free, rows_then, claim_place, place_at, has, way_at, done, Line, IsNext, IsLegal, after_all, word}
 use Rattle.redo_board.proofs.ClaimWords.{claim_no_row}
-use Rattle.redo_board.proofs.Nexts.{command_below}
+use Rattle.redo_board.proofs.Scripts.{command_below}
 use Rattle.redo_board.proofs.Orders.{by_text_is_naming}
 use Rattle.redo_board.proofs.Ways.{Goes}
 use Rattle.redo_board.proofs.Words.{set-same, set-other}

@@ -1,4 +1,6 @@
 pub mod Nexts
+pub mod Scripts
+pub mod Found
 pub mod Orders
 pub mod Builds
 pub mod Ways

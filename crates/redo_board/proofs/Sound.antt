@@ -1,29 +1,29 @@
 -- What holds of the core after a legal history.
-use Rattle.std.proofs.Common.{◌≡◌, ◌≢◌, ℕ, ◌+◌, ◌<◌, ◌≤◌, eqb, cond, List, [], ◌∷◌, ◌++◌, length, get_or, Bool, Option, Some, None, refl, sym, ap, ◌∙◌, subst, inl, inr, arith}
+use Rattle.std.proofs.Common.{◌≡◌, ◌≢◌, ℕ, ◌+◌, ◌-◌, ◌<◌, ◌≤◌, eqb, cond, List, [], ◌∷◌, ◌++◌, length, get_or, Bool, Option, Some, None, refl, sym, ap, ◌∙◌, subst, inl, inr, arith}
 use Rattle.std.proofs.lemmas.Bool.{cases_Bool}
 use Rattle.std.proofs.lemmas.List.{length_push, get_or_push, get_or_append_left}
 use mathlib.Core.Logic.{dite}
 use native.Mathlib.Decide.{ℕ_discrete, dec_lt}
 use Rattle.redo_model.specs.State.{State, Locks, empty}
-use Rattle.redo_model.specs.Command.{Command, Ood, asked_lock}
+use Rattle.redo_model.specs.Command.{Command, asked_lock}
 use Rattle.redo_model.specs.Journals.{numbered}
 use Rattle.redo_model.specs.Step.{after, locks_after, locks_granted, locks_freed, records_after, verdict_of, unless_refused, holds_target}
+use Rattle.redo_model.proofs.Nexts.{IsFrom, next_from, past_of, past_of_more}
 use Rattle.redo_model.proofs.Held.{BuildersHold, builders_hold_after, builders_hold_at_first}
 use Rattle.redo_journal.specs.Plans.{PlanOf, IsPlan, script_of}
 use Rattle.redo_board.specs.Rows.{naming_of, command, takes_row, bit, rows_of}
 use Rattle.redo_board.specs.Core.{Core, start, word, IsWord, replay, Way, row, claim, free, rows_then, has, way_at, done, Line, IsNext, IsLegal, after_all, row_words}
-use Rattle.redo_board.proofs.Nexts.{IsNamed, next_named}
 use Rattle.redo_board.proofs.Orders.{by_text_is_naming}
 use Rattle.redo_board.proofs.Ways.{goes, Goes}
 use Rattle.redo_board.proofs.Words.{is_word, replay-word, set-same, set-other}
 use Rattle.redo_board.proofs.Counts.{total, total-more, total-few, used, used-more, used-le, rows-few}
 
--- how many commands each session has done
+-- how far each session is in its script: the number after that of its last line
 abbrev pub counts : Core → ℕ → ℕ
-counts c s = length (c.own s)
+counts c s = past_of (c.own s)
 
--- the records are the replay of the row words; rows and grants are at most the commands that were
--- done; each word names a command; who holds was granted; who builds holds
+-- the records are the replay of the row words; rows and grants are at most the lines that were gone
+-- past; each word names a command; who holds was granted; who builds holds
 pub record Sound (p : PlanOf) (c : Core) : Type 0 where
   pub replayed : c.state.records ≡ replay p c.rows
   pub counted : length c.rows ≤ used (counts c) p.scripts
@@ -58,14 +58,11 @@ module _ (p : PlanOf) (c : Core) (l : Line) (plan : IsPlan p) (is : IsNext p c l
     abbrev h : Bool
     h = has c s x
 
-    named : IsNamed (script_of p s) (c.own s) (numbered l)
-    named = next_named (script_of p s) (c.own s) (numbered l) is.next
+    named : IsFrom (script_of p s) (counts c s) (numbered l)
+    named = next_from (script_of p s) (c.own s) (numbered l) is.next
 
     pub command-is : x ≡ command p s l.number
-    command-is = named.command
-
-    at-count : get_or (script_of p s) (counts c s) Ood ≡ x
-    at-count = ap (λ k. get_or (script_of p s) k Ood) (sym named.number) ∙ sym command-is
+    command-is = sym named.command
 
     abbrev next' : ℕ → ℕ
     next' = counts (done p c l)
@@ -76,36 +73,40 @@ module _ (p : PlanOf) (c : Core) (l : Line) (plan : IsPlan p) (is : IsNext p c l
     abbrev order : ℕ → ℕ → Rattle.std.specs.declared.cmp.Ordering.Ordering
     order = (naming_of p).order
 
-    next-same : (t : ℕ) → t ≡ s → next' t ≡ counts c s + 1
+    next-same : (t : ℕ) → t ≡ s → next' t ≡ l.number + 1
     next-same t e =
-        ap length (set-same c.own s (c.own s ++ l ∷ []) t e)
-        ∙ (let a = length_push (c.own s) l in omega arith)
+        ap past_of (set-same c.own s (c.own s ++ l ∷ []) t e) ∙ past_of_more (c.own s) l
 
     next-other : (t : ℕ) → t ≢ s → next' t ≡ counts c t
-    next-other t ne = ap length (set-other c.own s (c.own s ++ l ∷ []) t ne)
+    next-other t ne = ap past_of (set-other c.own s (c.own s ++ l ∷ []) t ne)
 
-    total' : total next' p.scripts ≡ total (counts c) p.scripts + 1
+    total' : total (counts c) p.scripts + 1 ≤ total next' p.scripts
     total' =
-        total-more (counts c) next' 1 p.scripts s is.session (next-same s refl)
-        (λ i ne. next-other i ne)
+        let from = named.from in
+        let same = next-same s refl in
+        let a =
+        total-more (counts c) next' (l.number + 1 - counts c s) p.scripts s is.session (omega arith)
+        (λ i ne. next-other i ne) in
+        omega arith
 
-    used' : used next' p.scripts ≡ used (counts c) p.scripts + bit (takes_row x)
+    used' : used (counts c) p.scripts + bit (takes_row x) ≤ used next' p.scripts
     used' =
-        used-more (counts c) next' p.scripts s is.session named.more (next-same s refl)
-        (λ i ne. next-other i ne)
-        ∙ ap (λ y. used (counts c) p.scripts + bit (takes_row y)) at-count
+        subst (λ y. used (counts c) p.scripts + bit (takes_row y) ≤ used next' p.scripts)
+        named.command
+        (used-more (counts c) next' p.scripts s l.number is.session named.from named.within
+        (next-same s refl) (λ i ne. next-other i ne))
 
     bounded' : (t : ℕ) → next' t ≤ length (script_of p t)
     bounded' t = dite (ℕ_discrete t s)
         (λ e. subst (λ u. next' u ≤ length (script_of p u)) (sym e)
-        (let a = next-same s refl in let b = named.more in omega arith))
+        (let a = next-same s refl in let b = named.within in omega arith))
         (λ ne. let a = next-other t ne in let b = o.bounded t in omega arith)
 
     tiny : l.number < 4096
-    tiny = let a = plan.short s in let b = named.more in let d = named.number in omega arith
+    tiny = let a = plan.short s in let b = named.within in omega arith
 
     in-script : l.number < length (script_of p s)
-    in-script = let b = named.more in let d = named.number in omega arith
+    in-script = named.within
 
     builders' : BuildersHold state'
     builders' = builders_hold_after (by_text_is_naming p.names) c.state s x o.builders

@@ -1,13 +1,14 @@
 -- What a worker knows after a step.
-use Rattle.std.proofs.Common.{◌≡◌, ℕ, ◌+◌, ◌%◌, ◌^◌, ◌<◌, eqb, true, List, [], ◌∷◌, ◌++◌, length, get_or, Some, None, refl, sym, ap, ◌∙◌, subst, inl, arith, length-append}
+use Rattle.std.proofs.Common.{◌≡◌, ℕ, ◌+◌, ◌%◌, ◌^◌, ◌<◌, ◌≤◌, eqb, true, List, [], ◌∷◌, ◌++◌, length, get_or, Some, None, refl, sym, ap, ◌∙◌, subst, inl, arith, length-append}
 use Rattle.std.specs.Int.Bits.{bit_or}
 use mathlib.Core.Option.{none}
 use prog.Atomic.{either}
 use Rattle.atomic_table.specs.Table.{step, Allows}
-use Rattle.redo_model.specs.Command.{Command, Ood, asked_lock}
+use Rattle.redo_model.specs.Command.{Command, Ood, asked_lock, commands_in}
 use Rattle.redo_model.specs.Reply.{Reply}
 use Rattle.redo_model.specs.Placed.{part_of}
 use Rattle.redo_model.specs.Journals.{Numbered}
+use Rattle.redo_model.proofs.Nexts.{next_from, past_of}
 use Rattle.redo_journal.specs.Plans.{PlanOf, script_of}
 use Rattle.redo_board.specs.Rows.{rows_of, takes_row}
 use Rattle.redo_board.specs.Core.{Line, start, after_all, word, row, claim, free}
@@ -15,7 +16,6 @@ use Rattle.redo_board.specs.Views.{ViewOf, view}
 use Rattle.redo_board.specs.Rule.{HasPart, Orderly, Told}
 use Rattle.redo_board.specs.Plays.{own, own_way, next, SaysRow, row_line, Goes, Lone, Lost, Won, tried, claimed, freed}
 use Rattle.redo_board.proofs.Counts.{used, used-lt}
-use Rattle.redo_board.proofs.Nexts.{next_named}
 use Rattle.redo_board.proofs.Parts.{own-part}
 use Rattle.redo_board.proofs.Sound.{counts, sound}
 use Rattle.redo_board.proofs.Rows.{tries}
@@ -124,17 +124,15 @@ pub room : (p : PlanOf) (t : ℕ) (j : List Line) (m : ViewOf) (n : Numbered ℕ
 room p t j m n is told is-session is-next in-row =
     let q : m.plan ≡ p = ap (λ (v : ViewOf). v.plan) is in
     let s = sound m.plan told.log told.plan told.legal in
-    let named = next_named (script_of p t) j n is-next in
+    let named = next_from (script_of p t) j n is-next in
     let own : part_of t told.log ≡ j =
     told.fits.own t j (subst (λ (v : ViewOf). HasPart v.parts t j) (sym is) (inl (refl, refl))) in
     let f : ℕ → ℕ = counts (after_all m.plan start told.log) in
-    let now : f t ≡ length j = ap length (own-part m.plan told.log t ∙ own) in
-    let number : f t ≡ n.number = now ∙ sym named.number in
-    let less : f t < length (script_of p t) = let a = named.more in omega arith in
-    let here : takes_row (get_or (script_of p t) (f t) Ood) ≡ true =
-    ap (λ k. takes_row (get_or (script_of p t) k Ood)) number
-    ∙ ap takes_row (sym named.command) ∙ takes n.command in-row in
-    let a = used-lt f p.scripts t is-session less here in
+    let now : f t ≡ past_of j = ap past_of (own-part m.plan told.log t ∙ own) in
+    let before : f t ≤ n.number = let a = named.from in omega arith in
+    let here : takes_row (get_or (commands_in (script_of p t)) n.number Ood) ≡ true =
+    ap takes_row named.command ∙ takes n.command in-row in
+    let a = used-lt f p.scripts t n.number is-session before named.within here in
     let b = ap length told.fits.seen.1 in
     let d = length-append m.seen told.fits.seen.0 in
     let e = s.counted in

@@ -1,19 +1,20 @@
 -- A worker after a step.
 use Rattle.std.proofs.Common.{◌≡◌, ◌≢◌, ℕ, ◌+◌, ◌-◌, ◌<◌, ◌≤◌, List, [], ◌∷◌, ◌++◌, length, get_or, Option, Some, None, refl, sym, ap, ◌∙◌, subst, inl, arith}
-use Rattle.std.specs.Prelude.{vec_capacity}
+use Rattle.std.specs.Prelude.{vec_capacity, vec_len}
 use Rattle.std.specs.Option.{unwrap_or}
-use Rattle.std.proofs.lemmas.List.{length_push, append-nil}
-use Rattle.redo_model.specs.Command.{Command, Ood, names_in}
+use Rattle.std.proofs.lemmas.List.{length_push, append-nil, length-map}
+use Rattle.redo_model.specs.Command.{Command, Ood, commands_in, names_in}
 use Rattle.redo_model.specs.Reply.{Reply}
 use Rattle.redo_model.specs.Renaming.{IsBelow, AllBelow}
-use Rattle.redo_model.specs.Placed.{Place}
-use Rattle.redo_model.specs.Journals.{Numbered, numbered}
+use Rattle.redo_model.specs.Placed.{Place, part_of}
+use Rattle.redo_model.specs.Journals.{Numbered, IsJournal}
 use Rattle.redo_terms.specs.Meaning.{reply_of}
 use Rattle.redo_store.specs.Stored.{Stored}
+use Rattle.redo_model.proofs.Nexts.{next_in_script, journal_fits}
 use Rattle.redo_journal.specs.Plans.{PlanOf, IsPlan, script_of}
 use Rattle.redo_journal.specs.Journals.{place_of, line_told}
 use Rattle.redo_journal.specs.declared.entry.Entry.{Entry}
-use Rattle.redo_board.specs.Rows.{rows_of}
+use Rattle.redo_board.specs.Rows.{rows_of, command}
 use Rattle.redo_board.specs.Core.{Line, Begins, row}
 use Rattle.redo_board.specs.Histories.{EndsWith}
 use Rattle.redo_board.specs.Views.{Part, ViewOf, view}
@@ -27,8 +28,10 @@ use Rattle.redo_board.specs.Steps.{Enters}
 use Rattle.redo_board.specs.declared.board.Board.{Board}
 use Rattle.redo_board.specs.declared.worker.own.Own.{Own}
 use Rattle.redo_board.specs.declared.worker.Worker.{Worker}
-use Rattle.redo_board.proofs.Nexts.{IsNamed, next_named, command_below}
+use Rattle.redo_board.proofs.Nexts.{fewer}
+use Rattle.redo_board.proofs.Scripts.{command_below}
 use Rattle.redo_board.proofs.Sound.{few_rows}
+use Rattle.redo_board.proofs.Bridge.{of_plan_told}
 use Rattle.redo_board.proofs.Ended.{ends-with}
 use Rattle.redo_board.proofs.Steps.{IsWorker, Keeps, lone, goes_keeps, lost_keeps}
 use Rattle.redo_board.proofs.Told.{told-push}
@@ -41,14 +44,14 @@ pub plan_is : (p : PlanOf) (w : Worker) → Works p w → IsPlan p
 plan_is p w k = subst IsPlan (ap (λ (v : ViewOf). v.plan) k.view) k.told.plan
 
 pub named_next : (p : PlanOf) (w : Worker) (n : Numbered ℕ) → next_by p w ≡ Some n
-    → IsNamed (script_of p w.session) (journal_of p w) n
-named_next p w n e = next_named (script_of p w.session) (journal_of p w) n e
+    → n.command ≡ command p w.session n.number
+named_next p w n e = sym (next_in_script (script_of p w.session) (journal_of p w) n e).0
 
 -- what a session does next is of the plan's names
 pub next_below : (p : PlanOf) (w : Worker) (n : Numbered ℕ) → Works p w → next_by p w ≡ Some n
     → IsBelow (length p.names) n.command
 next_below p w n k is =
-    subst (IsBelow (length p.names)) (sym (named_next p w n is).command)
+    subst (IsBelow (length p.names)) (sym (named_next p w n is))
     (command_below p w.session n.number (plan_is p w k))
 
 pub target_low : (p : PlanOf) (w : Worker) (n : Numbered ℕ) (t : ℕ) → Works p w
@@ -78,6 +81,23 @@ has_lone : (p : PlanOf) (s : ℕ) (j : List Line) (v : ViewOf) → IsWorker p s 
 has_lone p s j v is =
     subst (λ (ps : List Part). HasPart ps s j) (sym (lone p s j v is)) (inl (refl, refl))
 
+-- what it does next has room in the journal
+pub room_next : (p : PlanOf) (w : Worker) (n : Numbered ℕ) → Works p w → next_by p w ≡ Some n
+    → vec_len w.entries < vec_capacity w.entries
+room_next p w n k is =
+    let here : part_of w.session k.told.log ≡ journal_of p w =
+    k.told.fits.own w.session (journal_of p w)
+    (has_lone p w.session (journal_of p w) (view_of w) k.view) in
+    let same : (view_of w).plan ≡ p = ap (λ (v : ViewOf). v.plan) k.view in
+    let journal : IsJournal w.session (script_of p w.session) (journal_of p w) =
+    subst (λ (x : PlanOf × List Line). IsJournal w.session (script_of x.0 w.session) x.1)
+    (λ i. (same i, here i))
+    ((of_plan_told (view_of w).plan k.told.log k.told.plan k.told.legal).journals w.session) in
+    let a = fewer w.session (script_of p w.session) (journal_of p w) n journal is in
+    let b = length-map w.entries.items (line_told w.session (script_of p w.session)) in
+    let c = k.room in
+    omega arith
+
 -- it was granted and released each target in turn
 turns : (p : PlanOf) (s : ℕ) (j : List Line) (v : ViewOf) → IsWorker p s j v → Told v → InTurn j
 turns p s j v is told =
@@ -105,9 +125,9 @@ pub entry_tells : (p : PlanOf) (w : Worker) (n : Numbered ℕ) (e : Entry) (repl
     → place_of e.place ≡ place
     → line_told w.session (script_of p w.session) e ≡ made w.session n reply place
 entry_tells p w n e reply place is line said at =
-    let command : get_or (script_of p w.session) e.line Ood ≡ n.command =
-    ap (λ k. get_or (script_of p w.session) k Ood) line
-    ∙ sym (named_next p w n is).command in
+    let command : get_or (commands_in (script_of p w.session)) e.line Ood ≡ n.command =
+    ap (λ k. get_or (commands_in (script_of p w.session)) k Ood) line
+    ∙ sym (named_next p w n is) in
     λ i. record {
       session = w.session;
       number = line i;
@@ -341,7 +361,10 @@ pub made_less : (p : PlanOf) (old new : Worker) → Made p old new
     → length (script_of p (session_of old)) - length (journal_of p new)
     < length (script_of p (session_of old)) - length (journal_of p old)
 made_less p old new made =
-    let a = (named_next p old (numbered made.line) made.next).more in
-    let b = ap length made.grown in
-    let c = length_push (journal_of p old) made.line in
+    let s : ℕ = made.line.session in
+    let journal : IsJournal s (script_of p s) (journal_of p new) =
+    subst (IsJournal s (script_of p s)) made.ends.whole (made.ends.history.of_plan.journals s) in
+    let fits = journal_fits s (script_of p s) [] (journal_of p new) journal (omega arith) in
+    let same = ap (λ t. length (script_of p t)) made.session in
+    let grown = ap length made.grown ∙ length_push (journal_of p old) made.line in
     omega arith

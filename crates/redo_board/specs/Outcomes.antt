@@ -16,8 +16,8 @@ use Rattle.redo_board.specs.Histories.{IsHistoryOf, HasParts, EndsWith, words_of
 use Rattle.redo_board.specs.Shown.{parts_of, seen_at, lines_in, session_of, journal_of, seen_by, tries_of, rows_up_to, next_by}
 use Rattle.redo_board.specs.Kept.{SitsAt}
 
--- one command more was done: the next of the script. A legal history ends with its line, and no row
--- word that was seen is forgotten
+-- one command more was done: that of the line that the session does next. A legal history ends with
+-- its line, and no row word that was seen is forgotten
 pub record Made (p : PlanOf) (old new : Worker) : Type 0 where
   pub line : Line
   pub grown : journal_of p new ≡ journal_of p old ++ line ∷ []

@@ -1,7 +1,7 @@
--- The rows of a board: one for each command of the plan that isn't a lock.
+-- The rows of a board: one for each line of the plan whose command isn't a lock.
 use Rattle.std.specs.Prelude.{ℕ, ◌+◌, Bool, true, false, cond, List, [], ◌∷◌, slice_index_or}
 use Rattle.redo_model.specs.Names.{Naming}
-use Rattle.redo_model.specs.Command.{Command, Lock, Ood}
+use Rattle.redo_model.specs.Command.{Command, Item, Lock, Ood, commands_in}
 use Rattle.redo_store.specs.Orders.{by_text}
 use Rattle.redo_journal.specs.Plans.{PlanOf, script_of}
 
@@ -9,9 +9,9 @@ use Rattle.redo_journal.specs.Plans.{PlanOf, script_of}
 abbrev pub naming_of : PlanOf → Naming ℕ
 naming_of p = by_text p.names
 
--- the command with this number in the session's script
+-- the command of the line with this number in the session's script
 abbrev pub command : PlanOf → ℕ → ℕ → Command ℕ
-command p s k = slice_index_or (script_of p s) k Ood
+command p s k = slice_index_or (commands_in (script_of p s)) k Ood
 
 abbrev pub bit : Bool → ℕ
 bit b = cond b 1 0
@@ -21,11 +21,11 @@ abbrev pub takes_row : Command ℕ → Bool
 takes_row (Lock t) = false
 takes_row command = true
 
-abbrev pub rows_in : List (Command ℕ) → ℕ
+abbrev pub rows_in : List (Item ℕ) → ℕ
 rows_in [] = 0
-rows_in (x ∷ xs) = bit (takes_row x) + rows_in xs
+rows_in (x ∷ xs) = bit (takes_row x.command) + rows_in xs
 
-abbrev pub rows_in_all : List (List (Command ℕ)) → ℕ
+abbrev pub rows_in_all : List (List (Item ℕ)) → ℕ
 rows_in_all [] = 0
 rows_in_all (x ∷ xs) = rows_in x + rows_in_all xs
 

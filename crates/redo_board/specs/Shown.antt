@@ -1,7 +1,7 @@
 -- What boards, seats and workers show.
 use Rattle.std.specs.Prelude.{◌≡◌, ◌≢◌, ℕ, ◌+◌, ◌<◌, ◌==◌, cond, List, [], ◌∷◌, ◌++◌, length, map, Option, Some, None}
 use Rattle.std.specs.Borrow.{Bor}
-use Rattle.redo_model.specs.Command.{Command}
+use Rattle.redo_model.specs.Command.{Command, Item}
 use Rattle.redo_model.specs.Placed.{Place, Row, Granted, Busy, Released}
 use Rattle.redo_model.specs.Journals.{Numbered}
 use Rattle.redo_journal.specs.Plans.{PlanOf, script_of}
@@ -52,7 +52,7 @@ abbrev pub session_of : Worker → ℕ
 session_of worker = worker.session
 
 -- the lines that entries of a session with this script tell
-abbrev pub told : ℕ → List (Command ℕ) → List Entry → List Line
+abbrev pub told : ℕ → List (Item ℕ) → List Entry → List Line
 told s script entries = map (line_told s script) entries
 
 -- the lines that a worker's entries tell

@@ -17,10 +17,10 @@ ghost use Rattle.redo_board.specs.Steps.{Enters};
 
 use crate::board::Board;
 use crate::gate::Gate;
-use crate::plan::{command_at, commands, session_number};
+use crate::plan::{command_at, items, script, session_number};
 use crate::seat::{Seat, Token};
 use crate::worker::own::{Own, Way};
-use redo_journal::{Entry, Journal, Plan};
+use redo_journal::{Entry, Journal, Plan, next_line};
 use redo_store::Store;
 use redo_terms::{Command, FileStamp, Reply};
 use std::alloc::{AllocError, Global};
@@ -55,7 +55,7 @@ impl Worker {
         ensures err { IfErr result (λ back. back ≡ seat) }
     {
         let session = session_number(plan, seat.first);
-        let Ok(entries) = Vec::with_capacity(alloc, commands(plan, session).len()) else {
+        let Ok(entries) = Vec::with_capacity(alloc, items(plan, session).len()) else {
             return Err(seat);
         };
         let Ok(own) = Own::new(alloc, plan.names().len()) else {
@@ -80,8 +80,9 @@ impl Worker {
         })
     }
 
-    /// Does the next command of the script, and says whether there was one. Where memory runs out
-    /// the command isn't done, and the next step does it.
+    /// Does the next line of the script that is unguarded, or that the latest reply lets through,
+    /// and says whether there was one. Where memory runs out its command isn't done, and the next
+    /// step does it.
     pub fn step<G: Gate>(
         &mut self,
         alloc: Global,
@@ -121,12 +122,7 @@ impl Worker {
             (command plan.now self.now.session number)) }
         ensures none { IfNone result (IsAtEnd plan.now self.now) }
     {
-        let number = self.entries.len();
-        if number < commands(plan, self.session).len() {
-            Some(number as u32)
-        } else {
-            None
-        }
+        next_line(script(plan, self.session), &self.entries)
     }
 
     /// Writes the entry of a command into the journal, in which there is room.

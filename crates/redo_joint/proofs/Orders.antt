@@ -7,7 +7,7 @@ use Rattle.redo_model.specs.History.{Legal}
 use Rattle.redo_model.specs.Placed.{PlacedLine, line_of, Fits, Follows, IsPlacedAfter}
 use Rattle.redo_model.specs.Journals.{IsJointOrder, IsFirstJointOrder, NoLater, IsJournal}
 use Rattle.redo_model.specs.Inside.Journals.{IsOfPlan}
-use Rattle.redo_model.specs.Command.{Command}
+use Rattle.redo_model.specs.Command.{Item}
 use Rattle.redo_joint.proofs.Exchange.{In}
 use Rattle.redo_joint.proofs.Own.{all_by_parts, all_of_part}
 use Rattle.redo_joint.proofs.Greedy.{IsJoint, IsFirst}
@@ -62,7 +62,7 @@ front_placed naming before [] rest h = tt
 front_placed naming before (line ∷ front) rest h =
     (h.0, h.1, front_placed naming (before ++ line ∷ []) front rest h.2)
 
-pub joint_of_plan : {N : Type 0} (naming : Naming N) (plan : ℕ → List (Command N))
+pub joint_of_plan : {N : Type 0} (naming : Naming N) (plan : ℕ → List (Item N))
     (journals : ℕ → List (PlacedLine N)) (lines : List (PlacedLine N))
     → ((s : ℕ) → IsJournal s (plan s) (journals s)) → ((s : ℕ) → length (plan s) ≤ 4096)
     → IsJointOrder naming journals lines → IsOfPlan plan lines

@@ -1,19 +1,18 @@
 -- The row words fix the records.
-use Rattle.std.proofs.Common.{◌≡◌, ℕ, ◌+◌, ◌-◌, ◌*◌, ◌%◌, ◌<◌, ◌≤◌, Bool, true, false, cond, eqb, List, [], ◌∷◌, ◌++◌, length, map, get_or, slice_get, Option, Some, None, refl, sym, ap, ◌∙◌, subst, arith}
-use Rattle.std.specs.Prelude.{option_map}
-use Rattle.std.proofs.lemmas.Option.{get_or_from_slice_get, slice_get_within}
+use Rattle.std.proofs.Common.{◌≡◌, ℕ, ◌+◌, ◌-◌, ◌*◌, ◌%◌, ◌<◌, ◌≤◌, Bool, true, false, cond, eqb, List, [], ◌∷◌, ◌++◌, length, map, get_or, refl, sym, ap, ◌∙◌, subst, arith}
 use mathlib.Core.Logic.{dite}
 use native.Mathlib.Decide.{ℕ_discrete}
 use Rattle.redo_model.specs.Names.{Naming}
 use Rattle.redo_model.specs.Inside.Names.{IsNaming}
 use Rattle.redo_model.specs.State.{State, Records, empty}
-use Rattle.redo_model.specs.Command.{Command, Ood, target_of}
+use Rattle.redo_model.specs.Command.{Item, Ood, commands_in, target_of}
 use Rattle.redo_model.specs.Step.{after, records_after}
 use Rattle.redo_model.specs.History.{left_by, LegalFrom}
 use Rattle.redo_model.specs.Placed.{Place, Row, Granted, Busy, Released, PlacedLine, line_of, part_of, IsPlacedAfter}
 use Rattle.redo_model.specs.Inside.Placed.{holds_by}
-use Rattle.redo_model.specs.Journals.{Numbered, next_of, numbered, IsJournalAfter}
+use Rattle.redo_model.specs.Journals.{numbered, IsJournalAfter}
 use Rattle.redo_model.specs.Inside.Words.{word_before, row_word_of, row_words_after, row_words_of}
+use Rattle.redo_model.proofs.Nexts.{next_in_script}
 use Rattle.redo_joint.specs.ByRows.{records_by, records_left}
 use Rattle.redo_joint.specs.Replayed.{session_in, number_in, flag_in, no_records, replayed, IsLegalOfPlan}
 use Rattle.redo_joint.proofs.Own.{part_of-own, part_of-other, push_own, push_other}
@@ -33,29 +32,7 @@ decoded_flag s k true = let e : (1 + 2 * (4096 * s + k) + 1 - 1) % 2 ≡ 1 = ome
 decoded_flag s k false = let e : (1 + 2 * (4096 * s + k) + 0 - 1) % 2 ≡ 0 = omega arith in
     ap (λ n. eqb n 1) e
 
-abbrev numbered_at : {N : Type 0} → ℕ → Command N → Numbered N
-numbered_at n command = record { number = n; command = command }
-
-mapped_from : {N : Type 0} (n : ℕ) (found : Option (Command N)) (next : Numbered N)
-    → option_map (numbered_at n) found ≡ Some next
-    → (found ≡ Some next.command) × (n ≡ next.number)
-mapped_from n None next e = absurd (cc)
-mapped_from n (Some command) next e = let same : numbered_at n command ≡ next = cc in
-    (ap (λ (m : Numbered _). Some m.command) same, ap (λ (m : Numbered _). m.number) same)
-
--- a session's next command is the one of its script at its number
-pub next_in_script : {N : Type 0} (script : List (Command N)) (own : List (PlacedLine N))
-    (next : Numbered N)
-    → next_of script own ≡ Some next
-    → (get_or script next.number Ood ≡ next.command) × (next.number < length script)
-next_in_script script own next e =
-    let found = mapped_from (length own) (slice_get script (length own)) next e in
-    subst (λ n. (get_or script n Ood ≡ next.command) × (n < length script)) found.1 (
-      get_or_from_slice_get script (length own) next.command Ood found.0,
-      slice_get_within script (length own) next.command found.0,
-    )
-
-module _ {N : Type 0} (plan : ℕ → List (Command N)) where
+module _ {N : Type 0} (plan : ℕ → List (Item N)) where
   -- the lines of each session are its journal, after its lines before
   abbrev pub GoOn : List (PlacedLine N) → List (PlacedLine N) → Type 0
   GoOn before lines =
@@ -81,7 +58,7 @@ module _ {N : Type 0} (plan : ℕ → List (Command N)) where
   -- the command of a line is the script's at its number
   command_here : (before : List (PlacedLine N)) (line : PlacedLine N) (lines : List (PlacedLine N))
       → GoOn before (line ∷ lines)
-      → (get_or (plan line.session) line.number Ood ≡ line.command)
+      → (get_or (commands_in (plan line.session)) line.number Ood ≡ line.command)
       × (line.number < length (plan line.session))
   command_here before line lines on =
       next_in_script (plan line.session) (part_of line.session before) (numbered line)
@@ -109,17 +86,17 @@ module _ {N : Type 0} {naming : Naming N} (law : IsNaming naming) where
       placed.2 legal.1
       ∙ ap (λ (d : State N). rows_left d.records (before ++ line ∷ []) lines) step.1
 
-  module _ (plan : ℕ → List (Command N)) (short : (s : ℕ) → length (plan s) ≤ 4096) where
+  module _ (plan : ℕ → List (Item N)) (short : (s : ℕ) → length (plan s) ≤ 4096) where
     flag_below : (b : Bool) → cond b 1 0 < 2
     flag_below true = omega arith
     flag_below false = omega arith
 
     row_replayed : (records : Records N) (own : List (PlacedLine N)) (line : PlacedLine N)
-        → get_or (plan line.session) line.number Ood ≡ line.command
+        → get_or (commands_in (plan line.session)) line.number Ood ≡ line.command
         → line.number < length (plan line.session)
         → let word = row_word_of naming own line in
         records_after naming records (session_in word) (flag_in word)
-        (get_or (plan (session_in word)) (number_in word) Ood)
+        (get_or (commands_in (plan (session_in word))) (number_in word) Ood)
         ≡ records_after naming records line.session
         (holds_by naming own (target_of line.command))
         line.command
@@ -129,13 +106,14 @@ module _ {N : Type 0} {naming : Naming N} (law : IsNaming naming) where
         let es = decoded_session line.session line.number (cond b 1 0) k (flag_below b) in
         let en = decoded_number line.session line.number (cond b 1 0) k (flag_below b) in
         let ef = decoded_flag line.session line.number b in
-        (λ i. records_after naming records (es i) (ef i) (get_or (plan (es i)) (en i) Ood))
+        (λ i. records_after naming records (es i) (ef i)
+        (get_or (commands_in (plan (es i))) (en i) Ood))
         ∙ (λ i. records_after naming records line.session b (command i))
 
     at_place : (place : Place N) (records : Records N) (own : List (PlacedLine N))
         (line : PlacedLine N)
         (words : List ℕ) (rest : Records N → Records N)
-        → get_or (plan line.session) line.number Ood ≡ line.command
+        → get_or (commands_in (plan line.session)) line.number Ood ≡ line.command
         → line.number < length (plan line.session)
         → ((d : Records N) → replayed naming plan d words ≡ rest d)
         → replayed naming plan records (word_before place (row_word_of naming own line) words)
@@ -164,14 +142,14 @@ module _ {N : Type 0} {naming : Naming N} (law : IsNaming naming) where
         (λ d. replay_is d (before ++ line ∷ []) lines (go_on plan before line lines h))
 
   -- the records that a legal placed history leaves are the replay of its row words
-  pub words_replayed : (plan : ℕ → List (Command N)) (lines : List (PlacedLine N))
+  pub words_replayed : (plan : ℕ → List (Item N)) (lines : List (PlacedLine N))
       → IsLegalOfPlan naming plan lines
       → records_left naming lines ≡ replayed naming plan no_records (row_words_of naming lines)
   words_replayed plan lines known =
       left_is empty [] lines (tied_at_first naming) known.placed known.legal
       ∙ sym (replay_is plan known.of_plan.short no_records [] lines known.of_plan.journals)
 
-  pub words_fix : (plan : ℕ → List (Command N)) (one other : List (PlacedLine N))
+  pub words_fix : (plan : ℕ → List (Item N)) (one other : List (PlacedLine N))
       → IsLegalOfPlan naming plan one → IsLegalOfPlan naming plan other
       → row_words_of naming one ≡ row_words_of naming other
       → records_left naming one ≡ records_left naming other

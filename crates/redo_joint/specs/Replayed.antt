@@ -2,7 +2,7 @@
 use Rattle.std.specs.Prelude.{ℕ, ◌-◌, ◌/◌, ◌%◌, Bool, List, [], ◌∷◌, map, slice_index_or, ◌==◌}
 use Rattle.redo_model.specs.Names.{Naming}
 use Rattle.redo_model.specs.State.{Records, empty}
-use Rattle.redo_model.specs.Command.{Command, Ood}
+use Rattle.redo_model.specs.Command.{Item, Ood, commands_in}
 use Rattle.redo_model.specs.Step.{records_after}
 use Rattle.redo_model.specs.History.{Legal}
 use Rattle.redo_model.specs.Placed.{PlacedLine, line_of, IsPlaced}
@@ -22,12 +22,13 @@ flag_in word = (word - 1) % 2 == 1
 abbrev pub no_records : {N : Type 0} → Records N
 no_records {N} = (empty {N = N}).records
 
-module _ {N : Type 0} (naming : Naming N) (plan : ℕ → List (Command N)) where
+module _ {N : Type 0} (naming : Naming N) (plan : ℕ → List (Item N)) where
   -- the records that the commands of the words leave
   abbrev pub replayed : Records N → List ℕ → Records N
   replayed records [] = records
   replayed records (word ∷ words) =
-      let command = slice_index_or (plan (session_in word)) (number_in word) Ood in
+      let commands = commands_in (plan (session_in word)) in
+      let command = slice_index_or commands (number_in word) Ood in
       replayed (records_after naming records (session_in word) (flag_in word) command) words
 
   -- a legal placed history of the plan

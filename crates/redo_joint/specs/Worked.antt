@@ -1,10 +1,11 @@
 -- Placed histories that were worked out by hand, to believe the definitions by.
-use Rattle.std.specs.Prelude.{ℕ, List, [], ◌∷◌, codes}
+use Rattle.std.specs.Prelude.{ℕ, List, [], ◌∷◌, ◌++◌, codes}
 use Rattle.redo_model.specs.Names.{Text}
-use Rattle.redo_model.specs.Command.{Command, File, Lock, Unlock, Start}
+use Rattle.redo_model.specs.Command.{Item, File, Lock, Unlock, Start}
 use Rattle.redo_model.specs.Reply.{Reply, Okay}
 use Rattle.redo_model.specs.Reply as replies
 use Rattle.redo_model.specs.Placed.{Row, Granted, PlacedLine}
+use Rattle.redo_model.specs.Inside.Guarded.{plain_line}
 use Rattle.redo_model.specs.Inside.Merging.{placed_at, shared}
 
 -- the first session tells of a file, locks the target and starts it; the second tells of a file
@@ -28,5 +29,13 @@ abbrev pub two_locks_turned : List (PlacedLine Text)
 two_locks_turned = one_lock 1 (codes "b") ∷ one_lock 0 (codes "a") ∷ []
 
 -- a script that locks and unlocks the target
-abbrev pub one_hold : List (Command Text)
-one_hold = Lock shared ∷ Unlock shared ∷ []
+abbrev pub one_hold : List (Item Text)
+one_hold = plain_line (Lock shared) ∷ plain_line (Unlock shared) ∷ []
+
+-- the same in the other order
+abbrev pub one_hold_turned : List (Item Text)
+one_hold_turned = plain_line (Unlock shared) ∷ plain_line (Lock shared) ∷ []
+
+-- and one line more
+abbrev pub one_hold_and_more : List (Item Text)
+one_hold_and_more = one_hold ++ plain_line (Lock shared) ∷ []

@@ -2,7 +2,7 @@
 
 ghost use Rattle.std.specs.Prelude.{◌≡◌, ◌↔◌, ◌∷◌, ◌++◌, ◌≤◌, [], List, length, map, ℕ};
 ghost use Rattle.redo_joint.specs.ByRows.{AllStand};
-ghost use Rattle.redo_model.specs.Command.{Command};
+ghost use Rattle.redo_model.specs.Command.{Item};
 ghost use Rattle.redo_model.specs.History.{Legal};
 ghost use Rattle.redo_model.specs.Journals.{IsJointOrder, IsJournal};
 ghost use Rattle.redo_model.specs.Inside.Journals.{IsOfPlan};
@@ -41,7 +41,7 @@ pub fn legal_in_every_order()
 
 /// A joint order of journals of a plan is of that plan.
 pub fn joint_order_is_of_plan()
-    ensures { (plan : ℕ → List (Command Text)) (journals : ℕ → List (PlacedLine Text))
+    ensures { (plan : ℕ → List (Item Text)) (journals : ℕ → List (PlacedLine Text))
         (lines : List (PlacedLine Text)) →
         ((s : ℕ) → IsJournal s (plan s) (journals s)) → ((s : ℕ) → length (plan s) ≤ 4096) →
         IsJointOrder texts journals lines → IsOfPlan plan lines }

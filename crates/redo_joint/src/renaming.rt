@@ -2,12 +2,12 @@
 
 ghost use Rattle.std.specs.Prelude.{◌≡◌, List, map, ℕ};
 ghost use Rattle.redo_joint.specs.Named.{AreToldBelow, IsPlacedBelow, named_journals, named_placed_line};
-ghost use Rattle.redo_model.specs.Command.{Command};
+ghost use Rattle.redo_model.specs.Command.{Item};
 ghost use Rattle.redo_model.specs.Journals.{IsFirstJointOrder, IsJointOrder, IsJournal, IsWholeJournal};
 ghost use Rattle.redo_model.specs.Names.{Text, numbers, texts};
 ghost use Rattle.redo_model.specs.Placed.{PlacedLine};
 ghost use Rattle.redo_model.specs.Inside.Renaming.{IsRenaming, Renaming};
-ghost use Rattle.redo_model.specs.Renaming.{named_command};
+ghost use Rattle.redo_model.specs.Renaming.{named_item};
 ghost use Rattle.std.specs.List.{AllByRecursion};
 ghost use Rattle.std.specs.declared.cmp.Ordering.{Ordering};
 
@@ -51,10 +51,10 @@ pub fn first_joint_order_by_name()
 
 /// A journal over numbers, under their names, is one over the names; and a whole one a whole one.
 pub fn journal_by_name()
-    ensures journal { (name : ℕ → Text) (s : ℕ) (script : List (Command ℕ))
+    ensures journal { (name : ℕ → Text) (s : ℕ) (script : List (Item ℕ))
         (lines : List (PlacedLine ℕ)) → IsJournal s script lines →
-        IsJournal s (map (named_command name) script) (map (named_placed_line name) lines) }
-    ensures whole { (name : ℕ → Text) (s : ℕ) (script : List (Command ℕ))
+        IsJournal s (map (named_item name) script) (map (named_placed_line name) lines) }
+    ensures whole { (name : ℕ → Text) (s : ℕ) (script : List (Item ℕ))
         (lines : List (PlacedLine ℕ)) → IsWholeJournal s script lines →
-        IsWholeJournal s (map (named_command name) script) (map (named_placed_line name) lines) }
+        IsWholeJournal s (map (named_item name) script) (map (named_placed_line name) lines) }
 {}

@@ -1,9 +1,15 @@
 //! Placed histories that were worked out by hand: their words, what a session had seen, journals, and
 //! which order comes first.
 
-ghost use Rattle.std.specs.Prelude.{◌≡◌, ◌∷◌, ◌++◌, [], map};
-ghost use Rattle.redo_joint.specs.Worked.{one_hold, three_rows, two_locks, two_locks_turned};
-ghost use Rattle.redo_model.specs.Command.{Lock, Unlock};
+ghost use Rattle.std.specs.Prelude.{◌≡◌, ◌∷◌, [], map};
+ghost use Rattle.redo_joint.specs.Worked.{
+  one_hold,
+  one_hold_and_more,
+  one_hold_turned,
+  three_rows,
+  two_locks,
+  two_locks_turned,
+};
 ghost use Rattle.redo_model.specs.History.{Legal};
 ghost use Rattle.redo_model.specs.Inside.Merging.{first_journal, merging, second_journal, shared};
 ghost use Rattle.redo_model.specs.Inside.Words.{claim_word_of, row_words_of};
@@ -36,8 +42,8 @@ pub fn seen_by_hand()
 /// A journal has the commands of its script in their order, and is whole at the script's end.
 pub fn journals_by_hand()
     ensures whole { IsWholeJournal 0 one_hold first_journal }
-    ensures goes_on { IsWholeJournal 0 (one_hold ++ Lock shared ∷ []) first_journal → ⊥ }
-    ensures other_order { IsJournal 0 (Unlock shared ∷ Lock shared ∷ []) first_journal → ⊥ }
+    ensures goes_on { IsWholeJournal 0 one_hold_and_more first_journal → ⊥ }
+    ensures other_order { IsJournal 0 one_hold_turned first_journal → ⊥ }
     ensures other_session { IsJournal 1 one_hold first_journal → ⊥ }
 {}
 

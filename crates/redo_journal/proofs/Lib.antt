@@ -1,2 +1,3 @@
 pub mod Plans
 mod Told
+mod Nexts

@@ -1,7 +1,7 @@
 -- What the journals of sessions tell.
 use Rattle.std.specs.Prelude.{◌≡◌, ℕ, List, [], length, map, option_map, slice_get, slice_index_or}
 use Rattle.std.specs.Option.{unwrap_or}
-use Rattle.redo_model.specs.Command.{Command, Ood}
+use Rattle.redo_model.specs.Command.{Command, Item, Ood, commands_in}
 use Rattle.redo_model.specs.Placed.{PlacedLine}
 use Rattle.redo_model.specs.Placed as placed
 use Rattle.redo_model.specs.Journals.{IsJournal}
@@ -19,11 +19,11 @@ place_of (Busy t g) = placed.Busy t g
 place_of (Released t g) = placed.Released t g
 
 -- the command that was done: the script's, at the entry's number
-abbrev pub command_told : List (Command ℕ) → Entry → Command ℕ
-command_told script entry = slice_index_or script entry.line Ood
+abbrev pub command_told : List (Item ℕ) → Entry → Command ℕ
+command_told script entry = slice_index_or (commands_in script) entry.line Ood
 
 -- what an entry tells of a session with this script
-abbrev pub line_told : ℕ → List (Command ℕ) → Entry → PlacedLine ℕ
+abbrev pub line_told : ℕ → List (Item ℕ) → Entry → PlacedLine ℕ
 line_told s script entry = record {
   session = s;
   number = entry.line;
@@ -33,7 +33,7 @@ line_told s script entry = record {
 }
 
 -- the lines that a journal tells
-abbrev pub told_by : List (Command ℕ) → Journal → List (PlacedLine ℕ)
+abbrev pub told_by : List (Item ℕ) → Journal → List (PlacedLine ℕ)
 told_by script journal = map (line_told journal.session script) journal.entries.items
 
 -- the lines that the s-th journal tells; none where there is no such journal

@@ -5,29 +5,31 @@ use Rattle.redo_names.specs.Inside.Names.{AreNames}
 use Rattle.redo_model.specs.Names.{Text}
 use Rattle.redo_model.specs.Command as commands
 use Rattle.redo_model.specs.Renaming.{IsBelow}
-use Rattle.redo_terms.specs.declared.command.Command.{Command}
+use Rattle.redo_terms.specs.declared.script.Item.{Item}
 use Rattle.redo_terms.specs.Meaning.{command_of}
+use Rattle.redo_terms.specs.Inside.Meaning.{item_of}
 
--- names, and for each session its commands, over the numbers of the names
+-- names, and for each session the lines of its script, over the numbers of the names
 pub record PlanOf : Type 0 where
   pub names : List Text
-  pub scripts : List (List (commands.Command ℕ))
+  pub scripts : List (List (commands.Item ℕ))
 
-abbrev pub scripts_of : List (List Command) → List (List (commands.Command ℕ))
-scripts_of scripts = map (λ script. map command_of script) scripts
+abbrev pub scripts_of : List (List Item) → List (List (commands.Item ℕ))
+scripts_of scripts = map (λ script. map item_of script) scripts
 
--- the commands of a session; none where there is no such session
-abbrev pub script_of : PlanOf → ℕ → List (commands.Command ℕ)
+-- the script of a session; it has no line where there is no such session
+abbrev pub script_of : PlanOf → ℕ → List (commands.Item ℕ)
 script_of plan s = slice_index_or plan.scripts s []
 
--- the commands' numbers are below n
-abbrev pub AreBelow : ℕ → List Command → Type 0
-AreBelow n script = AllByRecursion (λ command. IsBelow n (command_of command)) script
+-- the numbers of its commands are below n
+abbrev pub AreBelow : ℕ → List Item → Type 0
+AreBelow n script = AllByRecursion (λ item. IsBelow n (command_of item.command)) script
 
--- 1 to 64 scripts, each of at most 4,096 commands, over the numbers of the names
+-- 1 to 64 scripts, each of at most 4,096 lines, over the numbers of the names
 pub record IsPlan (plan : PlanOf) : Type 0 where
   pub some : 1 ≤ length plan.scripts
   pub few : length plan.scripts ≤ 64
   pub short : (s : ℕ) → length (script_of plan s) ≤ 4096
-  pub below : (s : ℕ) → AllByRecursion (IsBelow (length plan.names)) (script_of plan s)
+  pub below : (s : ℕ)
+      → AllByRecursion (λ item. IsBelow (length plan.names) item.command) (script_of plan s)
   pub names : AreNames plan.names

@@ -1,20 +1,21 @@
-ghost use Rattle.std.specs.Prelude.{◌≡◌, ◌↔◌, ◌<◌, ℕ, IsTrue, length, map, slice_index};
+ghost use Rattle.std.specs.Prelude.{◌≡◌, ◌↔◌, ◌<◌, ℕ, IsTrue, length, map};
 ghost use Rattle.redo_model.specs.Journals.{IsJournal};
-ghost use Rattle.redo_terms.specs.Meaning.{command_of};
+ghost use Rattle.redo_terms.specs.Inside.Meaning.{item_of};
 ghost use Rattle.redo_journal.specs.Journals.{told_by, AreJournals};
-ghost use Rattle.redo_journal.specs.Numbers.{numbers_in};
+ghost use Rattle.redo_journal.specs.Numbers.{IsNextAt};
 
 use crate::entry::{Entry, Journal};
+use crate::next::is_next;
 use crate::plan::Plan;
 use redo_terms::Script;
 
-/// Whether the entries are numbered 0, 1, 2, ..
-fn are_numbered(entries: &[Entry]) -> bool
-    ensures { IsTrue result
-        ↔ ((k : ℕ) → k < length entries.now → slice_index (numbers_in entries.now) k ≡ k) }
+/// Whether each entry is of the line that is next after those before it.
+fn go_by(script: &Script, entries: &[Entry]) -> bool
+    ensures { (s : ℕ) → IsTrue result ↔ ((k : ℕ) → k < length entries.now
+        → IsNextAt s (map item_of script.now) entries.now k) }
 {
     for (at, entry) in entries.iter().enumerate() {
-        if entry.line as usize != at {
+        if !is_next(script, &entries[..at], entry) {
             return false;
         }
     }
@@ -31,21 +32,18 @@ fn is_own(session: usize, journal: &Journal) -> bool
 
 /// Whether this is what the session of this number did so far.
 fn is_journal(session: usize, script: &Script, journal: &Journal) -> bool
-    ensures { IsTrue result ↔ IsJournal session (map command_of script.now)
-        (told_by (map command_of script.now) journal.now) }
+    ensures { IsTrue result ↔ IsJournal session (map item_of script.now)
+        (told_by (map item_of script.now) journal.now) }
 {
     if !is_own(session, journal) {
         return false;
     }
-    let entries: &[Entry] = &journal.entries;
-    if entries.len() > script.commands().len() {
-        return false;
-    }
-    are_numbered(entries)
+    go_by(script, &journal.entries)
 }
 
-/// Whether there is a journal for each script, which tells what that session did so far: a front of
-/// the script's commands, in order. What was answered and where is not looked at.
+/// Whether there is a journal for each script, which tells what that session did so far: the script's
+/// lines in order, but for guarded ones that the reply before them doesn't let through. What else was
+/// answered, and where, is not looked at.
 pub fn are_journals(plan: &Plan, journals: &[Journal]) -> bool
     ensures { IsTrue result ↔ AreJournals plan.now journals.now }
 {

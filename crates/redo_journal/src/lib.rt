@@ -3,8 +3,10 @@
 
 mod entry;
 mod journals;
+mod next;
 mod plan;
 
 pub use entry::{Entry, Journal, Place};
 pub use journals::are_journals;
+pub use next::next_line;
 pub use plan::{MOST_SESSIONS, Plan, PlanFault};

@@ -59,7 +59,7 @@ impl Plan {
         // These calls say that the names are distinct, and that no script is too long.
         let _ = names.len();
         for script in &scripts {
-            let _ = script.commands();
+            let _ = script.items();
         }
         Ok(Plan { scripts, names })
     }

@@ -16,6 +16,7 @@ pub mod HistoriesByName
 pub mod Lists
 pub mod Members
 pub mod NamesWithoutAFile
+pub mod Nexts
 pub mod Naming
 pub mod OneMore
 pub mod OwnReasons
@@ -24,6 +25,7 @@ pub mod Refused
 pub mod Region
 pub mod RepliesByName
 pub mod RowsOfBothKinds
+pub mod Scripts
 pub mod StepsByName
 pub mod Texts
 pub mod Unique

@@ -1,5 +1,5 @@
 -- What a session may ask.
-use Rattle.std.specs.Prelude.{List, [], ◌∷◌, Option, Some, None}
+use Rattle.std.specs.Prelude.{Bool, List, [], ◌∷◌, map, Option, Some, None}
 use Rattle.redo_model.specs.Names.{Text}
 
 pub data Command (N : Type 0) : Type 0 where
@@ -17,6 +17,15 @@ pub data Command (N : Type 0) : Type 0 where
   Ood : Command N
   Targets : Command N
   Sources : Command N
+
+-- a line of a script: a command, and whether it is done only where the reply before lets it through
+pub record Item (N : Type 0) : Type 0 where
+  pub guarded : Bool
+  pub command : Command N
+
+-- the commands of a script
+abbrev pub commands_in : {N : Type 0} → List (Item N) → List (Command N)
+commands_in script = map (λ item. item.command) script
 
 -- the target of a command that has one of its own
 abbrev pub target_of : {N : Type 0} → Command N → Option N

@@ -7,3 +7,4 @@ pub mod Words
 pub mod Renaming
 pub mod Worked
 pub mod Merging
+pub mod Guarded

@@ -1,7 +1,8 @@
 -- Journals, which tell what one session did, and the histories that journals can be joined to.
-use Rattle.std.specs.Prelude.{◌≡◌, ℕ, ◌<◌, ◌⊎◌, List, [], ◌∷◌, ◌++◌, length, Option, Some, None, option_map, slice_get}
+use Rattle.std.specs.Prelude.{◌≡◌, ℕ, ◌+◌, ◌<◌, Bool, true, cond, not, ◌||◌, ◌⊎◌, List, [], ◌∷◌, ◌++◌, drop, Option, Some, None}
 use Rattle.redo_model.specs.Names.{Naming}
-use Rattle.redo_model.specs.Command.{Command}
+use Rattle.redo_model.specs.Command.{Command, Item}
+use Rattle.redo_model.specs.Reply.{lets_through}
 use Rattle.redo_model.specs.Placed.{PlacedLine, part_of, IsPlaced}
 
 -- a command, and its number in the session's script
@@ -9,17 +10,25 @@ pub record Numbered (N : Type 0) : Type 0 where
   pub number : ℕ
   pub command : Command N
 
--- what a session does next, by its script and its lines so far: the script's next command, or none
--- at its end
-abbrev pub next_of : {N : Type 0} → List (Command N) → List (PlacedLine N) → Option (Numbered N)
-next_of script own =
-    let here = length own in
-    option_map (λ command. record { number = here; command = command }) (slice_get script here)
+-- of the lines of a script, counted on from here, the first that is unguarded or let through
+abbrev pub first_from : {N : Type 0} → Bool → ℕ → List (Item N) → Option (Numbered N)
+first_from through here [] = None
+first_from through here (item ∷ items) =
+    let found = Some (record { number = here; command = item.command }) in
+    cond (through || not item.guarded) found (first_from through (here + 1) items)
+
+-- what a session does next, by its script and its lines so far: the first line of the script after
+-- the last of them that is unguarded, or that the reply there lets through
+abbrev pub next_of : {N : Type 0} → List (Item N) → List (PlacedLine N) → Option (Numbered N)
+next_of script [] = first_from true 0 script
+next_of script (line ∷ []) =
+    let here = line.number + 1 in first_from (lets_through line.reply) here (drop here script)
+next_of script (line ∷ lines) = next_of script lines
 
 abbrev pub numbered : {N : Type 0} → PlacedLine N → Numbered N
 numbered line = record { number = line.number; command = line.command }
 
-module _ {N : Type 0} (s : ℕ) (script : List (Command N)) where
+module _ {N : Type 0} (s : ℕ) (script : List (Item N)) where
   -- each line is the session's, with the command that it does next after the lines before it
   abbrev pub IsJournalAfter : List (PlacedLine N) → List (PlacedLine N) → Type 0
   IsJournalAfter before [] = Unit {0}

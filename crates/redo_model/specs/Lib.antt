@@ -7,6 +7,7 @@ pub mod Step
 pub mod History
 pub mod Placed
 pub mod Journals
+pub mod Scripts
 pub mod Seen
 pub mod Renaming
 pub mod Inside

@@ -2,7 +2,7 @@
 -- k`, and `number t` is the number whose name is t, if there is one.
 use Rattle.std.specs.Prelude.{ℕ, ◌<◌, List, map, ⊤}
 use Rattle.std.specs.List.{AllByRecursion}
-use Rattle.redo_model.specs.Command.{Command, File, Gone, Lock, Unlock, Start, IfChange, IfCreate, Always, Stamp, Done, Failed, Ood, Targets, Sources, names_in}
+use Rattle.redo_model.specs.Command.{Command, Item, File, Gone, Lock, Unlock, Start, IfChange, IfCreate, Always, Stamp, Done, Failed, Ood, Targets, Sources, names_in}
 use Rattle.redo_model.specs.Reply.{Refusal, NotLocked, Building, NotBuilding, Itself, Exists, Reply, Okay, Granted, Busy, Stale, Stamped, Refused}
 use Rattle.redo_model.specs.Reply as replies
 use Rattle.redo_model.specs.History.{Line}
@@ -23,6 +23,9 @@ module _ {N M : Type 0} (name : N → M) where
   named_command Ood = Ood
   named_command Targets = Targets
   named_command Sources = Sources
+
+  abbrev pub named_item : Item N → Item M
+  named_item item = record { guarded = item.guarded; command = named_command item.command }
 
   abbrev pub named_refusal : Refusal N → Refusal M
   named_refusal NotLocked = NotLocked

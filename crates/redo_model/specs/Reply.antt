@@ -1,5 +1,5 @@
 -- What the database answers.
-use Rattle.std.specs.Prelude.{ℕ, List}
+use Rattle.std.specs.Prelude.{ℕ, Bool, true, false, List}
 
 pub data Refusal (N : Type 0) : Type 0 where
   NotLocked : Refusal N
@@ -18,3 +18,9 @@ pub data Reply (N : Type 0) : Type 0 where
   Targets : List N → Reply N
   Sources : List N → Reply N
   Refused : Refusal N → Reply N
+
+-- a guarded line isn't done after an answer that is busy, or a refusal
+abbrev pub lets_through : {N : Type 0} → Reply N → Bool
+lets_through (Busy g) = false
+lets_through (Refused refusal) = false
+lets_through reply = true

@@ -2,6 +2,7 @@
 #![tactic(auto)]
 
 pub mod histories;
+pub mod journals;
 pub mod regions;
 pub mod renaming;
 pub mod replies;

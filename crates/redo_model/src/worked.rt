@@ -124,7 +124,8 @@ pub fn chain_is_legal()
 
 /// A chain isn't cut at a target without a file.
 pub fn cut_chain_is_not_legal()
-    ensures { Legal texts (with_reply 12 (replies.Ood (codes "lib" ∷ [])) chain_without_a_file) → ⊥ }
+    ensures { Legal texts
+        (with_reply 12 (replies.Ood (codes "lib" ∷ [])) chain_without_a_file) → ⊥ }
 {}
 
 /// Each refusal to a session that doesn't build, and locks of two names.

@@ -28,9 +28,10 @@ impl<T: Drop> From<AllocFailed<T>> for Fault {
     }
 }
 
-/// A command of a session file, and its text.
+/// A line of a session file: whether it is guarded, its command, and that one's text.
 #[derive(Drop)]
 pub(crate) struct Asked {
+    pub(crate) guarded: bool,
     pub(crate) command: Command,
     pub(crate) text: Vec<u8>,
 }
@@ -188,7 +189,7 @@ impl Reader {
         command_of(alloc, kind, &numbers, last)
     }
 
-    /// The commands of a session file, or its first fault.
+    /// The lines of a session file, or its first fault.
     pub(crate) fn session(&mut self, alloc: Global, text: &[u8]) -> Result<Vec<Asked>, Fault> {
         let mut all = Vec::new(alloc);
         let mut number = 0usize;
@@ -203,9 +204,17 @@ impl Reader {
             if all.len() >= 4096 {
                 return Err(Fault::Line(number, LineFault::TooManyLines));
             }
-            let command = self.command(alloc, number, line)?;
-            let text = text_of(alloc, &command, line)?;
-            all.push(Asked { command, text })?;
+            let (guarded, rest) = match line.strip_prefix(b"? ".as_slice()) {
+                Some(rest) => (true, rest),
+                None => (false, line),
+            };
+            let command = self.command(alloc, number, rest)?;
+            let text = text_of(alloc, &command, rest)?;
+            all.push(Asked {
+                guarded,
+                command,
+                text,
+            })?;
         }
         Ok(all)
     }

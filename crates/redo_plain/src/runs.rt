@@ -70,18 +70,32 @@ pub fn run_of(alloc: Global, file: &[u8]) -> Result<Vec<u8>, Fault> {
     let mut reader = Reader::new(alloc);
     let asked = reader.session(alloc, file)?;
     let mut plain = Plain::of(alloc, reader.names)?;
-    let count = asked.len();
-    let mut history = Vec::from_slice(alloc, format!(in alloc; "history {count}\n")?.as_bytes())?;
-    let mut own = Vec::from_slice(alloc, format!(in alloc; "session 1 {count}\n")?.as_bytes())?;
+    let mut history = Vec::new(alloc);
+    let mut own = Vec::new(alloc);
+    let mut count = 0usize;
+    let mut is_stopped = false;
     for one in &asked {
+        if one.guarded {
+            own.extend_from_slice(b"? ")?;
+        }
+        if one.guarded && is_stopped {
+            put_line(&mut own, &one.text, b"skipped")?;
+            continue;
+        }
         let reply = plain.call(alloc, 0, &one.command)?;
+        is_stopped = matches!(reply, Reply::Busy(_) | Reply::Refused(_));
         let reply = reply_text(alloc, &plain, &reply)?;
         history.extend_from_slice(b"1 ")?;
         put_line(&mut history, &one.text, &reply)?;
         put_line(&mut own, &one.text, &reply)?;
+        count = count.saturating_add(1);
     }
-    history.extend_from_slice(&own)?;
-    Ok(history)
+    let mut text = Vec::from_slice(alloc, format!(in alloc; "history {count}\n")?.as_bytes())?;
+    text.extend_from_slice(&history)?;
+    let all = asked.len();
+    text.extend_from_slice(format!(in alloc; "session 1 {all}\n")?.as_bytes())?;
+    text.extend_from_slice(&own)?;
+    Ok(text)
 }
 
 /// The text of the verdict on a history, or the history's fault.

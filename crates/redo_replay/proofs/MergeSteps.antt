@@ -9,9 +9,10 @@ use native.Mathlib.Decide.{dec_lt}
 use Rattle.redo_model.specs.Command as commands
 use Rattle.redo_model.specs.Reply as replies
 use Rattle.redo_model.specs.Renaming.{IsBelow}
-use Rattle.redo_terms.specs.declared.command.Command.{Command}
+use Rattle.redo_terms.specs.declared.script.Item.{Item}
 use Rattle.redo_terms.specs.declared.reply.Line.{Line}
-use Rattle.redo_terms.specs.Meaning.{command_of, reply_of, line_of}
+use Rattle.redo_terms.specs.Meaning.{reply_of, line_of}
+use Rattle.redo_terms.specs.Inside.Meaning.{item_of}
 use Rattle.redo_model.specs.Placed.{PlacedLine, Fits}
 use Rattle.redo_model.specs.Placed as placed
 use Rattle.redo_joint.proofs.Exchange.{In}
@@ -63,11 +64,12 @@ within_of names (Granted t g) c reply fits below = (subst (IsBelow names) fits.0
 within_of names (Busy t g) c reply fits below = (subst (IsBelow names) fits.0 below).0
 within_of names (Released t g) c reply fits below = (subst (IsBelow names) fits.0 below).0
 
-all_at : {A : Type 0} (P : A → Type 0) (xs : List A) (i : ℕ) (d : A) → i < length xs
-    → AllByRecursion P xs → P (get_or xs i d)
-all_at P [] i d h all = absurd (omega arith)
-all_at P (x ∷ xs) zero d h all = all.0
-all_at P (x ∷ xs) (suc i) d h all = all_at P xs i d (omega arith) all.1
+below_at : (n : ℕ) (script : List (commands.Item ℕ)) (i : ℕ) → i < length script
+    → AllByRecursion (λ item. IsBelow n item.command) script
+    → IsBelow n (get_or (commands.commands_in script) i commands.Ood)
+below_at n [] i h all = absurd (omega arith)
+below_at n (x ∷ xs) zero h all = all.0
+below_at n (x ∷ xs) (suc i) h all = below_at n xs i (omega arith) all.1
 
 module _ (plan : PlanOf) (js : List Journal) (are : AreJournals plan js) where
   told_at_is : (s : ℕ) → journals_of plan js s ≡ map (told_at plan js s) (entries_of js s)
@@ -79,7 +81,7 @@ module _ (plan : PlanOf) (js : List Journal) (are : AreJournals plan js) where
       let e = get_or (entries_of js s) k none in
       within_of (length plan.names) e.place (command_told (script_of plan s) e) (reply_of e.reply)
       (fit s k h)
-      (all_at (IsBelow (length plan.names)) (script_of plan s) e.line commands.Ood
+      (below_at (length plan.names) (script_of plan s) e.line
       (lines_of plan js are s k h) (is.below s))
 
   they_fit : AllFit plan.scripts js → (s : ℕ) (l : PlacedLine ℕ) → In l (journals_of plan js s)
@@ -249,31 +251,31 @@ module _ (plan : PlanOf) (js : List Journal) (are : AreJournals plan js) where
 
 -- the scripts that a plan lends
 module _ (plan : PlanOf) (js : List Journal) (are : AreJournals plan js)
-    (scripts : List (List Command))
+    (scripts : List (List Item))
     (same : scripts_of scripts ≡ plan.scripts) where
   pub lines_lent : (s : ℕ) → AreOfScript (get_or (scripts_of scripts) s []) (entries_of js s)
   lines_lent s =
       subst
-      (λ (all : List (List (commands.Command ℕ))). AreOfScript (get_or all s [])
+      (λ (all : List (List (commands.Item ℕ))). AreOfScript (get_or all s [])
       (entries_of js s))
       (sym same) (lines_of plan js are s)
 
   pub fit_lent : AllFit (scripts_of scripts) js → AllFit plan.scripts js
-  fit_lent = subst (λ (all : List (List (commands.Command ℕ))). AllFit all js) same
+  fit_lent = subst (λ (all : List (List (commands.Item ℕ))). AllFit all js) same
 
   pub misfit_lent : OneMisfits (scripts_of scripts) js → HaveNoOrder plan js
   misfit_lent bad =
       misfit_none plan js are
-      (subst (λ (all : List (List (commands.Command ℕ))). OneMisfits all js) same bad)
+      (subst (λ (all : List (List (commands.Item ℕ))). OneMisfits all js) same bad)
 
-  script_lent : (s : ℕ) (d cs : List Command) → s < length js → d ≡ get_or scripts s d → cs ≡ d
-      → script_of plan s ≡ map command_of cs
+  script_lent : (s : ℕ) (d cs : List Item) → s < length js → d ≡ get_or scripts s d → cs ≡ d
+      → script_of plan s ≡ map item_of cs
   script_lent s d cs below d-is cs-is =
       let a = ap length same in
-      let b = length-map scripts (λ (script : List Command). map command_of script) in
+      let b = length-map scripts (λ (script : List Item). map item_of script) in
       let c = are.one_each in
-      ap (λ (all : List (List (commands.Command ℕ))). get_or all s []) (sym same)
-      ∙ script_at scripts s d (omega arith) ∙ ap (map command_of) (sym d-is ∙ sym cs-is)
+      ap (λ (all : List (List (commands.Item ℕ))). get_or all s []) (sym same)
+      ∙ script_at scripts s d (omega arith) ∙ ap (map item_of) (sym d-is ∙ sym cs-is)
 
   -- one step, for the values that the loop has at hand: next as a slice, the script of s that was
   -- lent, with its commands, the journal of s and the place in it
@@ -281,13 +283,13 @@ module _ (plan : PlanOf) (js : List Journal) (are : AreJournals plan js)
       (lines : List Line)
       (m : Merging plan js w counts next lines)
       (ns : List ℕ) (ns-is : ns ≡ next) (s : ℕ) (least_at : IsLeast w counts js ns s)
-      (script : List Command) (script-is : script ≡ get_or scripts s script)
-      (cs : List Command) (cs-is : cs ≡ script) (d : Journal) (d-is : d ≡ get_or js s d)
+      (script : List Item) (script-is : script ≡ get_or scripts s script)
+      (cs : List Item) (cs-is : cs ≡ script) (d : Journal) (d-is : d ≡ get_or js s d)
       (k : ℕ) (k-is : k ≡ get_or next s k) where
     least : IsLeast w counts js next s
     least = subst (λ (others : List ℕ). IsLeast w counts js others s) ns-is least_at
 
-    commands-are : script_of plan s ≡ map command_of cs
+    commands-are : script_of plan s ≡ map item_of cs
     commands-are = script_lent s script cs least.below script-is cs-is
 
     items-are : entries_of js s ≡ d.entries.items
@@ -310,7 +312,7 @@ module _ (plan : PlanOf) (js : List Journal) (are : AreJournals plan js)
         ∙ session_is plan js are s d (let a = least.may.more in omega arith)
 
     pub take_lent : IsPlan plan → AllFit (scripts_of scripts) js
-        → MayTake w counts (map command_of cs) d.entries.items k
+        → MayTake w counts (map item_of cs) d.entries.items k
     take_lent is fit =
         subst (λ commands. MayTake w counts commands d.entries.items k) commands-are
         (subst (λ items. MayTake w counts (script_of plan s) items k) items-are
@@ -330,11 +332,11 @@ module _ (plan : PlanOf) (js : List Journal) (are : AreJournals plan js)
         → ((t g : ℕ)
         → tally counts2 t g + busy_one t g (get_or d.entries.items k none).place
         ≡ tally counts t g)
-        → Tells lines lines2 d.session (map command_of cs) (get_or d.entries.items k none)
+        → Tells lines lines2 d.session (map item_of cs) (get_or d.entries.items k none)
         → Merging plan js w2 counts2 (set next s (k + 1)) lines2
     merging_lent w2 counts2 lines2 turned taken told =
         let told_here =
-        subst (λ (u : ℕ). Tells lines lines2 u (map command_of cs) (get_or d.entries.items k none))
+        subst (λ (u : ℕ). Tells lines lines2 u (map item_of cs) (get_or d.entries.items k none))
         its-session told in
         let told_of =
         subst (λ commands. Tells lines lines2 s commands (get_or d.entries.items k none))

@@ -1,17 +1,17 @@
 -- The entries of journals, the lines that they tell, and how many are left.
 use Rattle.std.proofs.Common.{◌≡◌, ◌≢◌, ℕ, zero, suc, ◌+◌, ◌-◌, ◌<◌, ◌≤◌, List, [], ◌∷◌, ◌++◌, Option, Some, None, refl, sym, ap, ◌∙◌, subst, arith, length, get_or, map, slice_get}
 use Rattle.std.specs.Option.{option_map, unwrap_or}
-use Rattle.std.proofs.lemmas.Option.{slice_get_within}
-use Rattle.std.proofs.lemmas.List.{get_or_default, length-append, length-map}
+use Rattle.std.proofs.lemmas.List.{get_or_default, length-map}
 use lib.ListN.{get_or-map}
 use mathlib.Core.Logic.{dite}
 use native.Mathlib.Decide.{ℕ_discrete}
 use Rattle.redo_model.specs.Command as commands
 use Rattle.redo_model.specs.Placed.{PlacedLine, Fits}
-use Rattle.redo_model.specs.Journals.{Numbered, next_of, IsJournal, IsJournalAfter}
-use Rattle.redo_terms.specs.declared.command.Command.{Command}
-use Rattle.redo_terms.specs.declared.command.Command.TheVariants.{Ood}
+use Rattle.redo_model.specs.Journals.{IsJournal, IsJournalAfter}
+use Rattle.redo_model.proofs.Nexts.{past_of, next_in_script, journal_fits}
+use Rattle.redo_terms.specs.declared.script.Item.{Item}
 use Rattle.redo_terms.specs.Meaning.{command_of, reply_of}
+use Rattle.redo_terms.specs.Inside.Meaning.{item_of}
 use Rattle.redo_journal.specs.declared.entry.Entry.{Entry}
 use Rattle.redo_journal.specs.declared.entry.Journal.{Journal}
 use Rattle.redo_journal.specs.Plans.{PlanOf, scripts_of, script_of}
@@ -63,69 +63,73 @@ left_less f g (j ∷ js) (suc s) h e n =
     omega arith
 
 -- the script of a session that is there
-pub script_at : (scripts : List (List Command)) (s : ℕ) (d : List Command) → s < length scripts
-    → get_or (scripts_of scripts) s [] ≡ map command_of (get_or scripts s d)
+pub script_at : (scripts : List (List Item)) (s : ℕ) (d : List Item) → s < length scripts
+    → get_or (scripts_of scripts) s [] ≡ map item_of (get_or scripts s d)
 script_at [] s d h = absurd (omega arith)
 script_at (x ∷ xs) zero d h = refl
 script_at (x ∷ xs) (suc s) d h = script_at xs s d (omega arith)
 
+-- the command of an item that is there
+pub command_here : (items : List Item) (i : ℕ) (d : Item) → i < length items
+    → get_or (commands.commands_in (map item_of items)) i commands.Ood
+    ≡ command_of (get_or items i d).command
+command_here items i d h =
+    get_or_default (commands.commands_in (map item_of items)) i commands.Ood
+    (command_of d.command) (let a = length-map items item_of in
+    let b = length-map (map item_of items) (λ (item : commands.Item ℕ). item.command) in
+    omega arith)
+    ∙ get_or-map (λ (item : commands.Item ℕ). item.command) (map item_of items) i (item_of d)
+    ∙ ap (λ (item : commands.Item ℕ). item.command) (get_or-map item_of items i d)
+
 -- what is read by an index is what stands there
-module _ (commands : List Command) (entries : List Entry) (k : ℕ) (e : Entry) (d : Command)
+module _ (items : List Item) (entries : List Entry) (k : ℕ) (e : Entry) (d : Item)
     (below : k < length entries) (is : e ≡ get_or entries k e) where
   entry_is : e ≡ get_or entries k none
   entry_is = is ∙ get_or_default entries k e none below
 
-  pub fits_here : e.line < length commands → d ≡ get_or commands e.line d
-      → Fits (place_of e.place) (command_of d) (reply_of e.reply)
-      → FitsScript (map command_of commands) (get_or entries k none)
-  fits_here line cmd h =
-      let told = get_or-map command_of commands e.line Ood
-      ∙ ap command_of (get_or_default commands e.line Ood d line ∙ sym cmd) in
-      subst (FitsScript (map command_of commands)) entry_is
+  pub fits_here : e.line < length items
+      → Fits (place_of e.place) (command_of (get_or items e.line d).command) (reply_of e.reply)
+      → FitsScript (map item_of items) (get_or entries k none)
+  fits_here line h =
+      let told = command_here items e.line d line in
+      subst (FitsScript (map item_of items)) entry_is
       (subst (λ c. Fits (place_of e.place) c (reply_of e.reply)) (sym told) h)
 
-  pub line_here : AreOfScript (map command_of commands) entries → e.line < length commands
+  pub fits_there : e.line < length items → FitsScript (map item_of items) (get_or entries k none)
+      → Fits (place_of e.place) (command_of (get_or items e.line d).command) (reply_of e.reply)
+  fits_there line h =
+      let told = command_here items e.line d line in
+      subst (λ c. Fits (place_of e.place) c (reply_of e.reply)) told
+      (subst (FitsScript (map item_of items)) (sym entry_is) h)
+
+  pub line_here : AreOfScript (map item_of items) entries → e.line < length items
   line_here h =
       let a =
-      subst (λ (x : Entry). x.line < length (map command_of commands)) (sym entry_is) (h k below) in
-      let b = length-map commands command_of in
+      subst (λ (x : Entry). x.line < length (map item_of items)) (sym entry_is) (h k below) in
+      let b = length-map items item_of in
       omega arith
 
 -- what is found of one journal, of the journals
-module _ (scripts : List (List Command)) (js : List Journal) (s : ℕ) (items : List Entry)
-    (commands : List Command) (here : entries_of js s ≡ items)
-    (script : get_or (scripts_of scripts) s [] ≡ map command_of commands) where
+module _ (scripts : List (List Item)) (js : List Journal) (s : ℕ) (items : List Entry)
+    (lines : List Item) (here : entries_of js s ≡ items)
+    (script : get_or (scripts_of scripts) s [] ≡ map item_of lines) where
   pub of_script : AreOfScript (get_or (scripts_of scripts) s []) (entries_of js s)
-      → AreOfScript (map command_of commands) items
-  of_script h = subst (AreOfScript (map command_of commands)) here
+      → AreOfScript (map item_of lines) items
+  of_script h = subst (AreOfScript (map item_of lines)) here
       (subst (λ cs. AreOfScript cs (entries_of js s)) script h)
 
-  pub fits_back : ((k : ℕ) → FitsAt (map command_of commands) items k)
+  pub fits_back : ((k : ℕ) → FitsAt (map item_of lines) items k)
       → (k : ℕ) → FitsAt (get_or (scripts_of scripts) s []) (entries_of js s) k
   fits_back h k = subst (λ xs. FitsAt (get_or (scripts_of scripts) s []) xs k) (sym here)
       (subst (λ cs. FitsAt cs items k) (sym script) (h k))
 
-  pub misfit_back : (k : ℕ) → MisfitsAt (map command_of commands) items k
+  pub misfit_back : (k : ℕ) → MisfitsAt (map item_of lines) items k
       → MisfitsAt (get_or (scripts_of scripts) s []) (entries_of js s) k
   misfit_back k h = subst (λ xs. MisfitsAt (get_or (scripts_of scripts) s []) xs k) (sym here)
       (subst (λ cs. MisfitsAt cs items k) (sym script) h)
 
--- a session's next command is one of its script
-next_in : (script : List (commands.Command ℕ)) (own : List (PlacedLine ℕ)) (n : Numbered ℕ)
-    → next_of script own ≡ Some n → (n.number ≡ length own) × (length own < length script)
-next_in script own n is = read (slice_get script (length own)) refl
-  where
-    read : (o : Option (commands.Command ℕ)) → slice_get script (length own) ≡ o
-        → (n.number ≡ length own) × (length own < length script)
-    read None e = let a : None ≡ Some n = sym (ap (option_map _) e) ∙ is in absurd (cc)
-    read (Some c) e =
-        let a : Some (record { number = length own; command = c }) ≡ Some n =
-        sym (ap (option_map _) e) ∙ is in
-        let b : record { number = length own; command = c } ≡ n = cc in
-        (sym (ap (λ (m : Numbered ℕ). m.number) b), slice_get_within script (length own) c e)
-
 -- the entries of a session's journal
-module _ (s : ℕ) (script : List (commands.Command ℕ)) (session : ℕ) where
+module _ (s : ℕ) (script : List (commands.Item ℕ)) (session : ℕ) where
   session_of : (entries : List Entry) → IsJournal s script (map (line_told session script) entries)
       → 0 < length entries → session ≡ s
   session_of [] h more = absurd (omega arith)
@@ -140,27 +144,20 @@ module _ (s : ℕ) (script : List (commands.Command ℕ)) (session : ℕ) where
       → IsJournalAfter s script before (map (line_told session script) entries)
       → AreOfScript script entries
   lines_below before [] h k more = absurd (omega arith)
-  lines_below before (e ∷ es) h zero more = let n = next_in script before _ h.1 in
-      let a = n.0 in
-      let b = n.1 in
-      omega arith
+  lines_below before (e ∷ es) h zero more = (next_in_script script before _ h.1).1
   lines_below before (e ∷ es) h (suc k) more =
       lines_below (before ++ line_told session script e ∷ []) es h.2 k (omega arith)
 
   few_entries : (before : List (PlacedLine ℕ)) (entries : List Entry)
       → IsJournalAfter s script before (map (line_told session script) entries)
-      → length before ≤ length script → length before + length entries ≤ length script
-  few_entries before [] h fits = omega arith
-  few_entries before (e ∷ es) h fits =
-      let n = (next_in script before _ h.1).1 in
-      let more = before ++ line_told session script e ∷ [] in
-      let l : length more ≡ length before + 1 =
-      length-append before (line_told session script e ∷ []) in
-      let a = few_entries more es h.2 (omega arith) in
+      → past_of before ≤ length script → past_of before + length entries ≤ length script
+  few_entries before entries h fits =
+      let a = journal_fits s script before (map (line_told session script) entries) h fits in
+      let b = length-map entries (line_told session script) in
       omega arith
 
 -- the journal at k, where it is that of session s
-module _ (script : List (commands.Command ℕ)) (s : ℕ) where
+module _ (script : List (commands.Item ℕ)) (s : ℕ) where
   abbrev told_at : List Journal → ℕ → List (PlacedLine ℕ)
   told_at js k = unwrap_or (option_map (told_by script) (slice_get js k)) []
 

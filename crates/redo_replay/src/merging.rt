@@ -1,7 +1,8 @@
 //! One history of what several sessions did.
 
 ghost use Rattle.std.specs.Prelude.{◌≡◌, ◌↔◌, ℕ, ◌<◌, ◌≤◌, ◌+◌, IsTrue, IfOk, OnOk, MatchOption, MatchBool, length, map, slice_index, slice_index_or};
-ghost use Rattle.redo_terms.specs.Meaning.{command_of, line_of};
+ghost use Rattle.redo_terms.specs.Meaning.{line_of};
+ghost use Rattle.redo_terms.specs.Inside.Meaning.{item_of};
 ghost use Rattle.redo_model.specs.Placed as placed;
 ghost use Rattle.redo_journal.specs.Journals.{AreJournals, line_told};
 ghost use Rattle.redo_replay.specs.Merges.{AreMerged};
@@ -14,7 +15,7 @@ mod turning;
 
 use counts::{Counts, busy_answers, is_free, take};
 use fitting::all_fit;
-use redo_command::{Command, Line};
+use redo_command::{Item, Line};
 use redo_journal::{Entry, Journal, Plan};
 use std::alloc::{AllocError, Global};
 use turning::{Turns, comes, turn};
@@ -67,12 +68,12 @@ fn is_done(journals: &[Journal], next: &[usize]) -> bool
 }
 
 /// The line that the entry tells of its session.
-fn told(alloc: Global, session: u8, commands: &[Command], entry: &Entry) -> Result<Line, AllocError>
-    requires { entry.now.line < length commands.now }
+fn told(alloc: Global, session: u8, items: &[Item], entry: &Entry) -> Result<Line, AllocError>
+    requires { entry.now.line < length items.now }
     ensures { IfOk result (λ line. line_of line
-        ≡ placed.line_of (line_told session (map command_of commands.now) entry.now)) }
+        ≡ placed.line_of (line_told session (map item_of items.now) entry.now)) }
 {
-    let command = commands[entry.line as usize].copy(alloc)?;
+    let command = items[entry.line as usize].command.copy(alloc)?;
     let reply = entry.reply.copy(alloc)?;
     Ok(Line {
         session,
@@ -84,14 +85,14 @@ fn told(alloc: Global, session: u8, commands: &[Command], entry: &Entry) -> Resu
 /// Takes the entry at k: its line is told, and its place counted. Answers where the next one is.
 fn take_entry(
     alloc: Global,
-    commands: &[Command],
+    items: &[Item],
     journal: &Journal,
     k: usize,
     turns: &mut Turns,
     counts: &mut Counts,
     lines: &mut Vec<Line>,
 ) -> Result<usize, AllocError>
-    requires { MayTake turns.old counts.old (map command_of commands.now)
+    requires { MayTake turns.old counts.old (map item_of items.now)
         journal.now.entries.items k }
     ensures next { IfOk result (λ next. next ≡ k + 1) }
     ensures turned { OnOk result
@@ -99,10 +100,10 @@ fn take_entry(
     ensures taken { OnOk result
         (Uncounted counts.old counts.new (slice_index_or journal.now.entries.items k none).place) }
     ensures told { OnOk result (Tells lines.old.items lines.new.items journal.now.session
-        (map command_of commands.now) (slice_index_or journal.now.entries.items k none)) }
+        (map item_of items.now) (slice_index_or journal.now.entries.items k none)) }
 {
     let entry = &journal.entries[k];
-    lines.push(told(alloc, journal.session, commands, entry)?)?;
+    lines.push(told(alloc, journal.session, items, entry)?)?;
     turn(turns, entry.place);
     take(counts, entry.place);
     Ok(k + 1)
@@ -130,11 +131,11 @@ pub fn merge(
     let mut next: Vec<usize> = vec![in alloc; 0; journals.len()]?;
     let mut lines: Vec<Line> = Vec::new(alloc);
     'merging: while let Some(s) = least(&turns, &counts, journals, &next) {
-        let commands = scripts[s].commands();
+        let items = scripts[s].items();
         let k = next[s];
         next[s] = take_entry(
             alloc,
-            commands,
+            items,
             &journals[s],
             k,
             &mut turns,

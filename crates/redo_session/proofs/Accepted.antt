@@ -7,9 +7,9 @@ use native.Mathlib.Decide.{dec_lt}
 use Rattle.redo_names.specs.Inside.Names.{Extends}
 use Rattle.redo_model.specs.Names.{Text}
 use Rattle.redo_model.specs.Command as commands
-use Rattle.redo_terms.specs.declared.command.Command.{Command}
+use Rattle.redo_terms.specs.declared.script.Item.{Item}
 use Rattle.redo_terms.specs.Meaning.{command_of}
-use Rattle.redo_terms.specs.Inside.Meaning.{command_at}
+use Rattle.redo_terms.specs.Inside.Meaning.{item_at}
 use Rattle.redo_text.proofs.Added.{command_at-Extends, IsBelow-Extends}
 use Rattle.redo_session.specs.declared.fault.TextFault.{TextFault}
 use Rattle.redo_session.specs.declared.fault.TextFault.TheVariants.{Memory, Read, TooManySessions, NoSession, Write, Device, TooLong}
@@ -20,8 +20,8 @@ use Rattle.redo_session.proofs.Causes.{shown_at}
 
 -- one more file is accepted with the names of those before it
 AreAccepted-append : (names : List Text) (files : List (Option Text))
-    (scripts : List (List (commands.Command Text))) (middle : List Text)
-    → (file : Option Text) (script : List (commands.Command Text)) (after : List Text)
+    (scripts : List (List (commands.Item Text))) (middle : List Text)
+    → (file : Option Text) (script : List (commands.Item Text)) (after : List Text)
     → AreAccepted names files scripts middle → IsAccepted middle file script after
     → AreAccepted names (files ++ file ∷ []) (scripts ++ script ∷ []) after
 AreAccepted-append names [] [] middle file script after same is =
@@ -33,7 +33,7 @@ AreAccepted-append names (f ∷ files) (s ∷ scripts) middle file script after 
 
 -- there is a script for each file
 pub AreAccepted-length : (names : List Text) (files : List (Option Text))
-    (scripts : List (List (commands.Command Text))) (after : List Text)
+    (scripts : List (List (commands.Item Text))) (after : List Text)
     → AreAccepted names files scripts after → length files ≡ length scripts
 AreAccepted-length names [] [] after are = refl
 AreAccepted-length names [] (s ∷ scripts) after are = absurd are
@@ -41,15 +41,17 @@ AreAccepted-length names (f ∷ files) [] after are = absurd are
 AreAccepted-length names (f ∷ files) (s ∷ scripts) after are =
     ap suc (AreAccepted-length are.0 files scripts after are.2)
 
-script_below-Extends : (old new : List Text) (script : List Command) → Extends old new
+script_below-Extends : (old new : List Text) (script : List Item) → Extends old new
     → IsScriptBelow old script → IsScriptBelow new script
 script_below-Extends old new [] x below = tt
-script_below-Extends old new (c ∷ cs) x below =
-    (IsBelow-Extends old new (command_of c) x below.0, script_below-Extends old new cs x below.1)
+script_below-Extends old new (c ∷ cs) x below = (
+  IsBelow-Extends old new (command_of c.command) x below.0,
+  script_below-Extends old new cs x below.1,
+)
 
 -- one more script under more names
-pub AreScriptsBelow-append : (old new : List Text) (scripts : List (List Command))
-    (script : List Command)
+pub AreScriptsBelow-append : (old new : List Text) (scripts : List (List Item))
+    (script : List Item)
     → Extends old new → AreScriptsBelow old scripts → IsScriptBelow new script
     → AreScriptsBelow new (scripts ++ script ∷ [])
 AreScriptsBelow-append old new [] script x below last = (last, tt)
@@ -59,16 +61,16 @@ AreScriptsBelow-append old new (s ∷ scripts) script x below last = (
       below.1 last,
 )
 
-script_at-Extends : (old new : List Text) (script : List Command) → Extends old new
-    → IsScriptBelow old script → map (command_at new) script ≡ map (command_at old) script
+script_at-Extends : (old new : List Text) (script : List Item) → Extends old new
+    → IsScriptBelow old script → map (item_at new) script ≡ map (item_at old) script
 script_at-Extends old new [] x below = refl
 script_at-Extends old new (c ∷ cs) x below =
-    let first = command_at-Extends old new c x below.0 in
+    let first = command_at-Extends old new c.command x below.0 in
     let rest = script_at-Extends old new cs x below.1 in
-    λ i. first i ∷ rest i
+    λ i. record { guarded = c.guarded; command = first i } ∷ rest i
 
 -- what scripts say does not change where names are added
-scripts_at-Extends : (old new : List Text) (scripts : List (List Command)) → Extends old new
+scripts_at-Extends : (old new : List Text) (scripts : List (List Item)) → Extends old new
     → AreScriptsBelow old scripts → scripts_at new scripts ≡ scripts_at old scripts
 scripts_at-Extends old new [] x below = refl
 scripts_at-Extends old new (s ∷ scripts) x below =
@@ -76,44 +78,44 @@ scripts_at-Extends old new (s ∷ scripts) x below =
     let rest = scripts_at-Extends old new scripts x below.1 in
     λ i. first i ∷ rest i
 
-scripts_at-append : (names : List Text) (scripts : List (List Command)) (script : List Command)
-    → scripts_at names (scripts ++ script ∷ []) ≡ scripts_at names scripts ++ map (command_at names)
+scripts_at-append : (names : List Text) (scripts : List (List Item)) (script : List Item)
+    → scripts_at names (scripts ++ script ∷ []) ≡ scripts_at names scripts ++ map (item_at names)
     script ∷ []
 scripts_at-append names [] script = refl
 scripts_at-append names (s ∷ scripts) script =
-    ap (λ (rest : List (List (commands.Command Text))). map (command_at names) s ∷ rest)
+    ap (λ (rest : List (List (commands.Item Text))). map (item_at names) s ∷ rest)
     (scripts_at-append names scripts script)
 
 -- the files before, and one more, which adds names
-files_then : (files : List (Option Text)) (scripts : List (List Command)) (old new : List Text)
-    (file : Option Text) (script : List Command)
+files_then : (files : List (Option Text)) (scripts : List (List Item)) (old new : List Text)
+    (file : Option Text) (script : List Item)
     → Extends old new → AreScriptsBelow old scripts
     → AreAccepted [] files (scripts_at old scripts) old
-    → IsAccepted old file (map (command_at new) script) new
+    → IsAccepted old file (map (item_at new) script) new
     → AreAccepted [] (files ++ file ∷ []) (scripts_at new (scripts ++ script ∷ [])) new
 files_then files scripts old new file script x below are is =
     let said = scripts_at-append new scripts script
-    ∙ ap (λ (front : List (List (commands.Command Text))). front ++ map (command_at new) script
+    ∙ ap (λ (front : List (List (commands.Item Text))). front ++ map (item_at new) script
     ∷ []) (scripts_at-Extends old new scripts x below) in
-    subst (λ (all : List (List (commands.Command Text))). AreAccepted [] (files ++ file ∷ []) all
+    subst (λ (all : List (List (commands.Item Text))). AreAccepted [] (files ++ file ∷ []) all
     new) (sym said)
-    (AreAccepted-append [] files (scripts_at old scripts) old file (map (command_at new) script) new
+    (AreAccepted-append [] files (scripts_at old scripts) old file (map (item_at new) script) new
     are is)
 
 -- a loop over the files accepts the next one
 pub files_more : {X : Type 0} (known : X → Option Text) (initial files : List X) (at : ℕ) (d : X)
-    (old new : List Text) (scripts : List (List Command)) (script : List Command)
+    (old new : List Text) (scripts : List (List Item)) (script : List Item)
     → length files ≡ length initial → at < length initial
     → get_or (map known files) at None ≡ get_or (map known initial) at None
     → Extends old new → AreScriptsBelow old scripts
     → AreAccepted [] (take at (map known initial)) (scripts_at old scripts) old
-    → IsAccepted old (known (get_or files at d)) (map (command_at new) script) new
+    → IsAccepted old (known (get_or files at d)) (map (item_at new) script) new
     → AreAccepted [] (take (at + 1) (map known initial)) (scripts_at new (scripts ++ script ∷ []))
     new
 files_more known initial files at d old new scripts script long within same x below are is =
     let here : at < length files = omega arith in
     let accepted = subst (λ (bytes : Option Text). IsAccepted old bytes
-    (map (command_at new) script) new) (shown_at known files initial at d here same) is in
+    (map (item_at new) script) new) (shown_at known files initial at d here same) is in
     subst (λ (all : List (Option Text)). AreAccepted [] all
     (scripts_at new (scripts ++ script ∷ [])) new)
     (sym (take_more (map known initial) at None (omega (arith, length-map initial known))))
@@ -122,7 +124,7 @@ files_more known initial files at d old new scripts script long within same x be
 
 -- the cause of a fault after the files are accepted
 pub IsCause-sessions : {X : Type 0} (result : Result X TextFault) (files : List (Option Text))
-    (faulted : List Bool) (scripts : List (List (commands.Command Text))) (names : List Text)
+    (faulted : List Bool) (scripts : List (List (commands.Item Text))) (names : List Text)
     → AreAccepted [] files scripts names
     → (result ≡ Err TooManySessions → 64 < length scripts) → (result ≡ Err NoSession → scripts ≡ [])
     → IfErr result (λ fault. (fault ≡ Memory) ⊎ (fault ≡ NoSession) ⊎ (fault ≡ TooManySessions))
@@ -144,14 +146,14 @@ IsCause-sessions (Err (TooLong file)) files faulted scripts names are many none 
 
 -- the text of accepted files, where they are neither none nor too many
 pub runs_as : {A : Type 0} (result : Result (Vec ℕ A) TextFault) (files : List (Option Text))
-    (scripts : List (List Command)) (names : List Text)
+    (scripts : List (List Item)) (names : List Text)
     → AreAccepted [] files (scripts_at names scripts) names
     → IfOk result (λ text. IsRunText (scripts_at names scripts) text.items)
     → OnOk result (length scripts ≤ 64) → (length scripts ≡ 0 → result ≡ Err NoSession)
     → IfOk result (λ text. RunsAs files text.items)
 runs_as (Ok text) files scripts names are run few none =
     let same = AreAccepted-length [] files (scripts_at names scripts) names are in
-    let long = length-map scripts (λ script. map (command_at names) script) in
+    let long = length-map scripts (λ script. map (item_at names) script) in
     let some : 1 ≤ length scripts =
     dite (dec_lt 0 (length scripts)) (λ less. omega arith)
     (λ no. absurd (let wrong = none (omega arith) in cc)) in

@@ -2,7 +2,7 @@
 use Rattle.std.proofs.Common.{ℕ, zero, suc, ◌<◌, ◌≤◌, Some, List, [], ◌∷◌, ◌++◌, length, map, get_or, sym, ap, subst, arith}
 use Rattle.std.specs.List.{AllByRecursion, flat_map}
 use Rattle.redo_model.specs.Names.{Text}
-use Rattle.redo_model.specs.Command.{Command, names_in}
+use Rattle.redo_model.specs.Command.{Command, Item, commands_in, names_in}
 use Rattle.redo_text.specs.Grammar.{IsScript}
 use Rattle.redo_session.specs.Runs.{AreAccepted}
 use Rattle.redo_session.proofs.CommandsSaid.{IsSaid, commands_said}
@@ -14,8 +14,8 @@ pub record IsAsked (names : List Text) (command : Command Text) : Type 0 where
   pub known : AreKnown names (names_in command)
 
 -- so is each of a script, which isn't too long
-pub record AreAsked (names : List Text) (script : List (Command Text)) : Type 0 where
-  pub each : AllByRecursion (IsAsked names) script
+pub record AreAsked (names : List Text) (script : List (Item Text)) : Type 0 where
+  pub each : AllByRecursion (IsAsked names) (commands_in script)
   pub few : length script ≤ 4096
 
 known_front : (names ts us : List Text) → AreKnown names (ts ++ us) → AreKnown names ts
@@ -41,13 +41,14 @@ each_asked names (command ∷ script) said known =
       each_asked names script said.1 (known_back names (names_in command) rest known),
     )
 
-script_asked : (before : List Text) (text : Text) (script : List (Command Text))
+script_asked : (before : List Text) (text : Text) (script : List (Item Text))
     (after : List Text) → IsScript before text script after → AreAsked after script
 script_asked before text script after is = record {
   each =
-      each_asked after script (commands_said _ script is.said)
-      (subst (λ (ns : List Text). AreKnown ns (flat_map names_in script)) (sym is.named.0)
-      (added_are_known before (flat_map names_in script)));
+      let commands = commands_in script in
+      each_asked after commands (commands_said _ script is.said)
+      (subst (λ (ns : List Text). AreKnown ns (flat_map names_in commands)) (sym is.named.0)
+      (added_are_known before (flat_map names_in commands)));
   few = is.few;
 }
 
@@ -64,7 +65,7 @@ asked_more names more kept (command ∷ script) asked = (
 )
 
 -- names that were known stay so
-kept : (names : List Text) (texts : List Text) (scripts : List (List (Command Text)))
+kept : (names : List Text) (texts : List Text) (scripts : List (List (Item Text)))
     (after : List Text) → AreAccepted names (map Some texts) scripts after → (n : Text)
     → IsKnown names n → IsKnown after n
 kept names [] [] after same n known = subst (λ (ns : List Text). IsKnown ns n) (sym same) known
@@ -73,9 +74,9 @@ kept names (t ∷ texts) [] after are n known = absurd are
 kept names (t ∷ texts) (s ∷ scripts) after (middle, is, are) n known =
     kept middle texts scripts after are n
     (subst (λ (ns : List Text). IsKnown ns n) (sym is.1.named.0)
-    (known-with_names names (flat_map names_in s) n known))
+    (known-with_names names (flat_map names_in (commands_in s)) n known))
 
-pub all_asked : (names : List Text) (texts : List Text) (scripts : List (List (Command Text)))
+pub all_asked : (names : List Text) (texts : List Text) (scripts : List (List (Item Text)))
     (after : List Text) → AreAccepted names (map Some texts) scripts after
     → AllByRecursion (AreAsked after) scripts
 all_asked names [] [] after same = tt
@@ -84,13 +85,14 @@ all_asked names (t ∷ texts) [] after are = absurd are
 all_asked names (t ∷ texts) (s ∷ scripts) after (middle, is, are) =
     let here = script_asked names t s middle is.1 in (
       record {
-        each = asked_more middle after (kept middle texts scripts after are) s here.each;
+        each = asked_more middle after (kept middle texts scripts after are) (commands_in s)
+            here.each;
         few = here.few;
       },
       all_asked middle texts scripts after are,
     )
 
-pub few_names : (names : List Text) (texts : List Text) (scripts : List (List (Command Text)))
+pub few_names : (names : List Text) (texts : List Text) (scripts : List (List (Item Text)))
     (after : List Text) → AreAccepted names (map Some texts) scripts after
     → length names ≤ 65536 → length after ≤ 65536
 few_names names [] [] after same few = omega (arith, few, ap length same)
@@ -99,7 +101,7 @@ few_names names (t ∷ texts) [] after are few = absurd are
 few_names names (t ∷ texts) (s ∷ scripts) after (middle, is, are) few =
     few_names middle texts scripts after are is.1.named.1
 
-pub asked_at : (names : List Text) (scripts : List (List (Command Text))) (s : ℕ)
+pub asked_at : (names : List Text) (scripts : List (List (Item Text))) (s : ℕ)
     → AllByRecursion (AreAsked names) scripts → s < length scripts
     → AreAsked names (get_or scripts s [])
 asked_at names [] s all less = absurd (omega (arith, less))

@@ -3,7 +3,7 @@ use Rattle.std.proofs.Common.{◌≡◌, ℕ, ◌<◌, ◌≤◌, Bool, false, O
 use Rattle.std.specs.Prelude.{IsTrue, slice_index_or, IfSome}
 use Rattle.std.proofs.lemmas.List.{get_or-map, length-map, get_or-set_same, get_or-set_other, map-set}
 use Rattle.redo_model.specs.Names.{Text}
-use Rattle.redo_model.specs.Command.{Command}
+use Rattle.redo_model.specs.Command.{Item}
 use Rattle.redo_session.specs.declared.fault.TextFault.{TextFault}
 use Rattle.redo_session.specs.declared.fault.TextFault.TheVariants.{Memory, Read, TooManySessions, NoSession, Write, Device, TooLong}
 use Rattle.redo_text.specs.Faults.{IsFirstFault}
@@ -64,7 +64,7 @@ flag_at flag files at file within =
 
 -- the fault of the file that is read, where those before it are accepted
 pub IsCause-read : {X : Type 0} (known : X → Option Text) (flag : X → Bool) (initial files : List X)
-    (at : ℕ) (d file : X) (names : List Text) (scripts : List (List (Command Text)))
+    (at : ℕ) (d file : X) (names : List Text) (scripts : List (List (Item Text)))
     (fault : TextFault)
     → length files ≡ length initial → at < length initial
     → AreAccepted [] (take at (map known initial)) scripts names

@@ -6,9 +6,9 @@ use Rattle.std.specs.List.{AllByRecursion}
 use Rattle.hex.specs.Hex.{lower_digits}
 use Rattle.hex.proofs.HexLemmas.{decode_of-ok, length-encode_with}
 use Rattle.redo_model.specs.Names.{Text}
-use Rattle.redo_model.specs.Command.{Command, File, Gone, Lock, Unlock, Start, IfChange, IfCreate, Always, Stamp, Done, Failed, Ood, Targets, Sources, names_in}
+use Rattle.redo_model.specs.Command.{Command, Item, commands_in, File, Gone, Lock, Unlock, Start, IfChange, IfCreate, Always, Stamp, Done, Failed, Ood, Targets, Sources, names_in}
 use Rattle.redo_text.specs.Texts.{after_space, spaced, content_word, command_text_of}
-use Rattle.redo_text.specs.Grammar.{HasForm, IsShort, IsContentWord, IsSpelled, IsCommandLine, AreCommandLines}
+use Rattle.redo_text.specs.Grammar.{HasForm, IsShort, IsContentWord, IsSpelled, IsCommandLine, AreItemLines}
 use Rattle.redo_text.specs.Replies.{AreAllNames}
 
 -- the command has its form, and its text is short
@@ -65,13 +65,13 @@ command_said : (line : Text) (command : Command Text) → IsCommandLine line com
 command_said line command (form, short, spelled) =
     (form, let same = length-spelled line command spelled in omega (arith, short))
 
-pub commands_said : (lines : List Text) (commands : List (Command Text))
-    → AreCommandLines lines commands → AllByRecursion IsSaid commands
+pub commands_said : (lines : List Text) (items : List (Item Text))
+    → AreItemLines lines items → AllByRecursion IsSaid (commands_in items)
 commands_said [] [] are = tt
-commands_said [] (command ∷ commands) are = absurd are
+commands_said [] (item ∷ items) are = absurd are
 commands_said (line ∷ lines) [] are = absurd are
-commands_said (line ∷ lines) (command ∷ commands) are =
-    (command_said line command are.0, commands_said lines commands are.1)
+commands_said (line ∷ lines) (item ∷ items) are =
+    (command_said are.0.said item.command are.0.command, commands_said lines items are.1)
 
 -- each of a command's names is one
 pub form_has_names : (command : Command Text) → HasForm command → AreAllNames (names_in command)

@@ -1,7 +1,7 @@
 -- Sessions at work: how far one is, and what two ranges that meet have done.
 use Rattle.std.proofs.Common.{◌≡◌, ℕ, ◌+◌, ◌-◌, ◌<◌, [], ◌∷◌, length, refl, sym, ap, ◌∙◌, subst, arith}
-use Rattle.std.proofs.lemmas.List.{length_push}
 use Rattle.redo_model.specs.Journals.{next_of, numbered}
+use Rattle.redo_model.proofs.Nexts.{past_of, past_of_more, next_from}
 use Rattle.redo_journal.specs.Plans.{PlanOf, script_of}
 use Rattle.redo_journal.specs.declared.entry.Journal.{Journal}
 use Rattle.redo_board.specs.declared.board.Board.{Board}
@@ -10,17 +10,17 @@ use Rattle.redo_board.specs.declared.worker.Worker.{Worker}
 use Rattle.redo_board.specs.Shown.{session_of, journal_of, tries_of, rows_up_to, IsAtEnd}
 use Rattle.redo_board.specs.Outcomes.{Made, Leaves}
 use Rattle.redo_session.specs.Inside.Sessions.{AreDone}
-use Rattle.redo_session.proofs.Wholes.{next_within}
 
 -- each step that does something leaves less to do
 pub made_less : (p : PlanOf) (old new : Worker) → Made p old new
-    → length (script_of p (session_of old)) - length (journal_of p new)
-    < length (script_of p (session_of old)) - length (journal_of p old)
+    → length (script_of p (session_of old)) - past_of (journal_of p new)
+    < length (script_of p (session_of old)) - past_of (journal_of p old)
 made_less p old new made =
-    let within =
-    (next_within (script_of p (session_of old)) (journal_of p old) (numbered made.line) made.next).1
-    in
-    let grown = ap length made.grown ∙ length_push (journal_of p old) made.line in
+    let found =
+    next_from (script_of p (session_of old)) (journal_of p old) (numbered made.line) made.next in
+    let from = found.from in
+    let within = found.within in
+    let grown = ap past_of made.grown ∙ past_of_more (journal_of p old) made.line in
     omega arith
 
 -- a worker at its end leaves a journal with nothing left to do

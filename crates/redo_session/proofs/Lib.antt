@@ -18,5 +18,6 @@ pub mod Parts
 pub mod RepliesFit
 pub mod RunReplays
 pub mod RunTexts
+pub mod ScriptTexts
 pub mod Served
 pub mod Wholes

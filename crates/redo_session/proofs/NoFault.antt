@@ -1,43 +1,27 @@
 -- Files that are accepted have no fault but want of memory and the faults of devices.
-use Rattle.std.proofs.Common.{◌≡◌, ℕ, zero, suc, ◌<◌, ◌≤◌, ◌⊎◌, Bool, Option, None, Some, List, [], ◌∷◌, map, take, length, get_or, refl, sym, ap, ◌∙◌, subst, inl, inr, arith}
+use Rattle.std.proofs.Common.{◌≡◌, ℕ, zero, suc, ◌<◌, ◌≤◌, ◌⊎◌, Bool, Option, None, Some, List, [], ◌∷◌, map, take, length, get_or, refl, ap, subst, inl, inr, arith}
 use Rattle.std.specs.Prelude.{IfSome}
-use Rattle.std.specs.List.{flat_map}
 use Rattle.redo_model.specs.Names.{Text}
-use Rattle.redo_model.specs.Command.{Command, names_in}
+use Rattle.redo_model.specs.Command.{Item}
 use Rattle.redo_text.specs.declared.fault.LineFault.{LineFault}
-use Rattle.redo_text.specs.Grammar.{AreCommandLines, IsScript, with_names}
+use Rattle.redo_text.specs.Grammar.{IsScript}
 use Rattle.redo_text.specs.Faults.{IsFirstFault}
-use Rattle.redo_text.proofs.LineLaws.{one_command}
+use Rattle.redo_text.proofs.ScriptLaws.{one_script}
 use Rattle.redo_text.proofs.ScriptSteps.{no_first_fault}
 use Rattle.redo_session.specs.declared.fault.TextFault.{TextFault}
 use Rattle.redo_session.specs.declared.fault.TextFault.TheVariants.{Memory, Read, TooManySessions, NoSession, Write, Device, TooLong}
 use Rattle.redo_session.specs.Runs.{AreAccepted, AreKnownSessions}
 use Rattle.redo_session.specs.Faults.{IsCause, IsDeviceFault}
 
--- lines say one list of commands
-one_list : (lines : List Text) (a b : List (Command Text)) → AreCommandLines lines a
-    → AreCommandLines lines b → a ≡ b
-one_list [] [] [] p q = refl
-one_list [] [] (y ∷ b) p q = absurd q
-one_list [] (x ∷ a) b p q = absurd p
-one_list (line ∷ lines) [] b p q = absurd p
-one_list (line ∷ lines) (x ∷ a) [] p q = absurd q
-one_list (line ∷ lines) (x ∷ a) (y ∷ b) p q =
-    let first = one_command line x y p.0 q.0 in
-    let rest = one_list lines a b p.1 q.1 in
-    λ i. first i ∷ rest i
-
 -- a script leaves one list of names
-one_after : (names : List Text) (text : Text) (a b : List (Command Text)) (m n : List Text)
+one_after : (names : List Text) (text : Text) (a b : List (Item Text)) (m n : List Text)
     → IsScript names text a m → IsScript names text b n → m ≡ n
-one_after names text a b m n p q =
-    p.named.0 ∙ ap (λ commands. with_names names (flat_map names_in commands))
-    (one_list _ a b p.said q.said) ∙ sym q.named.0
+one_after names text a b m n p q = (one_script names text a b m n p q).1
 
 -- a file of those that are accepted, after those before it
-no_read : (names : List Text) (texts : List Text) (scripts : List (List (Command Text)))
+no_read : (names : List Text) (texts : List Text) (scripts : List (List (Item Text)))
     (after : List Text) → AreAccepted names (map Some texts) scripts after
-    → (k : ℕ) → k < length (map Some texts) → (before : List (List (Command Text)))
+    → (k : ℕ) → k < length (map Some texts) → (before : List (List (Item Text)))
     (middle : List Text) → AreAccepted names (take k (map Some texts)) before middle
     → (text : Text) × (get_or (map Some texts) k None ≡ Some text) × (length text ≤ 67108864)
     × ((line : ℕ) (fault : LineFault) → IsFirstFault middle text line fault → ⊥)
@@ -60,7 +44,7 @@ no_read names (t ∷ ts) (s ∷ scripts) after (m, is, are) (suc k) less (b ∷ 
     (subst (λ (ns : List Text). AreAccepted ns (take k (map Some ts)) before middle)
     (one_after names t b s n m other.1 is.1) front)
 
-module _ (texts : List Text) (scripts : List (List (Command Text))) (names : List Text)
+module _ (texts : List Text) (scripts : List (List (Item Text))) (names : List Text)
     (some : 1 ≤ length (map Some texts)) (few : length (map Some texts) ≤ 64)
     (are : AreAccepted [] (map Some texts) scripts names) where
   only_for : (flags : List Bool) (out : Bool) (fault : TextFault)

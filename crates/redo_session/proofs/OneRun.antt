@@ -1,10 +1,12 @@
 -- What a session asks decides what it is answered.
-use Rattle.std.proofs.Common.{◌≡◌, ℕ, ◌<◌, List, [], ◌∷◌, Some, length, refl, ap, ◌∙◌, sym, subst, map, lit<, arith}
+use Rattle.std.proofs.Common.{◌≡◌, ℕ, ◌<◌, Bool, true, false, not, ◌||◌, cond, List, [], ◌∷◌, Some, length, refl, ap, ◌∙◌, sym, subst, map, lit<, arith}
 use Rattle.std.specs.List.{AllByRecursion}
 use Rattle.redo_model.specs.Names.{Naming, Text}
 use Rattle.redo_model.specs.Inside.Names.{IsNaming}
+use Rattle.redo_model.specs.Reply.{Reply, lets_through}
+use Rattle.redo_model.specs.Scripts.{done_by, Does}
 use Rattle.redo_model.specs.State.{State, empty}
-use Rattle.redo_model.specs.Command.{Command}
+use Rattle.redo_model.specs.Command.{Command, Item}
 use Rattle.redo_model.specs.Step.{Answers, after}
 use Rattle.redo_model.specs.History.{Line, LegalFrom}
 use Rattle.redo_model.proofs.Texts.{texts_are_names}
@@ -33,49 +35,89 @@ module _ {N : Type 0} {naming : Naming N} (law : IsNaming naming) where
       let replies = one_answer law st a.session a.command a.reply b.reply p q_at_a in
       λ i. record { session = sessions i; command = commands i; reply = replies i }
 
-  -- where the commands are the same, so are the lines
-  one_history : (st : State N) (lines more : List (Line N))
+  abbrev asked : List (Line N) → List (Command N)
+  asked lines = map (λ line. line.command) lines
+
+  abbrev replied : List (Line N) → List (Reply N)
+  replied lines = map (λ line. line.reply) lines
+
+  passed : {R : Type 0} (b : Bool) (c : Command N) (ds xs ys m : List (Command N))
+      → ([] ≡ xs → m ≡ ys → R) → [] ≡ cond b (c ∷ []) xs → m ≡ cond b (c ∷ ds) ys → R
+  passed true c ds xs ys m rest e f = absurd (cc)
+  passed false c ds xs ys m rest e f = rest e f
+
+  taken : {R : Type 0} (b : Bool) (c : Command N) (ds es xs ys m n : List (Command N))
+      → (m ≡ c ∷ ds → n ≡ c ∷ es → R) → (m ≡ xs → n ≡ ys → R)
+      → m ≡ cond b (c ∷ ds) xs → n ≡ cond b (c ∷ es) ys → R
+  taken true c ds es xs ys m n done skipped e f = done e f
+  taken false c ds es xs ys m n done skipped e f = skipped e f
+
+  -- where the scripts are the same, so are the lines
+  one_history : (st : State N) (through : Bool) (items : List (Item N)) (lines more : List (Line N))
       → AllByRecursion (λ line. line.session ≡ 0) lines
       → AllByRecursion (λ line. line.session ≡ 0) more
-      → map (λ line. line.command) lines ≡ map (λ line. line.command) more →
-      LegalFrom naming st lines → LegalFrom naming st more → lines ≡ more
-  one_history st [] [] s t e p q = refl
-  one_history st [] (b ∷ more) s t e p q = cc
-  one_history st (a ∷ lines) [] s t e p q = cc
-  one_history st (a ∷ lines) (b ∷ more) s t e p q =
+      → asked lines ≡ done_by through items (replied lines)
+      → asked more ≡ done_by through items (replied more)
+      → LegalFrom naming st lines → LegalFrom naming st more → lines ≡ more
+  one_history st through items [] [] s t e f p q = refl
+  one_history st through [] [] (b ∷ more) s t e f p q = absurd (cc)
+  one_history st through [] (a ∷ lines) more s t e f p q = absurd (cc)
+  one_history st through (item ∷ items) [] (b ∷ more) s t e f p q =
+      passed (through || not item.guarded) item.command
+      (done_by (lets_through b.reply) items (replied more)) (done_by through items [])
+      (done_by through items (replied (b ∷ more))) (asked (b ∷ more))
+      (λ x y. one_history st through items [] (b ∷ more) s t x y p q) e f
+  one_history st through (item ∷ items) (a ∷ lines) [] s t e f p q =
+      passed (through || not item.guarded) item.command
+      (done_by (lets_through a.reply) items (replied lines)) (done_by through items [])
+      (done_by through items (replied (a ∷ lines))) (asked (a ∷ lines))
+      (λ x y. one_history st through items (a ∷ lines) [] s t y x p q) f e
+  one_history st through (item ∷ items) (a ∷ lines) (b ∷ more) s t e f p q =
+      taken (through || not item.guarded) item.command
+      (done_by (lets_through a.reply) items (replied lines))
+      (done_by (lets_through b.reply) items (replied more))
+      (done_by through items (replied (a ∷ lines))) (done_by through items (replied (b ∷ more)))
+      (asked (a ∷ lines)) (asked (b ∷ more))
+      (λ x y.
       let sessions : a.session ≡ b.session = s.0 ∙ sym t.0 in
-      let commands : a.command ≡ b.command = cc in
-      let others : map (λ (line : Line N). line.command) lines
-      ≡ map (λ (line : Line N). line.command) more = cc in
+      let first_a : a.command ≡ item.command = cc in
+      let first_b : b.command ≡ item.command = cc in
+      let commands = first_a ∙ sym first_b in
+      let rest_a : asked lines ≡ done_by (lets_through a.reply) items (replied lines) = cc in
+      let rest_b : asked more ≡ done_by (lets_through b.reply) items (replied more) = cc in
+      let first = one_line st a b sessions commands p.0 q.0 in
+      let rest_of_a : asked more ≡ done_by (lets_through a.reply) items (replied more) =
+      rest_b
+      ∙ ap (λ (l : Line N). done_by (lets_through l.reply) items (replied more)) (sym first) in
       let legal : LegalFrom naming (after naming st a.session a.command) more =
       subst (λ next. LegalFrom naming next more)
       (λ i. after naming st (sym sessions i) (sym commands i)) q.1 in
-      let rest = one_history (after naming st a.session a.command) lines more s.1 t.1 others p.1
-      legal in
-      let first = one_line st a b sessions commands p.0 q.0 in
-      λ i. first i ∷ rest i
+      let rest = one_history (after naming st a.session a.command) (lets_through a.reply) items
+      lines more s.1 t.1 rest_a rest_of_a p.1 legal in
+      λ i. first i ∷ rest i)
+      (λ x y. one_history st through items (a ∷ lines) (b ∷ more) s t x y p q) e f
 
--- the lines of one session's run say its commands
-pub one_said : (commands : List (Command Text)) (lines : List (Line Text))
-    → IsRun (commands ∷ []) lines → map (λ line. line.command) lines ≡ commands
-one_said commands lines run = ap (map (λ (line : Line Text). line.command))
-    (sym (whole_part lines (alone lines run.sessions))) ∙ run.parts 0 (lit< tt)
+-- the lines of one session's run are what its script does
+pub one_done : (script : List (Item Text)) (lines : List (Line Text))
+    → IsRun (script ∷ []) lines → Does script lines
+one_done script lines run =
+    subst (Does script) (whole_part lines (alone lines run.sessions)) (run.parts 0 (lit< tt))
 
--- one run for the commands of one session
-pub one_run : (commands : List (Command Text)) (a b : List (Line Text)) → IsRun (commands ∷ []) a
-    → IsRun (commands ∷ []) b → a ≡ b
-one_run commands a b p q =
-    one_history texts_are_names empty a b (alone a p.sessions) (alone b q.sessions)
-    (one_said commands a p ∙ sym (one_said commands b q)) p.legal q.legal
+-- one run for the script of one session
+pub one_run : (script : List (Item Text)) (a b : List (Line Text)) → IsRun (script ∷ []) a
+    → IsRun (script ∷ []) b → a ≡ b
+one_run script a b p q =
+    one_history texts_are_names empty true script a b (alone a p.sessions) (alone b q.sessions)
+    (one_done script a p) (one_done script b q) p.legal q.legal
 
--- the commands of one file
-record IsOnly (file : Text) (scripts : List (List (Command Text))) : Type 0 where
-  script : List (Command Text)
+-- the script of one file
+record IsOnly (file : Text) (scripts : List (List (Item Text))) : Type 0 where
+  script : List (Item Text)
   names : List Text
   whole : scripts ≡ script ∷ []
   is : IsScript [] file script names
 
-only_script : (file : Text) (scripts : List (List (Command Text))) (names : List Text)
+only_script : (file : Text) (scripts : List (List (Item Text))) (names : List Text)
     → AreAccepted [] (Some file ∷ []) scripts names → IsOnly file scripts
 only_script file [] names are = absurd are
 only_script file (script ∷ []) names are = record {
@@ -95,10 +137,12 @@ one_run_text file a b (scripts, (some, few, (names, are)), (lines, run, is))
     let commands : p.script ≡ q.script =
     (one_script [] file p.script q.script p.names q.names p.is q.is).0 in
     let first : scripts ≡ q.script ∷ [] =
-    p.whole ∙ ap (λ (cs : List (Command Text)). cs ∷ []) commands in
+    p.whole ∙ ap (λ (cs : List (Item Text)). cs ∷ []) commands in
     let same : lines ≡ more =
-    one_run q.script lines more (subst (λ (all : List (List (Command Text))). IsRun all lines)
-    first run) (subst (λ (all : List (List (Command Text))). IsRun all more) q.whole
+    one_run q.script lines more (subst (λ (all : List (List (Item Text))). IsRun all lines)
+    first run) (subst (λ (all : List (List (Item Text))). IsRun all more) q.whole
     other_run) in
     let scripts_same : scripts ≡ others = first ∙ sym q.whole in
-    is ∙ (λ i. run_text_of (sessions_below (length (scripts_same i))) (same i)) ∙ sym is_other
+    is
+    ∙ (λ i. run_text_of (scripts_same i) (sessions_below (length (scripts_same i))) (same i))
+    ∙ sym is_other

@@ -1,6 +1,6 @@
 -- The lines of a joint order of whole journals are a run of the scripts, where one history serves
 -- the journals.
-use Rattle.std.proofs.Common.{◌≡◌, ℕ, ◌<◌, ◌++◌, eqb, List, [], ◌∷◌, length, map, get_or, refl, sym, ap, ◌∙◌, subst, arith}
+use Rattle.std.proofs.Common.{◌≡◌, ℕ, ◌<◌, ◌++◌, eqb, true, List, [], ◌∷◌, length, map, get_or, refl, sym, ap, ◌∙◌, subst, arith}
 use Rattle.std.specs.List.{AllByRecursion}
 use Rattle.std.specs.Ordering.{nat_cmp}
 use Rattle.std.proofs.lemmas.List.{get_or_past, length-map}
@@ -10,12 +10,14 @@ use mathlib.Core.Logic.{dite}
 use native.Mathlib.Decide.{dec_lt}
 use Rattle.redo_names.specs.Names.{text_at}
 use Rattle.redo_model.specs.Names.{Text, texts, Naming}
-use Rattle.redo_model.specs.Command.{Command}
+use Rattle.redo_model.specs.Command.{Item}
 use Rattle.redo_model.specs.History as histories
 use Rattle.redo_model.specs.History.{Legal}
 use Rattle.redo_model.specs.Placed.{Place, Row, Granted, Busy, Released, PlacedLine, line_of, part_of, Fits, IsPlacedAfter}
-use Rattle.redo_model.specs.Journals.{IsJointOrder}
-use Rattle.redo_model.specs.Renaming.{IsBelow, IsLineBelow, named_command, named_line}
+use Rattle.redo_model.specs.Journals.{IsWholeJournal, IsJointOrder}
+use Rattle.redo_model.specs.Renaming.{IsBelow, IsLineBelow, named_command, named_item, named_reply, named_line}
+use Rattle.redo_model.specs.Scripts.{done_by, Does}
+use Rattle.redo_model.proofs.Scripts.{whole_does, done_named}
 use Rattle.redo_model.proofs.Naming.{numbering_is_renaming}
 use Rattle.redo_model.proofs.Texts.{texts_are_names}
 use Rattle.redo_terms.specs.Meaning.{line_at}
@@ -36,7 +38,7 @@ use Rattle.redo_replay.specs.Merges.{by_number, AreMerged}
 use Rattle.redo_replay.proofs.Replayed.{all_map}
 use Rattle.redo_session.specs.Runs.{IsRun}
 use Rattle.redo_session.specs.Outcomes.{scripts_named, AreWhole, SeenStands}
-use Rattle.redo_session.proofs.Wholes.{whole_commands, of_session}
+use Rattle.redo_session.proofs.Wholes.{of_session}
 use Rattle.redo_session.proofs.Served.{Serves, whole_at}
 
 pub all-unmapped : {A B : Type 0} (f : A → B) (P : B → Type 0) (xs : List A)
@@ -124,26 +126,42 @@ module _ (p : PlanOf) (js : List Journal) (plan : IsPlan p) (whole : AreWhole p 
       (over_names serves lines joint)
       (subst (Legal texts) (sym (map-map line_of name serves.lines)) serves.history.legal))
 
-  -- each session's commands once, in order
-  commands_once : (lines : List (PlacedLine ℕ)) → Joint lines → (s : ℕ)
-      → map (λ line. line.command) (histories.part_of s (map at_names lines))
-      ≡ get_or (scripts_named p) s []
-  commands_once lines joint s =
-      let name : Command ℕ → Command Text = named_command (text_at p.names) in
-      let own = journals_of p js s in
-      ap (map (λ (l : histories.Line Text). l.command))
-      (part_named (text_at p.names) s lines ∙ ap (map at_names) (joint.0 s))
-      ∙ map-map (λ (l : histories.Line Text). l.command) at_names own
-      ∙ sym (map-map name (λ (l : PlacedLine ℕ). l.command) own)
-      ∙ ap (map name) (whole_commands (script_of p s) s own (whole_at p js whole s))
-      ∙ sym (get_or-map (λ (script : List (Command ℕ)). map name script) p.scripts s [])
+  -- the lines of a whole journal are all that its session does, over the names too
+  own_done : (own : List (PlacedLine ℕ)) (script : List (Item ℕ)) (s : ℕ)
+      → IsWholeJournal s script own
+      → Does (map (named_item (text_at p.names)) script) (map at_names own)
+  own_done own script s is =
+      let name : ℕ → Text = text_at p.names in
+      let commands = map-map (named_command name) (λ (l : PlacedLine ℕ). l.command) own in
+      let replies = map-map (named_reply name) (λ (l : PlacedLine ℕ). l.reply) own in
+      map-map (λ (l : histories.Line Text). l.command) at_names own
+      ∙ sym commands
+      ∙ ap (map (named_command name)) (whole_does s script own is)
+      ∙ sym (done_named name true script (map (λ (l : PlacedLine ℕ). l.reply) own))
+      ∙ ap (done_by true (map (named_item name) script))
+      (replies ∙ sym (map-map (λ (l : histories.Line Text). l.reply) at_names own))
+
+  -- each session does what its script says, as the replies come
+  commands_done : (lines : List (PlacedLine ℕ)) → Joint lines → (s : ℕ)
+      → Does (get_or (scripts_named p) s []) (histories.part_of s (map at_names lines))
+  commands_done lines joint s =
+      let named : List (Item ℕ) → List (Item Text) =
+      λ script. map (named_item (text_at p.names)) script in
+      let part : histories.part_of s (map at_names lines) ≡ map at_names (journals_of p js s) =
+      part_named (text_at p.names) s lines ∙ ap (map at_names) (joint.0 s) in
+      let script : get_or (scripts_named p) s [] ≡ named (script_of p s) =
+      get_or-map named p.scripts s [] in
+      subst (λ (items : List (Item Text)). Does items (histories.part_of s (map at_names lines)))
+      (sym script)
+      (subst (Does (named (script_of p s))) (sym part)
+      (own_done (journals_of p js s) (script_of p s) s (whole_at p js whole s)))
 
   sessions_below : (lines : List (PlacedLine ℕ)) → Joint lines
       → AllByRecursion (λ line. line.session < length (scripts_named p)) (map at_names lines)
   sessions_below lines joint =
       let P : histories.Line Text → Type 0 = λ l. l.session < length (scripts_named p) in
-      let name : List (Command ℕ) → List (Command Text) =
-      λ script. map (named_command (text_at p.names)) script in
+      let name : List (Item ℕ) → List (Item Text) =
+      λ script. map (named_item (text_at p.names)) script in
       all_map at_names P lines
       (all_by_parts (λ l. P (at_names l)) lines (λ s l i.
       let of =
@@ -169,7 +187,7 @@ module _ (p : PlanOf) (js : List Journal) (plan : IsPlan p) (whole : AreWhole p 
       subst (IsRun (scripts_named p)) (sym (named_history history lines says)) (record {
         legal = legal_too serves lines first.joint;
         sessions = sessions_below lines first.joint;
-        parts = λ s less. commands_once lines first.joint s;
+        parts = λ s less. commands_done lines first.joint s;
       })
 
   pub history_below : Serves p js → (history : List Line)

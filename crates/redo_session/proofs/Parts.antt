@@ -1,34 +1,44 @@
--- The lines of one session, as they are counted and printed.
-use Rattle.std.proofs.Common.{◌≡◌, ℕ, Bool, true, false, cond, List, [], ◌∷◌, refl, ap, ◌∙◌, map, arith, length}
-use Rattle.std.specs.Prelude.{◌==◌}
-use Rattle.std.specs.List.{count_by, filter, AllByRecursion}
-use Rattle.std.proofs.lemmas.Bool.{eq-eqb}
-use Rattle.std.proofs.lemmas.List.Sums.{length-filter}
+-- The lines of one session, as they are printed.
+use Rattle.std.proofs.Common.{◌≡◌, ◌≢◌, ℕ, ◌+◌, ◌<◌, Bool, cond, eqb, List, [], ◌∷◌, refl, sym, ap, ◌∙◌, map, drop, get_or, length}
+use Rattle.std.specs.List.{AllByRecursion}
+use Rattle.std.proofs.lemmas.Bool.{eq-eqb, ne_eqb}
+use Rattle.std.proofs.lemmas.List.{drop_more}
 use Rattle.redo_model.specs.Names.{Text}
+use Rattle.redo_model.specs.Reply as replies
 use Rattle.redo_model.specs.History.{part_of}
 use Rattle.redo_model.specs.History as histories
-use Rattle.redo_terms.specs.Meaning.{line_at}
+use Rattle.redo_terms.specs.Meaning.{line_at, reply_at}
 use Rattle.redo_terms.specs.declared.reply.Line.{Line}
+use Rattle.redo_session.specs.Inside.Printed.{replies_in}
 
-either_length : {X Y : Type 0} (b : Bool) (x : X) (xs : List X) (y : Y) (ys : List Y)
-    → length xs ≡ length ys → length (cond b (x ∷ xs) xs) ≡ length (cond b (y ∷ ys) ys)
-either_length false x xs y ys e = e
-either_length true x xs y ys e = omega (arith, e)
+-- the replies among a line and more, where it is said whether the line is the session's
+abbrev replies_with : List Text → ℕ → Line → List Line → Bool → List (replies.Reply Text)
+replies_with names s line lines own =
+    let rest = part_of s (map (line_at names) lines) in
+    map (λ l. l.reply) (cond own (line_at names line ∷ rest) rest)
 
--- a line's names do not change whose it is
-same_length : (names : List Text) (s : ℕ) (lines : List Line)
-    → length (part_of s (map (line_at names) lines))
-    ≡ length (filter (λ line. line.session == s) lines)
-same_length names s [] = refl
-same_length names s (line ∷ lines) = either_length (line.session == s) (line_at names line)
-    (part_of s (map (line_at names) lines)) line (filter (λ line. line.session == s) lines)
-    (same_length names s lines)
+module _ (names : List Text) (s : ℕ) (lines : List Line) (k : ℕ) (line : Line)
+    (less : k < length lines) (is : line ≡ get_or lines k line) where
+  from_here : replies_in names s (drop k lines)
+      ≡ replies_with names s line (drop (k + 1) lines) (eqb line.session s)
+  from_here =
+      ap (replies_in names s) (drop_more lines k line less)
+      ∙ ap (λ (l : Line). replies_with names s l (drop (k + 1) lines) (eqb l.session s)) (sym is)
 
--- as many lines of the session under their names as under their numbers
-pub length-part : (names : List Text) (s : ℕ) (lines : List Line)
-    → length (part_of s (map (line_at names) lines)) ≡ count_by (λ line. line.session == s) lines
-length-part names s lines = same_length names s lines
-    ∙ length-filter (λ (line : Line). line.session == s) lines
+  -- a line of another session is passed over
+  pub of_another : line.session ≢ s
+      → replies_in names s (drop k lines) ≡ replies_in names s (drop (k + 1) lines)
+  of_another other =
+      from_here
+      ∙ ap (replies_with names s line (drop (k + 1) lines)) (ne_eqb line.session s other)
+
+  -- the session's own has the next reply
+  pub of_own : line.session ≡ s
+      → replies_in names s (drop k lines)
+      ≡ reply_at names line.reply ∷ replies_in names s (drop (k + 1) lines)
+  of_own own =
+      from_here
+      ∙ ap (replies_with names s line (drop (k + 1) lines)) (eq-eqb line.session s own)
 
 -- where all lines are of session 0, they are its part
 pub whole_part : {N : Type 0} (lines : List (histories.Line N))

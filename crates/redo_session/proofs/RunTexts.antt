@@ -6,10 +6,11 @@ use Rattle.redo_names.specs.Names.{text_at}
 use Rattle.redo_model.specs.Names.{Text}
 use Rattle.redo_model.specs.Command as model
 use Rattle.redo_model.specs.History.{Line}
-use Rattle.redo_model.specs.Renaming.{named_command}
-use Rattle.redo_terms.specs.declared.command.Command.{Command}
+use Rattle.redo_model.specs.Renaming.{named_item}
+use Rattle.redo_terms.specs.declared.script.Item.{Item}
 use Rattle.redo_session.specs.RunTexts.{run_text_of, sessions_below}
-use Rattle.redo_terms.specs.Meaning.{command_of, line_at}
+use Rattle.redo_terms.specs.Meaning.{line_at}
+use Rattle.redo_terms.specs.Inside.Meaning.{item_of}
 use Rattle.redo_terms.specs.declared.reply.Line as coded
 use Rattle.redo_journal.specs.Plans.{PlanOf, scripts_of}
 use Rattle.redo_session.specs.Runs.{IsRun, IsRunText}
@@ -17,31 +18,32 @@ use Rattle.redo_session.specs.Inside.Files.{scripts_at}
 use Rattle.redo_session.specs.Outcomes.{scripts_named}
 
 -- the plan of these scripts, over these names
-abbrev plan_here : List Text → List (List Command) → PlanOf
+abbrev plan_here : List Text → List (List Item) → PlanOf
 plan_here names scripts = record { names = names; scripts = scripts_of scripts }
 
-named_here : (names : List Text) (scripts : List (List Command))
+named_here : (names : List Text) (scripts : List (List Item))
     → scripts_named (plan_here names scripts) ≡ scripts_at names scripts
 named_here names [] = refl
 named_here names (script ∷ scripts) =
-    let first = map-map (named_command (text_at names)) command_of script in
+    let first = map-map (named_item (text_at names)) item_of script in
     let rest = named_here names scripts in
     λ i. first i ∷ rest i
 
-pub run_text_here : (p : PlanOf) (names : List Text) (scripts : List (List Command))
+pub run_text_here : (p : PlanOf) (names : List Text) (scripts : List (List Item))
     (history : List coded.Line) (text : Text) → p ≡ plan_here names scripts
     → IsRun (scripts_named p) (map (line_at p.names) history)
-    → text ≡ run_text_of (sessions_below (length p.scripts)) (map (line_at p.names) history)
+    → text ≡ run_text_of (scripts_named p) (sessions_below (length p.scripts))
+    (map (line_at p.names) history)
     → IsRunText (scripts_at names scripts) text
 run_text_here p names scripts history text same run is =
     let lines : List (Line Text) = map (line_at p.names) history in
     let named : scripts_named p ≡ scripts_at names scripts =
     ap scripts_named same ∙ named_here names scripts in
-    let name : List (model.Command ℕ) → List (model.Command Text) =
-    λ script. map (named_command (text_at p.names)) script in
+    let name : List (model.Item ℕ) → List (model.Item Text) =
+    λ script. map (named_item (text_at p.names)) script in
     let long : length p.scripts ≡ length (scripts_at names scripts) =
     sym (length-map p.scripts name) ∙ ap length named in (
       lines,
       subst (λ all. IsRun all lines) named run,
-      is ∙ ap (λ n. run_text_of (sessions_below n) lines) long,
+      is ∙ (λ i. run_text_of (named i) (sessions_below (long i)) lines),
     )

@@ -1,7 +1,7 @@
 -- Why a run is refused: each fault with its cause.
 use Rattle.std.specs.Prelude.{◌≡◌, ℕ, ◌<◌, ◌≤◌, Bool, false, List, [], length, take, Option, None, IfSome, IsTrue, slice_index_or, ⊤}
 use Rattle.redo_model.specs.Names.{Text}
-use Rattle.redo_model.specs.Command.{Command}
+use Rattle.redo_model.specs.Command.{Item}
 use Rattle.redo_text.specs.Faults.{IsFirstFault}
 use Rattle.redo_session.specs.Runs.{AreAccepted, AreSessions}
 use Rattle.redo_text.specs.declared.fault.LineFault.{LineFault}
@@ -12,7 +12,7 @@ use Rattle.redo_session.specs.declared.fault.TextFault.TheVariants.{Memory, Read
 abbrev pub FilesBefore : List (Option Text) → ℕ → List Text → Type 0
 FilesBefore files file names =
     (file < length files)
-    × ((scripts : List (List (Command Text))) × AreAccepted [] (take file files) scripts names)
+    × ((scripts : List (List (Item Text))) × AreAccepted [] (take file files) scripts names)
 
 -- a file's bytes are not too long, and this is the first fault in their lines
 abbrev pub HasFaultyLine : List Text → ℕ → LineFault → Text → Type 0
@@ -31,11 +31,11 @@ IsCause files faulted out_faulted (Read file line fault) =
     × IfSome (slice_index_or files file None) (HasFaultyLine names line fault)
 IsCause files faulted out_faulted TooManySessions =
     (64 < length files)
-    × ((scripts : List (List (Command Text))) × (names : List Text)
+    × ((scripts : List (List (Item Text))) × (names : List Text)
     × AreAccepted [] files scripts names)
 IsCause files faulted out_faulted NoSession = files ≡ []
 IsCause files faulted out_faulted Write =
-    ((scripts : List (List (Command Text))) × AreSessions files scripts) × IsTrue out_faulted
+    ((scripts : List (List (Item Text))) × AreSessions files scripts) × IsTrue out_faulted
 IsCause files faulted out_faulted (Device file) =
     (names : List Text) × FilesBefore files file names × IsTrue (slice_index_or faulted file false)
 IsCause files faulted out_faulted (TooLong file) =

@@ -2,11 +2,11 @@
 use Rattle.std.specs.Prelude.{◌≡◌, ℕ, List, ◌∷◌, ◌++◌, length, map, Some, slice_get}
 use Rattle.redo_names.specs.Names.{text_at}
 use Rattle.redo_model.specs.Names.{Text}
-use Rattle.redo_model.specs.Command.{Command}
+use Rattle.redo_model.specs.Command.{Item}
 use Rattle.redo_model.specs.Placed.{Place, PlacedLine, part_of}
 use Rattle.redo_model.specs.Journals.{IsWholeJournal, IsJointOrder}
 use Rattle.redo_model.specs.Seen.{HasSeen, StandsIn}
-use Rattle.redo_model.specs.Renaming.{named_command}
+use Rattle.redo_model.specs.Renaming.{named_item}
 use Rattle.redo_journal.specs.Plans.{PlanOf, script_of}
 use Rattle.redo_journal.specs.Journals.{told_by, journals_of}
 use Rattle.redo_journal.specs.declared.entry.Journal.{Journal}
@@ -14,8 +14,8 @@ use Rattle.redo_board.specs.Shown.{rows_up_to}
 use Rattle.redo_replay.specs.Merges.{by_number}
 
 -- the scripts of a plan, over its names
-abbrev pub scripts_named : PlanOf → List (List (Command Text))
-scripts_named p = map (λ script. map (named_command (text_at p.names)) script) p.scripts
+abbrev pub scripts_named : PlanOf → List (List (Item Text))
+scripts_named p = map (λ script. map (named_item (text_at p.names)) script) p.scripts
 
 -- all that the session does, and how many rows it tried: those up to its own latest
 pub record IsWholeOf (p : PlanOf) (s : ℕ) (journal : Journal) : Type 0 where

@@ -1,20 +1,41 @@
 -- The texts of whole runs.
-use Rattle.std.specs.Prelude.{ℕ, zero, suc, ◌+◌, List, [], ◌∷◌, ◌++◌, length, codes, decimal}
+use Rattle.std.specs.Prelude.{ℕ, zero, suc, ◌+◌, Bool, true, cond, not, ◌||◌, List, [], ◌∷◌, ◌++◌, length, map, codes, decimal, slice_index_or}
 use Rattle.std.specs.List.{flat_map}
 use Rattle.redo_model.specs.Names.{Text}
+use Rattle.redo_model.specs.Command.{Item}
+use Rattle.redo_model.specs.Reply.{Reply, lets_through}
 use Rattle.redo_model.specs.History.{Line, part_of}
-use Rattle.redo_replay.specs.Histories.{ended, answer_text_of, history_text_of}
+use Rattle.redo_text.specs.Texts.{item_text_of, reply_text_of}
+use Rattle.redo_replay.specs.Histories.{ended, history_text_of}
 
--- a session's header, and its lines
-abbrev pub session_text_of : ℕ → List (Line Text) → Text
-session_text_of s part =
-    ended (codes "session " ++ decimal (s + 1) ++ codes " " ++ decimal (length part))
-    ++ flat_map (λ line. ended (answer_text_of line)) part
+-- a line of a script with the reply to it
+abbrev pub done_text_of : Item Text → Reply Text → Text
+done_text_of item reply = ended (item_text_of item ++ codes " => " ++ reply_text_of reply)
 
--- the history, and then each session's own lines
-abbrev pub run_text_of : List ℕ → List (Line Text) → Text
-run_text_of sessions lines =
-    history_text_of lines ++ flat_map (λ s. session_text_of s (part_of s lines)) sessions
+-- and one that was not done
+abbrev pub skipped_text_of : Item Text → Text
+skipped_text_of item = ended (item_text_of item ++ codes " => skipped")
+
+-- the lines of a script, each with its reply where it is done
+abbrev pub script_text_of : Bool → List (Item Text) → List (Reply Text) → Text
+script_text_of through [] replies = []
+script_text_of through (item ∷ items) [] = skipped_text_of item ++ script_text_of through items []
+script_text_of through (item ∷ items) (reply ∷ replies) =
+    cond (through || not item.guarded)
+    (done_text_of item reply ++ script_text_of (lets_through reply) items replies)
+    (skipped_text_of item ++ script_text_of through items (reply ∷ replies))
+
+-- a session's header, and the lines of its script
+abbrev pub session_text_of : ℕ → List (Item Text) → List (Line Text) → Text
+session_text_of s script part =
+    ended (codes "session " ++ decimal (s + 1) ++ codes " " ++ decimal (length script))
+    ++ script_text_of true script (map (λ line. line.reply) part)
+
+-- the history, and then each session's script
+abbrev pub run_text_of : List (List (Item Text)) → List ℕ → List (Line Text) → Text
+run_text_of scripts sessions lines =
+    history_text_of lines
+    ++ flat_map (λ s. session_text_of s (slice_index_or scripts s []) (part_of s lines)) sessions
 
 -- the sessions 0 to n - 1
 abbrev pub sessions_below : ℕ → List ℕ

@@ -3,19 +3,20 @@ use Rattle.std.specs.Prelude.{◌≡◌, ℕ, ◌<◌, ◌≤◌, List, [], ◌�
 use Rattle.std.specs.List.{AllByRecursion}
 use Rattle.std.specs.Io.KnownBytes.{Appends}
 use Rattle.redo_model.specs.Names.{Text, texts}
-use Rattle.redo_model.specs.Command.{Command}
+use Rattle.redo_model.specs.Command.{Item}
 use Rattle.redo_model.specs.History.{Line, part_of, Legal}
+use Rattle.redo_model.specs.Scripts.{Does}
 use Rattle.redo_text.specs.Grammar.{IsScript}
 use Rattle.redo_session.specs.RunTexts.{run_text_of, sessions_below}
 
--- the file's bytes, where they are known, are a script of these commands, with the names before
+-- the file's bytes, where they are known, are a script of these lines, with the names before
 -- and after it
-abbrev pub IsAccepted : List Text → Option Text → List (Command Text) → List Text → Type 0
+abbrev pub IsAccepted : List Text → Option Text → List (Item Text) → List Text → Type 0
 IsAccepted names file script after =
     IfSome file (λ bytes. (length bytes ≤ 67108864) × IsScript names bytes script after)
 
 -- the files are accepted one after another, each with the names of those before it
-abbrev pub AreAccepted : List Text → List (Option Text) → List (List (Command Text)) → List Text
+abbrev pub AreAccepted : List Text → List (Option Text) → List (List (Item Text)) → List Text
     → Type 0
 AreAccepted names [] [] after = after ≡ names
 AreAccepted names [] (script ∷ scripts) after = ⊥
@@ -25,21 +26,21 @@ AreAccepted names (file ∷ files) (script ∷ scripts) after =
     × AreAccepted middle files scripts after
 
 -- one history that holds each session's commands once, in that session's order, each reply the
--- database's at its point
-pub record IsRun (scripts : List (List (Command Text))) (lines : List (Line Text)) : Type 0 where
+-- database's at its point; of guarded lines those that the replies let through
+pub record IsRun (scripts : List (List (Item Text))) (lines : List (Line Text)) : Type 0 where
   pub legal : Legal texts lines
   pub sessions : AllByRecursion (λ line. line.session < length scripts) lines
   pub parts : (s : ℕ) → s < length scripts
-      → map (λ line. line.command) (part_of s lines) ≡ slice_index_or scripts s []
+      → Does (slice_index_or scripts s []) (part_of s lines)
 
 -- the text of such a run
-abbrev pub IsRunText : List (List (Command Text)) → Text → Type 0
+abbrev pub IsRunText : List (List (Item Text)) → Text → Type 0
 IsRunText scripts text =
     (lines : List (Line Text)) × IsRun scripts lines
-    × (text ≡ run_text_of (sessions_below (length scripts)) lines)
+    × (text ≡ run_text_of scripts (sessions_below (length scripts)) lines)
 
 -- 1 to 64 files, one after another, are these scripts
-abbrev pub AreSessions : List (Option Text) → List (List (Command Text)) → Type 0
+abbrev pub AreSessions : List (Option Text) → List (List (Item Text)) → Type 0
 AreSessions files scripts =
     (1 ≤ length files) × (length files ≤ 64)
     × ((names : List Text) × AreAccepted [] files scripts names)
@@ -47,7 +48,7 @@ AreSessions files scripts =
 -- the files are accepted, and this is a run text of their commands
 abbrev pub RunsAs : List (Option Text) → Text → Type 0
 RunsAs files text =
-    (scripts : List (List (Command Text))) × AreSessions files scripts × IsRunText scripts text
+    (scripts : List (List (Item Text))) × AreSessions files scripts × IsRunText scripts text
 
 -- the files are accepted, and the run text of their commands was written
 abbrev pub WritesRun : List (Option Text) → Option Text → Option Text → Type 0
@@ -62,4 +63,4 @@ WritesPart files before after =
 abbrev pub AreKnownSessions : List (Option Text) → Type 0
 AreKnownSessions files =
     (texts : List Text) × (files ≡ map Some texts)
-    × ((scripts : List (List (Command Text))) × AreSessions files scripts)
+    × ((scripts : List (List (Item Text))) × AreSessions files scripts)

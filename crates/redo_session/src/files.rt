@@ -1,6 +1,6 @@
 ghost use Rattle.std.specs.Prelude.{◌≡◌, ◌↔◌, ℕ, ◌<◌, false, [], length, map, IfOk, IfErr, IsErrAnd, OnErr};
 ghost use Rattle.redo_names.specs.Inside.Names.{Extends};
-ghost use Rattle.redo_terms.specs.Inside.Meaning.{command_at};
+ghost use Rattle.redo_terms.specs.Inside.Meaning.{item_at};
 ghost use Rattle.redo_whole.specs.Watched.{is_faulted};
 ghost use Rattle.redo_replay.specs.Devices.{known_in};
 ghost use Rattle.redo_session.specs.Runs.{IsAccepted, AreAccepted};
@@ -51,7 +51,7 @@ fn read_file<R: Read>(
     names: &mut Names,
 ) -> Result<Script, TextFault>
     ensures accepted { IfOk result (λ script. IsAccepted names.old
-        (known_in R.remaining file.old) (map (command_at names.new) script) names.new) }
+        (known_in R.remaining file.old) (map (item_at names.new) script) names.new) }
     ensures below { IfOk result (IsScriptBelow names.new) }
     ensures kept { Extends names.old names.new }
     ensures cause { IfErr result (IsFileCause names.old

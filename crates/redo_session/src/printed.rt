@@ -1,41 +1,82 @@
-ghost use Rattle.std.specs.Prelude.{◌≡◌, ◌+◌, ◌++◌, length, map, codes, decimal, IfOk, OnOk, [], ◌∷◌, ◌==◌, count_by};
+ghost use Rattle.std.specs.Prelude.{◌≡◌, ◌≤◌, ◌<◌, ◌+◌, ◌++◌, ◌⊎◌, ◌||◌, ℕ, List, true, false, not, drop, length, map, codes, decimal, IfOk, OnOk, slice_index_or};
+ghost use Rattle.redo_model.specs.Names.{Text};
 ghost use Rattle.redo_model.specs.History.{part_of};
-ghost use Rattle.redo_model.specs.Renaming.{IsLineBelow};
-ghost use Rattle.redo_terms.specs.Meaning.{line_of, line_at};
+ghost use Rattle.redo_model.specs.Renaming.{IsBelow, IsReplyBelow};
+ghost use Rattle.redo_terms.specs.Meaning.{command_of, reply_of, line_at, reply_at};
+ghost use Rattle.redo_terms.specs.Inside.Meaning.{item_at, item_of};
+ghost use Rattle.redo_journal.specs.Plans.{AreBelow, IsPlan, script_of};
 ghost use Rattle.redo_replay.specs.Histories.{ended};
-ghost use Rattle.redo_session.specs.RunTexts.{session_text_of, run_text_of, sessions_below};
+ghost use Rattle.redo_session.specs.Outcomes.{scripts_named};
+ghost use Rattle.redo_session.specs.RunTexts.{done_text_of, skipped_text_of, session_text_of, run_text_of, sessions_below};
 ghost use Rattle.redo_replay.specs.Recorded.{AreLinesBelow};
-ghost use Rattle.redo_session.specs.Inside.Printed.{answers_of};
+ghost use Rattle.redo_session.specs.Inside.Printed.{replies_in};
 
 use crate::runs::Outcome;
-use redo_command::Line;
+use redo_command::{Item, Line, Reply, line_text, reply_text};
 use redo_journal::Plan;
 use redo_names::Names;
-use redo_replay::{history_text, put_answer, put_number};
+use redo_replay::{history_text, put_number};
 use std::alloc::{AllocError, Global};
 
-/// How many of the lines are of the session.
-fn count_of_session(session: u8, lines: &[Line]) -> usize
-    ensures { result ≡ count_by (λ line. line.session == session) lines.now }
+/// Where the session's first line stands from here on; past all lines where there is none.
+fn own_from(session: u8, lines: &[Line], from: usize) -> usize
+    requires { from ≤ length lines.now }
+    ensures within { result ≤ length lines.now }
+    ensures own { (d : Line) → result < length lines.now
+        → (slice_index_or lines.now result d).session ≡ session }
+    ensures same { (names : List Text) → replies_in names session (drop result lines.now)
+        ≡ replies_in names session (drop from lines.now) }
 {
-    lines.iter().filter(|line| line.session == session).count()
+    for at in from..lines.len() {
+        if lines[at].session == session {
+            return at;
+        }
+    }
+    lines.len()
 }
 
-/// Prints the line's command and reply, if the line is the session's.
-fn put_own_answer(
+/// Whether the session's next line, if there is one, is of this item.
+fn is_answered(item: &Item, through: bool, at: usize, count: usize) -> bool
+    ensures yes { result ≡ true → (at < count) × ((through || not item.now.guarded) ≡ true) }
+    ensures no { result ≡ false
+        → (count ≤ at) ⊎ ((at < count) × ((through || not item.now.guarded) ≡ false)) }
+{
+    at < count && (through || !item.guarded)
+}
+
+/// Prints a line of a script with the reply to it.
+fn put_done(
     alloc: Global,
     text: &mut Vec<u8>,
-    session: u8,
-    line: &Line,
+    item: &Item,
+    reply: &Reply,
     names: &Names,
 ) -> Result<(), AllocError>
-    requires { IsLineBelow (length names.now) (line_of line.now) }
-    ensures { OnOk result (text.new.items
-        ≡ text.old.items ++ answers_of session (line_at names.now line.now ∷ [])) }
+    requires item { IsBelow (length names.now) (command_of item.now.command) }
+    requires reply { IsReplyBelow (length names.now) (reply_of reply.now) }
+    ensures { OnOk result (text.new.items ≡ text.old.items
+        ++ done_text_of (item_at names.now item.now) (reply_at names.now reply.now)) }
 {
-    if line.session == session {
-        return put_answer(alloc, text, line, names);
-    }
+    text.extend_from_slice(&line_text(alloc, item, names)?)?;
+    text.extend_from_slice(b" => ")?;
+    text.extend_from_slice(&reply_text(alloc, reply, names)?)?;
+    text.push(b'\n')?;
+    Ok(())
+}
+
+/// Prints a line of a script that was not done.
+fn put_skipped(
+    alloc: Global,
+    text: &mut Vec<u8>,
+    item: &Item,
+    names: &Names,
+) -> Result<(), AllocError>
+    requires { IsBelow (length names.now) (command_of item.now.command) }
+    ensures { OnOk result (text.new.items
+        ≡ text.old.items ++ skipped_text_of (item_at names.now item.now)) }
+{
+    text.extend_from_slice(&line_text(alloc, item, names)?)?;
+    text.extend_from_slice(b" => skipped\n")?;
     Ok(())
 }
 
@@ -56,36 +97,65 @@ fn put_header(
     Ok(())
 }
 
+/// Prints the session's header and each line of its script, with the reply where it was done.
 fn put_session(
     alloc: Global,
     text: &mut Vec<u8>,
     session: u8,
+    items: &[Item],
     lines: &[Line],
     names: &Names,
 ) -> Result<(), AllocError>
-    requires { AreLinesBelow names.now lines.now }
-    ensures { OnOk result (text.new.items ≡ text.old.items
-        ++ session_text_of session (part_of session (map (line_at names.now) lines.now))) }
+    requires items { AreBelow (length names.now) items.now }
+    requires lines { AreLinesBelow names.now lines.now }
+    ensures { OnOk result (text.new.items
+        ≡ text.old.items ++ session_text_of session (map (item_at names.now) items.now)
+        (part_of session (map (line_at names.now) lines.now))) }
 {
-    put_header(alloc, text, session, count_of_session(session, lines))?;
-    for line in lines {
-        put_own_answer(alloc, text, session, line, names)?;
+    put_header(alloc, text, session, items.len())?;
+    let mut through = true;
+    let mut at = own_from(session, lines, 0);
+    for item in items {
+        if !is_answered(item, through, at, lines.len()) {
+            put_skipped(alloc, text, item, names)?;
+            continue;
+        }
+        let reply = &lines[at].reply;
+        put_done(alloc, text, item, reply, names)?;
+        through = reply.lets_through();
+        at = own_from(session, lines, at + 1);
     }
     Ok(())
 }
 
-/// The run text: the history, and then each session's own lines.
+/// The lines of a session's script.
+fn items_of(plan: &Plan, session: usize) -> &[Item]
+    requires { session < length plan.now.scripts }
+    ensures items { map item_of result.now ≡ script_of plan.now session }
+    ensures plan { IsPlan plan.now }
+{
+    plan.scripts()[session].items()
+}
+
+/// The run text: the history, and then each session's script.
 pub fn run_text(alloc: Global, plan: &Plan, outcome: &Outcome) -> Result<Vec<u8>, AllocError>
     requires { AreLinesBelow plan.now.names outcome.now.history.items }
     ensures { IfOk result (λ text. text.items
-        ≡ run_text_of (sessions_below (length plan.now.scripts))
+        ≡ run_text_of (scripts_named plan.now) (sessions_below (length plan.now.scripts))
         (map (line_at plan.now.names) outcome.now.history.items)) }
 {
     let names = plan.names();
-    let sessions = plan.scripts().len() as u8;
     let mut text = history_text(alloc, &outcome.history, names)?;
-    for session in 0..sessions {
-        put_session(alloc, &mut text, session, &outcome.history, names)?;
+    for session in 0..plan.scripts().len() {
+        let items = items_of(plan, session);
+        put_session(
+            alloc,
+            &mut text,
+            session as u8,
+            items,
+            &outcome.history,
+            names,
+        )?;
     }
     Ok(text)
 }

@@ -1,4 +1,4 @@
-//! What commands and replies are: their cases, the table of the commands, file stamps, and the commands of a session.
+//! What commands and replies are: their cases, the table of the commands, file stamps, and the script of a session.
 #![tactic(auto)]
 
 mod cases;
@@ -11,5 +11,5 @@ mod stamp;
 pub use command::Command;
 pub use kind::Kind;
 pub use reply::{Line, Refusal, Reply};
-pub use script::Script;
+pub use script::{Item, Script};
 pub use stamp::{FileStamp, LONGEST_STAMP};

@@ -39,7 +39,15 @@ pub enum Reply {
 
 impl Reply {
     ghost use Rattle.std.specs.Prelude.{◌≡◌, ◌↔◌, IsTrue, IfOk};
+    ghost use Rattle.redo_model.specs.Reply.{lets_through};
     ghost use Rattle.redo_terms.specs.Meaning.{reply_of};
+
+    /// Whether a guarded line after this reply is done: it is neither busy nor a refusal.
+    pub fn lets_through(&self) -> bool
+        ensures { result ≡ lets_through (reply_of self.now) }
+    {
+        !matches!(self, Reply::Busy(_) | Reply::Refused(_))
+    }
 
     /// Whether the other says the same.
     pub fn is_same(&self, other: &Reply) -> bool

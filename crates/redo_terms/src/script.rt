@@ -3,37 +3,44 @@ ghost use Rattle.std.specs.Prelude.{◌≡◌, ◌≤◌, length};
 use crate::command::Command;
 use std::marker::Model;
 
-/// The commands of one session, in order: at most 4,096.
+/// A line of a script. A guarded one is done only where the session's latest reply lets it through.
+#[derive(Debug, Drop)]
+pub struct Item {
+    pub guarded: bool,
+    pub command: Command,
+}
+
+/// The lines of one session, in order: at most 4,096.
 #[derive(Debug, Drop)]
 pub struct Script {
-    commands: Vec<Command>,
+    items: Vec<Item>,
 }
 
 impl Model for Script {
     ghost use Rattle.std.specs.Prelude.{List, ◌≤◌, length};
-    ghost use Rattle.redo_terms.specs.declared.command.Command.{Command};
+    ghost use Rattle.redo_terms.specs.declared.script.Item.{Item};
 
-    ghost Value = { List Command };
+    ghost Value = { List Item };
 
-    ghost view = { λ script. script.commands.items };
+    ghost view = { λ script. script.items.items };
 
-    ghost invariant = { λ script. length script.commands.items ≤ 4096 };
+    ghost invariant = { λ script. length script.items.items ≤ 4096 };
 }
 
 impl Script {
-    /// The script of these commands.
-    pub fn new(commands: Vec<Command>) -> Script
-        requires { length commands.items ≤ 4096 }
-        ensures commands { result ≡ commands.items }
+    /// The script of these lines.
+    pub fn new(items: Vec<Item>) -> Script
+        requires { length items.items ≤ 4096 }
+        ensures items { result ≡ items.items }
     {
-        Script { commands }
+        Script { items }
     }
 
-    /// The commands, in order.
-    pub fn commands(&self) -> &[Command]
-        ensures commands { result.now ≡ self.now }
+    /// The lines, in order.
+    pub fn items(&self) -> &[Item]
+        ensures items { result.now ≡ self.now }
         ensures few { length self.now ≤ 4096 }
     {
-        &self.commands
+        &self.items
     }
 }

@@ -8,6 +8,8 @@ mod drawn;
 #[cfg(test)]
 mod gates;
 #[cfg(test)]
+mod guarded;
+#[cfg(test)]
 mod histories;
 #[cfg(test)]
 mod leaving;

@@ -4,11 +4,11 @@ ghost use Rattle.std.specs.Prelude.{◌<◌, length, IfSome};
 use redo_journal::Plan;
 use std::alloc::{AllocError, Global};
 
-/// The sessions' turns, one for each command, the first session's first.
+/// The sessions' turns, one for each line, the first session's first.
 pub(crate) fn first_schedule(alloc: Global, plan: &Plan) -> Result<Vec<usize>, AllocError> {
     let mut turns = Vec::new(alloc);
     for (session, script) in plan.scripts().iter().enumerate() {
-        for _ in script.commands() {
+        for _ in script.items() {
             turns.push(session)?;
         }
     }

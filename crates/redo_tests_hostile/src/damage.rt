@@ -3,7 +3,7 @@ use crate::random::Random;
 use std::alloc::{AllocError, Global};
 
 /// Texts to be inserted.
-const PIECES: [&str; 32] = [
+const PIECES: [&str; 34] = [
     " ",
     "  ",
     "\n",
@@ -13,6 +13,8 @@ const PIECES: [&str; 32] = [
     "\0",
     "#",
     "# ",
+    "?",
+    "? ",
     "-",
     "=>",
     " => ",
@@ -156,6 +158,22 @@ pub(crate) fn badly_damaged(
     let mut out = damaged(alloc, random, text)?;
     for _ in 0..random.one_of(&[0, 0, 1, 2]) {
         out = damaged(alloc, random, &out)?;
+    }
+    Ok(out)
+}
+
+/// The text with a guard in front of some of its lines.
+pub(crate) fn with_guards(
+    alloc: Global,
+    random: &mut Random,
+    text: &[u8],
+) -> Result<Vec<u8>, AllocError> {
+    let mut out = Vec::new(alloc);
+    for line in text.split_inclusive(|byte| *byte == b'\n') {
+        if random.below(4) == 0 {
+            out.extend_from_slice(b"? ")?;
+        }
+        out.extend_from_slice(line)?;
     }
     Ok(out)
 }

@@ -5,7 +5,7 @@ use std::sync::Wait;
 use std::thread::Threads;
 
 /// Short session files without a fault.
-const FILES: [&str; 6] = [
+const FILES: [&str; 7] = [
     "file a.c 10\nlock a.o\nstart a.o\nifchange a.o a.c\ndone a.o 20\nunlock a.o\nood\ntargets\n\
     sources\n",
     "# Two objects and a program.\n\nfile main.c 1\nfile util.h 1\nlock main.o\nstart main.o\n\
@@ -20,6 +20,8 @@ const FILES: [&str; 6] = [
     "lock t\nstart t\nalways t\nifchange t a b\nstamp t -\nfailed t\nood\nstart t\ndone t -\n",
     "file T 1\nsources\nlock a\nlock b\nstart a\nstart b\nifchange a b T\nifchange b a\ndone a 1\n\
     done b 1\nood\nstart a\nifchange a b T\ndone a 2\nood\nstamp a 61\n#\nunlock a\n",
+    "? lock T\n? start T\n? ifchange T a\n? done T 5\n? ood\nlock T\n? start T\n? unlock T\n\
+    unlock T\n? targets\nstart T\n? ood\n? lock T\nsources\n? lock T\n? lock T\n? ood\n",
 ];
 
 /// Histories of several sessions.

@@ -1,20 +1,24 @@
 //! Damaged session files.
-use crate::damage::{badly_damaged, one_damaged};
+use crate::damage::{badly_damaged, one_damaged, with_guards};
 use crate::judged::judge_file;
 use crate::random::Random;
 use crate::seeds::{files, long_file};
 use crate::tally::Tally;
 use std::test::Fail;
 
-/// Each file runs, and its history replays, or it has the fault that the plain reader names.
+/// Each file runs, and its history replays, or it has the fault that the plain reader names. Every
+/// other file has some guards.
 #[test]
 fn damaged_session_files(rt: HostRuntime) -> Result<(), Fail> {
     let alloc = rt.alloc();
     let mut random = Random::new(1);
     let mut tally = Tally::new(alloc)?;
     let all = files(alloc)?;
-    for _ in 0..30_000 {
-        let damaged = one_damaged(alloc, &mut random, &all)?;
+    for number in 0..30_000 {
+        let mut damaged = one_damaged(alloc, &mut random, &all)?;
+        if number % 2 == 0 {
+            damaged = with_guards(alloc, &mut random, &damaged)?;
+        }
         judge_file(&rt, &damaged, &mut tally)?;
     }
     tally.check(&rt, 30_000, 50, &[0, 2, 3, 4, 5, 6, 7, 8, 10]);
@@ -31,11 +35,11 @@ fn damaged_long_session_files(rt: HostRuntime) -> Result<(), Fail> {
     let mut random = Random::new(2);
     let mut tally = Tally::new(alloc)?;
     let front = long_file(alloc, 4092)?;
-    for _ in 0..400 {
+    for _ in 0..800 {
         let mut file = Vec::from_slice(alloc, &front)?;
         file.extend_from_slice(&badly_damaged(alloc, &mut random, LAST)?)?;
         judge_file(&rt, &file, &mut tally)?;
     }
-    tally.check(&rt, 400, 20, &[0, 3, 4, 5, 9]);
+    tally.check(&rt, 800, 20, &[0, 3, 4, 5, 9]);
     Ok(())
 }

@@ -5,7 +5,7 @@ ghost use Rattle.redo_terms.specs.Meaning.{command_of, reply_of};
 
 use crate::told::again;
 use redo_command::{
-    Command, Kind, ReadFault, Reply, ReplyFault, command_text, read_command, read_reply,
+    Command, Kind, ReadFault, Reply, ReplyFault, command_text, line_text, read_command, read_reply,
     read_script, reply_text,
 };
 use redo_names::Names;
@@ -157,8 +157,41 @@ fn scripts(rt: HostRuntime) -> Result<(), Fail> {
         read_script(alloc, text, &mut names),
         are_first(&names, &NAMES)
     );
-    let kinds = script.commands().iter().map(|command| command.kind());
+    let kinds = script.items().iter().map(|item| item.command.kind());
     assert!(&rt; kinds.eq(KINDS));
     assert!(&rt; names.len() == 8 && are_first(&names, &NAMES));
+    Ok(())
+}
+
+/// Guarded lines of session files.
+const GUARDED: &str = "? file a.c 10\n? ifchange a.o a.c b.c lib\n? stamp a.o 616263\n? ood\n";
+
+/// The text of the one line of a session file is that file.
+fn check_line(rt: &impl Abort, alloc: Global, text: &[u8]) -> Result<(), Fail> {
+    let mut names = Names::new(alloc);
+    let script = again!(
+        rt,
+        alloc,
+        ReadFault::Memory,
+        read_script(alloc, text, &mut names)
+    );
+    let [item] = script.items() else {
+        panic!(rt; "not one line");
+    };
+    assert!(rt; item.guarded == text.starts_with(b"? ".as_slice()));
+    let told = again!(rt, alloc, AllocError, line_text(alloc, item, &names));
+    assert_eq!(rt; told.as_slice(), text);
+    Ok(())
+}
+
+#[test]
+fn lines(rt: HostRuntime) -> Result<(), Fail> {
+    let alloc = rt.alloc();
+    for line in COMMANDS.lines() {
+        check_line(&rt, alloc, line.as_bytes())?;
+    }
+    for line in GUARDED.lines() {
+        check_line(&rt, alloc, line.as_bytes())?;
+    }
     Ok(())
 }

@@ -148,7 +148,7 @@ fn told_in(alloc: Global, plan: &Plan, order: &[u8]) -> Result<Vec<Vec<Told>>, F
 fn turns_of(alloc: Global, plan: &Plan) -> Result<Vec<u8>, AllocError> {
     let mut turns = Vec::new(alloc);
     for (session, script) in plan.scripts().iter().enumerate() {
-        for _ in script.commands() {
+        for _ in script.items() {
             turns.push(session as u8)?;
         }
     }

@@ -10,6 +10,8 @@ mod drawn;
 #[cfg(test)]
 mod exhaustive;
 #[cfg(test)]
+mod guarded;
+#[cfg(test)]
 mod merging;
 #[cfg(test)]
 mod orders;

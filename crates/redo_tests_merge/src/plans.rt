@@ -28,5 +28,5 @@ pub(crate) fn plan_of(alloc: Global, texts: &[&str]) -> Result<Plan, Fail> {
 /// The session's command of this number.
 pub(crate) fn command_at(plan: &Plan, session: usize, line: usize) -> Option<&Command> {
     let script = plan.scripts().get(session)?;
-    script.commands().get(line)
+    Some(&script.items().get(line)?.command)
 }

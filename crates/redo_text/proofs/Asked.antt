@@ -11,15 +11,16 @@ use Rattle.hex.specs.declared.error.FromHexError.{FromHexError}
 use Rattle.hex.proofs.HexLemmas.{decode_of-ok, decode_of-digits}
 use Rattle.redo_names.specs.Names.{is_name}
 use Rattle.redo_model.specs.Names.{Text}
-use Rattle.redo_model.specs.Command.{Command, File, Gone, Lock, Unlock, Start, IfChange, IfCreate, Always, Stamp, Done, Failed, Ood, Targets, Sources}
+use Rattle.redo_model.specs.Command.{Command, Item, File, Gone, Lock, Unlock, Start, IfChange, IfCreate, Always, Stamp, Done, Failed, Ood, Targets, Sources}
 use Rattle.redo_terms.specs.declared.kind.Kind.{Kind}
 use Rattle.redo_terms.specs.declared.kind.Kind.TheVariants as kinds
 use Rattle.redo_text.specs.declared.fault.LineFault.{LineFault}
 use Rattle.redo_text.specs.declared.fault.LineFault.TheVariants.{LineTooLong, BadByte, WrongWords, BadName, BadStamp, BadHex, TooManyLines, TooManyNames}
 use Rattle.redo_terms.specs.Stamp.{is_stamp}
 use Rattle.redo_text.specs.Grammar.{with_names, is_skipped}
-use Rattle.redo_text.specs.Questions.{Question, first_yes, Wanted, a_name, some_content, wanted, are_digits, is_it, word_questions, names_among, is_full, kind_named, form_questions, word_list_questions, words_of, has_bad_byte, is_too_long, text_questions, line_fault, file_line_fault}
-use Rattle.redo_text.specs.Inside.Reading.{◌>>=◌, Reading, some_content as content_or_fault, content_in, added, all_added, one_name_in, target_and_names_in, names_form_in, file_in, stamp_in, done_in, no_words_in, form_in, words_in, line_in, script_line_in}
+use Rattle.redo_text.specs.Questions.{Question, first_yes, Wanted, a_name, some_content, wanted, are_digits, is_it, word_questions, names_among, is_full, kind_named, form_questions, word_list_questions, words_of, has_bad_byte, is_too_long, text_questions, unguarded, line_fault, file_line_fault}
+use Rattle.redo_text.specs.Inside.Reading.{◌>>=◌, Reading, some_content as content_or_fault, content_in, added, all_added, one_name_in, target_and_names_in, names_form_in, file_in, stamp_in, done_in, no_words_in, form_in, words_in, line_in, item_in, script_line_in}
+use Rattle.redo_text.proofs.Guards.{asked_unguarded}
 use Rattle.redo_text.proofs.ReplyNames.{none_added, one_all_added}
 use Rattle.redo_text.proofs.ScriptParts.{with_names-longer}
 use Rattle.redo_text.proofs.Steps.{both, read}
@@ -316,35 +317,37 @@ asked_line names line few = by (is_too_long line) (has_bad_byte line)
     by false true = refl
     by false false = asked_words names (words_of line) few
 
-abbrev line_read : Option (Command Text) × List Text
-    → Result (Option (Command Text) × List Text) LineFault
+abbrev line_read : Option (Item Text) × List Text
+    → Result (Option (Item Text) × List Text) LineFault
 line_read x = Ok x
 
-some_last : (r : Reading) → fault_in (r >>= λ x. line_read (Some x.0, x.1)) ≡ fault_in r
-some_last (Ok x) = refl
-some_last (Err fault) = refl
+item_last : (line : Text) (r : Reading)
+    → fault_in (r >>= λ x. line_read (Some (item_in line x.0), x.1)) ≡ fault_in r
+item_last line (Ok x) = refl
+item_last line (Err fault) = refl
 
 -- and that of a line of a session file as well
 pub asked_file_line : (count : ℕ) (names : List Text) (line : Text) → length names ≤ 65536
     → fault_in (script_line_in count names line) ≡ file_line_fault count names line
-unfolding script_line_in file_line_fault line_fault
+unfolding script_line_in file_line_fault
 asked_file_line count names line few =
     by (is_too_long line) (is_skipped line) (eqb count 4096) refl
   where
     asked : List Question
-    asked = text_questions names line
+    asked = (has_bad_byte line, BadByte) ∷ word_list_questions names (words_of (unguarded line))
 
     by : (long skipped full : Bool) → is_too_long line ≡ long
         → fault_in (cond long (Err LineTooLong) (cond skipped (line_read (None, names))
-        (cond full (Err TooManyLines) (line_in names line >>= λ x. line_read (Some x.0, x.1)))))
+        (cond full (Err TooManyLines) (line_in names (unguarded line)
+        >>= λ x. line_read (Some (item_in line x.0), x.1)))))
         ≡ cond long (Some LineTooLong)
         (first_yes (cond skipped [] ((full, TooManyLines) ∷ asked)))
     by true skipped full short = refl
     by false true full short = refl
     by false false true short = refl
     by false false false short =
-        some_last (line_in names line) ∙ asked_line names line few
-        ∙ ap (λ (b : Bool). cond b (Some LineTooLong) (first_yes asked)) short
+        item_last line (line_in names (unguarded line)) ∙ asked_line names (unguarded line) few
+        ∙ asked_unguarded names line short
 
 pub succeeds : {A : Type 0} (r : Result A LineFault) → fault_in r ≡ None → (x : A) × (r ≡ Ok x)
 succeeds (Ok x) e = (x, refl)

@@ -1,22 +1,22 @@
 -- A text is a session file, or it has a first fault, and it has no two.
 use Rattle.std.proofs.Common.{◌≡◌, ℕ, ◌+◌, ◌≤◌, ◌⊎◌, List, [], ◌∷◌, ◌++◌, length, Option, Result, Ok, Err, refl, sym, ap, subst, ◌∙◌, inl, inr, arith, append-nil, append_assoc, length-append}
 use Rattle.redo_model.specs.Names.{Text}
-use Rattle.redo_model.specs.Command.{Command}
+use Rattle.redo_model.specs.Command.{Item}
 use Rattle.redo_text.specs.declared.fault.LineFault.{LineFault}
 use Rattle.redo_text.specs.Grammar.{lines_of, AreScriptLines, IsScript}
 use Rattle.redo_text.specs.Questions.{file_line_fault}
 use Rattle.redo_text.specs.Faults.{FailsAfter, IsFirstFault}
 use Rattle.redo_text.specs.Inside.Reading.{script_line_in}
 use Rattle.redo_text.proofs.Asked.{fault_in, asked_file_line}
-use Rattle.redo_text.proofs.ScriptLaws.{commands_read, line_taken, scripts_agree, no_fault_in_a_script}
+use Rattle.redo_text.proofs.ScriptLaws.{items_read, line_taken, scripts_agree, no_fault_in_a_script}
 use Rattle.redo_text.proofs.ScriptParts.{script_joined}
 use Rattle.redo_text.proofs.Steps.{same_found}
 
--- the lines are those of commands
+-- the lines are those of items
 abbrev AllRead : List Text → List Text → Type 0
 AllRead names lines =
-    (commands : List (Command Text)) × (after : List Text)
-    × AreScriptLines names lines commands after
+    (items : List (Item Text)) × (after : List Text)
+    × AreScriptLines names lines items after
 
 -- one of the lines fails after those before it
 record OneFails (names lines : List Text) : Type 0 where
@@ -28,26 +28,26 @@ record OneFails (names lines : List Text) : Type 0 where
   fails : FailsAfter names before line fault
 
 -- what is left after the lines that were read
-read_on : (names lines rest before : List Text) (commands : List (Command Text)) (mid : List Text)
-    → lines ≡ before ++ rest → AreScriptLines names before commands mid
+read_on : (names lines rest before : List Text) (items : List (Item Text)) (mid : List Text)
+    → lines ≡ before ++ rest → AreScriptLines names before items mid
     → AllRead names lines ⊎ OneFails names lines
-read_on names lines [] before commands mid parts read =
+read_on names lines [] before items mid parts read =
     inl (
-      commands,
+      items,
       mid,
-      subst (λ (ls : List Text). AreScriptLines names ls commands mid)
+      subst (λ (ls : List Text). AreScriptLines names ls items mid)
           (sym (parts ∙ append-nil before)) read,
     )
-read_on names lines (line ∷ rest) before commands mid parts read =
-    by (script_line_in (length commands) mid line) refl
+read_on names lines (line ∷ rest) before items mid parts read =
+    by (script_line_in (length items) mid line) refl
     (λ front cs after e is. read_on names lines rest front cs after e is)
   where
     few : length mid ≤ 65536
     few = read.named.1
 
-    by : (given : Result (Option (Command Text) × List Text) LineFault)
-        → script_line_in (length commands) mid line ≡ given
-        → ((front : List Text) (cs : List (Command Text)) (after : List Text)
+    by : (given : Result (Option (Item Text) × List Text) LineFault)
+        → script_line_in (length items) mid line ≡ given
+        → ((front : List Text) (cs : List (Item Text)) (after : List Text)
         → lines ≡ front ++ rest → AreScriptLines names front cs after
         → AllRead names lines ⊎ OneFails names lines)
         → AllRead names lines ⊎ OneFails names lines
@@ -58,24 +58,24 @@ read_on names lines (line ∷ rest) before commands mid parts read =
       fault = fault;
       parts = parts;
       fails = record {
-        commands = commands;
+        items = items;
         after = mid;
         read = read;
-        fails = sym (asked_file_line (length commands) mid line few) ∙ ap fault_in is;
+        fails = sym (asked_file_line (length items) mid line few) ∙ ap fault_in is;
       };
     })
     by (Ok x) is later =
-        let taken = line_taken (length commands) mid line x.0 x.1 read.few few is in
-        let more = commands_read x.0 in
-        let room : length (commands ++ more) ≤ 4096 =
-        omega (arith, length-append commands more, taken.room) in
-        later (before ++ line ∷ []) (commands ++ more) x.1
+        let taken = line_taken (length items) mid line x.0 x.1 read.few few is in
+        let more = items_read x.0 in
+        let room : length (items ++ more) ≤ 4096 =
+        omega (arith, length-append items more, taken.room) in
+        later (before ++ line ∷ []) (items ++ more) x.1
         (parts ∙ sym (append_assoc before (line ∷ []) rest))
-        (script_joined names before (line ∷ []) commands more mid x.1 read taken.script room)
+        (script_joined names before (line ∷ []) items more mid x.1 read taken.script room)
 
 pub script_or_fault : (names : List Text) (text : Text) → length names ≤ 65536
-    → ((commands : List (Command Text)) × (after : List Text)
-    × IsScript names text commands after)
+    → ((items : List (Item Text)) × (after : List Text)
+    × IsScript names text items after)
     ⊎ ((number : ℕ) × (fault : LineFault) × IsFirstFault names text number fault)
 script_or_fault names text few =
     elim (read_on names (lines_of text) (lines_of text) [] [] names refl start) [
@@ -134,14 +134,14 @@ not_before : (names : List Text) (before : List Text) (line : Text) (others : Li
     (other : Text) (more : List Text) (a b : LineFault) → others ≡ before ++ line ∷ more
     → FailsAfter names before line a → FailsAfter names others other b → ⊥
 not_before names before line others other more a b is one two =
-    no_fault_in_a_script names before line more two.commands two.after a
-    (subst (λ (ls : List Text). AreScriptLines names ls two.commands two.after) is two.read) one
+    no_fault_in_a_script names before line more two.items two.after a
+    (subst (λ (ls : List Text). AreScriptLines names ls two.items two.after) is two.read) one
 
 one_fault_of : (names : List Text) (before : List Text) (line : Text) (a b : LineFault)
     → FailsAfter names before line a → FailsAfter names before line b → a ≡ b
 one_fault_of names before line a b one two =
     let same =
-    scripts_agree names before one.commands one.after two.commands two.after one.read two.read in
+    scripts_agree names before one.items one.after two.items two.after one.read two.read in
     same_found a b
     (sym one.fails ∙ (λ i. file_line_fault (length (same.0 i)) (same.1 i) line) ∙ two.fails)
 

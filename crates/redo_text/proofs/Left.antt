@@ -2,7 +2,6 @@
 use Rattle.std.proofs.Common.{◌≡◌, ℕ, ◌+◌, ◌<◌, ◌≤◌, Bool, true, false, cond, not, List, [], ◌∷◌, ◌++◌, length, get_or, take, drop, Result, Ok, Err, refl, sym, ap, subst, ◌∙◌, arith, eqb, inl, inr, take-append-drop}
 use Rattle.std.specs.Prelude.{IfErr, OnErr}
 use Rattle.std.specs.List.{list_all, list_any}
-use Rattle.std.proofs.lemmas.Bool.{false≢true}
 use Rattle.std.proofs.lemmas.Bool.Decides.{nat_tests}
 use Rattle.std.proofs.lemmas.List.{take_more}
 use Rattle.redo_names.specs.Names.{is_name, has, with_name}
@@ -137,12 +136,6 @@ pub same_left_on : {X : Type 0} (result : Result X Unread) (names : List Text) (
     (after : List Text) → OnErr result (after ≡ names) → IfErr result (LeavesWords names text after)
 same_left_on (Ok x) names text after same = tt
 same_left_on (Err why) names text after same = inl same
-
--- where a bad byte is found, nothing was added
-pub bad_left : (names : List Text) (text : Text) (after : List Text) (why : Unread)
-    → has_bad_byte text ≡ true → LeavesWords names text after why → after ≡ names
-bad_left names text after why bad left =
-    elim left [ inl same ↦ same | inr some ↦ absurd (false≢true (sym some.0 ∙ bad)) ]
 
 none_added : (names words : List Text) → AddsFront names words names
 none_added names words = record { own = []; rest = words; words_are = refl; adds = refl }

@@ -6,6 +6,8 @@ pub mod FaultOrScript
 pub mod FormsFound
 pub mod FormsRead
 pub mod Fronts
+pub mod Guards
+pub mod ItemTexts
 pub mod LineLaws
 pub mod Left
 pub mod Lines

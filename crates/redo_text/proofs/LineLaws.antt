@@ -114,6 +114,16 @@ text_is_spelled (Stamp t content) form =
     (content_word content, refl, content_word_says content form.1)
 text_is_spelled command form = refl
 
+-- and no byte of it is bad
+pub command_is_text : (command : Command Text) → HasForm command
+    → list_any is_bad (command_text_of command) ≡ false
+command_is_text command form =
+    let from =
+    read_from_words [] (command_text_of command) command (with_names [] (names_in command ++ []))
+    form (text_is_spelled command form) (fits_alone command form) in
+    ap (list_any is_bad) from.text
+    ∙ spaced_is_text from.word from.args from.visible.0 from.visible.1
+
 -- a line is the line of at most one command
 pub one_command : (line : Text) (a b : Command Text) → IsCommandLine line a → IsCommandLine line b
     → a ≡ b

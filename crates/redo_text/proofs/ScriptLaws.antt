@@ -3,68 +3,69 @@ use Rattle.std.proofs.Common.{◌≡◌, ℕ, ◌+◌, ◌<◌, ◌≤◌, Bool,
 use Rattle.std.proofs.lemmas.Bool.{ltb-false, le-ltb, eqb-false, ne_eqb}
 use Rattle.std.specs.List.{flat_map}
 use Rattle.redo_model.specs.Names.{Text}
-use Rattle.redo_model.specs.Command.{Command, names_in}
+use Rattle.redo_model.specs.Command.{Command, Item, commands_in, names_in}
 use Rattle.redo_text.specs.declared.fault.LineFault.{LineFault}
 use Rattle.redo_text.specs.declared.fault.LineFault.TheVariants.{LineTooLong, TooManyLines}
-use Rattle.redo_text.specs.Grammar.{is_skipped, lines_of, AddsNames, AreCommandLines, AreScriptLines, IsScript}
-use Rattle.redo_text.specs.Questions.{file_line_fault}
+use Rattle.redo_text.specs.Grammar.{is_skipped, lines_of, AddsNames, AreItemLines, AreScriptLines, IsScript}
+use Rattle.redo_text.specs.Questions.{file_line_fault, unguarded}
 use Rattle.redo_text.specs.Faults.{FailsAfter}
-use Rattle.redo_text.specs.Inside.Reading.{Reading, ◌>>=◌, line_in, script_line_in}
+use Rattle.redo_text.specs.Inside.Reading.{Reading, ◌>>=◌, line_in, item_in, script_line_in}
 use Rattle.redo_text.proofs.Asked.{fault_in, asked_file_line}
-use Rattle.redo_text.proofs.LineLaws.{line_found, line_only}
+use Rattle.redo_text.proofs.Guards.{item_found, item_only}
 use Rattle.redo_text.proofs.ScriptParts.{with_names-longer, InParts, script_split}
 
 abbrev LineRead : Type 0
-LineRead = Result (Option (Command Text) × List Text) LineFault
+LineRead = Result (Option (Item Text) × List Text) LineFault
 
-abbrev line_read : Option (Command Text) × List Text → LineRead
+abbrev line_read : Option (Item Text) × List Text → LineRead
 line_read x = Ok x
 
--- the commands of a line that was read
-abbrev pub commands_read : Option (Command Text) → List (Command Text)
-commands_read None = []
-commands_read (Some command) = command ∷ []
+-- the items of a line that was read
+abbrev pub items_read : Option (Item Text) → List (Item Text)
+items_read None = []
+items_read (Some item) = item ∷ []
 
-filter_one : (line : Text) (skipped : Bool) → is_skipped line ≡ skipped
+pub filter_one : (line : Text) (skipped : Bool) → is_skipped line ≡ skipped
     → filter (λ l. not (is_skipped l)) (line ∷ []) ≡ cond (not skipped) (line ∷ []) []
 filter_one line skipped e = ap (λ (b : Bool). cond (not b) (line ∷ []) []) e
 
--- a command that was read, with what the line gave
-record ReadFrom (given : Reading) (read : Option (Command Text)) (after : List Text) : Type 0 where
+-- a command that was read, with what the rest of the line gave
+record ReadFrom (line : Text) (given : Reading) (read : Option (Item Text)) (after : List Text)
+    : Type 0 where
   command : Command Text
-  is : read ≡ Some command
-  line : given ≡ Ok (command, after)
+  is : read ≡ Some (item_in line command)
+  rest : given ≡ Ok (command, after)
 
-abbrev then_some : Reading → LineRead
-then_some given = given >>= λ x. Ok (Some x.0, x.1)
+abbrev then_item : Text → Reading → LineRead
+then_item line given = given >>= λ x. Ok (Some (item_in line x.0), x.1)
 
-read_is : (x : Option (Command Text) × List Text) (read : Option (Command Text)) (after : List Text)
+read_is : (x : Option (Item Text) × List Text) (read : Option (Item Text)) (after : List Text)
     → line_read x ≡ Ok (read, after) → (x.0 ≡ read) × (x.1 ≡ after)
 read_is x read after e =
     let same : x ≡ (read, after) = cc in (
-      ap (λ (y : Option (Command Text) × List Text). y.0) same,
-      ap (λ (y : Option (Command Text) × List Text). y.1) same,
+      ap (λ (y : Option (Item Text) × List Text). y.0) same,
+      ap (λ (y : Option (Item Text) × List Text). y.1) same,
     )
 
-read_from : (given : Reading) (read : Option (Command Text)) (after : List Text)
-    → then_some given ≡ Ok (read, after) → ReadFrom given read after
-read_from (Err fault) read after e = absurd cc
-read_from (Ok x) read after e =
-    let h = read_is (Some x.0, x.1) read after e in
-    record { command = x.0; is = sym h.0; line = λ i. Ok (x.0, h.1 i) }
+read_from : (line : Text) (given : Reading) (read : Option (Item Text)) (after : List Text)
+    → then_item line given ≡ Ok (read, after) → ReadFrom line given read after
+read_from line (Err fault) read after e = absurd cc
+read_from line (Ok x) read after e =
+    let h = read_is (Some (item_in line x.0), x.1) read after e in
+    record { command = x.0; is = sym h.0; rest = λ i. Ok (x.0, h.1 i) }
 
--- the line alone is read so, and there is room for its command
-pub record Taken (count : ℕ) (names : List Text) (line : Text) (read : Option (Command Text))
+-- the line alone is read so, and there is room for its item
+pub record Taken (count : ℕ) (names : List Text) (line : Text) (read : Option (Item Text))
     (after : List Text) : Type 0 where
-  pub script : AreScriptLines names (line ∷ []) (commands_read read) after
-  pub room : count + length (commands_read read) ≤ 4096
+  pub script : AreScriptLines names (line ∷ []) (items_read read) after
+  pub room : count + length (items_read read) ≤ 4096
 
 none_taken : (count : ℕ) (names : List Text) (line : Text) → count ≤ 4096 → length names ≤ 65536
     → length line ≤ 8192 → is_skipped line ≡ true → Taken count names line None names
 none_taken count names line room few short skipped = record {
   script = record {
     short = (short, tt);
-    said = subst (λ (l : List Text). AreCommandLines l []) (sym (filter_one line true skipped)) tt;
+    said = subst (λ (l : List Text). AreItemLines l []) (sym (filter_one line true skipped)) tt;
     few = omega arith;
     named = (refl, few);
   };
@@ -73,14 +74,14 @@ none_taken count names line room few short skipped = record {
 
 some_taken : (count : ℕ) (names : List Text) (line : Text) (command : Command Text)
     (after : List Text) → count < 4096 → length names ≤ 65536 → length line ≤ 8192
-    → is_skipped line ≡ false
-    → line_in names line ≡ Ok (command, after) → Taken count names line (Some command) after
+    → is_skipped line ≡ false → line_in names (unguarded line) ≡ Ok (command, after)
+    → Taken count names line (Some (item_in line command)) after
 some_taken count names line command after room few short said e =
-    let found = line_found names line command after few e in
+    let found = item_found names line command after few short e in
     record {
       script = record {
         short = (short, tt);
-        said = subst (λ (l : List Text). AreCommandLines l (command ∷ []))
+        said = subst (λ (l : List Text). AreItemLines l (item_in line command ∷ []))
             (sym (filter_one line false said)) (found.0, tt);
         few = omega arith;
         named = found.1;
@@ -89,7 +90,7 @@ some_taken count names line command after room few short said e =
     }
 
 -- what a line of a script is read as, it says
-pub line_taken : (count : ℕ) (names : List Text) (line : Text) (read : Option (Command Text))
+pub line_taken : (count : ℕ) (names : List Text) (line : Text) (read : Option (Item Text))
     (after : List Text) → count ≤ 4096 → length names ≤ 65536
     → script_line_in count names line ≡ Ok (read, after) → Taken count names line read after
 unfolding script_line_in
@@ -99,22 +100,23 @@ line_taken count names line read after room few e =
     by : (long skipped full : Bool) → ltb 8192 (length line) ≡ long → is_skipped line ≡ skipped
         → eqb count 4096 ≡ full
         → cond long (Err LineTooLong) (cond skipped (line_read (None, names))
-        (cond full (Err TooManyLines) (then_some (line_in names line)))) ≡ Ok (read, after)
+        (cond full (Err TooManyLines) (then_item line (line_in names (unguarded line)))))
+        ≡ Ok (read, after)
         → Taken count names line read after
     by true skipped full l s f h = absurd cc
     by false true full l s f h =
         let is = read_is (None, names) read after h in
         subst (λ (a : List Text). Taken count names line read a) is.1
-        (subst (λ (r : Option (Command Text)). Taken count names line r names) is.0
+        (subst (λ (r : Option (Item Text)). Taken count names line r names) is.0
         (none_taken count names line room few (ltb-false _ _ l) s))
     by false false true l s f h = absurd cc
     by false false false l s f h =
-        let from : ReadFrom (line_in names line) read after =
-        read_from (line_in names line) read after h in
+        let from : ReadFrom line (line_in names (unguarded line)) read after =
+        read_from line (line_in names (unguarded line)) read after h in
         let differ : count ≡ 4096 → ⊥ = eqb-false count 4096 f in
         let lt : count < 4096 = omega (arith, differ) in
-        subst (λ (r : Option (Command Text)). Taken count names line r after) (sym from.is)
-        (some_taken count names line from.command after lt few (ltb-false _ _ l) s from.line)
+        subst (λ (r : Option (Item Text)). Taken count names line r after) (sym from.is)
+        (some_taken count names line from.command after lt few (ltb-false _ _ l) s from.rest)
 
 skipped_line : (count : ℕ) (names : List Text) (line : Text) → length line ≤ 8192
     → is_skipped line ≡ true → script_line_in count names line ≡ Ok (None, names)
@@ -122,39 +124,39 @@ unfolding script_line_in
 skipped_line count names line short s =
     let l : ltb 8192 (length line) ≡ false = le-ltb 8192 (length line) short in
     λ i. cond (l i) (Err LineTooLong) (cond (s i) (line_read (None, names))
-    (cond (eqb count 4096) (Err TooManyLines) (then_some (line_in names line))))
+    (cond (eqb count 4096) (Err TooManyLines) (then_item line (line_in names (unguarded line)))))
 
-said_line : (count : ℕ) (names : List Text) (line : Text) (command : Command Text)
+said_line : (count : ℕ) (names : List Text) (line : Text) (item : Item Text)
     (after : List Text) → length line ≤ 8192 → is_skipped line ≡ false → count < 4096
-    → line_in names line ≡ Ok (command, after) → script_line_in count names line ≡ Ok (
-      Some command,
-      after,
-    )
+    → (line_in names (unguarded line) ≡ Ok (item.command, after))
+    × (item_in line item.command ≡ item)
+    → script_line_in count names line ≡ Ok (Some item, after)
 unfolding script_line_in
-said_line count names line command after short s room e =
+said_line count names line item after short s room e =
     let l : ltb 8192 (length line) ≡ false = le-ltb 8192 (length line) short in
     let f : eqb count 4096 ≡ false = ne_eqb count 4096 (λ (full : count ≡ 4096). omega arith) in
-    λ i. cond (l i) (Err LineTooLong)
-    (cond (s i) (line_read (None, names)) (cond (f i) (Err TooManyLines) (then_some (e i))))
+    (λ i. cond (l i) (Err LineTooLong) (cond (s i) (line_read (None, names))
+    (cond (f i) (Err TooManyLines) (then_item line (e.0 i)))))
+    ∙ ap (λ (said : Item Text). line_read (Some said, after)) e.1
 
--- what reading a line of a script gives, where the commands are the line's
-pub record Takes (count : ℕ) (names : List Text) (text : Text) (commands : List (Command Text))
+-- what reading a line of a script gives, where the items are the line's
+pub record Takes (count : ℕ) (names : List Text) (text : Text) (items : List (Item Text))
     (after : List Text) : Type 0 where
-  pub read : Option (Command Text)
+  pub read : Option (Item Text)
   pub gives : script_line_in count names text ≡ Ok (read, after)
-  pub whole : commands ≡ commands_read read
+  pub whole : items ≡ items_read read
 
 -- what a line of a script says, it is read as
-pub line_takes : (count : ℕ) (names : List Text) (line : Text) (commands : List (Command Text))
-    (after : List Text) → AreScriptLines names (line ∷ []) commands after
-    → count + length commands ≤ 4096
-    → Takes count names line commands after
-line_takes count names line commands after script room =
-    by (is_skipped line) refl commands script.said room script.named
+pub line_takes : (count : ℕ) (names : List Text) (line : Text) (items : List (Item Text))
+    (after : List Text) → AreScriptLines names (line ∷ []) items after
+    → count + length items ≤ 4096
+    → Takes count names line items after
+line_takes count names line items after script room =
+    by (is_skipped line) refl items script.said room script.named
   where
-    by : (skipped : Bool) → is_skipped line ≡ skipped → (cs : List (Command Text))
-        → AreCommandLines (cond (not skipped) (line ∷ []) []) cs → count + length cs ≤ 4096
-        → AddsNames names cs after → Takes count names line cs after
+    by : (skipped : Bool) → is_skipped line ≡ skipped → (cs : List (Item Text))
+        → AreItemLines (cond (not skipped) (line ∷ []) []) cs → count + length cs ≤ 4096
+        → AddsNames names (commands_in cs) after → Takes count names line cs after
     by true s [] said fits adds = record {
       read = None;
       gives = subst (λ (a : List Text). script_line_in count names line ≡ Ok (None, a))
@@ -166,27 +168,27 @@ line_takes count names line commands after script room =
     by false s (c ∷ []) said fits adds =
         let longer : length names ≤ length after =
         subst (λ (a : List Text). length names ≤ length a) (sym adds.0)
-        (with_names-longer names (flat_map names_in (c ∷ []))) in
+        (with_names-longer names (flat_map names_in (c.command ∷ []))) in
         let fit : length after ≤ 65536 = adds.1 in
         record {
           read = Some c;
           gives = said_line count names line c after script.short.0 s
-              (omega arith) (line_only names line c after (omega arith) said.0 adds);
+              (omega arith) (item_only names line c after (omega arith) said.0 adds);
           whole = refl;
         }
     by false s (c ∷ d ∷ cs) said fits adds = absurd said.1
 
--- a script says one list of commands, and adds one list of names
-pub scripts_agree : (names : List Text) (lines : List Text) (commands : List (Command Text))
-    (after : List Text) (others : List (Command Text)) (others_after : List Text)
-    → AreScriptLines names lines commands after → AreScriptLines names lines others others_after
-    → (commands ≡ others) × (after ≡ others_after)
+-- a script says one list of items, and adds one list of names
+pub scripts_agree : (names : List Text) (lines : List Text) (items : List (Item Text))
+    (after : List Text) (others : List (Item Text)) (others_after : List Text)
+    → AreScriptLines names lines items after → AreScriptLines names lines others others_after
+    → (items ≡ others) × (after ≡ others_after)
 scripts_agree names [] [] after [] others_after one other = (refl, one.named.0 ∙ sym other.named.0)
 scripts_agree names [] [] after (d ∷ ds) others_after one other = absurd other.said
 scripts_agree names [] (c ∷ cs) after others others_after one other = absurd one.said
-scripts_agree names (line ∷ lines) commands after others others_after one other =
-    let p : InParts names (line ∷ []) lines commands after =
-    script_split names (line ∷ []) lines commands after one in
+scripts_agree names (line ∷ lines) items after others others_after one other =
+    let p : InParts names (line ∷ []) lines items after =
+    script_split names (line ∷ []) lines items after one in
     let q : InParts names (line ∷ []) lines others others_after =
     script_split names (line ∷ []) lines others others_after other in
     let x : Takes 0 names line p.first p.mid =
@@ -197,29 +199,29 @@ scripts_agree names (line ∷ lines) commands after others others_after one othe
     let rest =
     scripts_agree q.mid lines p.second after q.second others_after
     (subst (λ (m : List Text). AreScriptLines m lines p.second after) same.1 p.other) q.other in
-    let first : p.first ≡ q.first = x.whole ∙ ap commands_read same.0 ∙ sym y.whole in
+    let first : p.first ≡ q.first = x.whole ∙ ap items_read same.0 ∙ sym y.whole in
     (p.whole ∙ (λ i. first i ++ rest.0 i) ∙ sym q.whole, rest.1)
 
 -- with the same names before, a text is one script
-pub one_script : (names : List Text) (text : Text) (a b : List (Command Text)) (n m : List Text)
+pub one_script : (names : List Text) (text : Text) (a b : List (Item Text)) (n m : List Text)
     → IsScript names text a n → IsScript names text b m → (a ≡ b) × (n ≡ m)
 one_script names text a b n m = scripts_agree names (lines_of text) a n b m
 
--- no line of a script fails after the commands of the lines before it
+-- no line of a script fails after the items of the lines before it
 pub no_fault_in_a_script : (names : List Text) (before : List Text) (line : Text) (rest : List Text)
-    (commands : List (Command Text)) (after : List Text) (fault : LineFault)
-    → AreScriptLines names (before ++ line ∷ rest) commands after
+    (items : List (Item Text)) (after : List Text) (fault : LineFault)
+    → AreScriptLines names (before ++ line ∷ rest) items after
     → FailsAfter names before line fault → ⊥
-no_fault_in_a_script names before line rest commands after fault script fails =
-    let p : InParts names before (line ∷ rest) commands after =
-    script_split names before (line ∷ rest) commands after script in
+no_fault_in_a_script names before line rest items after fault script fails =
+    let p : InParts names before (line ∷ rest) items after =
+    script_split names before (line ∷ rest) items after script in
     let q : InParts p.mid (line ∷ []) rest p.second after =
     script_split p.mid (line ∷ []) rest p.second after p.other in
     let same =
-    scripts_agree names before p.first p.mid fails.commands fails.after p.one fails.read in
+    scripts_agree names before p.first p.mid fails.items fails.after p.one fails.read in
     let few : length p.first + (length q.first + length q.second) ≤ 4096 =
     subst (λ (n : ℕ). n ≤ 4096) (ap length p.whole ∙ length-append p.first p.second
-    ∙ ap (λ (l : List (Command Text)). length p.first + length l) q.whole
+    ∙ ap (λ (l : List (Item Text)). length p.first + length l) q.whole
     ∙ ap (λ (n : ℕ). length p.first + n) (length-append q.first q.second)) script.few in
     let x : Takes (length p.first) p.mid line q.first q.mid =
     line_takes (length p.first) p.mid line q.first q.mid q.one (omega arith) in

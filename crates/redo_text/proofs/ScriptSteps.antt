@@ -2,7 +2,7 @@
 use Rattle.std.proofs.Common.{◌≡◌, ℕ, ◌+◌, List, [], ◌∷◌, ◌++◌, length, Err, refl, sym, ap, subst, ◌∙◌, arith, length-append, append_assoc}
 use Rattle.std.specs.Prelude.{MatchOption, Option, Some, None}
 use Rattle.redo_model.specs.Names.{Text}
-use Rattle.redo_model.specs.Command.{Command}
+use Rattle.redo_model.specs.Command.{Item}
 use Rattle.redo_text.specs.Grammar.{lines_of, IsScript, AreScriptLines}
 use Rattle.redo_text.specs.Faults.{IsFirstFault}
 use Rattle.redo_text.specs.Inside.Faults.{IsReadFault}
@@ -15,26 +15,26 @@ use Rattle.redo_text.specs.declared.fault.ReadFault.TheVariants as faults
 use Rattle.redo_text.proofs.Asked.{fault_in, asked_file_line}
 use Rattle.redo_text.proofs.ScriptLaws.{no_fault_in_a_script}
 
--- the lines before the rest are read as these commands, and the rest begins at the line of this
+-- the lines before the rest are read as these items, and the rest begins at the line of this
 -- number
 pub record IsReadSoFar (names : List Text) (text : Text) (rest : Text) (number : ℕ)
-    (commands : List (Command Text)) (after : List Text) : Type 0 where
+    (items : List (Item Text)) (after : List Text) : Type 0 where
   pub before : List Text
   pub lines : lines_of text ≡ before ++ lines_of rest
   pub counted : number ≡ length before + 1
-  pub script : AreScriptLines names before commands after
+  pub script : AreScriptLines names before items after
 
 -- a line that can be read after what was read
-abbrev Follows : Text → List (Command Text) → List Text → List (Command Text) → List Text → Type 0
-Follows line commands names more after =
-    (start before : List Text) → AreScriptLines start before commands names
+abbrev Follows : Text → List (Item Text) → List Text → List (Item Text) → List Text → Type 0
+Follows line items names more after =
+    (start before : List Text) → AreScriptLines start before items names
     → AreScriptLines start (before ++ line ∷ []) more after
 
-pub line_read : (names : List Text) (text rest next line : Text) (number : ℕ) (commands : List
-    (Command Text)) (after : List Text) (more : List (Command Text)) (later : List Text)
-    → IsReadSoFar names text rest number commands after → lines_of rest ≡ line ∷ lines_of next
-    → Follows line commands after more later → IsReadSoFar names text next (number + 1) more later
-line_read names text rest next line number commands after more later so_far first follows = record {
+pub line_read : (names : List Text) (text rest next line : Text) (number : ℕ) (items : List
+    (Item Text)) (after : List Text) (more : List (Item Text)) (later : List Text)
+    → IsReadSoFar names text rest number items after → lines_of rest ≡ line ∷ lines_of next
+    → Follows line items after more later → IsReadSoFar names text next (number + 1) more later
+line_read names text rest next line number items after more later so_far first follows = record {
   before = so_far.before ++ line ∷ [];
   lines = so_far.lines ∙ ap (λ (l : List Text). so_far.before ++ l) first
       ∙ sym (append_assoc so_far.before (line ∷ []) (lines_of next));
@@ -42,49 +42,49 @@ line_read names text rest next line number commands after more later so_far firs
   script = follows names so_far.before so_far.script;
 }
 
-pub last_read : (names : List Text) (text rest line : Text) (number : ℕ) (commands : List
-    (Command Text)) (after : List Text) (more : List (Command Text)) (later : List Text)
-    → IsReadSoFar names text rest number commands after → lines_of rest ≡ line ∷ []
-    → Follows line commands after more later → IsScript names text more later
-last_read names text rest line number commands after more later so_far first follows =
+pub last_read : (names : List Text) (text rest line : Text) (number : ℕ) (items : List
+    (Item Text)) (after : List Text) (more : List (Item Text)) (later : List Text)
+    → IsReadSoFar names text rest number items after → lines_of rest ≡ line ∷ []
+    → Follows line items after more later → IsScript names text more later
+last_read names text rest line number items after more later so_far first follows =
     let lines : lines_of text ≡ so_far.before ++ line ∷ [] =
     so_far.lines ∙ ap (λ (l : List Text). so_far.before ++ l) first in
     subst (λ (l : List Text). AreScriptLines names l more later) (sym lines)
     (follows names so_far.before so_far.script)
 
 pub line_fails : (names : List Text) (text rest line : Text) (others : List Text) (number : ℕ)
-    (commands : List (Command Text)) (after : List Text) (fault : LineFault)
-    → IsReadSoFar names text rest number commands after → lines_of rest ≡ line ∷ others
-    → script_line_in (length commands) after line ≡ Err fault → IsFirstFault names text number fault
-line_fails names text rest line others number commands after fault so_far first fails = record {
+    (items : List (Item Text)) (after : List Text) (fault : LineFault)
+    → IsReadSoFar names text rest number items after → lines_of rest ≡ line ∷ others
+    → script_line_in (length items) after line ≡ Err fault → IsFirstFault names text number fault
+line_fails names text rest line others number items after fault so_far first fails = record {
   before = so_far.before;
   line = line;
   rest = others;
   lines = so_far.lines ∙ ap (λ (l : List Text). so_far.before ++ l) first;
   counted = so_far.counted;
   fails = record {
-    commands = commands;
+    items = items;
     after = after;
     read = so_far.script;
     fails =
-        sym (asked_file_line (length commands) after line so_far.script.named.1) ∙ ap fault_in fails;
+        sym (asked_file_line (length items) after line so_far.script.named.1) ∙ ap fault_in fails;
   };
 }
 
 -- a script has no fault
-pub no_first_fault : (names : List Text) (text : Text) (commands : List (Command Text))
-    (after : List Text) (number : ℕ) (fault : LineFault) → IsScript names text commands after
+pub no_first_fault : (names : List Text) (text : Text) (items : List (Item Text))
+    (after : List Text) (number : ℕ) (fault : LineFault) → IsScript names text items after
     → IsFirstFault names text number fault → ⊥
-no_first_fault names text commands after number fault script first =
-    no_fault_in_a_script names first.before first.line first.rest commands after fault (subst
-    (λ (l : List Text). AreScriptLines names l commands after) first.lines script) first.fails
+no_first_fault names text items after number fault script first =
+    no_fault_in_a_script names first.before first.line first.rest items after fault (subst
+    (λ (l : List Text). AreScriptLines names l items after) first.lines script) first.fails
 
-pub no_read_fault : (names : List Text) (text : Text) (commands : List (Command Text))
+pub no_read_fault : (names : List Text) (text : Text) (items : List (Item Text))
     (after : List Text) (fault : ReadFault)
-    → IsScript names text commands after → IsReadFault names text fault → fault ≡ faults.Memory
-no_read_fault names text commands after faults.Memory script is = refl
-no_read_fault names text commands after (faults.Line number fault) script is =
-    absurd (no_first_fault names text commands after number fault script is)
+    → IsScript names text items after → IsReadFault names text fault → fault ≡ faults.Memory
+no_read_fault names text items after faults.Memory script is = refl
+no_read_fault names text items after (faults.Line number fault) script is =
+    absurd (no_first_fault names text items after number fault script is)
 
 module _ (names : List Text) (text : Text) (number : ℕ) (why : Unread) (result : ReadFault)
     (memory : why ≡ unread.Memory → result ≡ faults.Memory)
@@ -100,14 +100,14 @@ module _ (names : List Text) (text : Text) (number : ℕ) (why : Unread) (result
           subst (IsReadFault names text) (sym (line fault e)) (first fault e)
 
   -- where the text is a script, memory ran out
-  pub only_memory : (commands : List (Command Text)) (after : List Text)
-      → IsScript names text commands after → result ≡ faults.Memory
-  only_memory commands after script = by why refl
+  pub only_memory : (items : List (Item Text)) (after : List Text)
+      → IsScript names text items after → result ≡ faults.Memory
+  only_memory items after script = by why refl
     where
       by : (w : Unread) → why ≡ w → result ≡ faults.Memory
       by unread.Memory e = memory e
       by (unread.Fault fault) e =
-          absurd (no_first_fault names text commands after number fault script (first fault e))
+          absurd (no_first_fault names text items after number fault script (first fault e))
 
 -- the first line is there
 pub first_is : {X : Type 0} (o : Option X) (lines : List Text) (line : Text) (f : X

@@ -1,18 +1,18 @@
 -- Why a line is not read as a command, and a text not as a session file.
 use Rattle.std.specs.Prelude.{◌≡◌, ℕ, ◌+◌, List, ◌∷◌, ◌++◌, length, Some}
 use Rattle.redo_model.specs.Names.{Text}
-use Rattle.redo_model.specs.Command.{Command}
+use Rattle.redo_model.specs.Command.{Item}
 use Rattle.redo_text.specs.declared.fault.LineFault.{LineFault}
 use Rattle.redo_text.specs.Grammar.{lines_of, AreScriptLines}
 use Rattle.redo_text.specs.Questions.{file_line_fault}
 
--- the lines before it are those of commands, and with these before it the line has this fault
+-- the lines before it are those of items, and with these before it the line has this fault
 pub record FailsAfter (names : List Text) (before : List Text) (line : Text)
     (fault : LineFault) : Type 0 where
-  pub commands : List (Command Text)
+  pub items : List (Item Text)
   pub after : List Text
-  pub read : AreScriptLines names before commands after
-  pub fails : file_line_fault (length commands) after line ≡ Some fault
+  pub read : AreScriptLines names before items after
+  pub fails : file_line_fault (length items) after line ≡ Some fault
 
 -- the text's first faulty line has this number, counted from 1, and this fault
 pub record IsFirstFault (names : List Text) (text : Text) (number : ℕ)

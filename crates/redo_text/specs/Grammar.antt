@@ -1,12 +1,12 @@
--- Which texts are commands and scripts.
+-- Which texts are commands, lines of scripts, and scripts.
 use Rattle.std.specs.Prelude.{◌≡◌, ◌≢◌, ◌<◌, ◌≤◌, ◌⊎◌, Bool, true, not, List, [], ◌∷◌, length, filter, IsTrue, IfSome, Ok, codes, ◌==◌, ⊤}
 use Rattle.std.specs.List.{slice_split, flat_map, AllByRecursion}
 use Rattle.hex.specs.Hex.{decode_of}
 use Rattle.redo_names.specs.Names.{is_name, with_name, AreAllNames}
 use Rattle.redo_model.specs.Names.{Text}
-use Rattle.redo_model.specs.Command.{Command, File, Gone, Lock, Unlock, Start, IfChange, IfCreate, Always, Stamp, Done, Failed, Ood, Targets, Sources, names_in}
+use Rattle.redo_model.specs.Command.{Command, Item, commands_in, File, Gone, Lock, Unlock, Start, IfChange, IfCreate, Always, Stamp, Done, Failed, Ood, Targets, Sources, names_in}
 use Rattle.redo_terms.specs.Stamp.{is_stamp}
-use Rattle.redo_text.specs.Texts.{spaced, command_text_of}
+use Rattle.redo_text.specs.Texts.{spaced, command_text_of, with_guard}
 
 -- 1 to 64 names
 pub record IsNameList (names : List Text) : Type 0 where
@@ -31,7 +31,7 @@ HasForm Ood = ⊤
 HasForm Targets = ⊤
 HasForm Sources = ⊤
 
--- a line may have 8,192 bytes, a script 4,096 commands, a run 65,536 names
+-- a line may have 8,192 bytes, a script 4,096 items, a run 65,536 names
 abbrev pub IsShort : Text → Type 0
 IsShort line = length line ≤ 8192
 
@@ -50,6 +50,13 @@ IsSpelled line command = line ≡ command_text_of command
 -- the line says the command
 abbrev pub IsCommandLine : Text → Command Text → Type 0
 IsCommandLine line command = HasForm command × IsShort line × IsSpelled line command
+
+-- the line says the item: after its guard, where it has one, stands the command's line
+pub record IsItemLine (line : Text) (item : Item Text) : Type 0 where
+  pub short : IsShort line
+  pub said : Text
+  pub guard : line ≡ with_guard item.guarded said
+  pub command : IsCommandLine said item.command
 
 -- the names, and after them the new ones of these, each once, in the order in which they are met
 abbrev pub with_names : List Text → List Text → List Text
@@ -71,22 +78,21 @@ abbrev pub is_skipped : Text → Bool
 is_skipped [] = true
 is_skipped (b ∷ bs) = b == 35
 
--- each line is its command's
-abbrev pub AreCommandLines : List Text → List (Command Text) → Type 0
-AreCommandLines [] [] = ⊤
-AreCommandLines [] (command ∷ commands) = ⊥
-AreCommandLines (line ∷ lines) [] = ⊥
-AreCommandLines (line ∷ lines) (command ∷ commands) =
-    IsCommandLine line command × AreCommandLines lines commands
+-- each line is its item's
+abbrev pub AreItemLines : List Text → List (Item Text) → Type 0
+AreItemLines [] [] = ⊤
+AreItemLines [] (item ∷ items) = ⊥
+AreItemLines (line ∷ lines) [] = ⊥
+AreItemLines (line ∷ lines) (item ∷ items) = IsItemLine line item × AreItemLines lines items
 
--- the lines that are not skipped are these commands, one by one
-pub record AreScriptLines (names : List Text) (lines : List Text) (commands : List (Command Text))
+-- the lines that are not skipped are these items, one by one
+pub record AreScriptLines (names : List Text) (lines : List Text) (items : List (Item Text))
     (after : List Text) : Type 0 where
   pub short : AllByRecursion IsShort lines
-  pub said : AreCommandLines (filter (λ line. not (is_skipped line)) lines) commands
-  pub few : length commands ≤ 4096
-  pub named : AddsNames names commands after
+  pub said : AreItemLines (filter (λ line. not (is_skipped line)) lines) items
+  pub few : length items ≤ 4096
+  pub named : AddsNames names (commands_in items) after
 
--- the text is a script of these commands, and after are the names with its names
-abbrev pub IsScript : List Text → Text → List (Command Text) → List Text → Type 0
-IsScript names text commands after = AreScriptLines names (lines_of text) commands after
+-- the text is a script of these items, and after are the names with its names
+abbrev pub IsScript : List Text → Text → List (Item Text) → List Text → Type 0
+IsScript names text items after = AreScriptLines names (lines_of text) items after

@@ -1,7 +1,7 @@
 -- What is wrong with a line: a list of questions about it, each with its fault. The first question
 -- that is answered by yes tells the line's fault.
 use Rattle.std.specs.Prelude.{ℕ, ◌%◌, List, [], ◌∷◌, ◌++◌, map, drop, length, Option, Some, None}
-use Rattle.std.specs.Prelude.{Bool, true, not, ◌&&◌, ◌||◌, ◌==◌, nat_lt, nat_le, if◌then◌else◌, codes, bytes_eq, find}
+use Rattle.std.specs.Prelude.{Bool, true, false, not, ◌&&◌, ◌||◌, ◌==◌, nat_lt, nat_le, if◌then◌else◌, codes, bytes_eq, find}
 use Rattle.std.specs.List.{slice_split, list_any, list_all}
 use Rattle.hex.specs.Hex.{is_hex_digit}
 use Rattle.redo_names.specs.Names.{is_name}
@@ -131,12 +131,24 @@ text_questions names line =
 unfoldable pub line_fault : List Text → Text → Option LineFault
 line_fault names line = first_yes ((is_too_long line, LineTooLong) ∷ text_questions names line)
 
--- what is asked about a line of a session file after so many commands, where it is not too long
+-- does it begin with "? "?
+abbrev pub is_guarded : Text → Bool
+is_guarded [] = false
+is_guarded (b ∷ []) = false
+is_guarded (b ∷ c ∷ bs) = b == 63 && c == 32
+
+-- the line without a leading "? "
+abbrev pub unguarded : Text → Text
+unguarded line = if is_guarded line then drop 2 line else line
+
+-- what is asked about a line of a session file after so many items, where it is not too long
 abbrev pub file_line_questions : ℕ → List Text → Text → List Question
 file_line_questions count names line =
-    if is_skipped line then [] else (count == 4096, TooManyLines) ∷ text_questions names line
+    if is_skipped line then []
+    else (count == 4096, TooManyLines) ∷ (has_bad_byte line, BadByte)
+    ∷ word_list_questions names (words_of (unguarded line))
 
--- the fault of a line of a session file, after so many commands
+-- the fault of a line of a session file, after so many items
 unfoldable pub file_line_fault : ℕ → List Text → Text → Option LineFault
 file_line_fault count names line =
     first_yes ((is_too_long line, LineTooLong) ∷ file_line_questions count names line)

@@ -1,9 +1,9 @@
 -- The texts of commands and replies.
-use Rattle.std.specs.Prelude.{List, [], ◌∷◌, ◌++◌, Option, Some, None, codes, decimal}
+use Rattle.std.specs.Prelude.{Bool, true, false, List, [], ◌∷◌, ◌++◌, Option, Some, None, codes, decimal}
 use Rattle.std.specs.List.{flat_map}
 use Rattle.hex.specs.Hex.{encode_lower}
 use Rattle.redo_model.specs.Names.{Text}
-use Rattle.redo_model.specs.Command.{Command, File, Gone, Lock, Unlock, Start, IfChange, IfCreate, Always, Stamp, Done, Failed, Ood, Targets, Sources}
+use Rattle.redo_model.specs.Command.{Command, Item, File, Gone, Lock, Unlock, Start, IfChange, IfCreate, Always, Stamp, Done, Failed, Ood, Targets, Sources}
 use Rattle.redo_model.specs.Reply.{Refusal, NotLocked, Building, NotBuilding, Itself, Exists, Reply, Okay, Granted, Busy, Stale, Stamped, Refused}
 use Rattle.redo_model.specs.Reply as replies
 use Rattle.redo_terms.specs.declared.kind.Kind.{Kind}
@@ -59,6 +59,15 @@ command_text_of (Failed t) = spaced (codes "failed") (t ∷ [])
 command_text_of Ood = codes "ood"
 command_text_of Targets = codes "targets"
 command_text_of Sources = codes "sources"
+
+-- a guarded line of a script begins with "? "
+abbrev pub with_guard : Bool → Text → Text
+with_guard true text = codes "? " ++ text
+with_guard false text = text
+
+-- the text of a line of a script
+abbrev pub item_text_of : Item Text → Text
+item_text_of item = with_guard item.guarded (command_text_of item.command)
 
 abbrev pub refusal_words : Refusal Text → List Text
 refusal_words NotLocked = codes "not-locked" ∷ []

@@ -1,9 +1,9 @@
 // What command lines, session files and the texts of replies are.
 ghost use Rattle.std.specs.Prelude.{◌≡◌, ◌≤◌, ◌⊎◌, ℕ, List, [], ◌∷◌, length, None};
 ghost use Rattle.redo_model.specs.Names.{Text};
-ghost use Rattle.redo_model.specs.Command.{Command};
+ghost use Rattle.redo_model.specs.Command.{Command, Item};
 ghost use Rattle.redo_model.specs.Reply.{Reply};
-ghost use Rattle.redo_text.specs.Texts.{command_text_of, reply_text_of};
+ghost use Rattle.redo_text.specs.Texts.{command_text_of, item_text_of, reply_text_of};
 ghost use Rattle.redo_text.specs.Grammar.{HasForm, IsShort, IsCommandLine, IsScript, AddsNames};
 ghost use Rattle.redo_text.specs.Questions.{line_fault};
 ghost use Rattle.redo_text.specs.Faults.{IsFirstFault};
@@ -16,6 +16,14 @@ ghost use Rattle.redo_text.specs.Replies.{HasReplyForm, IsReplyText};
 pub fn command_reads_back()
     ensures { (command : Command Text) → HasForm command → IsShort (command_text_of command)
         → IsCommandLine (command_text_of command) command }
+{}
+
+/// The text of a line of a script, as a file of one line, is the session file of that line alone,
+/// where it is not too long and its names fit.
+pub fn line_reads_back()
+    ensures { (names : List Text) (item : Item Text) (after : List Text) → HasForm item.command
+        → IsShort (item_text_of item) → AddsNames names (item.command ∷ []) after
+        → IsScript names (item_text_of item) (item ∷ []) after }
 {}
 
 /// A line is the line of at most one command.
@@ -34,17 +42,17 @@ pub fn one_reply_a_text()
     ensures { (text : Text) (a b : Reply Text) → IsReplyText text a → IsReplyText text b → a ≡ b }
 {}
 
-/// With the same names before, a text is the session file of at most one list of commands, and
+/// With the same names before, a text is the session file of at most one list of items, and
 /// leaves one list of names.
 pub fn one_script()
-    ensures { (names : List Text) (text : Text) (a b : List (Command Text)) (n m : List Text)
+    ensures { (names : List Text) (text : Text) (a b : List (Item Text)) (n m : List Text)
         → IsScript names text a n → IsScript names text b m → (a ≡ b) × (n ≡ m) }
 {}
 
 /// A session file has no fault but want of memory.
 pub fn no_read_fault()
-    ensures { (names : List Text) (text : Text) (commands : List (Command Text))
-        (after : List Text) (fault : ReadFault) → IsScript names text commands after
+    ensures { (names : List Text) (text : Text) (items : List (Item Text))
+        (after : List Text) (fault : ReadFault) → IsScript names text items after
         → IsReadFault names text fault → fault ≡ ReadFault.Memory }
 {}
 
@@ -61,8 +69,7 @@ pub fn fault_or_command()
 /// A text is a session file, or it has a first fault, and it has no two.
 pub fn fault_or_script()
     ensures either { (names : List Text) (text : Text) → length names ≤ 65536
-        → ((commands : List (Command Text)) × (after : List Text)
-        × IsScript names text commands after)
+        → ((items : List (Item Text)) × (after : List Text) × IsScript names text items after)
         ⊎ ((number : ℕ) × (fault : LineFault) × IsFirstFault names text number fault) }
     ensures one { (names : List Text) (text : Text) (n m : ℕ) (a b : LineFault)
         → IsFirstFault names text n a → IsFirstFault names text m b → (n ≡ m) × (a ≡ b) }

@@ -20,8 +20,8 @@ mod words;
 
 pub use fault::{LineFault, ReadFault, ReplyFault};
 pub use laws::{
-    command_reads_back, fault_or_command, fault_or_script, no_read_fault, one_command_a_line,
-    one_reply_a_text, one_script, reply_reads_back,
+    command_reads_back, fault_or_command, fault_or_script, line_reads_back, no_read_fault,
+    one_command_a_line, one_reply_a_text, one_script, reply_reads_back,
 };
 pub use name_lists::MOST_LISTED_NAMES;
 pub use numbers::read_number;
@@ -29,4 +29,4 @@ pub use read::{LONGEST_LINE, MOST_COMMANDS, read_command};
 pub use replies::read_reply;
 pub use scan::place_of;
 pub use session_file::read_script;
-pub use text::{command_text, reply_text};
+pub use text::{command_text, line_text, reply_text};

@@ -5,9 +5,9 @@ ghost use Rattle.redo_model.specs.Names.{Text};
 ghost use Rattle.redo_model.specs.Command.{Command as CommandOf};
 ghost use Rattle.redo_model.specs.Renaming.{IsBelow};
 ghost use Rattle.redo_terms.specs.Meaning.{command_of};
-ghost use Rattle.redo_terms.specs.Inside.Meaning.{command_at};
+ghost use Rattle.redo_terms.specs.Inside.Meaning.{command_at, item_at};
 ghost use Rattle.redo_text.specs.Grammar.{IsCommandLine, IsShort, AddsNames, is_skipped as skipped_test};
-ghost use Rattle.redo_text.specs.Questions.{has_bad_byte as bad_byte_test};
+ghost use Rattle.redo_text.specs.Questions.{has_bad_byte as bad_byte_test, is_guarded, unguarded};
 ghost use Rattle.redo_text.specs.Inside.Faults.{IsLineFault, LeavesNames};
 ghost use Rattle.redo_text.specs.Inside.Reading.{Reads, LeavesWords, line_in, script_line_in};
 
@@ -15,7 +15,7 @@ use crate::fault::{LineFault, ReadFault, Unread, at_line};
 use crate::forms::form_of;
 use crate::words::has_bad_byte;
 use redo_names::{MOST_NAMES, Names};
-use redo_terms::Command;
+use redo_terms::{Command, Item};
 use std::alloc::Global;
 
 /// How many bytes a line has at most, without its LF.
@@ -87,18 +87,29 @@ fn is_skipped(line: &[u8]) -> bool
     }
 }
 
-/// Reads a line of a script that has `count` commands so far: nothing, where it is skipped.
+/// Whether a line begins with `? `, and the line without it.
+fn cut_guard(line: &[u8]) -> (bool, &[u8])
+    ensures guarded { result.0 ≡ is_guarded line.now }
+    ensures rest { result.1.now ≡ unguarded line.now }
+{
+    match line {
+        [b'?', b' ', rest @ ..] => (true, rest),
+        _ => (false, line),
+    }
+}
+
+/// Reads a line of a script that has `count` lines so far: nothing, where it is skipped.
 #[tactic(auto, using(crate::proofs::Added::extends_same), unfolding(crate::specs::Inside::Reading::script_line_in))]
 pub(crate) fn read_script_line(
     alloc: Global,
     line: &[u8],
     count: usize,
     names: &mut Names,
-) -> Result<Option<Command>, Unread>
-    ensures reads { Reads (λ read. (option_map (command_at names.new) read, names.new)) result
+) -> Result<Option<Item>, Unread>
+    ensures reads { Reads (λ read. (option_map (item_at names.new) read, names.new)) result
         (script_line_in count names.old line.now) }
     ensures within { IfOk result
-        (λ read. IfSome read (λ command. IsBelow (length names.new) (command_of command))) }
+        (λ read. IfSome read (λ item. IsBelow (length names.new) (command_of item.command))) }
     ensures kept { Extends names.old names.new }
 {
     if line.len() > LONGEST_LINE {
@@ -110,6 +121,7 @@ pub(crate) fn read_script_line(
     if count == MOST_COMMANDS {
         return Err(Unread::Fault(LineFault::TooManyLines));
     }
-    let command = line_of(alloc, line, names)?;
-    Ok(Some(command))
+    let (guarded, text) = cut_guard(line);
+    let command = line_of(alloc, text, names)?;
+    Ok(Some(Item { guarded, command }))
 }

@@ -2,10 +2,10 @@ ghost use Rattle.std.specs.Prelude.{◌≡◌, ◌⊎◌, ◌<◌, List, [], ◌
 ghost use Rattle.std.specs.List.{AllByRecursion};
 ghost use Rattle.redo_names.specs.Inside.Names.{Extends};
 ghost use Rattle.redo_model.specs.Names.{Text};
-ghost use Rattle.redo_model.specs.Command.{Command as CommandOf};
+ghost use Rattle.redo_model.specs.Command.{Item as ItemOf};
 ghost use Rattle.redo_model.specs.Renaming.{IsBelow};
 ghost use Rattle.redo_terms.specs.Meaning.{command_of};
-ghost use Rattle.redo_terms.specs.Inside.Meaning.{command_at};
+ghost use Rattle.redo_terms.specs.Inside.Meaning.{item_at};
 ghost use Rattle.redo_text.specs.Grammar.{lines_of, IsScript, AreScriptLines};
 ghost use Rattle.redo_text.specs.Inside.Faults.{IsReadFault};
 ghost use Rattle.redo_text.specs.Inside.Reading.{script_line_in};
@@ -13,7 +13,7 @@ ghost use Rattle.redo_text.specs.Inside.Reading.{script_line_in};
 use crate::fault::{LineFault, ReadFault, Unread, at_line};
 use crate::read::read_script_line;
 use redo_names::{MOST_NAMES, Names};
-use redo_terms::{Command, FileStamp, Script};
+use redo_terms::{FileStamp, Item, Script};
 use std::alloc::Global;
 
 fn line_end(text: &[u8]) -> Option<usize>
@@ -38,57 +38,57 @@ fn cut(text: &[u8]) -> (&[u8], Option<&[u8]>)
 fn take_line(
     alloc: Global,
     line: &[u8],
-    commands: &mut Vec<Command>,
+    items: &mut Vec<Item>,
     names: &mut Names,
 ) -> Result<(), Unread>
     requires { AllByRecursion
-        (λ command. IsBelow (length names.old) (command_of command)) commands.old.items }
+        (λ item. IsBelow (length names.old) (command_of item.command)) items.old.items }
     // The lines before, read so far, are read with this line.
     ensures taken { (start before : List Text)
-        → AreScriptLines start before (map (command_at names.old) commands.old.items) names.old
+        → AreScriptLines start before (map (item_at names.old) items.old.items) names.old
         → OnOk result (AreScriptLines start (before ++ line.now ∷ [])
-        (map (command_at names.new) commands.new.items) names.new) }
+        (map (item_at names.new) items.new.items) names.new) }
     ensures fault { (fault : LineFault) → result ≡ Err (Unread.Fault fault)
-        → script_line_in (length commands.old.items) names.old line.now ≡ Err fault }
+        → script_line_in (length items.old.items) names.old line.now ≡ Err fault }
     ensures within { OnOk result (AllByRecursion
-        (λ command. IsBelow (length names.new) (command_of command)) commands.new.items) }
+        (λ item. IsBelow (length names.new) (command_of item.command)) items.new.items) }
     ensures kept { Extends names.old names.new }
 {
     // The check only knows how to move a command where the types within it are met.
     let _none: Option<FileStamp> = None;
-    if let Some(command) = read_script_line(alloc, line, commands.len(), names)? {
-        commands.push(command)?;
+    if let Some(item) = read_script_line(alloc, line, items.len(), names)? {
+        items.push(item)?;
     }
     Ok(())
 }
 
-/// Reads the commands of a session file. After a fault the old names are a front of the names.
+/// Reads the lines of a session file. After a fault the old names are a front of the names.
 pub fn read_script(alloc: Global, text: &[u8], names: &mut Names) -> Result<Script, ReadFault>
     // What is read is a script, and its names are added.
     ensures read { IfOk result
-        (λ script. IsScript names.old text.now (map (command_at names.new) script) names.new) }
+        (λ script. IsScript names.old text.now (map (item_at names.new) script) names.new) }
     // A script is read, unless memory runs out.
-    ensures only { (commands : List (CommandOf Text)) (after : List Text)
-        → IsScript names.old text.now commands after
+    ensures only { (items : List (ItemOf Text)) (after : List Text)
+        → IsScript names.old text.now items after
         → (result ≡ Err ReadFault.Memory) ⊎ IsOkAnd result
-        (λ script. (map (command_at names.new) script ≡ commands) × (names.new ≡ after)) }
+        (λ script. (map (item_at names.new) script ≡ items) × (names.new ≡ after)) }
     // A fault is that of the first faulty line.
     ensures fault { IfErr result (IsReadFault names.old text.now) }
     ensures within { IfOk result (λ script. AllByRecursion
-        (λ command. IsBelow (length names.new) (command_of command)) script) }
+        (λ item. IsBelow (length names.new) (command_of item.command)) script) }
     ensures kept { Extends names.old names.new }
 {
     prove!(names.len() as usize <= MOST_NAMES);
-    let mut commands = Vec::new(alloc);
+    let mut items = Vec::new(alloc);
     let mut rest = text;
     let mut number = 1usize;
     'lines: loop {
         let (line, after) = cut(rest);
-        if let Err(unread) = take_line(alloc, line, &mut commands, names) {
+        if let Err(unread) = take_line(alloc, line, &mut items, names) {
             return Err(at_line(number, unread));
         }
         let Some(next) = after else {
-            return Ok(Script::new(commands));
+            return Ok(Script::new(items));
         };
         rest = next;
         number += 1;

@@ -5,12 +5,12 @@ ghost use Rattle.redo_names.specs.Names.{text_at};
 ghost use Rattle.redo_model.specs.Reply.{Refused};
 ghost use Rattle.redo_model.specs.Renaming.{IsBelow, IsReplyBelow, AllBelow, named_refusal};
 ghost use Rattle.redo_terms.specs.Meaning.{command_of, reply_of, refusal_of, reply_at};
-ghost use Rattle.redo_terms.specs.Inside.Meaning.{kind_of, command_at};
-ghost use Rattle.redo_text.specs.Texts.{after_space, stamp_word, content_word, refusal_words, word_of, command_text_of, reply_text_of};
+ghost use Rattle.redo_terms.specs.Inside.Meaning.{kind_of, command_at, item_at};
+ghost use Rattle.redo_text.specs.Texts.{after_space, stamp_word, content_word, refusal_words, word_of, command_text_of, item_text_of, reply_text_of};
 
 use crate::keywords::keyword;
 use redo_names::Names;
-use redo_terms::{Command, FileStamp, Kind, Refusal, Reply};
+use redo_terms::{Command, FileStamp, Item, Kind, Refusal, Reply};
 use std::alloc::{AllocError, Global};
 
 /// Writes a word with the space before it.
@@ -109,6 +109,21 @@ pub fn command_text(alloc: Global, command: &Command, names: &Names) -> Result<V
     let mut out = Vec::new(alloc);
     out.extend_from_slice(keyword(command.kind()))?;
     put_form(alloc, &mut out, command, names)?;
+    Ok(out)
+}
+
+/// The text of a line of a script: that of its command, with `? ` before it where it is guarded.
+pub fn line_text(alloc: Global, item: &Item, names: &Names) -> Result<Vec<u8>, AllocError>
+    requires { IsBelow (length names.now) (command_of item.now.command) }
+    ensures { IfOk result (λ text. text.items ≡ item_text_of (item_at names.now item.now)) }
+{
+    let text = command_text(alloc, &item.command, names)?;
+    if !item.guarded {
+        return Ok(text);
+    }
+    let mut out = Vec::new(alloc);
+    out.extend_from_slice(b"? ")?;
+    out.extend_from_slice(&text)?;
     Ok(out)
 }
 

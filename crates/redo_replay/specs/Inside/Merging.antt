@@ -27,29 +27,29 @@ entries_of (journal ∷ rest) zero = journal.entries.items
 entries_of (journal ∷ rest) (suc s) = entries_of rest s
 
 -- the entry's place fits the script's command and the reply
-abbrev pub FitsScript : List (commands.Command ℕ) → Entry → Type 0
+abbrev pub FitsScript : List (commands.Item ℕ) → Entry → Type 0
 FitsScript script entry =
     Fits (place_of entry.place) (command_told script entry) (reply_of entry.reply)
 
 -- the k-th entry, if there is one, fits
-abbrev pub FitsAt : List (commands.Command ℕ) → List Entry → ℕ → Type 0
+abbrev pub FitsAt : List (commands.Item ℕ) → List Entry → ℕ → Type 0
 FitsAt script entries k = k < length entries → FitsScript script (slice_index_or entries k none)
 
 -- there is a k-th entry that does not fit
-abbrev pub MisfitsAt : List (commands.Command ℕ) → List Entry → ℕ → Type 0
+abbrev pub MisfitsAt : List (commands.Item ℕ) → List Entry → ℕ → Type 0
 MisfitsAt script entries k =
     (k < length entries) × (FitsScript script (slice_index_or entries k none) → ⊥)
 
 -- each entry of the journals fits the script of its session
-abbrev pub AllFit : List (List (commands.Command ℕ)) → List Journal → Type 0
+abbrev pub AllFit : List (List (commands.Item ℕ)) → List Journal → Type 0
 AllFit scripts js = (s k : ℕ) → FitsAt (slice_index_or scripts s []) (entries_of js s) k
 
 -- one of them does not fit it
-abbrev pub OneMisfits : List (List (commands.Command ℕ)) → List Journal → Type 0
+abbrev pub OneMisfits : List (List (commands.Item ℕ)) → List Journal → Type 0
 OneMisfits scripts js = (s k : ℕ) × MisfitsAt (slice_index_or scripts s []) (entries_of js s) k
 
 -- the entries are of commands of the script
-abbrev pub AreOfScript : List (commands.Command ℕ) → List Entry → Type 0
+abbrev pub AreOfScript : List (commands.Item ℕ) → List Entry → Type 0
 AreOfScript script entries =
     (k : ℕ) → k < length entries → (slice_index_or entries k none).line < length script
 
@@ -149,7 +149,7 @@ pub record IsLeast {S : Type 0} (turns : Turns) (counts : HashMap (ℕ × ℕ) �
 
 -- the k-th entry can be taken: its command is one of the script, and its place comes next
 pub record MayTake {S : Type 0} (turns : Turns) (counts : HashMap (ℕ × ℕ) ℕ S)
-    (script : List (commands.Command ℕ)) (entries : List Entry) (k : ℕ) : Type 0 where
+    (script : List (commands.Item ℕ)) (entries : List Entry) (k : ℕ) : Type 0 where
   pub more : k < length entries
   pub line : (slice_index_or entries k none).line < length script
   pub within : IsWithin (length turns.claims.items) (slice_index_or entries k none).place
@@ -161,6 +161,6 @@ abbrev pub Uncounted : {S : Type 0} → HashMap (ℕ × ℕ) ℕ S → HashMap (
 Uncounted old new place = (t g : ℕ) → tally new t g + busy_one t g place ≡ tally old t g
 
 -- the line that the entry tells was added
-abbrev pub Tells : List Line → List Line → ℕ → List (commands.Command ℕ) → Entry → Type 0
+abbrev pub Tells : List Line → List Line → ℕ → List (commands.Item ℕ) → Entry → Type 0
 Tells old new s script entry =
     map line_of new ≡ map line_of old ++ placed.line_of (line_told s script entry) ∷ []

@@ -5,11 +5,12 @@ ghost use Rattle.redo_model.specs.Command as commands;
 ghost use Rattle.redo_model.specs.Placed as placed;
 ghost use Rattle.redo_model.specs.Placed.{Fits};
 ghost use Rattle.redo_terms.specs.Meaning.{command_of, reply_of};
+ghost use Rattle.redo_terms.specs.Inside.Meaning.{item_of};
 ghost use Rattle.redo_journal.specs.Plans.{scripts_of};
 ghost use Rattle.redo_journal.specs.Journals.{place_of};
 ghost use Rattle.redo_replay.specs.Inside.Merging.{entries_of, AllFit, AreOfScript, FitsAt, MisfitsAt, OneMisfits};
 
-use redo_command::{Command, Reply, Script};
+use redo_command::{Command, Item, Reply, Script};
 use redo_journal::{Entry, Journal, Place};
 
 fn is_claim(command: &Command, reply: &Reply) -> bool
@@ -55,15 +56,19 @@ fn fits(command: &Command, reply: &Reply, place: Place) -> bool
 }
 
 /// Whether each entry's place fits it.
-fn journal_fits(commands: &[Command], entries: &[Entry]) -> bool
-    requires { AreOfScript (map command_of commands.now) entries.now }
+fn journal_fits(items: &[Item], entries: &[Entry]) -> bool
+    requires { AreOfScript (map item_of items.now) entries.now }
     ensures { MatchBool result
-        ((k : ℕ) → FitsAt (map command_of commands.now) entries.now k)
-        ((k : ℕ) × MisfitsAt (map command_of commands.now) entries.now k) }
+        ((k : ℕ) → FitsAt (map item_of items.now) entries.now k)
+        ((k : ℕ) × MisfitsAt (map item_of items.now) entries.now k) }
 {
     'fitting: for k in 0..entries.len() {
         let entry = &entries[k];
-        if !fits(&commands[entry.line as usize], &entry.reply, entry.place) {
+        if !fits(
+            &items[entry.line as usize].command,
+            &entry.reply,
+            entry.place,
+        ) {
             return false;
         }
     }
@@ -80,7 +85,7 @@ pub(crate) fn all_fit(scripts: &[Script], journals: &[Journal]) -> bool
         (OneMisfits (scripts_of scripts.now) journals.now) }
 {
     'checking: for s in 0..journals.len() {
-        if !journal_fits(scripts[s].commands(), &journals[s].entries) {
+        if !journal_fits(scripts[s].items(), &journals[s].entries) {
             return false;
         }
     }

@@ -3,19 +3,17 @@ use Rattle.std.specs.Prelude.{List, length, map}
 use Rattle.std.specs.List.{AllByRecursion}
 use Rattle.redo_model.specs.Names.{Text}
 use Rattle.redo_model.specs.Command as commands
-use Rattle.redo_model.specs.Renaming.{IsBelow}
-use Rattle.redo_terms.specs.declared.command.Command.{Command}
-use Rattle.redo_terms.specs.Meaning.{command_of}
-use Rattle.redo_terms.specs.Inside.Meaning.{command_at}
+use Rattle.redo_terms.specs.declared.script.Item.{Item}
+use Rattle.redo_terms.specs.Inside.Meaning.{item_at}
+use Rattle.redo_journal.specs.Plans.{AreBelow}
 
 -- a script's numbers have names
-abbrev pub IsScriptBelow : List Text → List Command → Type 0
-IsScriptBelow names script =
-    AllByRecursion (λ command. IsBelow (length names) (command_of command)) script
+abbrev pub IsScriptBelow : List Text → List Item → Type 0
+IsScriptBelow names script = AreBelow (length names) script
 
-abbrev pub AreScriptsBelow : List Text → List (List Command) → Type 0
+abbrev pub AreScriptsBelow : List Text → List (List Item) → Type 0
 AreScriptsBelow names scripts = AllByRecursion (IsScriptBelow names) scripts
 
--- what the scripts' commands say
-abbrev pub scripts_at : List Text → List (List Command) → List (List (commands.Command Text))
-scripts_at names scripts = map (λ script. map (command_at names) script) scripts
+-- what the scripts' lines say
+abbrev pub scripts_at : List Text → List (List Item) → List (List (commands.Item Text))
+scripts_at names scripts = map (λ script. map (item_at names) script) scripts

@@ -1,10 +1,12 @@
 -- What is printed of a session.
-use Rattle.std.specs.Prelude.{ℕ, List}
-use Rattle.std.specs.List.{flat_map}
+use Rattle.std.specs.Prelude.{ℕ, List, map}
 use Rattle.redo_model.specs.Names.{Text}
-use Rattle.redo_model.specs.History.{Line, part_of}
-use Rattle.redo_replay.specs.Histories.{ended, answer_text_of}
+use Rattle.redo_model.specs.Reply as replies
+use Rattle.redo_model.specs.History.{part_of}
+use Rattle.redo_terms.specs.declared.reply.Line.{Line}
+use Rattle.redo_terms.specs.Meaning.{line_at}
 
--- its commands and replies among these lines
-abbrev pub answers_of : ℕ → List (Line Text) → Text
-answers_of session lines = flat_map (λ line. ended (answer_text_of line)) (part_of session lines)
+-- the replies to the session among these lines
+abbrev pub replies_in : List Text → ℕ → List Line → List (replies.Reply Text)
+replies_in names session lines =
+    map (λ line. line.reply) (part_of session (map (line_at names) lines))

@@ -1,11 +1,12 @@
--- The kind of a command, and what a command means under the names of its numbers.
-use Rattle.std.specs.Prelude.{List}
+-- The kind of a command, what an item means, and what both mean over the names of their numbers.
+use Rattle.std.specs.Prelude.{ℕ, List}
 use Rattle.redo_names.specs.Names.{text_at}
 use Rattle.redo_model.specs.Names.{Text}
 use Rattle.redo_model.specs.Command as commands
-use Rattle.redo_model.specs.Renaming.{named_command}
+use Rattle.redo_model.specs.Renaming.{named_command, named_item}
 use Rattle.redo_terms.specs.declared.command.Command.{Command}
 use Rattle.redo_terms.specs.declared.command.Command.TheVariants.{File, Gone, Lock, Unlock, Start, IfChange, IfCreate, Always, Stamp, Done, Failed, Ood, Targets, Sources}
+use Rattle.redo_terms.specs.declared.script.Item.{Item}
 use Rattle.redo_terms.specs.declared.kind.Kind.{Kind}
 use Rattle.redo_terms.specs.declared.kind.Kind.TheVariants as kinds
 use Rattle.redo_terms.specs.Meaning.{command_of}
@@ -26,6 +27,12 @@ kind_of Ood = kinds.Ood
 kind_of Targets = kinds.Targets
 kind_of Sources = kinds.Sources
 
+abbrev pub item_of : Item → commands.Item ℕ
+item_of item = record { guarded = item.guarded; command = command_of item.command }
+
 -- under the names that the numbers stand for
 abbrev pub command_at : List Text → Command → commands.Command Text
 command_at names command = named_command (text_at names) (command_of command)
+
+abbrev pub item_at : List Text → Item → commands.Item Text
+item_at names item = named_item (text_at names) (item_of item)

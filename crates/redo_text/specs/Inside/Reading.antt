@@ -7,12 +7,12 @@ use Rattle.hex.specs.Hex.{decode_of}
 use Rattle.hex.specs.declared.error.FromHexError.{FromHexError}
 use Rattle.redo_names.specs.Names.{is_name, has}
 use Rattle.redo_model.specs.Names.{Text}
-use Rattle.redo_model.specs.Command.{Command, File, Gone, Lock, Unlock, Start, IfChange, IfCreate, Always, Stamp, Done, Failed, Ood, Targets, Sources}
+use Rattle.redo_model.specs.Command.{Command, Item, File, Gone, Lock, Unlock, Start, IfChange, IfCreate, Always, Stamp, Done, Failed, Ood, Targets, Sources}
 use Rattle.redo_terms.specs.declared.kind.Kind.{Kind}
 use Rattle.redo_terms.specs.declared.kind.Kind.TheVariants as kinds
 use Rattle.redo_terms.specs.Stamp.{is_stamp}
 use Rattle.redo_text.specs.Grammar.{with_names, is_skipped}
-use Rattle.redo_text.specs.Questions.{kind_named, words_of, has_bad_byte}
+use Rattle.redo_text.specs.Questions.{kind_named, words_of, has_bad_byte, is_guarded, unguarded}
 use Rattle.redo_text.specs.declared.fault.LineFault.{LineFault}
 use Rattle.redo_text.specs.declared.fault.LineFault.TheVariants.{LineTooLong, BadByte, UnknownCommand, WrongWords, BadName, BadStamp, BadHex, TooManyLines, TooManyNames}
 use Rattle.redo_text.specs.declared.fault.Unread.{Unread}
@@ -162,14 +162,18 @@ line_in names line =
     else (if has_bad_byte line then Err BadByte
     else words_in names (words_of line))
 
--- a line of a script, after so many commands; it may be skipped
+-- the item of a command that this line says
+abbrev pub item_in : Text → Command Text → Item Text
+item_in line command = record { guarded = is_guarded line; command = command }
+
+-- a line of a script, after so many items; it may be skipped
 unfoldable pub script_line_in : ℕ → List Text → Text
-    → Result (Option (Command Text) × List Text) LineFault
+    → Result (Option (Item Text) × List Text) LineFault
 script_line_in count names line =
     if nat_lt 8192 (length line) then Err LineTooLong
     else (if is_skipped line then Ok (None, names)
     else (if count == 4096 then Err TooManyLines
-    else (line_in names line >>= λ x. Ok (Some x.0, x.1))))
+    else (line_in names (unguarded line) >>= λ x. Ok (Some (item_in line x.0), x.1))))
 
 -- what a private reader returned, seen by `view`, is what reading gives, unless memory ran out
 abbrev pub Reads : {X Y : Type 0} → (X → Y) → Result X Unread → Result Y LineFault → Type 0

@@ -1,5 +1,5 @@
 use Rattle.std.proofs.Common.{◌≡◌, ◌≤◌, ◌*◌, map, take}
-use Rattle.redo_terms.specs.Meaning.{command_of}
+use Rattle.redo_terms.specs.Inside.Meaning.{item_of}
 use Rattle.redo_board.specs.Rows.{rows_in_all}
 use Rattle.redo_board.proofs.plan.rows.Given as goal
 
@@ -7,5 +7,5 @@ abbrev pub invariant-loop-script : goal.invariant-loop-script
 invariant-loop-script l =
     (l.rows
     ≡ rows_in_all
-    (map (λ script. map command_of script) (take l.script-index l.script-items)))
+    (map (λ script. map item_of script) (take l.script-index l.script-items)))
     × (l.rows ≤ 4096 * l.script-index)

@@ -47,7 +47,7 @@ take_entry-requires c =
     c.merging.turns c.merging.counts c.merging.next.items c.merging.lines.items c.merging.invariant
     c.deref.result.now c.deref.ensures.value c.in-Some.s c.in-Some.ensures
     c.index-scripts-s.result c.index-scripts-s.is
-    c.commands-commands.result.now c.commands-commands.ensures.commands
+    c.items-items.result.now c.items-items.ensures.items
     c.index-journals-s.result c.index-journals-s.is c.index-k.result.now c.index-k.ensures
     c.scripts-scripts.ensures.plan c.if-not-all_fit.ensures
 
@@ -59,7 +59,7 @@ merging-smaller c =
     c.merging.turns c.merging.counts c.merging.next.items c.merging.lines.items c.merging.invariant
     c.deref.result.now c.deref.ensures.value c.in-Some.s c.in-Some.ensures
     c.index-scripts-s.result c.index-scripts-s.is
-    c.commands-commands.result.now c.commands-commands.ensures.commands
+    c.items-items.result.now c.items-items.ensures.items
     c.index-journals-s.result c.index-journals-s.is c.index-k.result.now c.index-k.ensures)
 
 pub merging-preserved : goal.merging-preserved
@@ -70,7 +70,7 @@ merging-preserved c =
     c.merging.turns c.merging.counts c.merging.next.items c.merging.lines.items c.merging.invariant
     c.deref.result.now c.deref.ensures.value c.in-Some.s c.in-Some.ensures
     c.index-scripts-s.result c.index-scripts-s.is
-    c.commands-commands.result.now c.commands-commands.ensures.commands
+    c.items-items.result.now c.items-items.ensures.items
     c.index-journals-s.result c.index-journals-s.is c.index-k.result.now c.index-k.ensures
     c.take_entry.new.turns c.take_entry.new.counts c.take_entry.new.lines.items
     c.in_ok-next-2.ensures.turned c.in_ok-next-2.ensures.taken c.in_ok-next-2.ensures.told)

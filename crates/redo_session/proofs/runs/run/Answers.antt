@@ -1,7 +1,8 @@
 use Rattle.std.proofs.Common.{◌≡◌, ℕ, List, length, map, ap, sym, subst, ◌∙◌}
 use Rattle.std.proofs.lemmas.List.{length-map}
-use Rattle.redo_terms.specs.Meaning.{command_of, line_of}
-use Rattle.redo_terms.specs.declared.command.Command.{Command}
+use Rattle.redo_terms.specs.Meaning.{line_of}
+use Rattle.redo_terms.specs.Inside.Meaning.{item_of}
+use Rattle.redo_terms.specs.declared.script.Item.{Item}
 use Rattle.redo_model.specs.Command as model
 use Rattle.redo_journal.specs.Plans.{PlanOf, scripts_of}
 use Rattle.redo_journal.specs.Journals.{AreJournals}
@@ -17,11 +18,11 @@ use Rattle.redo_session.proofs.Outcomes.{is_run, history_below, seen_before}
 use Rattle.redo_session.proofs.runs.run.Goals as goal
 
 -- all sessions of the plan are done
-all_done : (p : PlanOf) (b : Board) (scripts : List (List Command)) (seat : Seat)
+all_done : (p : PlanOf) (b : Board) (scripts : List (List Item)) (seat : Seat)
     (js : List Journal) → scripts_of scripts ≡ p.scripts
     → AreDone p b 0 (length scripts) seat js → AreDone p b 0 (length p.scripts) seat js
 all_done p b scripts seat js same done =
-    let told : List Command → List (model.Command ℕ) = λ script. map command_of script in
+    let told : List Item → List (model.Item ℕ) = λ script. map item_of script in
     subst (λ e. AreDone p b 0 e seat js) (sym (length-map scripts told) ∙ ap length same) done
 
 -- what the closed board tells of them
@@ -30,7 +31,7 @@ record Closed (p : PlanOf) (js : List Journal) : Type 0 where
   pub journals : AreJournals p js
   pub whole : AreWhole p js
 
-closed : (p q : PlanOf) (b : Board) (scripts : List (List Command)) (seat : Seat)
+closed : (p q : PlanOf) (b : Board) (scripts : List (List Item)) (seat : Seat)
     (js : List Journal) (n : ℕ) → scripts_of scripts ≡ p.scripts
     → AreDone p b 0 (length scripts) seat js → q ≡ p → Closes q seat n → Closed p js
 closed p q b scripts seat js n same done key closes =

@@ -1,4 +1,5 @@
 use Rattle.std.proofs.Common.{rules, ◌≡◌, ◌-◌, ◌<◌, [], ◌∷◌, length, refl, sym, ap, ◌∙◌, subst}
+use Rattle.redo_model.proofs.Nexts.{past_of}
 use Rattle.redo_journal.specs.Plans.{script_of}
 use Rattle.redo_board.specs.Shown.{session_of, journal_of, tries_of, rows_up_to, IsAtEnd}
 use Rattle.redo_board.specs.Outcomes.{Made}
@@ -20,8 +21,8 @@ loop-worker-smaller g c =
     let new = c.step.new.self in
     let made : Made p old new = search rules in
     subst
-    (λ s. length (script_of p s) - length (journal_of p new)
-    < length (script_of p (session_of old)) - length (journal_of p old))
+    (λ s. length (script_of p s) - past_of (journal_of p new)
+    < length (script_of p (session_of old)) - past_of (journal_of p old))
     (sym c.step.ensures.session) (made_less p old new made)
 
 pub returns : goal.returns

@@ -1,6 +1,6 @@
 use Rattle.std.proofs.Common.{◌≡◌, ◌∙◌, [], length, map, sym, ap}
 use Rattle.std.proofs.lemmas.List.{length-map, nil_from_length}
-use Rattle.redo_terms.specs.Inside.Meaning.{command_at}
+use Rattle.redo_terms.specs.Inside.Meaning.{item_at}
 use Rattle.redo_whole.specs.Watched.{inner_of}
 use Rattle.redo_session.specs.Files.{bytes_of_files, flags_of_files}
 use Rattle.redo_session.specs.Inside.Files.{scripts_at}
@@ -17,7 +17,7 @@ returns g c =
     let long : length c.args.files.now ≡ length scripts =
     sym (length-map c.args.files.now (λ file. g.R.Read.remaining (inner_of file)))
     ∙ AreAccepted-length [] files (scripts_at names scripts) names are
-    ∙ length-map scripts (λ script. map (command_at names) script) in
+    ∙ length-map scripts (λ script. map (item_at names) script) in
     record {
       text = runs_as c.text_of_scripts.result files scripts names are told.text told.few
           told.none.1;

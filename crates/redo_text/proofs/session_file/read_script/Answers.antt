@@ -2,7 +2,7 @@ use Rattle.std.proofs.Common.{◌≡◌, ℕ, ◌<◌, ◌≤◌, ◌∷◌, [],
 use Rattle.std.proofs.lemmas.List.{length-map}
 use Rattle.redo_text.specs.declared.fault.LineFault.{LineFault}
 use Rattle.redo_text.specs.declared.fault.Unread.TheVariants.{Fault}
-use Rattle.redo_terms.specs.Inside.Meaning.{command_at}
+use Rattle.redo_terms.specs.Inside.Meaning.{item_at}
 use Rattle.redo_text.specs.Grammar.{lines_of, IsScript}
 use Rattle.redo_text.specs.Faults.{IsFirstFault}
 use Rattle.redo_text.specs.Inside.Reading.{script_line_in}
@@ -11,13 +11,13 @@ use Rattle.redo_text.proofs.ScriptLaws.{scripts_agree}
 use Rattle.redo_text.proofs.ScriptSteps.{line_read, last_read, line_fails, read_fault, only_memory, first_is}
 use Rattle.redo_text.proofs.session_file.read_script.Goals as goal
 
-first_fault : (c : goal.After-drop-commands) (fault : LineFault) → c.in-Err.unread ≡ Fault fault
+first_fault : (c : goal.After-drop-items) (fault : LineFault) → c.in-Err.unread ≡ Fault fault
     → IsFirstFault c.args.names.now c.args.text.now c.lines.number fault
 first_fault c fault e =
     let first =
     first_is c.cut.result.1 (lines_of c.lines.rest.now) c.cut.result.0.now (λ r. lines_of r.now)
     (λ r. length r.now < length c.lines.rest.now) c.cut.ensures in
-    let fails : script_line_in (length c.lines.commands.items) c.lines.names c.cut.result.0.now
+    let fails : script_line_in (length c.lines.items.items) c.lines.names c.cut.result.0.now
     ≡ Err fault =
     c.in-Err.ensures.fault fault (λ i. Err (e i)) in
     line_fails _ _ c.lines.rest.now c.cut.result.0.now first.0 c.lines.number _ _ fault
@@ -36,7 +36,7 @@ returns-in-Err-clause-only c cs after script =
     inl (λ i. Err (memory i))
 
 whole : (c : goal.In_default-after) → IsScript c.args.names.now c.args.text.now
-    (map (command_at c.take_line.new.names) c.take_line.new.commands.items) c.take_line.new.names
+    (map (item_at c.take_line.new.names) c.take_line.new.items.items) c.take_line.new.names
 whole c =
     let only : lines_of c.lines.rest.now ≡ c.cut.result.0.now ∷ [] =
     rw c.in_default-after.is at c.cut.ensures in
@@ -44,11 +44,11 @@ whole c =
     c.lines.invariant.so_far only c.in_default.ensures.taken
 
 read_whole : (c : goal.After-new) → IsScript c.args.names.now c.args.text.now
-    (map (command_at c.take_line.new.names) c.new.result) c.take_line.new.names
+    (map (item_at c.take_line.new.names) c.new.result) c.take_line.new.names
 read_whole c =
     let only : lines_of c.lines.rest.now ≡ c.cut.result.0.now ∷ [] =
     rw c.in_default-after.is at c.cut.ensures in
-    rw c.new.ensures.commands
+    rw c.new.ensures.items
     (last_read _ _ c.lines.rest.now c.cut.result.0.now c.lines.number _ _ _ _
     c.lines.invariant.so_far only c.in_default.ensures.taken)
 
@@ -62,9 +62,9 @@ returns-in_default-after-clause-only c cs after script =
 
 pub new-requires : goal.new-requires
 new-requires c =
-    let few : length c.take_line.new.commands.items ≤ 4096 =
+    let few : length c.take_line.new.items.items ≤ 4096 =
     subst (λ (n : ℕ). n ≤ 4096)
-    (length-map c.take_line.new.commands.items (command_at c.take_line.new.names)) (whole c).few in
+    (length-map c.take_line.new.items.items (item_at c.take_line.new.names)) (whole c).few in
     few
 
 pub lines-preserved : goal.lines-preserved

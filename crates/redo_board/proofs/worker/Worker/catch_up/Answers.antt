@@ -1,12 +1,15 @@
-use Rattle.std.proofs.Common.{◌≡◌, ℕ, ◌-◌, ◌/◌, ap, subst, arith, Some, ◌∙◌}
+use Rattle.std.proofs.Common.{◌≡◌, ℕ, ◌-◌, ◌/◌, length, sym, ap, subst, arith, Some, ◌∙◌}
 use Rattle.redo_terms.specs.Meaning.{command_of}
 use Rattle.redo_model.specs.Step.{records_after}
+use Rattle.redo_model.specs.Renaming.{IsBelow}
 use Rattle.redo_store.specs.Stored.{records_of, naming_of}
 use Rattle.redo_journal.specs.Plans.{PlanOf, IsPlan}
 use Rattle.redo_board.specs.Core.{IsWord}
 use Rattle.redo_board.specs.Views.{ViewOf}
 use Rattle.redo_board.specs.Kept.{Works, Lags, view_of}
 use Rattle.redo_board.specs.declared.worker.Worker.{Worker}
+use Rattle.redo_board.proofs.Scripts.{command_below}
+use Rattle.redo_board.proofs.Works.{plan_is}
 use Rattle.redo_board.proofs.Stores.{seen_word, lags_few, lags_caught}
 use Rattle.redo_board.proofs.worker.Worker.catch_up.Goals as goal
 
@@ -47,6 +50,16 @@ pub apply-requires-clause-no_lock : goal.apply-requires-clause-no_lock
 apply-requires-clause-no_lock c =
     ap Rattle.redo_model.specs.Command.asked_lock c.command_at-theirs.ensures.command
     ∙ (word_at c.args.plan.now c.args.self.now c.in-Some.word c.requires c.in-Some.is).row
+
+pub apply-requires-clause-numbers : goal.apply-requires-clause-numbers
+apply-requires-clause-numbers c =
+    let p = c.args.plan.now in
+    let w = c.args.self.now in
+    let k = c.requires in
+    let theirs = command_of c.command_at-theirs.result.now in
+    subst (λ m. IsBelow m theirs) (sym k.lags.count)
+    (subst (IsBelow (length p.names)) (sym c.command_at-theirs.ensures.command)
+    (command_below p _ _ (plan_is p w k)))
 
 pub apply-requires-clause-applied : goal.apply-requires-clause-applied
 apply-requires-clause-applied c =

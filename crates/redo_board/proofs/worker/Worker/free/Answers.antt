@@ -10,7 +10,7 @@ use Rattle.redo_board.specs.Kept.{WorksAt, view_of}
 use Rattle.redo_board.specs.Outcomes.{Made}
 use Rattle.redo_board.specs.declared.worker.Worker.{Worker}
 use Rattle.redo_board.proofs.Steps.{frees_as}
-use Rattle.redo_board.proofs.Works.{few_words, target_low, entered, claim_goes, claimed}
+use Rattle.redo_board.proofs.Works.{few_words, target_low, own_below, entered, claim_goes, claimed, room_next}
 use Rattle.redo_board.proofs.worker.Worker.free.Goals as goal
 use Rattle.redo_board.proofs.worker.Worker.free.Goals.{After-enter}
 
@@ -74,3 +74,15 @@ returns-clause-works c = (done (goal.at.returns-clause-works c).After-enter).0
 
 pub returns-clause-made : goal.returns-clause-made
 returns-clause-made c = (done (goal.at.returns-clause-made c).After-enter).1
+
+pub enter-requires-clause-room : goal.enter-requires-clause-room
+enter-requires-clause-room c =
+    let u : ℕ = c.args.target in
+    let n : Numbered ℕ = record { number = c.args.number; command = Unlock u } in
+    room_next c.args.plan.now c.args.self.now n c.requires.belongs.1.works c.requires.command.next
+
+pub enter-requires-clause-names : goal.enter-requires-clause-names
+enter-requires-clause-names c =
+    let u : ℕ = c.args.target in
+    let n : Numbered ℕ = record { number = c.args.number; command = Unlock u } in
+    own_below c.args.plan.now c.args.self.now n c.requires.belongs.1.works c.requires.command.next

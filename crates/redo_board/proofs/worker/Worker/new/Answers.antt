@@ -3,7 +3,7 @@ use Rattle.std.proofs.lemmas.List.{length-map}
 use Rattle.redo_model.specs.Names.{texts}
 use Rattle.redo_model.specs.Inside.Renaming.{OrdersAlike, numbering}
 use Rattle.redo_store.specs.Stored.{order_of}
-use Rattle.redo_terms.specs.Meaning.{command_of}
+use Rattle.redo_terms.specs.Inside.Meaning.{item_of}
 use Rattle.redo_journal.specs.Plans.{script_of}
 use Rattle.redo_board.specs.Core.{Line}
 use Rattle.redo_board.specs.Own.{Says}
@@ -45,8 +45,8 @@ returns-clause-works c board sits =
         slots = f.plan.0.slots;
         session = subst (λ k. k < length p.scripts) (sym at) f.plan.1;
         room = let x = e.capacity in
-            let y = ap length c.commands.ensures.commands in
-            let z = length-map c.commands.result.now command_of in
+            let y = ap length c.items.ensures.items in
+            let z = length-map c.items.result.now item_of in
             omega arith;
         tries = ap length seen;
         own =

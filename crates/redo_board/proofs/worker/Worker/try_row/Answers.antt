@@ -21,7 +21,7 @@ use Rattle.redo_board.proofs.Steps.{tries_as, won_goes, room}
 use Rattle.redo_board.proofs.Stores.{says, lags_few, lags_won}
 use Rattle.redo_board.proofs.Told.{way-row}
 use Rattle.redo_board.proofs.Briefs.{ready_said}
-use Rattle.redo_board.proofs.Works.{few_words, plan_is, named_next, next_below, own_below, own_has, entered, both_on, works_lost, waits_lost}
+use Rattle.redo_board.proofs.Works.{few_words, plan_is, named_next, next_below, own_below, own_has, entered, both_on, works_lost, waits_lost, room_next}
 use Rattle.redo_board.proofs.worker.Worker.try_row.Goals as goal
 use Rattle.redo_board.proofs.worker.Worker.try_row.Goals.{After-enter}
 
@@ -197,7 +197,7 @@ done c =
     omega arith in
     let won : Lags p c.apply.new.self None seen =
     lags_won p w.store c.apply.new.self (seen_by w) c.apply.ensures.count c.apply.ensures.order
-    c.in-Ok.ensures.applied w.session c.args.number h x small lags named.command
+    c.in-Ok.ensures.applied w.session c.args.number h x small lags named
     (c.in-Ok.ensures.after
     ∙ ap
     (λ z. records_after (naming_of w.store) (records_of w.store) w.session z x)
@@ -241,3 +241,9 @@ enter-requires-clause-names c =
     let n : Numbered ℕ =
     record { number = c.args.number; command = command_of c.args.command.now } in
     own_below c.args.plan.now c.args.self.now n c.requires.belongs.1.works c.requires.command.next
+
+pub enter-requires-clause-room : goal.enter-requires-clause-room
+enter-requires-clause-room c =
+    let n : Numbered ℕ =
+    record { number = c.args.number; command = command_of c.args.command.now } in
+    room_next c.args.plan.now c.args.self.now n c.requires.belongs.1.works c.requires.command.next

@@ -1,14 +1,14 @@
 use Rattle.std.proofs.Common.{List, length, map, sym, ◌∙◌, arith}
 use Rattle.std.proofs.lemmas.List.{length-map}
-use Rattle.redo_terms.specs.declared.command.Command.{Command}
-use Rattle.redo_terms.specs.Meaning.{command_of}
+use Rattle.redo_terms.specs.declared.script.Item.{Item}
+use Rattle.redo_terms.specs.Inside.Meaning.{item_of}
 use Rattle.redo_journal.proofs.Plans.{some_at, below_at, short_of}
 use Rattle.redo_journal.proofs.plan.Plan.new.Goals as goal
 
 pub invariant_of-result : goal.invariant_of-result
 invariant_of-result c =
-    let scripts : List (List Command) = c.args.scripts.items in
-    let count = length-map scripts (λ (script : List Command). map command_of script) in
+    let scripts : List (List Item) = c.args.scripts.items in
+    let count = length-map scripts (λ (script : List Item). map item_of script) in
     let ok = c.args.scripts.ok.0 in
     record {
       some = let more = some_at _ (sym c.is_empty.ensures ∙ c.if-is_empty.false) in omega arith;

@@ -1,5 +1,5 @@
 use Rattle.std.proofs.Common.{arith, ℕ, ◌≡◌, [], ap, sym, ◌∙◌, map, get_or, slice_index_or}
-use Rattle.redo_terms.specs.Meaning.{command_of}
+use Rattle.redo_terms.specs.Inside.Meaning.{item_of}
 use Rattle.redo_journal.specs.Plans.{scripts_of}
 use Rattle.redo_replay.specs.Inside.Merging.{entries_of, FitsAt}
 use Rattle.redo_replay.proofs.Unmerged.{next_below, entries_at, script_at, of_script, fits_back, misfit_back}
@@ -12,11 +12,11 @@ journal_fits-requires c =
     let here : entries_of js s ≡ c.deref.result.now =
     entries_at js s c.index-journals-s.result c.checking-test.true ∙ sym c.deref.ensures.value in
     let script : get_or (scripts_of c.args.scripts.now) s []
-    ≡ map command_of c.commands.result.now =
+    ≡ map item_of c.items.result.now =
     script_at c.args.scripts.now s c.index-scripts-s.result
     (let a = c.requires.sized in let b = c.checking-test.true in omega arith)
-    ∙ ap (map command_of) (sym c.index-scripts-s.is ∙ sym c.commands.ensures.commands) in
-    of_script c.args.scripts.now js s c.deref.result.now c.commands.result.now here script
+    ∙ ap (map item_of) (sym c.index-scripts-s.is ∙ sym c.items.ensures.items) in
+    of_script c.args.scripts.now js s c.deref.result.now c.items.result.now here script
     (c.requires.lines s)
 
 pub returns-then-not-journal_fits : goal.returns-then-not-journal_fits
@@ -26,14 +26,14 @@ returns-then-not-journal_fits c =
     let here : entries_of js s ≡ c.deref.result.now =
     entries_at js s c.index-journals-s.result c.checking-test.true ∙ sym c.deref.ensures.value in
     let script : get_or (scripts_of c.args.scripts.now) s []
-    ≡ map command_of c.commands.result.now =
+    ≡ map item_of c.items.result.now =
     script_at c.args.scripts.now s c.index-scripts-s.result
     (let a = c.requires.sized in let b = c.checking-test.true in omega arith)
-    ∙ ap (map command_of) (sym c.index-scripts-s.is ∙ sym c.commands.ensures.commands) in
+    ∙ ap (map item_of) (sym c.index-scripts-s.is ∙ sym c.items.ensures.items) in
     let bad = c.if-not-journal_fits.ensures in (
       s,
       bad.0,
-      misfit_back c.args.scripts.now js s c.deref.result.now c.commands.result.now here script
+      misfit_back c.args.scripts.now js s c.deref.result.now c.items.result.now here script
           bad.0 bad.1,
     )
 
@@ -44,13 +44,13 @@ checking-preserved c =
     let here : entries_of js s ≡ c.deref.result.now =
     entries_at js s c.index-journals-s.result c.checking-test.true ∙ sym c.deref.ensures.value in
     let script : get_or (scripts_of c.args.scripts.now) s []
-    ≡ map command_of c.commands.result.now =
+    ≡ map item_of c.items.result.now =
     script_at c.args.scripts.now s c.index-scripts-s.result
     (let a = c.requires.sized in let b = c.checking-test.true in omega arith)
-    ∙ ap (map command_of) (sym c.index-scripts-s.is ∙ sym c.commands.ensures.commands) in
+    ∙ ap (map item_of) (sym c.index-scripts-s.is ∙ sym c.items.ensures.items) in
     next_below
     (λ (u : ℕ). (k : ℕ)
     → FitsAt (slice_index_or (scripts_of c.args.scripts.now) u []) (entries_of js u) k)
     s c.checking.invariant
-    (fits_back c.args.scripts.now js s c.deref.result.now c.commands.result.now here script
+    (fits_back c.args.scripts.now js s c.deref.result.now c.items.result.now here script
     c.if-not-journal_fits.ensures)

@@ -1,0 +1,22 @@
+-- What a session does with the lines of its script, over the lines of a history.
+use Rattle.std.specs.Prelude.{◌≡◌, Bool, true, cond, not, ◌||◌, List, [], ◌∷◌, map}
+use Rattle.redo_model.specs.Command.{Command, Item}
+use Rattle.redo_model.specs.Reply.{Reply, lets_through}
+use Rattle.redo_model.specs.History.{Line}
+
+-- the commands that are done with these items, as these replies come: an unguarded one is, and a
+-- guarded one where the reply before lets it through
+abbrev pub done_by : {N : Type 0} → Bool → List (Item N) → List (Reply N) → List (Command N)
+done_by through [] replies = []
+done_by through (item ∷ items) [] =
+    cond (through || not item.guarded) (item.command ∷ []) (done_by through items [])
+done_by through (item ∷ items) (reply ∷ replies) =
+    cond (through || not item.guarded)
+    (item.command ∷ done_by (lets_through reply) items replies)
+    (done_by through items (reply ∷ replies))
+
+-- the lines are all that a session with this script does: they have the commands that are done with
+-- their replies, once and in order
+abbrev pub Does : {N : Type 0} → List (Item N) → List (Line N) → Type 0
+Does script lines =
+    map (λ line. line.command) lines ≡ done_by true script (map (λ line. line.reply) lines)
