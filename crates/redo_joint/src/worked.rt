@@ -1,5 +1,5 @@
-//! Placed histories that were worked out by hand: their words, what a session had seen, journals, and
-//! which order comes first.
+//! Placed histories that were worked out by hand: their words, what a session had seen, journals,
+//! and which order comes first.
 
 ghost use Rattle.std.specs.Prelude.{◌≡◌, ◌∷◌, [], map, take};
 ghost use Rattle.redo_joint.specs.Worked.{
@@ -45,8 +45,8 @@ pub fn closing_words_by_hand()
     ensures greatest { row_word_of by_number broken_off [] (closing_row 63 0 65535) ≡ 4299161599 }
 {}
 
-/// A session had seen all rows up to its latest one, and of a target all grants up to the one that it
-/// was told of, and the releases before that one; and no more.
+/// A session had seen all rows up to its latest one, and of a target all grants up to the one that
+/// it was told of, and the releases before that one; and no more.
 pub fn seen_by_hand()
     ensures row { HasSeen (part_of 0 three_rows) (Row 2) }
     ensures earlier_row { HasSeen (part_of 0 three_rows) (Row 1) }
