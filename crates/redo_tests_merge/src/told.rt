@@ -35,6 +35,7 @@ fn journal_of(alloc: Global, session: u8, told: &[Told]) -> Result<Journal, Allo
     for (line, one) in (0..=u32::MAX).zip(told) {
         entries.push(Entry {
             line,
+            closing: None,
             reply: reply_of(one.answer),
             place: one.place,
         })?;
