@@ -27,6 +27,7 @@ pub mod RecordsByName
 pub mod Refused
 pub mod Region
 pub mod RepliesByName
+pub mod Room
 pub mod RowsOfBothKinds
 pub mod Scripts
 pub mod StepsByName
