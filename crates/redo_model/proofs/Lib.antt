@@ -4,6 +4,7 @@ pub mod Appearance
 pub mod ChainThrough
 pub mod ChangeRows
 pub mod Changed
+pub mod ClosingByName
 pub mod CommonPath
 pub mod ContentsAndBuilds
 pub mod CreatedRows
@@ -14,6 +15,7 @@ pub mod FewTargets
 pub mod Held
 pub mod HistoriesByName
 pub mod Lists
+pub mod JournalRoom
 pub mod Letting
 pub mod Members
 pub mod NamesWithoutAFile

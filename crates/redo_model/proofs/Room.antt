@@ -58,17 +58,14 @@ module _ {X : Type 0} where
         (filter_fewer p q xs t also k passed failed)
   ]
 
-  filter_short : (p : X → Bool) (xs : List X) → length (filter p xs) ≤ length xs
-  filter_short p xs =
-      let same = length-filter p xs in
-      let few = count_by-le-length p xs in
-      omega arith
-
 abbrev pub asked_start : {N : Type 0} → Command N → Option N
 asked_start (Start t) = Some t
 asked_start command = None
 
 module _ {N : Type 0} where
+  abbrev pub AllOkay : List (PlacedLine N) → Type 0
+  AllOkay lines = AllByRecursion (λ line. line.reply ≡ Okay) lines
+
   abbrev pub locked_by : List (Line N) → List N
   locked_by own = filter_map (λ line. asked_lock line.command) own
 
@@ -215,9 +212,6 @@ module _ {N : Type 0} {naming : Naming N} (law : IsNaming naming) where
         let fewer = fewer_held e told held in
         let same = same_building e told in
         (omega arith, omega arith)
-
-  abbrev pub AllOkay : List (PlacedLine N) → Type 0
-  AllOkay lines = AllByRecursion (λ line. line.reply ≡ Okay) lines
 
   module _ (s : ℕ) (script : List (Item N)) where
     -- as many closing lines as there are names held and building, and as many failed as building
