@@ -33,7 +33,7 @@ built_name (Some t) j = built t false j
 
 -- what a session with these lines does next
 abbrev pub next : PlanOf → ℕ → List Line → Option (Numbered ℕ)
-next p s j = next_of (script_of p s) j
+next p s j = next_of (naming_of p) (script_of p s) j
 
 -- whether a session with these lines holds the command's target, and builds it
 abbrev pub own : List Line → Command ℕ → Bool
