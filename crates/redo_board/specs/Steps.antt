@@ -31,9 +31,10 @@ pub record TellsLock (number t w : ℕ) (entry : Entry) : Type 0 where
   pub at : place_of entry.place ≡ lock_place t w
 
 -- a command that lets go of a target
-pub data LetsGo : Command ℕ → Type 0 where
-  fails : (t : ℕ) → LetsGo (Failed t)
-  frees : (t : ℕ) → LetsGo (Unlock t)
+abbrev pub LetsGo : Command ℕ → Type 0
+LetsGo (Failed t) = Unit {0}
+LetsGo (Unlock t) = Unit {0}
+LetsGo command = ⊥
 
 -- the reply is that of the worker's store, by what the session holds
 pub record IsSaidBy (w : Worker) (x : Command ℕ) (reply : Reply ℕ) : Type 0 where
