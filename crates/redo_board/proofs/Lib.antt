@@ -5,6 +5,7 @@ pub mod Orders
 pub mod Builds
 pub mod Ways
 pub mod Words
+pub mod Below
 pub mod Counts
 pub mod Sound
 pub mod Parts
