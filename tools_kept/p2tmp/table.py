@@ -1,0 +1,20 @@
+import pathlib
+src=pathlib.Path('/work/p2/crates/redo_terms/src/cases.rt').read_text()
+mac=src[src.index('macro_rules!'):]
+d=pathlib.Path('/work/bugs/redo_terms_table'); d.mkdir(exist_ok=True)
+def bug(name,crate,only,file,old,new_use,o,n):
+    assert mac.count(o)==1,(name,mac.count(o))
+    body=mac.replace(o,n)
+    (d/f'{crate}.{name}.bug').write_text(f'only: {only}\nfile: {file}\nold: {old}\nnew: {new_use}\n\n{body}')
+K=('src/keywords.rt','use redo_terms::{Kind, cases};','use redo_terms::Kind;')
+RC=('src/cell.rt','use redo_terms::{FileStamp, Kind, Refusal, cases};','use redo_terms::{FileStamp, Kind, Refusal};')
+S=('src/store.rt','use redo_terms::{Command, FileStamp, Refusal, Reply, cases};','use redo_terms::{Command, FileStamp, Refusal, Reply};')
+SR=('src/store/refusals.rt','use redo_terms::{Command, Refusal, cases};','use redo_terms::{Command, Refusal};')
+bug('word_of_targets_is_target','redo_text','cut_kind',*K,'b"targets"','b"target"')
+bug('words_of_done_and_failed_change_places','redo_text','keyword',*K,'(Done(t, stamp), b"done", [own_build NotBuilding], okay, done)\n            (Failed(t), b"failed",','(Done(t, stamp), b"failed", [own_build NotBuilding], okay, done)\n            (Failed(t), b"done",')
+bug('unlock_asks_for_rest_first','redo_records','refusal',*RC,'b"unlock", [held NotLocked, resting Building]','b"unlock", [resting Building, held NotLocked]')
+bug('always_needs_no_build','redo_records','refusal',*RC,'b"always", [own_build NotBuilding]','b"always", []')
+bug('start_refuses_with_not_building','redo_records','refusal',*RC,'b"start", [held NotLocked, resting Building]','b"start", [held NotLocked, resting NotBuilding]')
+bug('ifcreate_asks_for_files_first','redo_store','store::Store::refusal_of_names',*SR,'others Itself, missing Exists]','missing Exists, others Itself]')
+bug('targets_are_answered_as_ood','redo_store','store::Store::answer',*S,'b"targets", [], targets, nothing','b"targets", [], ood, nothing')
+bug('gone_changes_nothing','redo_store','store::Store::change',*S,'b"gone", [], okay, clear_file','b"gone", [], okay, nothing')
