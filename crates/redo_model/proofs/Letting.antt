@@ -43,13 +43,24 @@ in_filter p (n ∷ names) t h e = elim (contains_cases n names t h) [
   | inr k ↦ filter_later (p n) n t (filter p names) (in_filter p names t k e)
 ]
 
-lock_true : (granted same held : Bool) → cond granted (cond same true held) held ≡ true
+pub asked_first : {N : Type 0} (o : Option N) (names : List N) (t : N) → o ≡ Some t
+    → Contains (cons_option o names) t
+asked_first None names t e = absurd (cc)
+asked_first (Some u) names t e =
+    let is : u ≡ t = cc in subst (Contains (u ∷ names)) is (contains_first u names)
+
+pub asked_later : {N : Type 0} (o : Option N) (names : List N) (t : N) → Contains names t
+    → Contains (cons_option o names) t
+asked_later None names t h = h
+asked_later (Some u) names t h = contains_later u names t h
+
+pub lock_true : (granted same held : Bool) → cond granted (cond same true held) held ≡ true
     → (held ≡ true) ⊎ (same ≡ true)
 lock_true true true held e = inr refl
 lock_true true false held e = inl e
 lock_true false same held e = inl e
 
-unlock_true : (okay same held : Bool) → cond okay (cond same false held) held ≡ true → held ≡ true
+pub unlock_true : (okay same held : Bool) → cond okay (cond same false held) held ≡ true → held ≡ true
 unlock_true true true held e = absurd (false≢true e)
 unlock_true true false held e = e
 unlock_true false same held e = e
@@ -113,17 +124,6 @@ module _ {N : Type 0} {naming : Naming N} (law : IsNaming naming) where
       inl (unlock_true (is_okay reply) (naming.same u t) held e)
   then_held command reply t held e = inl e
 
-  asked_first : (o : Option N) (names : List N) (t : N) → o ≡ Some t
-      → Contains (cons_option o names) t
-  asked_first None names t e = absurd (cc)
-  asked_first (Some u) names t e =
-      let is : u ≡ t = cc in subst (Contains (u ∷ names)) is (contains_first u names)
-
-  asked_later : (o : Option N) (names : List N) (t : N) → Contains names t
-      → Contains (cons_option o names) t
-  asked_later None names t h = h
-  asked_later (Some u) names t h = contains_later u names t h
-
   -- what a session holds it had before, or it locked it
   asked_or_before : (own : List (Line N)) (t : N) (held : Bool)
       → holds_after naming t held own ≡ true
@@ -139,13 +139,18 @@ module _ {N : Type 0} {naming : Naming N} (law : IsNaming naming) where
         | inr there ↦ inr (asked_later (asked_lock line.command) rest t there)
       ]
 
-  pub held_is_in : (own : List (Line N)) (t : N) → holds naming own t ≡ true
-      → Contains (held_in naming own) t
-  held_is_in own t e = elim (asked_or_before own t false e) [
+  pub held_is_asked : (own : List (Line N)) (t : N) → holds naming own t ≡ true
+      → Contains (filter_map (λ (line : Line N). asked_lock line.command) own) t
+  held_is_asked own t e = elim (asked_or_before own t false e) [
     | inl h ↦ absurd (false≢true h)
-    | inr asked ↦ in_filter (holds naming own)
-        (filter_map (λ (line : Line N). asked_lock line.command) own) t asked e
+    | inr asked ↦ asked
   ]
+
+  held_is_in : (own : List (Line N)) (t : N) → holds naming own t ≡ true
+      → Contains (held_in naming own) t
+  held_is_in own t e =
+      in_filter (holds naming own) (filter_map (λ (line : Line N). asked_lock line.command) own) t
+      (held_is_asked own t e) e
 
   -- a session without a closing command holds nothing
   pub closing_none : (own : List (Line N)) → closing_of naming own ≡ None → (t : N)

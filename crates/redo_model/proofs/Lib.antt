@@ -15,6 +15,7 @@ pub mod FewTargets
 pub mod Held
 pub mod HistoriesByName
 pub mod Lists
+pub mod JournalRoom
 pub mod Letting
 pub mod Members
 pub mod NamesWithoutAFile
@@ -28,6 +29,7 @@ pub mod RecordsByName
 pub mod Refused
 pub mod Region
 pub mod RepliesByName
+pub mod Room
 pub mod RowsOfBothKinds
 pub mod Scripts
 pub mod StepsByName

@@ -24,7 +24,7 @@ built_cond : (s : ℕ) (b : Bool) (x y : Cell)
 built_cond s true x y = refl
 built_cond s false x y = refl
 
-same_both : (b h : Bool) → h ≡ cond b h h
+pub same_both : (b h : Bool) → h ≡ cond b h h
 same_both true h = refl
 same_both false h = refl
 
