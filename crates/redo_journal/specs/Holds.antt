@@ -1,15 +1,17 @@
 -- What a table says of the names that a session holds and builds.
-use Rattle.std.specs.Prelude.{◌≡◌, ℕ, ◌<◌, Bool, false, cond, List, map, filter_map, length, Option, Some, None, slice_index_or}
+use Rattle.std.specs.Prelude.{◌≡◌, ℕ, ◌<◌, Bool, false, cond, List, map, filter_map, length, All, Option, Some, None, slice_index_or}
 use Rattle.redo_model.specs.Names.{Text, Naming}
 use Rattle.redo_model.specs.Command.{Command, asked_lock}
 use Rattle.redo_model.specs.Command as commands
 use Rattle.redo_model.specs.Reply.{Reply}
 use Rattle.redo_model.specs.History.{Line}
+use Rattle.redo_model.specs.Placed.{line_of}
+use Rattle.redo_model.specs.Renaming.{IsBelow}
 use Rattle.redo_model.specs.Closing as closing
 use Rattle.redo_terms.specs.Meaning.{by_text}
 use Rattle.redo_journal.specs.declared.holds.Hold.{Hold}
 use Rattle.redo_journal.specs.declared.entry.Entry.{Entry}
-use Rattle.redo_journal.specs.Journals.{command_told}
+use Rattle.redo_journal.specs.Journals.{command_told, lines_told}
 
 abbrev pub no_hold : Hold
 no_hold = record { held = false; building = false }
@@ -37,6 +39,14 @@ pub record Notes (names : List Text) (old : List Hold) (x : Command ℕ) (reply 
   pub building : (t : ℕ) → t < length old
       → (hold_at new t).building
       ≡ closing.builds_then (by_text names) x reply t (hold_at old t).building
+
+-- the lines that a session with this script and these entries tells, without their places
+abbrev pub own_lines : ℕ → List (commands.Item ℕ) → List Entry → List (Line ℕ)
+own_lines s script entries = map line_of (lines_told s script entries)
+
+-- their commands are over so many names
+abbrev pub AreToldBelow : ℕ → List (commands.Item ℕ) → List Entry → Type 0
+AreToldBelow n script entries = All (λ entry. IsBelow n (command_told script entry)) entries
 
 -- the names that the entries' commands lock
 abbrev pub locked_in : List (commands.Item ℕ) → List Entry → List ℕ

@@ -1,13 +1,12 @@
-ghost use Rattle.std.specs.Prelude.{◌≡◌, ℕ, ◌<◌, ◌↔◌, IsTrue, IfSome, All, cond, length, map, filter, option_map};
+ghost use Rattle.std.specs.Prelude.{◌≡◌, ℕ, ◌<◌, ◌↔◌, IsTrue, IfSome, cond, length, map, filter, option_map};
 ghost use Rattle.std.specs.Option.{ForSome};
 ghost use Rattle.redo_model.specs.Command.{Failed, Unlock, asked_lock};
 ghost use Rattle.redo_model.specs.Renaming.{IsBelow};
-ghost use Rattle.redo_model.specs.Placed.{line_of};
 ghost use Rattle.redo_model.specs.Closing.{lesser_of, least, closing_of};
 ghost use Rattle.redo_terms.specs.Meaning.{command_of, by_text};
 ghost use Rattle.redo_terms.specs.Inside.Meaning.{item_of};
-ghost use Rattle.redo_journal.specs.Journals.{command_told, lines_told};
-ghost use Rattle.redo_journal.specs.Holds.{Says, is_held, locked_in, lesser_held};
+ghost use Rattle.redo_journal.specs.Journals.{command_told};
+ghost use Rattle.redo_journal.specs.Holds.{Says, AreToldBelow, own_lines, is_held, locked_in, lesser_held};
 
 use crate::entry::Entry;
 use crate::holds::{Hold, Holds};
@@ -87,8 +86,7 @@ impl Holds {
         entries: &[Entry],
     ) -> Option<u32>
         requires names { length self.now ≡ length names.now }
-        requires below { All (λ entry. IsBelow (length names.now)
-            (command_told (map item_of script.now) entry)) entries.now }
+        requires below { AreToldBelow (length names.now) (map item_of script.now) entries.now }
         ensures least { result ≡ least (by_text names.now)
             (filter (is_held self.now) (locked_in (map item_of script.now) entries.now)) }
         ensures below { IfSome result (λ name. name < length names.now) }
@@ -106,13 +104,11 @@ impl Holds {
     /// the least target by bytes that it holds, `failed` where it builds it, else `unlock`.
     pub fn closing(&self, names: &Names, script: &Script, entries: &[Entry]) -> Option<Command>
         requires names { length self.now ≡ length names.now }
-        requires below { All (λ entry. IsBelow (length names.now)
-            (command_told (map item_of script.now) entry)) entries.now }
+        requires below { AreToldBelow (length names.now) (map item_of script.now) entries.now }
         ensures closing { (s : ℕ)
-            → Says names.now self.now
-            (map line_of (lines_told s (map item_of script.now) entries.now))
+            → Says names.now self.now (own_lines s (map item_of script.now) entries.now)
             → option_map command_of result ≡ closing_of (by_text names.now)
-            (map line_of (lines_told s (map item_of script.now) entries.now)) }
+            (own_lines s (map item_of script.now) entries.now) }
         ensures below { IfSome result (λ command. IsBelow (length names.now)
             (command_of command)) }
     {

@@ -1,12 +1,11 @@
 ghost use Rattle.std.specs.Prelude.{◌≡◌, ℕ, ◌<◌, ◌≤◌, ◌↔◌, ◌||◌, not, All, IfSome, IsSome, IsTrue, drop, length, map, option_map};
 ghost use Rattle.redo_model.specs.Journals.{first_from, next_line_of, closing_number, closing_after, numbered};
 ghost use Rattle.redo_model.specs.Closing.{closing_of};
-ghost use Rattle.redo_model.specs.Placed.{line_of};
 ghost use Rattle.redo_model.specs.Renaming.{IsBelow};
 ghost use Rattle.redo_terms.specs.Meaning.{command_of, by_text};
 ghost use Rattle.redo_terms.specs.Inside.Meaning.{item_of};
-ghost use Rattle.redo_journal.specs.Holds.{Says};
-ghost use Rattle.redo_journal.specs.Journals.{command_told, line_told, lines_told, IsMarked};
+ghost use Rattle.redo_journal.specs.Holds.{Says, AreToldBelow, own_lines};
+ghost use Rattle.redo_journal.specs.Journals.{line_told, lines_told, IsMarked};
 ghost use Rattle.redo_journal.specs.Numbers.{numbered_in, numbered_by, next_after, IsNextAfter};
 
 use crate::closing::lets_go;
@@ -80,12 +79,10 @@ fn closing_number(script: &Script, entries: &[Entry]) -> usize
 /// next line of its script, and after these a closing command.
 pub fn next_step(names: &Names, script: &Script, entries: &[Entry], holds: &Holds) -> Option<Next>
     requires names { length holds.now ≡ length names.now }
-    requires below { All (λ entry. IsBelow (length names.now)
-        (command_told (map item_of script.now) entry)) entries.now }
+    requires below { AreToldBelow (length names.now) (map item_of script.now) entries.now }
     requires numbers { All (λ entry. entry.line < 4294967295) entries.now }
     ensures next { (s : ℕ)
-        → Says names.now holds.now
-        (map line_of (lines_told s (map item_of script.now) entries.now))
+        → Says names.now holds.now (own_lines s (map item_of script.now) entries.now)
         → next_after names.now s (map item_of script.now) entries.now
         ≡ option_map (numbered_by (map item_of script.now)) result }
     ensures marked { IfSome result (λ next. IsSome next.closing
@@ -111,16 +108,13 @@ pub fn next_step(names: &Names, script: &Script, entries: &[Entry], holds: &Hold
 /// Whether the entry is of the closing command that comes after the entries before it.
 fn closes(names: &Names, script: &Script, before: &[Entry], holds: &Holds, entry: &Entry) -> bool
     requires names { length holds.now ≡ length names.now }
-    requires below { All (λ entry. IsBelow (length names.now)
-        (command_told (map item_of script.now) entry)) before.now }
+    requires below { AreToldBelow (length names.now) (map item_of script.now) before.now }
     ensures { (s : ℕ)
-        → Says names.now holds.now
-        (map line_of (lines_told s (map item_of script.now) before.now))
+        → Says names.now holds.now (own_lines s (map item_of script.now) before.now)
         → IsTrue result
         ↔ (option_map (closing_after (map item_of script.now)
         (lines_told s (map item_of script.now) before.now))
-        (closing_of (by_text names.now)
-        (map line_of (lines_told s (map item_of script.now) before.now)))
+        (closing_of (by_text names.now) (own_lines s (map item_of script.now) before.now))
         ≡ Some (numbered (line_told s (map item_of script.now) entry.now))) }
 {
     match holds.least_held(names, script, before) {
@@ -141,12 +135,10 @@ pub(crate) fn is_next(
     entry: &Entry,
 ) -> bool
     requires names { length holds.now ≡ length names.now }
-    requires below { All (λ entry. IsBelow (length names.now)
-        (command_told (map item_of script.now) entry)) before.now }
+    requires below { AreToldBelow (length names.now) (map item_of script.now) before.now }
     requires marked { IsMarked (map item_of script.now) entry.now }
     ensures { (s : ℕ)
-        → Says names.now holds.now
-        (map line_of (lines_told s (map item_of script.now) before.now))
+        → Says names.now holds.now (own_lines s (map item_of script.now) before.now)
         → IsTrue result
         ↔ IsNextAfter names.now s (map item_of script.now) before.now entry.now }
 {

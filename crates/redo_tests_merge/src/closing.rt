@@ -22,8 +22,18 @@ fn whole() -> [Made; 6] {
         (1, None, Reply::Granted(1), Place::Granted(1, 1)),
         (2, None, Reply::Okay, Place::Row(0)),
         (3, Some((Kind::Failed, 0)), Reply::Okay, Place::Row(1)),
-        (4, Some((Kind::Unlock, 0)), Reply::Okay, Place::Released(0, 1)),
-        (5, Some((Kind::Unlock, 1)), Reply::Okay, Place::Released(1, 1)),
+        (
+            4,
+            Some((Kind::Unlock, 0)),
+            Reply::Okay,
+            Place::Released(0, 1),
+        ),
+        (
+            5,
+            Some((Kind::Unlock, 1)),
+            Reply::Okay,
+            Place::Released(1, 1),
+        ),
     ]
 }
 
@@ -31,7 +41,12 @@ fn whole() -> [Made; 6] {
 fn other() -> [Made; 2] {
     [
         (0, None, Reply::Granted(2), Place::Granted(0, 2)),
-        (1, Some((Kind::Unlock, 0)), Reply::Okay, Place::Released(0, 2)),
+        (
+            1,
+            Some((Kind::Unlock, 0)),
+            Reply::Okay,
+            Place::Released(0, 2),
+        ),
     ]
 }
 
@@ -78,7 +93,10 @@ fn journals_at(alloc: Global, closing: &[(u32, Closing)]) -> Result<Vec<Journal>
 const CLOSINGS: [(&[(u32, Closing)], bool); 13] = [
     (&[], true),
     (&[(3, Some((Kind::Failed, 0)))], true),
-    (&[(3, Some((Kind::Failed, 0))), (4, Some((Kind::Unlock, 0)))], true),
+    (
+        &[(3, Some((Kind::Failed, 0))), (4, Some((Kind::Unlock, 0)))],
+        true,
+    ),
     (
         &[
             (3, Some((Kind::Failed, 0))),
@@ -92,13 +110,22 @@ const CLOSINGS: [(&[(u32, Closing)], bool); 13] = [
     // It isn't the least that is held.
     (&[(3, Some((Kind::Unlock, 1)))], false),
     (&[(3, Some((Kind::Failed, 1)))], false),
-    (&[(3, Some((Kind::Failed, 0))), (4, Some((Kind::Unlock, 1)))], false),
+    (
+        &[(3, Some((Kind::Failed, 0))), (4, Some((Kind::Unlock, 1)))],
+        false,
+    ),
     // The number isn't the next.
     (&[(4, Some((Kind::Failed, 0)))], false),
     (&[(2, Some((Kind::Failed, 0)))], false),
-    (&[(3, Some((Kind::Failed, 0))), (3, Some((Kind::Unlock, 0)))], false),
+    (
+        &[(3, Some((Kind::Failed, 0))), (3, Some((Kind::Unlock, 0)))],
+        false,
+    ),
     // It has failed already.
-    (&[(3, Some((Kind::Failed, 0))), (4, Some((Kind::Failed, 0)))], false),
+    (
+        &[(3, Some((Kind::Failed, 0))), (4, Some((Kind::Failed, 0)))],
+        false,
+    ),
     // No line has this number.
     (&[(3, None)], false),
 ];
