@@ -95,11 +95,11 @@ const APART: [&str; 2] = [
     "lock d\nstart d\nlock c\nstart c\n",
 ];
 
-/// Two sessions that want the same two targets. Each of a session's steps on a target that it got is
-/// followed by one that lets go of it: eight steps at most.
+/// Two sessions that want the same two targets: eight steps of the first and six of the second at most,
+/// where they get both.
 const TOGETHER: [&str; 2] = [
     "lock b\nstart b\nlock a\nstart a\n",
-    "lock a\nstart a\nlock b\nstart b\n",
+    "lock a\nstart a\nlock b\n",
 ];
 
 /// Four targets are granted and three of them started; each is let go of. The rows are those of the
@@ -110,13 +110,15 @@ fn check_apart(rt: &impl Abort, lines: &[Line], rows: u32) {
     assert!(rt; lines.len() == 14 && rows == 6);
 }
 
-/// A target that is granted is started, failed and unlocked by the same session; a session that isn't
-/// granted it is told busy, and its start is refused. Answers how many are granted.
+/// Each grant is followed by an unlock, and each start by a failed build, but for the second session's
+/// last lock, which no start follows. The three starts take rows also where they are refused. Answers
+/// how many locks are granted.
 fn check_together(rt: &impl Abort, lines: &[Line], rows: u32) -> usize {
     let all = counted(lines);
-    let granted = all.granted;
-    assert!(rt; granted >= 2 && granted <= 4 && all.started == granted && all.is_let_go());
-    assert!(rt; lines.len() == 8 + 2 * granted && rows as usize == 4 + granted);
+    let (granted, started) = (all.granted, all.started);
+    assert!(rt; granted >= 2 && granted <= 4 && started <= granted && granted <= started + 1);
+    assert!(rt; all.is_let_go());
+    assert!(rt; lines.len() == 7 + granted + started && rows as usize == 3 + started);
     granted
 }
 
@@ -145,7 +147,7 @@ fn every_end_apart(rt: HostRuntime) -> Result<(), AllocError> {
 fn every_end_together(rt: HostRuntime) -> Result<(), AllocError> {
     let alloc = rt.alloc();
     let plan = plan_of(&rt, alloc, &TOGETHER)?;
-    let mut turns = turns_of(alloc, [8, 8])?;
+    let mut turns = turns_of(alloc, [8, 6])?;
     let mut met = [0u32; 5];
     let mut count: usize = 0;
     for _ in 0..MOST {
@@ -159,8 +161,8 @@ fn every_end_together(rt: HostRuntime) -> Result<(), AllocError> {
             break;
         }
     }
-    // 16! / (8! 8!)
-    assert!(rt; count == 12_870);
+    // 14! / (8! 6!)
+    assert!(rt; count == 3_003);
     assert!(rt; met[2] > 0 && met[3] > 0 && met[4] > 0);
     Ok(())
 }
@@ -180,7 +182,7 @@ fn has_history(
 }
 
 /// What comes of the sessions that want the same, where the first does all before the second begins.
-const IN_TURN: &str = "history 16\n\
+const IN_TURN: &str = "history 14\n\
     1 lock b => granted 1\n\
     1 start b => ok\n\
     1 lock a => granted 1\n\
@@ -192,14 +194,12 @@ const IN_TURN: &str = "history 16\n\
     2 lock a => granted 2\n\
     2 start a => ok\n\
     2 lock b => granted 2\n\
-    2 start b => ok\n\
     2 failed a => ok\n\
     2 unlock a => ok\n\
-    2 failed b => ok\n\
     2 unlock b => ok\n";
 
 /// The same, where they go step by step: each gets its first target, and finds the other's held.
-const STEP_BY_STEP: &str = "history 12\n\
+const STEP_BY_STEP: &str = "history 11\n\
     1 lock b => granted 1\n\
     1 start b => ok\n\
     2 lock a => granted 1\n\
@@ -207,19 +207,18 @@ const STEP_BY_STEP: &str = "history 12\n\
     2 start a => ok\n\
     1 start a => refused not-locked\n\
     2 lock b => busy 1\n\
-    2 start b => refused not-locked\n\
+    2 failed a => ok\n\
     1 failed b => ok\n\
     1 unlock b => ok\n\
-    2 failed a => ok\n\
     2 unlock a => ok\n";
 
 #[test]
 fn ends_by_hand(rt: HostRuntime) -> Result<(), AllocError> {
     let alloc = rt.alloc();
     let plan = plan_of(&rt, alloc, &TOGETHER)?;
-    has_history(&rt, alloc, &plan, &turns_of(alloc, [8, 8])?, IN_TURN)?;
+    has_history(&rt, alloc, &plan, &turns_of(alloc, [8, 6])?, IN_TURN)?;
     let mut turns = Vec::new(alloc);
-    for turn in 0..16 {
+    for turn in 0..12 {
         turns.push(turn % 2)?;
     }
     has_history(&rt, alloc, &plan, &turns, STEP_BY_STEP)

@@ -76,12 +76,7 @@ fn merged(
 }
 
 /// The journal of the one session, which does its whole script and lets go, with so many rows.
-fn done_alone(
-    rt: &impl Abort,
-    alloc: Global,
-    plan: &Plan,
-    rows: u32,
-) -> Result<Journal, AllocError>
+fn done_alone(rt: &impl Abort, alloc: Global, plan: &Plan, rows: u32) -> Result<Journal, AllocError>
     requires { length plan.now.scripts ≡ 1 }
 {
     let (board, seat) = opened(alloc, plan)?;
