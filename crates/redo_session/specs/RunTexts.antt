@@ -6,7 +6,7 @@ use Rattle.redo_model.specs.Command.{Item}
 use Rattle.redo_model.specs.Reply.{Reply, lets_through}
 use Rattle.redo_model.specs.History.{Line, part_of}
 use Rattle.redo_text.specs.Texts.{item_text_of, reply_text_of}
-use Rattle.redo_replay.specs.Histories.{ended, history_text_of}
+use Rattle.redo_replay.specs.Histories.{ended, answer_text_of, history_text_of}
 
 -- a line of a script with the reply to it
 abbrev pub done_text_of : Item Text → Reply Text → Text
@@ -25,13 +25,30 @@ script_text_of through (item ∷ items) (reply ∷ replies) =
     (done_text_of item reply ++ script_text_of (lets_through reply) items replies)
     (skipped_text_of item ++ script_text_of through items (reply ∷ replies))
 
--- a session's header, and the lines of its script
+-- the lines of a session after those of its script, which are its closing commands
+abbrev pub closing_in : Bool → List (Item Text) → List (Line Text) → List (Line Text)
+closing_in through [] lines = lines
+closing_in through (item ∷ items) [] = []
+closing_in through (item ∷ items) (line ∷ lines) =
+    cond (through || not item.guarded) (closing_in (lets_through line.reply) items lines)
+    (closing_in through items (line ∷ lines))
+
+-- a closing command with the reply to it
+abbrev pub closing_text_of : Line Text → Text
+closing_text_of line = ended (answer_text_of line)
+
+-- a session and how many lines are printed of it
+abbrev pub session_header_of : ℕ → ℕ → Text
+session_header_of s count = ended (codes "session " ++ decimal (s + 1) ++ codes " " ++ decimal count)
+
+-- a session's header, the lines of its script, and its closing commands
 abbrev pub session_text_of : ℕ → List (Item Text) → List (Line Text) → Text
 session_text_of s script part =
-    ended (codes "session " ++ decimal (s + 1) ++ codes " " ++ decimal (length script))
+    session_header_of s (length script + length (closing_in true script part))
     ++ script_text_of true script (map (λ line. line.reply) part)
+    ++ flat_map closing_text_of (closing_in true script part)
 
--- the history, and then each session's script
+-- the history, and then each session's lines
 abbrev pub run_text_of : List (List (Item Text)) → List ℕ → List (Line Text) → Text
 run_text_of scripts sessions lines =
     history_text_of lines

@@ -1,1 +1,2 @@
 pub mod SessionWorkers
+pub mod Fewer

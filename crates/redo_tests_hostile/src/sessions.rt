@@ -35,11 +35,11 @@ fn damaged_long_session_files(rt: HostRuntime) -> Result<(), Fail> {
     let mut random = Random::new(2);
     let mut tally = Tally::new(alloc)?;
     let front = long_file(alloc, 4092)?;
-    for _ in 0..400 {
+    for _ in 0..800 {
         let mut file = Vec::from_slice(alloc, &front)?;
         file.extend_from_slice(&badly_damaged(alloc, &mut random, LAST)?)?;
         judge_file(&rt, &file, &mut tally)?;
     }
-    tally.check(&rt, 400, 20, &[0, 3, 4, 5, 9]);
+    tally.check(&rt, 800, 20, &[0, 3, 4, 5, 9]);
     Ok(())
 }

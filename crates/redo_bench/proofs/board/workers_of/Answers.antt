@@ -1,7 +1,7 @@
 use Rattle.std.proofs.Common.{◌≡◌, ◌∷◌, [], ◌++◌, length, map, ap, subst, sym, arith, rules, ◌∙◌, All, ◌+◌, ◌≤◌, ◌-◌}
 use Rattle.std.proofs.lemmas.List.{length-map}
 use Rattle.std.proofs.lemmas.List.Elements.{All-push}
-use Rattle.redo_terms.specs.Meaning.{command_of}
+use Rattle.redo_terms.specs.Inside.Meaning.{item_of}
 use Rattle.redo_board.specs.Kept.{SitsAt, WorksAt, IsFreshOf}
 use Rattle.redo_bench.specs.Workers.{HasSession}
 use Rattle.redo_bench.proofs.Workers.{has_next}
@@ -37,7 +37,7 @@ returns c =
     let items : c.push-2.new.self.items ≡ c.loop-session.workers.items ++ w ∷ [] = search rules in
     let count : length p.scripts ≡ length c.scripts.result.now =
     sym (ap length c.scripts.ensures.scripts)
-    ∙ length-map c.scripts.result.now (λ script. map command_of script) in
+    ∙ length-map c.scripts.result.now (λ script. map item_of script) in
     let end : length c.scripts.result.now - 1 ≤ c.loop-session.session =
     c.loop-session-test.false in
     record {

@@ -25,7 +25,5 @@ returns c =
     let b = length-map c.items.result.now item_of in
     let d = c.requires.number in
     omega arith in
-    subst (λ (x : Item). IsBelow (length p.names) (command_of x.command))
-    (sym c.index-items-number.is)
-    (below_at (length p.names) c.items.result.now c.args.number
-    c.index-items-number.result within all)
+    below_at (length p.names) c.items.result.now c.args.number c.index-items-number.result within
+    all
