@@ -203,12 +203,14 @@ module _ {N : Type 0} {naming : Naming N} (law : IsNaming naming) where
         + length (building_in naming (own ++ line ∷ [])))
         ≤ length (held_in naming own) + length (building_in naming own))
     closing_step true building held e told =
-        let one : cond (is_failed line.command) 1 0 ≡ 1 = ap (λ c. cond (is_failed c) 1 0) e in
+        let one : cond {A = ℕ} (is_failed line.command) 1 0 ≡ 1 =
+        ap (λ c. cond {A = ℕ} (is_failed c) 1 0) e in
         let fewer = fewer_building e told building in
         let same = same_held e in
         (omega arith, omega arith)
     closing_step false building held e told =
-        let none : cond (is_failed line.command) 1 0 ≡ 0 = ap (λ c. cond (is_failed c) 1 0) e in
+        let none : cond {A = ℕ} (is_failed line.command) 1 0 ≡ 0 =
+        ap (λ c. cond {A = ℕ} (is_failed c) 1 0) e in
         let fewer = fewer_held e told held in
         let same = same_building e told in
         (omega arith, omega arith)
