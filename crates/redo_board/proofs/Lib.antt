@@ -15,6 +15,7 @@ pub mod WordsTold
 pub mod Bounds
 pub mod Held
 pub mod OwnLines
+pub mod Totals
 pub mod Kept
 pub mod Placing
 pub mod Rows
