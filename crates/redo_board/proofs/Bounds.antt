@@ -72,7 +72,7 @@ module _ (p : PlanOf) (plan : IsPlan p) where
       → AllByRecursion (IsLineBelow 65536) lines
   below_most lines all = lines_up (length p.names) 65536 lines plan.names.few all
 
-state_from : (p : PlanOf) (c : Core) (log : List Line)
+pub state_from : (p : PlanOf) (c : Core) (log : List Line)
     → (after_all p c log).state ≡ left_by (naming_of p) c.state (map line_of log)
 state_from p c [] = refl
 state_from p c (l ∷ ls) = state_from p (done p c l) ls

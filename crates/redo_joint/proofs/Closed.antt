@@ -54,7 +54,7 @@ module _ {N : Type 0} (naming : Naming N) (plan : ℕ → List (Item N)) where
   next_here before line lines on = (journal_here before line lines line.session refl on).1
 
 -- the part of a session, without its places
-part_lines : {N : Type 0} (s : ℕ) (lines : List (PlacedLine N))
+pub part_lines : {N : Type 0} (s : ℕ) (lines : List (PlacedLine N))
     → histories.part_of s (map line_of lines) ≡ map line_of (part_of s lines)
 part_lines s [] = refl
 part_lines s (line ∷ lines) =
