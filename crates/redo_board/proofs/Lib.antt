@@ -7,6 +7,7 @@ pub mod Ways
 pub mod Words
 pub mod Below
 pub mod Counts
+pub mod Rooms
 pub mod Sound
 pub mod Parts
 pub mod Bridge
