@@ -1,8 +1,5 @@
-pub mod Nexts
 pub mod Scripts
-pub mod Found
 pub mod Orders
-pub mod Builds
 pub mod Ways
 pub mod Words
 pub mod Below
@@ -16,6 +13,8 @@ pub mod Bounds
 pub mod Held
 pub mod OwnLines
 pub mod Totals
+pub mod Lone
+pub mod Rooms
 pub mod Kept
 pub mod Placing
 pub mod Rows

@@ -119,14 +119,21 @@ module _ (p : PlanOf) (s : ℕ) where
   lets_fail : (own : List Line) (x : Command ℕ) (t : ℕ) (b : Bool)
       → closing.builds (naming_of p) (map line_of own) t ≡ b
       → closing.holds (naming_of p) (map line_of own) t ≡ true
-      → x ≡ cond b (Failed t) (Unlock t) → own_way own x ≡ row → is_failed x ≡ true
-  lets_fail own x t true builds held is way = ap is_failed is
+      → x ≡ cond b (Failed t) (Unlock t) → own_way own x ≡ row → x ≡ Failed t
+  lets_fail own x t true builds held is way = is
   lets_fail own x t false builds held is way =
       let h = holds_alike (naming_of p).order own t ∙ held in
       let b = builds_alike (naming_of p).order own t ∙ builds in
       let frees : own_way own (Unlock t) ≡ free t =
       λ i. cond (h i && not (b i)) (free t) row in
       absurd (let e : free t ≡ row = sym frees ∙ ap (own_way own) (sym is) ∙ way in cc)
+
+  pub closing_fails : (own : List Line) (x : Command ℕ)
+      → closing_of (naming_of p) (map line_of own) ≡ Some x → own_way own x ≡ row
+      → (t : ℕ) × (x ≡ Failed t)
+  closing_fails own x closes way =
+      let (t, held, is) = closing_held (naming_of p) (map line_of own) x closes in
+      (t, lets_fail own x t (closing.builds (naming_of p) (map line_of own) t) refl held is way)
 
   -- with what the session does next, answered `ok`, they are one line more
   pub own_next : (lines : List Line) (n : Numbered ℕ) (place : Place ℕ) → IsOwn p s lines
@@ -141,10 +148,8 @@ module _ (p : PlanOf) (s : ℕ) where
       no_lock = λ r. lock_asked n.command (rows r).0;
       failed = λ r past.
           let closes = next_past_script (naming_of p) (script_of p s) lines n next past in
-          let (t, held, letting) = closing_held (naming_of p) (map line_of lines) n.command
-          closes.closes in
-          lets_fail lines n.command t (closing.builds (naming_of p) (map line_of lines) t) refl
-          held letting (rows r).1;
+          let (t, fails) = closing_fails lines n.command closes.closes (rows r).1 in
+          ap is_failed fails;
     });
   }
 
