@@ -18,7 +18,8 @@ use Rattle.redo_board.specs.Kept.{Lags}
 use Rattle.redo_board.proofs.Orders.{same_records, replies_too}
 use Rattle.redo_joint.specs.Replayed.{session_in, flag_in, command_in}
 use Rattle.redo_board.proofs.Words.{replay-push}
-use Rattle.redo_board.proofs.Sound.{few, few_rows}
+use Rattle.redo_board.proofs.Bounds.{words_name}
+use Rattle.redo_board.proofs.Totals.{few, few_rows}
 
 get_or_begins : (all xs rest : List ℕ) (n : ℕ) → all ≡ (xs ++ n ∷ []) ++ rest
     → (get_or all (length xs) 0 ≡ n) × (length xs < length all)
@@ -37,7 +38,12 @@ get_or_begins all xs rest n e = (
 -- a word that was seen names a command
 pub seen_word : (p : PlanOf) (v : ViewOf) (words : List ℕ) (n : ℕ) → v.plan ≡ p → Told v
     → v.seen ≡ words ++ n ∷ [] → IsWord p n
-seen_word p v words n q told e = ?
+seen_word p v words n q told e =
+    let b : Begins (row_words v.plan told.log) (words ++ n ∷ []) =
+    subst (Begins (row_words v.plan told.log)) e told.fits.seen in
+    let at = get_or_begins (row_words v.plan told.log) words b.0 n b.1 in
+    subst (λ (x : PlanOf × ℕ). IsWord x.0 x.1) (λ i. (q i, at.0 i))
+    (words_name v.plan told.log told.plan told.legal (length words) at.1)
 
 -- few words were seen
 pub few_seen : (v : ViewOf) → Told v → length v.seen ≤ 524288
@@ -79,7 +85,7 @@ module _ (p : PlanOf) (old new : Stored) (seen : List ℕ)
         ∙
         (λ i. records_after (rows.naming_of p) (lags.records i) (session_in n) (flag_in n)
         (is i))
-        ∙ sym (replay-push p empty.records lags.words n)
+        ∙ sym (replay-push p lags.words n)
         ∙ ap (replay p) (sym lags.behind);
     applied = let a = lags.applied in
         let b = ap length lags.behind in

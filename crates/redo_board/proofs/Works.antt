@@ -1,11 +1,11 @@
 -- A worker after a step.
 use Rattle.std.proofs.Common.{◌≡◌, ◌≢◌, ℕ, ◌+◌, ◌-◌, ◌<◌, ◌≤◌, ◌↔◌, List, [], ◌∷◌, ◌++◌, length, map, get_or, All, Bool, true, Option, Some, None, is_some, option_map, refl, sym, ap, ◌∙◌, subst, inl, arith}
-use Rattle.std.specs.Prelude.{vec_capacity, vec_len, IsSome}
+use Rattle.std.specs.Prelude.{vec_capacity, vec_len, IfSome, IsSome}
 use Rattle.std.specs.List.{AllByRecursion}
 use Rattle.std.specs.Option.{unwrap_or}
 use Rattle.std.proofs.lemmas.List.{length_push, append-nil, length-map, map-append}
 use Rattle.std.proofs.lemmas.List.Elements.{All-push}
-use Rattle.redo_model.specs.Command.{Command, Ood, commands_in, names_in}
+use Rattle.redo_model.specs.Command.{Command, Item, Ood, commands_in, names_in}
 use Rattle.redo_model.specs.Reply.{Reply}
 use Rattle.redo_model.specs.Renaming.{IsBelow, AllBelow}
 use Rattle.redo_model.specs.Placed.{Place, line_of, part_of}
@@ -15,6 +15,7 @@ use Rattle.redo_terms.specs.Meaning.{command_of, reply_of}
 use Rattle.redo_terms.specs.declared.command.Command as terms
 use Rattle.redo_store.specs.Stored.{Stored}
 use Rattle.redo_model.proofs.JournalRoom.{ClosingsOkay}
+use Rattle.redo_model.proofs.Nexts.{next_past_script}
 use Rattle.redo_journal.specs.Plans.{PlanOf, IsPlan, script_of}
 use Rattle.redo_journal.specs.Holds.{Says, Notes}
 use Rattle.redo_journal.specs.Journals.{place_of, line_told, command_by, command_told, IsMarked}
@@ -31,12 +32,12 @@ use Rattle.redo_board.specs.Shown.{NeedsNoRow, IsNextBy, session_of, journal_of,
 use Rattle.redo_board.specs.Kept.{IsBoardOf, Works, WorksAt, Lags, view_of}
 use Rattle.redo_board.specs.Own.{has, way_by}
 use Rattle.redo_board.specs.Outcomes.{Made, Waits}
-use Rattle.redo_board.specs.Steps.{Enters}
+use Rattle.redo_board.specs.Steps.{Enters, LetsGo}
 use Rattle.redo_board.specs.declared.board.Board.{Board}
 use Rattle.redo_board.specs.declared.worker.Worker.{Worker}
 use Rattle.redo_board.proofs.Below.{AskBelow, next-below}
 use Rattle.redo_board.proofs.Lone.{own_lines, numbers_small, lines_below, rows_left}
-use Rattle.redo_board.proofs.OwnLines.{IsOwn}
+use Rattle.redo_board.proofs.OwnLines.{IsOwn, closing_fails}
 use Rattle.redo_board.proofs.Bridge.{of_plan_told}
 use Rattle.redo_board.proofs.Ended.{ends-with}
 use Rattle.redo_board.proofs.Rooms.{next_room}
@@ -124,7 +125,7 @@ pub row_next : (p : PlanOf) (w : Worker) (n : Numbered ℕ) → Works p w → ne
 row_next p w n k is in-row =
     let same = plan_same p w k in
     let left : length (seen_by w) < rows_of (view_of w).plan =
-    rows_left (view_of w) w.session (journal_of p w) n k.told (lone_of p w k)
+    rows_left (view_of w) w.session (journal_of p w) k.told (lone_of p w k) n
     (subst (λ (q : PlanOf). w.session < length q.scripts) (sym same) k.session)
     (ap (λ q. next q w.session (journal_of p w)) same ∙ is) in-row in
     let a = k.tries in
@@ -176,6 +177,26 @@ is_entry p w n reply place e closing next line same said at = record {
       subst (λ (x : Bool × ℕ). (x.0 ≡ true) ↔ (length (script_of p w.session) ≤ x.1))
       (λ i. (some i, sym line i)) next.marked;
 }
+
+-- what lets go of a target is a command that does
+pub lets_go_by : (script : List (Item ℕ)) (closing : Option terms.Command) (number : ℕ)
+    (x : Command ℕ) → command_by script closing number ≡ x → LetsGo x
+    → IfSome closing (λ command. LetsGo (command_of command))
+lets_go_by script None number x told goes = tt
+lets_go_by script (Some command) number x told goes = subst LetsGo (sym told) goes
+
+-- on a row it lets a build fail, where it closes
+pub closing_lets_go : (p : PlanOf) (w : Worker) (number : ℕ) (closing : Option terms.Command)
+    (x : Command ℕ) → IsNextBy p w number closing x → own_way (journal_of p w) x ≡ row
+    → IfSome closing (λ command. LetsGo (command_of command))
+closing_lets_go p w number None x next in-row = tt
+closing_lets_go p w number (Some command) x next in-row =
+    let n : Numbered ℕ = record { number = number; command = x } in
+    let closes =
+    next_past_script (naming_of p) (script_of p w.session) (journal_of p w) n next.next
+    (next.marked.0 refl) in
+    let (t, fails) = closing_fails p w.session (journal_of p w) x closes.closes in-row in
+    subst LetsGo (sym (next.told ∙ fails)) tt
 
 entry_tells : (p : PlanOf) (w : Worker) (n : Numbered ℕ) (e : Entry) (reply : Reply ℕ)
     (place : Place ℕ) → IsEntryOf p w n reply place e
