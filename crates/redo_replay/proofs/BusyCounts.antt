@@ -1,5 +1,5 @@
 -- Counts of busy answers.
-use Rattle.std.proofs.Common.{◌≡◌, ℕ, zero, suc, ◌+◌, ◌-◌, ◌*◌, ◌<◌, ◌≤◌, ◌&&◌, eqb, List, refl, ap, ◌∙◌, inl, inr, arith, length, get_or, take, Bool, true, false, cond, eq-eqb, eqb-true, add-one, Option, Some, None, IsSome}
+use Rattle.std.proofs.Common.{◌≡◌, ℕ, zero, suc, ◌+◌, ◌-◌, ◌*◌, ◌<◌, ◌≤◌, ◌&&◌, eqb, List, ◌∷◌, refl, ap, ◌∙◌, inl, inr, arith, length, get_or, take, Bool, true, false, cond, eq-eqb, eqb-true, add-one, Option, Some, None, IsSome}
 use Rattle.std.proofs.lemmas.Bool.{cases_Bool}
 use Rattle.std.proofs.lemmas.List.Sums.{sum_by-cons, sum_by-drop_more, sum_by-take-drop}
 use Rattle.redo_joint.proofs.Counts.{one_if}

@@ -113,4 +113,6 @@ module _ (naming : Naming ℕ) (s : ℕ) (script : List (commands.Item ℕ)) whe
   pub busy_few : (t g : ℕ) (entries : List Entry)
       → IsJournal naming s script (lines_told s script entries)
       → ((k : ℕ) → FitsAt script entries k) → busy_in t g entries ≤ length script
-  busy_few t g entries is fit = busy_after t g [] entries is fit
+  busy_few t g entries is fit =
+      let few = busy_after t g [] entries is fit in
+      omega arith

@@ -1,8 +1,9 @@
-use Rattle.std.proofs.Common.{arith, ℕ, ◌≡◌, [], ap, sym, ◌∙◌, map, get_or, slice_index_or}
+use Rattle.std.proofs.Common.{arith, ℕ, ◌≡◌, [], ap, sym, ◌∙◌, inl, inr, length, map, get_or, slice_index_or}
+use Rattle.std.proofs.lemmas.Bool.{cases_lt}
 use Rattle.redo_terms.specs.Inside.Meaning.{item_of}
 use Rattle.redo_journal.specs.Plans.{scripts_of}
 use Rattle.redo_replay.specs.Inside.Merging.{entries_of, FitsAt}
-use Rattle.redo_replay.proofs.Unmerged.{next_below, entries_at, script_at, fits_back, misfit_back}
+use Rattle.redo_replay.proofs.Unmerged.{next_below, entries_at, entries_past, script_at, fits_back, misfit_back}
 use Rattle.redo_replay.proofs.merging.fitting.all_fit.Goals as goal
 
 pub returns-then-not-journal_fits : goal.returns-then-not-journal_fits
@@ -40,3 +41,13 @@ checking-preserved c =
     s c.checking.invariant
     (fits_back c.args.scripts.now js s c.deref.result.now c.index-scripts-s.result here script
     c.if-not-journal_fits.ensures)
+
+pub returns : goal.returns
+returns c s k more =
+    let js = c.args.journals.now in
+    elim (cases_lt s (length js)) [
+      | inl within ↦ c.checking.invariant s (omega arith) k more
+      | inr past ↦
+          let none_there = ap length (entries_past js s (omega arith)) in
+          absurd (omega arith)
+    ]
