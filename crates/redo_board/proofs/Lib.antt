@@ -7,9 +7,14 @@ pub mod Ways
 pub mod Words
 pub mod Below
 pub mod Counts
+pub mod SessionRows
 pub mod Sound
 pub mod Parts
 pub mod Bridge
+pub mod WordsTold
+pub mod Bounds
+pub mod Held
+pub mod OwnLines
 pub mod Kept
 pub mod Placing
 pub mod Rows
@@ -21,7 +26,6 @@ pub mod Stores
 pub mod Steps
 pub mod Works
 pub mod Told
-pub mod WordsTold
 pub mod Own
 pub mod Briefs
 pub mod Ended

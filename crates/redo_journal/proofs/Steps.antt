@@ -19,7 +19,7 @@ use Rattle.redo_terms.specs.declared.command.Command.{Command}
 use Rattle.redo_journal.specs.declared.entry.Entry.{Entry}
 use Rattle.redo_journal.specs.Journals.{command_told, command_by, line_told, lines_told, IsMarked}
 use Rattle.redo_journal.specs.Numbers.{numbered_in, next_after, IsNextAfter, IsNextAt}
-use Rattle.redo_journal.proofs.Closings.{TellsBelow, closing_below}
+use Rattle.redo_journal.proofs.Closings.{TellsBelow, closing_told_below}
 
 eqb-same : (n : ℕ) → (n == n) ≡ true
 eqb-same n = search rules
@@ -165,6 +165,6 @@ next_below names s script before next script_below below e =
           (next_line_from script (lines_told s script before) next is).command
           (at_below (length names) script next.number script_below)
       | inr closing ↦
-          closing_below (by_text names) (length names) s script before next.command below
+          closing_told_below (by_text names) (length names) s script before next.command below
           closing.closes
     ]
