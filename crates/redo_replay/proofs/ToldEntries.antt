@@ -1,5 +1,5 @@
 -- The entries of a journal: their commands are over the names, and few of them are busy answers.
-use Rattle.std.proofs.Common.{◌≡◌, ℕ, zero, suc, ◌+◌, ◌-◌, ◌<◌, ◌≤◌, ◌&&◌, Bool, true, false, cond, List, [], ◌∷◌, ◌++◌, length, map, get_or, Some, refl, sym, ap, ◌∙◌, subst, inl, inr, arith}
+use Rattle.std.proofs.Common.{◌≡◌, ℕ, zero, suc, ◌-◌, ◌≤◌, Bool, true, false, cond, List, [], ◌∷◌, ◌++◌, length, map, get_or, Some, refl, sym, ◌∙◌, subst, inl, inr, arith}
 use Rattle.std.specs.List.{AllByRecursion}
 use Rattle.std.proofs.lemmas.List.{map_push}
 use Rattle.redo_model.specs.Names.{Naming}
@@ -8,17 +8,16 @@ use Rattle.redo_model.specs.Command.{Lock, Unlock, Failed, Ood, commands_in}
 use Rattle.redo_model.specs.Reply as replies
 use Rattle.redo_model.specs.Placed.{PlacedLine, Fits, line_of}
 use Rattle.redo_model.specs.Renaming.{IsBelow}
-use Rattle.redo_model.specs.Closing.{builds, letting_go, closing_of}
+use Rattle.redo_model.specs.Closing.{builds, closing_of}
 use Rattle.redo_model.specs.Journals.{Numbered, next_of, numbered, IsJournal, IsJournalAfter}
 use Rattle.redo_model.proofs.Nexts.{past_of, past_of_more, next_cases, next_line_from}
 use Rattle.redo_model.proofs.Letting.{closing_held}
-use Rattle.redo_terms.specs.Meaning.{reply_of}
 use Rattle.redo_journal.specs.declared.entry.Place.{Place}
 use Rattle.redo_journal.specs.declared.entry.Place.TheVariants.{Row, Granted, Busy, Released}
 use Rattle.redo_journal.specs.declared.entry.Entry.{Entry}
 use Rattle.redo_journal.specs.Journals.{place_of, command_told, line_told, lines_told}
-use Rattle.redo_journal.proofs.Closings.{TellsBelow, closing_below}
-use Rattle.redo_replay.specs.Inside.Merging.{FitsScript, FitsAt, is_busy, busy_one, busy_in, none}
+use Rattle.redo_journal.proofs.Closings.{TellsBelow, closing_told_below}
+use Rattle.redo_replay.specs.Inside.Merging.{FitsAt, busy_one, busy_in}
 use Rattle.redo_replay.proofs.BusyCounts.{busy_in-cons, busy_one-le}
 
 script_below : (n : ℕ) (script : List (commands.Item ℕ)) (k : ℕ)
@@ -51,7 +50,7 @@ module _ (naming : Naming ℕ) (s : ℕ) (script : List (commands.Item ℕ)) whe
               subst (IsBelow n) (next_line_from script (lines_told s script before) next is).command
               (script_below n script next.number below)
           | inr closing ↦
-              closing_below naming n s script before next.command all closing.closes
+              closing_told_below naming n s script before next.command all closing.closes
         ]
 
     below_after : (before entries : List Entry) → TellsBelow n script before

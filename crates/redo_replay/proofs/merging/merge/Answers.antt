@@ -1,4 +1,4 @@
-use Rattle.std.proofs.Common.{ℕ, List, ◌<◌, ◌≤◌, arith, ap, get_or, length, subst, sym, ◌∙◌, refl}
+use Rattle.std.proofs.Common.{ℕ, List, ◌<◌, ◌≤◌, ap, get_or, length, subst, sym, ◌∙◌, refl}
 use Rattle.std.proofs.Math.ListN.{replicate}
 use Rattle.redo_replay.specs.Inside.Merging.{entries_of, AreWithin, NoneMayCome}
 use Rattle.redo_replay.proofs.MergeSteps.{all_within, few_busy, fit_lent, misfit_lent, merging_first, take_lent, less_lent, merging_lent, merged, stuck_none}

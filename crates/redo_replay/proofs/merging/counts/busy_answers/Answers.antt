@@ -1,4 +1,4 @@
-use Rattle.std.proofs.Common.{arith, ap, sym, ◌∙◌, length}
+use Rattle.std.proofs.Common.{arith, ap, sym, ◌∙◌}
 use Rattle.redo_journal.specs.declared.entry.Journal.{Journal}
 use Rattle.redo_replay.specs.Inside.Merging.{entries_of, busy_in}
 use Rattle.redo_replay.proofs.Unmerged.{entries_at}
