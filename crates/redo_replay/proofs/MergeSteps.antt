@@ -26,10 +26,10 @@ use Rattle.redo_journal.specs.declared.entry.Journal.{Journal}
 use Rattle.redo_journal.proofs.Closings.{TellsBelow}
 use Rattle.redo_replay.specs.declared.merging.turning.Turns.{Turns}
 use Rattle.redo_journal.specs.Plans.{PlanOf, IsPlan, scripts_of, script_of}
-use Rattle.redo_journal.specs.Journals.{place_of, command_told, naming_of, journals_of, AreJournals}
+use Rattle.redo_journal.specs.Journals.{place_of, command_told, naming_of, journals_of, AreJournals, entries_of}
 use Rattle.redo_replay.specs.Merges.{by_number, AreMerged}
 use Rattle.redo_replay.specs.Inside.Merges.{HaveNoOrder}
-use Rattle.redo_replay.specs.Inside.Merging.{entries_of, tally, busy_one, busy_in, busy_below, none, Turned, Tells, AllFit, OneMisfits, IsWithin, AreWithin, IsLeast, MayTake, NoneMayCome}
+use Rattle.redo_replay.specs.Inside.Merging.{tally, busy_one, busy_in, busy_below, none, Turned, Tells, AllFit, OneMisfits, IsWithin, AreWithin, IsLeast, MayTake, NoneMayCome}
 use Rattle.redo_replay.proofs.Unmerged.{entries_at, entries_past, left, left_less, told_is, journal_is, session_is, script_at}
 use Rattle.redo_replay.proofs.ToldEntries.{told_below, busy_few}
 use Rattle.redo_replay.proofs.TurnsShown.{numbers_are_names, ticketed, shown, told_at, rests, left_entries, shown_after, may_here, can_back, takes_here, counts_step, no_rest, some_rest, below_same, map_in}

@@ -22,8 +22,8 @@ use Rattle.redo_journal.specs.declared.entry.Entry.{Entry}
 use Rattle.redo_journal.specs.declared.entry.Journal.{Journal}
 use Rattle.redo_replay.specs.declared.merging.turning.Turns.{Turns}
 use Rattle.redo_journal.specs.Plans.{PlanOf, script_of}
-use Rattle.redo_journal.specs.Journals.{place_of, line_told}
-use Rattle.redo_replay.specs.Inside.Merging.{entries_of, is_busy, busy_one, busy_in, busy_below, none, tally, IsFree, Turned, SessionMayCome}
+use Rattle.redo_journal.specs.Journals.{place_of, line_told, entries_of}
+use Rattle.redo_replay.specs.Inside.Merging.{is_busy, busy_one, busy_in, busy_below, none, tally, IsFree, Turned, SessionMayCome}
 use Rattle.redo_replay.specs.Inside.Merging as merging
 use Rattle.redo_replay.proofs.Unmerged.{entries_past}
 use Rattle.redo_replay.proofs.BusyCounts.{and_true, busy_in-cons}

@@ -13,8 +13,8 @@ use Rattle.redo_terms.specs.Inside.Meaning.{item_of}
 use Rattle.redo_journal.specs.declared.entry.Entry.{Entry}
 use Rattle.redo_journal.specs.declared.entry.Journal.{Journal}
 use Rattle.redo_journal.specs.Plans.{PlanOf, scripts_of, script_of}
-use Rattle.redo_journal.specs.Journals.{lines_told, told_by, journals_of, naming_of, AreJournals}
-use Rattle.redo_replay.specs.Inside.Merging.{entries_of, FitsScript, FitsAt, MisfitsAt, none}
+use Rattle.redo_journal.specs.Journals.{lines_told, told_by, journals_of, naming_of, AreJournals, entries_of}
+use Rattle.redo_replay.specs.Inside.Merging.{FitsScript, FitsAt, MisfitsAt, none}
 
 -- the entries of a journal that is there
 pub entries_at : (js : List Journal) (s : ℕ) (d : Journal) → s < length js

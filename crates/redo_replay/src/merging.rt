@@ -4,10 +4,10 @@ ghost use Rattle.std.specs.Prelude.{◌≡◌, ◌↔◌, ℕ, ◌<◌, ◌≤�
 ghost use Rattle.redo_terms.specs.Meaning.{line_of};
 ghost use Rattle.redo_terms.specs.Inside.Meaning.{item_of};
 ghost use Rattle.redo_model.specs.Placed as placed;
-ghost use Rattle.redo_journal.specs.Journals.{AreJournals, line_told};
+ghost use Rattle.redo_journal.specs.Journals.{AreJournals, line_told, entries_of};
 ghost use Rattle.redo_replay.specs.Merges.{AreMerged};
 ghost use Rattle.redo_replay.specs.Inside.Merges.{HaveNoOrder};
-ghost use Rattle.redo_replay.specs.Inside.Merging.{entries_of, none, AreWithin, IsLeast, MayCome, MayTake, NoneMayCome, Tells, Turned, Uncounted};
+ghost use Rattle.redo_replay.specs.Inside.Merging.{none, AreWithin, IsLeast, MayCome, MayTake, NoneMayCome, Tells, Turned, Uncounted};
 
 mod counts;
 mod fitting;

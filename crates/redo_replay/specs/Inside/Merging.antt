@@ -9,7 +9,7 @@ use Rattle.redo_joint.specs.Named.{IsPlaceBelow}
 use Rattle.redo_terms.specs.Meaning.{reply_of, line_of}
 use Rattle.redo_terms.specs.declared.reply.Line.{Line}
 use Rattle.redo_terms.specs.declared.reply.Reply.TheVariants.{Okay}
-use Rattle.redo_journal.specs.Journals.{place_of, command_told, line_told}
+use Rattle.redo_journal.specs.Journals.{place_of, command_told, line_told, entries_of}
 use Rattle.redo_journal.specs.declared.entry.Place.{Place}
 use Rattle.redo_journal.specs.declared.entry.Place.TheVariants.{Row, Granted, Busy, Released}
 use Rattle.redo_journal.specs.declared.entry.Entry.{Entry}
@@ -19,12 +19,6 @@ use Rattle.redo_replay.specs.declared.merging.turning.Turns.{Turns}
 -- an entry for where there is none
 abbrev pub none : Entry
 none = record { line = 0; closing = None; reply = Okay; place = Row 0 }
-
--- the entries of the s-th journal; none where there is no such journal
-abbrev pub entries_of : List Journal → ℕ → List Entry
-entries_of [] s = []
-entries_of (journal ∷ rest) zero = journal.entries.items
-entries_of (journal ∷ rest) (suc s) = entries_of rest s
 
 -- the entry's place fits its command and its reply
 abbrev pub FitsScript : List (commands.Item ℕ) → Entry → Type 0

@@ -1,7 +1,8 @@
 //! How many busy answers of each grant are left.
 
 ghost use Rattle.std.specs.Prelude.{◌≡◌, ◌↔◌, ℕ, ◌+◌, ◌<◌, ◌≤◌, ◌^◌, ◌*◌, IfOk, IsTrue, length};
-ghost use Rattle.redo_replay.specs.Inside.Merging.{entries_of, tally, busy_one, busy_in, busy_below, Uncounted, IsFree};
+ghost use Rattle.redo_journal.specs.Journals.{entries_of};
+ghost use Rattle.redo_replay.specs.Inside.Merging.{tally, busy_one, busy_in, busy_below, Uncounted, IsFree};
 
 use redo_journal::{Entry, Journal, Place};
 use std::alloc::{AllocError, Global};

@@ -1,6 +1,7 @@
 use Rattle.std.proofs.Common.{ℕ, List, ◌<◌, ◌≤◌, ap, get_or, length, subst, sym, ◌∙◌, refl}
 use Rattle.std.proofs.Math.ListN.{replicate}
-use Rattle.redo_replay.specs.Inside.Merging.{entries_of, AreWithin, NoneMayCome}
+use Rattle.redo_journal.specs.Journals.{entries_of}
+use Rattle.redo_replay.specs.Inside.Merging.{AreWithin, NoneMayCome}
 use Rattle.redo_replay.proofs.MergeSteps.{all_within, few_busy, fit_lent, misfit_lent, merging_first, take_lent, less_lent, merging_lent, merged, stuck_none}
 use Rattle.redo_replay.proofs.merging.merge.Goals as goal
 

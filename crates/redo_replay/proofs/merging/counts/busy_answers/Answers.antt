@@ -1,6 +1,7 @@
 use Rattle.std.proofs.Common.{arith, ap, sym, ◌∙◌}
 use Rattle.redo_journal.specs.declared.entry.Journal.{Journal}
-use Rattle.redo_replay.specs.Inside.Merging.{entries_of, busy_in}
+use Rattle.redo_journal.specs.Journals.{entries_of}
+use Rattle.redo_replay.specs.Inside.Merging.{busy_in}
 use Rattle.redo_replay.proofs.Unmerged.{entries_at}
 use Rattle.redo_replay.proofs.BusyCounts.{busy_below-more, busy_below-le}
 use Rattle.redo_replay.proofs.merging.counts.busy_answers.Goals as goal

@@ -2,7 +2,8 @@ use Rattle.std.proofs.Common.{arith, ℕ, ◌≡◌, [], ap, sym, ◌∙◌, inl
 use Rattle.std.proofs.lemmas.Bool.{cases_lt}
 use Rattle.redo_terms.specs.Inside.Meaning.{item_of}
 use Rattle.redo_journal.specs.Plans.{scripts_of}
-use Rattle.redo_replay.specs.Inside.Merging.{entries_of, FitsAt}
+use Rattle.redo_journal.specs.Journals.{entries_of}
+use Rattle.redo_replay.specs.Inside.Merging.{FitsAt}
 use Rattle.redo_replay.proofs.Unmerged.{next_below, entries_at, entries_past, script_at, fits_back, misfit_back}
 use Rattle.redo_replay.proofs.merging.fitting.all_fit.Goals as goal
 
