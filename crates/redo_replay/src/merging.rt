@@ -74,6 +74,7 @@ fn told(alloc: Global, session: u8, script: &Script, entry: &Entry) -> Result<Li
 {
     let command = match entry.command(script) {
         Some(command) => command.copy(alloc)?,
+        // No entry of a journal is without a command.
         None => Command::Ood,
     };
     let reply = entry.reply.copy(alloc)?;

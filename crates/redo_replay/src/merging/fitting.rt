@@ -61,6 +61,7 @@ fn entry_fits(script: &Script, entry: &Entry) -> bool
 {
     match entry.command(script) {
         Some(command) => fits(command, &entry.reply, entry.place),
+        // No entry of a journal is without a command.
         None => fits(&Command::Ood, &entry.reply, entry.place),
     }
 }
