@@ -8,6 +8,7 @@ use Rattle.redo_board.specs.Core.{claim, free}
 use Rattle.redo_board.specs.Plays.{own, own_build, own_way}
 use Rattle.redo_board.specs.Own.{way_by}
 use Rattle.redo_board.specs.Steps.{way_of}
+use Rattle.redo_board.specs.Kept.{WorksAt}
 use Rattle.redo_board.specs.Shown.{IsNextBy, journal_of, tries_of}
 use Rattle.redo_board.proofs.Works.{needs-row, own_below, own_steps, lock_next}
 use Rattle.redo_board.proofs.Told.{way-claim, way-free}
@@ -101,4 +102,13 @@ returns-clause-no_row g c no-row =
           (needs-row p w n c.in-Some.ensures.some.next
           (sym steps ∙ ap (way_by w.own) (sym e) ∙ sym c.way_for.ensures ∙ ap way_of v.in-Row.is)
           no-row)
+    ]
+
+pub returns-clause-works : goal.returns-clause-works
+returns-clause-works g c =
+    let works = WorksAt c.args.plan.now c.args.board.now in
+    elim c.match-way_for.branch [
+      | in-Claim v ↦ subst works (sym v.self-is) v.lock.ensures.works
+      | in-Free v ↦ subst works (sym v.self-is) v.free.ensures.works
+      | in-Row+in_ok-place-in-Row v ↦ subst works (sym v.self-is) v.place.ensures.works
     ]
