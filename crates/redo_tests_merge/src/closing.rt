@@ -19,6 +19,7 @@ type Closings = &'static [(u32, Closing)];
 
 /// A session: its file, what lines of it were answered, and what it may and may not close after
 /// these. Names have numbers in the order in which they come.
+#[derive(Clone, Copy)]
 struct Case {
     text: &'static str,
     told: &'static [(u32, Answer)],
@@ -222,7 +223,7 @@ fn journals_of(
     for (line, closing) in closings {
         made.push((*line, Some(*closing), Answer::Okay, Place::Row(0)))?;
     }
-    vec![in alloc; journal_of(alloc, 0, &made)?]
+    Ok(vec![in alloc; journal_of(alloc, 0, &made)?]?)
 }
 
 /// After the lines comes what lets go of the least target that is held, and nothing else.
