@@ -17,7 +17,8 @@ abbrev pub skipped_text_of : Item Text → Text
 skipped_text_of item = item_text_of item ++ codes " => skipped"
 
 -- what is printed of a session with this script and these lines: each line of the script, with its
--- reply where it is done; and then the lines that are left, which are closing commands
+-- reply where it is done, unguarded or let through; and then the lines that are left, which are
+-- closing commands
 abbrev pub session_lines_of : Bool → List (Item Text) → List (Line Text) → List Text
 session_lines_of through [] part = map answer_text_of part
 session_lines_of through (item ∷ items) [] =
