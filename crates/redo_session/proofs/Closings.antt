@@ -1,7 +1,7 @@
 -- The closing lines of a run: each is answered `ok`, they are no more than the lines before them,
 -- and they name what those named.
-use Rattle.std.proofs.Common.{◌≡◌, ◌≢◌, ℕ, ◌+◌, ◌<◌, ◌≤◌, suc, Bool, true, false, cond, eqb, Option, Some, None, List, [], ◌∷◌, ◌++◌, length, map, refl, sym, ap, ◌∙◌, subst, arith, append_assoc, append-nil}
-use Rattle.std.specs.List.{AllByRecursion, filter, filter_map, cons_option}
+use Rattle.std.proofs.Common.{◌≡◌, ◌≢◌, ℕ, ◌+◌, ◌≤◌, suc, Bool, cond, Some, List, [], ◌∷◌, ◌++◌, length, map, refl, sym, ap, ◌∙◌, subst, arith, append_assoc, append-nil}
+use Rattle.std.specs.List.{AllByRecursion, filter, cons_option}
 use Rattle.std.proofs.lemmas.Bool.{eq-eqb, ne_eqb}
 use Rattle.std.proofs.lemmas.List.{map_push}
 use Rattle.std.proofs.lemmas.List.Sums.{length-filter, count_by-le-length}
@@ -11,7 +11,7 @@ use Rattle.redo_model.specs.Names.{Naming}
 use Rattle.redo_model.specs.Inside.Names.{IsNaming}
 use Rattle.redo_model.specs.State.{State, empty}
 use Rattle.redo_model.specs.Command.{Command, Lock, Start, asked_lock}
-use Rattle.redo_model.specs.Reply.{Reply, Okay}
+use Rattle.redo_model.specs.Reply.{Okay}
 use Rattle.redo_model.specs.Step.{Answers}
 use Rattle.redo_model.specs.History.{Line, part_of, left_by, Legal, LegalFrom}
 use Rattle.redo_model.specs.Closing.{closing_of, ClosesAfter, holds, builds}

@@ -1,6 +1,6 @@
 -- The lines of a run: how many they are, and that each asks what a script does, or lets go of what
 -- was locked.
-use Rattle.std.proofs.Common.{◌≡◌, ℕ, ◌+◌, ◌*◌, ◌<◌, ◌≤◌, suc, Bool, true, false, not, ◌||◌, cond, get_or, List, [], ◌∷◌, ◌++◌, Some, length, length-append, map, sym, ap, subst, arith, ◌&&◌}
+use Rattle.std.proofs.Common.{◌≡◌, ℕ, ◌*◌, ◌<◌, ◌≤◌, suc, Bool, true, false, not, ◌||◌, cond, get_or, List, [], ◌∷◌, ◌++◌, length, length-append, map, sym, ap, subst, arith, ◌&&◌}
 use Rattle.std.specs.Prelude.{IsTrue, nat_le}
 use Rattle.std.specs.List.{AllByRecursion, filter_map, cons_option, list_all}
 use Rattle.std.proofs.lemmas.Bool.{leb-true}

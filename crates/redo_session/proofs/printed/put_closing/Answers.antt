@@ -1,8 +1,8 @@
-use Rattle.std.proofs.Common.{◌≡◌, ◌≢◌, ◌+◌, ◌<◌, ◌++◌, ◌∙◌, List, [], ap, sym, drop, length, refl, arith}
+use Rattle.std.proofs.Common.{◌+◌, List, [], ap, drop, refl, arith}
 use Rattle.std.proofs.lemmas.List.{at_drop_all}
 use Rattle.redo_terms.specs.Meaning.{line_at}
 use Rattle.redo_terms.specs.declared.reply.Line.{Line}
-use Rattle.redo_replay.specs.Histories.{ended, answer_text_of}
+use Rattle.redo_replay.specs.Histories.{answer_text_of}
 use Rattle.redo_session.specs.Inside.Printed.{part_in, closing_lines_of}
 use Rattle.redo_session.proofs.Parts.{of_another, of_own}
 use Rattle.redo_session.proofs.ScriptTexts.{none_printed, same_left, one_printed}

@@ -1,11 +1,11 @@
-use Rattle.std.proofs.Common.{◌≡◌, ◌+◌, ◌<◌, ◌++◌, ◌∷◌, ◌∙◌, true, Bool, ap, sym, map, drop, length, arith}
+use Rattle.std.proofs.Common.{◌≡◌, ◌+◌, ◌<◌, ◌++◌, ◌∷◌, ◌∙◌, true, Bool, ap, sym, map, length, arith}
 use Rattle.redo_model.specs.Reply.{lets_through}
 use Rattle.redo_terms.specs.Meaning.{reply_at, reply_of}
 use Rattle.redo_terms.specs.Inside.Meaning.{item_at}
 use Rattle.redo_terms.specs.declared.reply.Line.{Line}
 use Rattle.redo_replay.specs.Histories.{ended}
 use Rattle.redo_session.specs.RunTexts.{done_text_of, skipped_text_of, session_lines_of}
-use Rattle.redo_session.proofs.ScriptTexts.{lines_from, none_printed, one_printed, same_left, done_line, skipped_line, script_ends}
+use Rattle.redo_session.proofs.ScriptTexts.{lines_from, none_printed, one_printed, done_line, skipped_line}
 use Rattle.redo_session.proofs.printed.put_script.Goals as goal
 
 pub loop-item-init : goal.loop-item-init
