@@ -16,7 +16,7 @@ part_in names session lines = part_of session (map (line_at names) lines)
 abbrev pub closing_lines_of : List (histories.Line Text) → List Text
 closing_lines_of part = map answer_text_of part
 
--- behind the text before, of all lines as many as this are printed, and the rest is left
+-- of all these lines the first are printed behind the text before, so many, and the rest is left
 pub record ArePrinted (all : List Text) (before text : Text) (count : ℕ) (rest : List Text)
     : Type 0 where
   pub printed : List Text
