@@ -1,6 +1,7 @@
 -- What the sessions did and what their scripts have, added up.
-use Rattle.std.proofs.Common.{◌≡◌, ◌≢◌, ℕ, zero, suc, ◌+◌, ◌*◌, ◌<◌, ◌≤◌, List, [], ◌∷◌, ◌++◌, length, get_or, count_by, refl, sym, ap, ◌∙◌, arith, Bool, true, false}
+use Rattle.std.proofs.Common.{◌≡◌, ◌≢◌, ℕ, zero, suc, ◌+◌, ◌*◌, ◌<◌, ◌≤◌, List, [], ◌∷◌, ◌++◌, length, get_or, count_by, refl, sym, ap, arith, Bool}
 use Rattle.std.specs.List.{AllByRecursion}
+use Rattle.std.proofs.lemmas.List.Sums.{sum_by-cons}
 use Rattle.redo_model.specs.Command.{Command, Item}
 use Rattle.redo_model.specs.Placed.{PlacedLine, part_of}
 use Rattle.redo_joint.proofs.Counts.{one_if}
@@ -40,8 +41,8 @@ total-more f g d (x ∷ xs) (suc s) h e n = let a = n 0 (λ q. omega arith) in
     (λ i ne. n (suc i) (λ q. ne (omega arith))) in
     omega arith
 
--- lines that were gone past: at most 4096 of each session
-pub total-few : (f : ℕ → ℕ) (p : Scripts) → ((i : ℕ) → f i ≤ 4096) → total f p ≤ 4096 * length p
+-- lines: at most 12,288 of each session
+pub total-few : (f : ℕ → ℕ) (p : Scripts) → ((i : ℕ) → f i ≤ 12288) → total f p ≤ 12288 * length p
 unfolding total
 total-few f [] h = omega arith
 total-few f (x ∷ xs) h = let a = h 0 in
@@ -77,22 +78,26 @@ unfolding total
 rows-total [] = refl
 rows-total (x ∷ xs) = ap (λ n. rows_in x + n) (rows-total xs)
 
+none : (p : Scripts) → total (λ s. 0) p ≡ 0
+unfolding total
+none [] = refl
+none (x ∷ xs) = let a = none xs in omega arith
+
 -- what is counted among all lines is counted among those of each session
 pub by-parts : (test : PlacedLine ℕ → Bool) (log : List (PlacedLine ℕ)) (p : Scripts)
     → AllByRecursion (λ line. line.session < length p) log
     → count_by test log ≡ total (λ s. count_by test (part_of s log)) p
 by-parts test [] p all = sym (none p)
-  where
-    none : (p : Scripts) → total (λ s. 0) p ≡ 0
-    unfolding total
-    none [] = refl
-    none (x ∷ xs) = none xs
 by-parts test (line ∷ lines) p all =
     let more =
     total-more (λ s. count_by test (part_of s lines))
     (λ s. count_by test (part_of s (line ∷ lines))) (one_if (test line)) p line.session all.0
-    (let a = ap (count_by test) (part_of-own line.session line lines refl) in omega arith)
+    (let a = ap (count_by test) (part_of-own line.session line lines refl) in
+    let one =
+    sum_by-cons (λ (x : PlacedLine ℕ). one_if (test x)) line (part_of line.session lines) in
+    omega arith)
     (λ s ne. ap (count_by test) (part_of-other s line lines (λ q. ne (sym q)))) in
+    let one = sum_by-cons (λ (x : PlacedLine ℕ). one_if (test x)) line lines in
     let rest = by-parts test lines p all.1 in
     omega arith
 

@@ -1,5 +1,5 @@
 -- Row words, and functions that are changed at one place.
-use Rattle.std.proofs.Common.{◌≡◌, ◌≢◌, ℕ, ◌+◌, ◌-◌, ◌*◌, ◌/◌, ◌%◌, ◌<◌, ◌≤◌, List, [], ◌∷◌, ◌++◌, length, get_or, Bool, true, false, cond, not, eqb, None, Some, refl, ap, ◌∙◌, subst, sym, arith}
+use Rattle.std.proofs.Common.{◌≡◌, ◌≢◌, ℕ, ◌+◌, ◌-◌, ◌*◌, ◌/◌, ◌%◌, ◌<◌, ◌≤◌, List, [], ◌∷◌, ◌++◌, length, get_or, Bool, true, false, cond, not, eqb, None, refl, ap, ◌∙◌, subst, sym, arith}
 use Rattle.std.specs.Prelude.{nat_lt}
 use Rattle.std.specs.Option.{unwrap_or}
 use Rattle.std.proofs.lemmas.Bool.Decides.{Decides-ltb}
@@ -73,7 +73,7 @@ line-command p s k h few short =
     let es = line-session s k h few short in
     let en = line-number s k h short in
     λ i. cond (ec i) (Failed (target_in w))
-        (get_or (commands_in (script_of p (es i))) (en i) Ood)
+    (get_or (commands_in (script_of p (es i))) (en i) Ood)
 
 -- so does that of a closing command
 pub closing-closes : (s t : ℕ) → is_closing (closing_word s t) ≡ true

@@ -1,10 +1,9 @@
 -- The database as the board runs it: one line after the other, each at its place.
-use Rattle.std.specs.Prelude.{◌≡◌, ℕ, ◌+◌, ◌-◌, ◌*◌, ◌/◌, ◌%◌, ◌<◌, ◌==◌, Bool, true, false, not, ◌&&◌, List, [], ◌∷◌, ◌++◌, length, Option, Some, None, cond, nat_lt}
+use Rattle.std.specs.Prelude.{◌≡◌, ℕ, ◌+◌, ◌-◌, ◌*◌, ◌<◌, ◌==◌, Bool, false, not, ◌&&◌, List, [], ◌∷◌, ◌++◌, length, Option, Some, None, cond, nat_lt}
 use Rattle.std.specs.Option.{unwrap_or}
 use Rattle.redo_model.specs.State.{State, Records, Locks, empty, target_state}
-use Rattle.redo_model.specs.Command.{Command, Lock, Unlock, Start, Done, Failed, target_of, asked_lock}
-use Rattle.redo_model.specs.Reply.{Reply, Okay}
-use Rattle.redo_model.specs.Step.{Answers, after, records_after, holds_target, is_built_by}
+use Rattle.redo_model.specs.Command.{Command, Lock, Unlock, target_of, asked_lock}
+use Rattle.redo_model.specs.Step.{Answers, after, holds_target, is_built_by}
 use Rattle.redo_model.specs.Renaming.{IsBelow, IsReplyBelow}
 use Rattle.redo_model.specs.Placed.{Place, Row, Granted, Busy, Released, PlacedLine}
 use Rattle.redo_model.specs.Journals.{next_of, numbered}

@@ -1,5 +1,5 @@
 -- What each step tells its seat.
-use Rattle.std.specs.Prelude.{◌≡◌, ◌≢◌, ℕ, ◌≤◌, ◌+◌, ◌/◌, ◌%◌, ◌==◌, Bool, true, false, cond, List, [], ◌∷◌, ◌++◌, length, map, Option, Some, None}
+use Rattle.std.specs.Prelude.{◌≡◌, ◌≢◌, ℕ, ◌<◌, ◌+◌, ◌/◌, ◌%◌, ◌==◌, Bool, true, false, cond, List, [], ◌∷◌, ◌++◌, length, map, Option, Some, None}
 use Rattle.atomic_table.specs.Table.{Me, Step}
 use Rattle.std.specs.Ordering.{nat_cmp}
 use Rattle.redo_model.specs.Names.{Naming, numbers}
@@ -125,10 +125,10 @@ Claims line word v r w =
     → word ≡ rows_of v.plan + 1 + t → Goes v s j (line s n t r) v.seen w
 
 abbrev pub claimed : PlayOf
-claimed st m r n = Claims lock_line st.word m.0 r n.0 × (r ≤ 524288) × (n.1 ≡ m.1)
+claimed st m r n = Claims lock_line st.word m.0 r n.0 × (r < 4294967296) × (n.1 ≡ m.1)
 
 abbrev pub freed : PlayOf
-freed st m r n = Claims free_line st.word m.0 r n.0 × (r ≤ 524288) × (n.1 ≡ m.1)
+freed st m r n = Claims free_line st.word m.0 r n.0 × (r < 4294967296) × (n.1 ≡ m.1)
 
 -- the longer of what was seen, which both begin
 pub record Looked (v w : ViewOf) : Type 0 where

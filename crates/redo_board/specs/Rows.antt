@@ -1,6 +1,6 @@
 -- The rows of a board: one for each line of the plan whose command isn't a lock, and one more for
 -- each start.
-use Rattle.std.specs.Prelude.{ℕ, ◌+◌, Bool, true, false, cond, List, [], ◌∷◌, slice_index_or}
+use Rattle.std.specs.Prelude.{ℕ, ◌+◌, Bool, cond, List, [], ◌∷◌, slice_index_or}
 use Rattle.redo_model.specs.Names.{Naming}
 use Rattle.redo_model.specs.Command.{Command, Item, Lock, Start, Ood, commands_in}
 use Rattle.redo_store.specs.Orders.{by_text}

@@ -88,6 +88,7 @@ pub(crate) fn rows(plan: &Plan) -> usize
 
 /// How many rows a session with these lines may need.
 fn rows_in(items: &[Item]) -> usize
+    requires short { length items.now ≤ 4096 }
     ensures rows { result ≡ rows_in (map item_of items.now) }
     ensures few { result ≤ 2 * length items.now }
 {
@@ -111,6 +112,7 @@ fn needs(command: &Command) -> usize
 
 /// How many entries a session with these lines may need.
 pub(crate) fn room_for(items: &[Item]) -> usize
+    requires short { length items.now ≤ 4096 }
     ensures { result ≡ room_of (map item_of items.now) }
 {
     let mut room = 0;

@@ -17,7 +17,7 @@ use crate::board::Board;
 use crate::gate::Gate;
 use crate::plan::{command_next, items, room_for, script, session_number};
 use crate::seat::{Seat, Token};
-use crate::worker::ways::{Way, way};
+use crate::worker::ways::{Way, way_for};
 use redo_journal::{Entry, Holds, Journal, Next, Plan, next_step};
 use redo_store::Store;
 use redo_terms::{Command, FileStamp, Reply};
@@ -105,7 +105,7 @@ impl Worker {
         let _none: Option<FileStamp> = None;
         let command = command_next(plan, self.session, &next);
         gate.before(self.session, next.line);
-        match way(&self.own, command) {
+        match way_for(&self.own, command) {
             Way::Claim(target) => self.lock(board, plan, next.line, target),
             Way::Free(target) => self.free(board, plan, &next, target),
             Way::Row => self.place(alloc, board, plan, gate, &next, command)?,
@@ -121,7 +121,12 @@ impl Worker {
             (command_by (script_of plan.now self.now.session) next.closing next.line)) }
         ensures none { IfNone result (IsAtEnd plan.now self.now) }
     {
-        next_step(plan.names(), script(plan, self.session), &self.entries, &self.own)
+        next_step(
+            plan.names(),
+            script(plan, self.session),
+            &self.entries,
+            &self.own,
+        )
     }
 
     /// Writes the entry of a command into the journal, in which there is room.

@@ -54,7 +54,7 @@ module _ {N : Type 0} (naming : Naming N) (plan : ℕ → List (Item N)) where
   next_here before line lines on = (journal_here before line lines line.session refl on).1
 
 -- the part of a session, without its places
-part_lines : {N : Type 0} (s : ℕ) (lines : List (PlacedLine N))
+pub part_lines : {N : Type 0} (s : ℕ) (lines : List (PlacedLine N))
     → histories.part_of s (map line_of lines) ≡ map line_of (part_of s lines)
 part_lines s [] = refl
 part_lines s (line ∷ lines) =
@@ -82,17 +82,26 @@ letting_cases true t command e = inl e
 letting_cases false t command e = inr e
 
 module _ {naming : Naming ℕ} (law : IsNaming naming) (plan : ℕ → List (Item ℕ)) where
-  failing : (before : List (PlacedLine ℕ)) (line : PlacedLine ℕ)
+  -- a closing line is answered `ok`
+  closing_told : (before : List (PlacedLine ℕ)) (line : PlacedLine ℕ)
       → Legal naming (map line_of before)
       → Answers naming (left_by naming empty (map line_of before)) line.session line.command
       line.reply
       → closing_of naming (map line_of (part_of line.session before)) ≡ Some line.command
-      → is_claim line.command line.reply ≡ false → IsBelow 65536 line.command
-      → length (plan line.session) ≤ line.number → IsFailing plan line
-  failing before line legal answers closes row below past =
+      → line.reply ≡ Okay
+  closing_told before line legal answers closes =
       let there : closing_of naming (histories.part_of line.session (map line_of before))
       ≡ Some line.command =
       ap (closing_of naming) (part_lines line.session before) ∙ closes in
+      one_answer law (left_by naming empty (map line_of before)) line.session line.command
+      line.reply Okay answers
+      (closing_accepted law (map line_of before) line.session line.command legal there)
+
+  failing : (before : List (PlacedLine ℕ)) (line : PlacedLine ℕ)
+      → closing_of naming (map line_of (part_of line.session before)) ≡ Some line.command
+      → line.reply ≡ Okay → is_claim line.command line.reply ≡ false → IsBelow 65536 line.command
+      → length (plan line.session) ≤ line.number → IsFailing plan line
+  failing before line closes okay row below past =
       let own = map line_of (part_of line.session before) in
       let (t, held, is) = closing_held naming own line.command closes in
       elim (letting_cases (builds naming own t) t line.command is) [
@@ -102,37 +111,45 @@ module _ {naming : Naming ℕ} (law : IsNaming naming) (plan : ℕ → List (Ite
           command = failed;
           below = (subst (IsBelow 65536) failed below).0;
         }
-        | inr unlock ↦
-            let okay : line.reply ≡ Okay =
-            one_answer law (left_by naming empty (map line_of before)) line.session line.command
-            line.reply Okay answers
-            (closing_accepted law (map line_of before) line.session line.command legal there) in
-            absurd (false≢true (sym row ∙ (λ i. is_claim (unlock i) (okay i))))
+        | inr unlock ↦ absurd (false≢true (sym row ∙ (λ i. is_claim (unlock i) (okay i))))
       ]
+
+  -- a row tells its line's command by its word, and a closing line is answered `ok`
+  pub record Tells (line : PlacedLine ℕ) : Type 0 where
+    pub row : is_row line.place ≡ true → RowTells plan line
+    pub okay : length (plan line.session) ≤ line.number → line.reply ≡ Okay
 
   told_at : (before lines : List (PlacedLine ℕ)) (line : PlacedLine ℕ)
       → Legal naming (map line_of before)
       → Answers naming (left_by naming empty (map line_of before)) line.session line.command
       line.reply
       → GoOn naming plan before (line ∷ lines) → IsBelow 65536 line.command
-      → is_claim line.command line.reply ≡ false → RowTells plan line
+      → (is_row line.place ≡ true → is_claim line.command line.reply ≡ false) → Tells line
   told_at before lines line legal answers on below row =
       let own = part_of line.session before in
       let next = next_here naming plan before line lines on in
+      let closes : length (plan line.session) ≤ line.number
+      → closing_of naming (map line_of own) ≡ Some line.command =
+      λ past. (next_past_script naming (plan line.session) own (numbered line) next past).closes in
       dite (dec_lt line.number (length (plan line.session)))
-      (λ less. inl (record {
-        within = less;
-        command = next_in_script naming (plan line.session) own (numbered line) next less;
-      }))
-      (λ not. inr
-      (let past : length (plan line.session) ≤ line.number = omega arith in
-      failing before line legal answers
-      (next_past_script naming (plan line.session) own (numbered line) next past).closes row below
-      past))
+      (λ less. record {
+        row = λ _. inl (record {
+          within = less;
+          command = next_in_script naming (plan line.session) own (numbered line) next less;
+        });
+        okay = λ past. absurd (omega arith);
+      })
+      (λ not.
+      let past : length (plan line.session) ≤ line.number = omega arith in
+      let okay = closing_told before line legal answers (closes past) in
+      record {
+        row = λ r. inr (failing before line (closes past) okay (row r) below past);
+        okay = λ _. okay;
+      })
 
-  -- each line with a row tells its command by its word
+  -- each line tells so
   abbrev pub AllTell : List (PlacedLine ℕ) → Type 0
-  AllTell lines = AllByRecursion (λ line. is_row line.place ≡ true → RowTells plan line) lines
+  AllTell lines = AllByRecursion Tells lines
 
   by_place : (place : Place ℕ) (command : Command ℕ) (reply : Reply ℕ) → Fits place command reply
       → is_row place ≡ true → is_claim command reply ≡ false
@@ -147,8 +164,8 @@ module _ {naming : Naming ℕ} (law : IsNaming naming) (plan : ℕ → List (Ite
       → AllByRecursion (IsLineBelow 65536) (map line_of lines) → AllTell lines
   all_tell before [] legal rest placed on below = tt
   all_tell before (line ∷ lines) legal rest placed on below = (
-    λ row. told_at before lines line legal rest.0 on below.0.0
-        (by_place line.place line.command line.reply placed.0 row),
+    told_at before lines line legal rest.0 on below.0.0
+        (by_place line.place line.command line.reply placed.0),
     all_tell (before ++ line ∷ []) lines
         (subst (Legal naming) (sym (map_push line_of before line))
         (legal_more naming empty (map line_of before) (line_of line) legal rest.0))

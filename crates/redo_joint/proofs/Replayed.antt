@@ -196,7 +196,7 @@ module _ {naming : Naming ℕ} (law : IsNaming naming) where
         at_place line.place records (part_of line.session before) line
         (row_words_after naming plan (before ++ line ∷ []) lines)
         (λ d. rows_left d (before ++ line ∷ []) lines)
-        few.0 tell.0
+        few.0 tell.0.row
         (λ d. replay_is d (before ++ line ∷ []) lines tell.1 few.1)
 
   -- the records that a legal placed history leaves are the replay of its row words

@@ -7,12 +7,12 @@ use Rattle.std.specs.declared.cmp.Ordering.TheVariants.{Less, Equal, Greater}
 use Rattle.redo_model.specs.Names.{Naming, numbers}
 use Rattle.redo_model.specs.Inside.Names.{IsNaming}
 use Rattle.redo_model.specs.Command.{Command, Lock, Unlock, Start, Done, Failed, asked_lock}
-use Rattle.redo_model.specs.Reply.{Reply, Okay, Granted, Busy, Stale, Stamped, Refused}
-use Rattle.redo_model.specs.Reply as replies
+use Rattle.redo_model.specs.Reply.{Reply, Okay, Granted}
 use Rattle.redo_model.specs.History.{Line}
 use Rattle.redo_model.specs.Closing.{is_okay, is_granted, lesser, lesser_of, least, holds_then, builds_accepted, builds_then, holds_after, builds_after, holds, held_in, letting_go, closing_of}
 use Rattle.redo_model.specs.Renaming.{named_command, named_line, named_reply, AllBelow, IsBelow}
 use Rattle.redo_model.specs.Inside.Renaming.{Renaming, IsRenaming, OrdersAlike}
+use Rattle.redo_model.proofs.ClosingBelow.{IsSomeBelow, locks_below, filter_below, least_below}
 use Rattle.redo_model.proofs.RecordsByName.{same_at}
 
 module _ {N M : Type 0} (name : N → M) where
@@ -61,54 +61,6 @@ module _ {N M : Type 0} (name : N → M) where
       ≡ named_command name (cond b (Failed t) (Unlock t))
   letting_by true t = refl
   letting_by false t = refl
-
-module _ (n : ℕ) where
-  -- the number is below n, if there is one
-  abbrev IsSomeBelow : Option ℕ → Type 0
-  IsSomeBelow None = Unit {0}
-  IsSomeBelow (Some k) = k < n
-
-  asked_below : (command : Command ℕ) → IsBelow n command → IsSomeBelow (asked_lock command)
-  asked_below (Lock t) below = below.0
-  asked_below command below = tt
-
-  cons_below : (o : Option ℕ) (ks : List ℕ) → IsSomeBelow o → AllBelow n ks
-      → AllBelow n (cons_option o ks)
-  cons_below None ks one all = all
-  cons_below (Some k) ks one all = (one, all)
-
-  locks_below : (own : List (Line ℕ)) → AllByRecursion (λ line. IsBelow n line.command) own
-      → AllBelow n (filter_map (λ line. asked_lock line.command) own)
-  locks_below [] below = tt
-  locks_below (line ∷ own) below =
-      cons_below (asked_lock line.command)
-      (filter_map (λ (other : Line ℕ). asked_lock other.command) own)
-      (asked_below line.command below.0) (locks_below own below.1)
-
-  cond_below : (b : Bool) (k : ℕ) (ks : List ℕ) → k < n → AllBelow n ks
-      → AllBelow n (cond b (k ∷ ks) ks)
-  cond_below true k ks one all = (one, all)
-  cond_below false k ks one all = all
-
-  filter_below : (p : ℕ → Bool) (ks : List ℕ) → AllBelow n ks → AllBelow n (filter p ks)
-  filter_below p [] below = tt
-  filter_below p (k ∷ ks) below =
-      cond_below (p k) k (filter p ks) below.0 (filter_below p ks below.1)
-
-  lesser_below : (o : Ordering) (k m : ℕ) → k < n → m < n → lesser o k m < n
-  lesser_below Less k m bk bm = bk
-  lesser_below Equal k m bk bm = bk
-  lesser_below Greater k m bk bm = bm
-
-  lesser_of_below : (naming : Naming ℕ) (k : ℕ) (o : Option ℕ) → k < n → IsSomeBelow o
-      → lesser_of naming k o < n
-  lesser_of_below naming k None bk bo = bk
-  lesser_of_below naming k (Some m) bk bo = lesser_below (naming.order k m) k m bk bo
-
-  least_below : (naming : Naming ℕ) (ks : List ℕ) → AllBelow n ks → IsSomeBelow (least naming ks)
-  least_below naming [] below = tt
-  least_below naming (k ∷ ks) below =
-      lesser_of_below naming k (least naming ks) below.0 (least_below naming ks below.1)
 
 module _ {M : Type 0} {to : Renaming M} (law : IsRenaming to) {naming : Naming M}
     (good : IsNaming naming) (order : ℕ → ℕ → Ordering) where

@@ -1,20 +1,20 @@
 -- How many lines of a script lock and start, told by the lines of its journal, and with them how
 -- many lines a journal has, where its closing lines are answered `ok`.
-use Rattle.std.proofs.Common.{◌≡◌, ℕ, ◌+◌, ◌-◌, ◌<◌, ◌≤◌, Bool, true, false, cond, List, [], ◌∷◌, ◌++◌, length, map, drop, get_or, Some, refl, sym, ap, ◌∙◌, subst, arith}
+use Rattle.std.proofs.Common.{◌≡◌, ℕ, ◌+◌, ◌-◌, ◌<◌, ◌≤◌, Bool, cond, List, [], ◌∷◌, ◌++◌, length, map, drop, get_or, refl, sym, ap, ◌∙◌, subst, arith, append_assoc, append-nil}
 use Rattle.std.specs.List.{AllByRecursion, filter, cons_option, count_by, sum_by}
 use Rattle.std.proofs.lemmas.List.{drop-drop, length-append, length-map}
-use Rattle.std.proofs.lemmas.List.Sums.{sum_by-cons, sum_by-append, sum_by-drop_more, sum_by-take-drop, length-filter, count_by-le-length}
+use Rattle.std.proofs.lemmas.List.Sums.{sum_by-cons, sum_by-drop_more, sum_by-take-drop, length-filter, count_by-le-length}
 use Rattle.redo_model.specs.Names.{Naming}
 use Rattle.redo_model.specs.Inside.Names.{IsNaming}
 use Rattle.redo_model.specs.Inside.Room.{is_lock, is_start, is_failed, locks_in, starts_in, room_of}
 use Rattle.redo_model.specs.Command.{Command, Item, Lock, Start, Ood, asked_lock, commands_in}
 use Rattle.redo_model.specs.Reply.{Okay}
 use Rattle.redo_model.specs.Placed.{PlacedLine, line_of}
-use Rattle.redo_model.specs.Closing.{holds, builds, held_in}
+use Rattle.redo_model.specs.Closing.{holds, builds}
 use Rattle.redo_model.specs.Journals.{numbered, IsJournal}
-use Rattle.redo_model.proofs.Nexts.{next_line_from, past_of, past_of_more}
-use Rattle.redo_model.proofs.Parts.{IsLined, IsClosed, Parts, parts_after, journal_fits, closed_past}
-use Rattle.redo_model.proofs.Room.{AllOkay, asked_start, locked_by, started_by, building_in, closed_few}
+use Rattle.redo_model.proofs.Nexts.{next_line_from, past_of, past_of_more, closing_number_is}
+use Rattle.redo_model.proofs.Parts.{IsLined, IsClosed, Parts, parts_after, journal_fits, lined_below, closed_past}
+use Rattle.redo_model.proofs.Room.{AllOkay, asked_start, locked_by, started_by, closed_few}
 
 filter_short : {X : Type 0} (p : X → Bool) (xs : List X) → length (filter p xs) ≤ length xs
 filter_short p xs =
@@ -156,3 +156,58 @@ module _ {N : Type 0} {naming : Naming N} (law : IsNaming naming) (s : ℕ)
       → ClosingsOkay script lines → length lines ≤ room_of script
   journal_room lines is okay =
       fits_by_parts lines (parts_after naming s script [] lines is) okay
+
+-- the numbers of a journal
+all_less : {N : Type 0} (n m : ℕ) (lines : List (PlacedLine N)) → n ≤ m
+    → AllByRecursion (λ line. line.number < n) lines
+    → AllByRecursion (λ line. line.number < m) lines
+all_less n m [] le all = tt
+all_less n m (line ∷ lines) le all =
+    let here = all.0 in (omega arith, all_less n m lines le all.1)
+
+all_both : {N : Type 0} (n : ℕ) (lines more : List (PlacedLine N))
+    → AllByRecursion (λ line. line.number < n) lines
+    → AllByRecursion (λ line. line.number < n) more
+    → AllByRecursion (λ line. line.number < n) (lines ++ more)
+all_both n [] more all rest = rest
+all_both n (line ∷ lines) more all rest = (all.0, all_both n lines more all.1 rest)
+
+module _ {N : Type 0} (s : ℕ) (script : List (Item N)) where
+  past_fits : (before lines : List (PlacedLine N)) → IsLined s script before lines
+      → past_of before ≤ length script → past_of (before ++ lines) ≤ length script
+  past_fits before [] is fits =
+      subst (λ xs. past_of xs ≤ length script) (sym (append-nil before)) fits
+  past_fits before (line ∷ lines) is fits =
+      let within = (next_line_from script before (numbered line) is.1).within in
+      let past = past_of_more before line in
+      subst (λ xs. past_of xs ≤ length script) (append_assoc before (line ∷ []) lines)
+      (past_fits (before ++ line ∷ []) lines is.2 (omega arith))
+
+  closing_numbers : (naming : Naming N) (before lines : List (PlacedLine N)) (from below : ℕ)
+      → IsClosed naming s script before lines → length script ≤ from → past_of before ≤ from
+      → from + length lines ≤ below → AllByRecursion (λ line. line.number < below) lines
+  closing_numbers naming before [] from below is fits past room = tt
+  closing_numbers naming before (line ∷ lines) from below is fits past room =
+      let number = is.1.number ∙ closing_number_is script before in
+      let more = past_of_more before line in (
+        omega arith,
+        closing_numbers naming (before ++ line ∷ []) lines (from + 1) below is.2 (omega arith)
+            (omega arith) (omega arith),
+      )
+
+module _ {N : Type 0} {naming : Naming N} (law : IsNaming naming) (s : ℕ)
+    (script : List (Item N)) where
+  -- they are below the room that the script asks for
+  pub numbers_fit : (lines : List (PlacedLine N)) → IsJournal naming s script lines
+      → ClosingsOkay script lines → AllByRecursion (λ line. line.number < room_of script) lines
+  numbers_fit lines is okay =
+      let parts = parts_after naming s script [] lines is in
+      let few = (few_closing law s script lines parts okay).1 in
+      subst (AllByRecursion (λ (line : PlacedLine N). line.number < room_of script))
+      (sym parts.both)
+      (all_both (room_of script) parts.own parts.closing
+      (all_less (length script) (room_of script) parts.own (omega arith)
+      (lined_below s script [] parts.own parts.lined))
+      (closing_numbers s script naming parts.own parts.closing (length script) (room_of script)
+      parts.closed (omega arith) (past_fits s script [] parts.own parts.lined (omega arith))
+      (omega arith)))

@@ -4,6 +4,7 @@ pub mod Appearance
 pub mod ChainThrough
 pub mod ChangeRows
 pub mod Changed
+pub mod ClosingBelow
 pub mod ClosingByName
 pub mod CommonPath
 pub mod ContentsAndBuilds

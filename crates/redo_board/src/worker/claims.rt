@@ -1,4 +1,4 @@
-ghost use Rattle.std.specs.Prelude.{◌≡◌, ◌≤◌, None};
+ghost use Rattle.std.specs.Prelude.{◌≡◌, ◌<◌, None};
 ghost use Rattle.redo_model.specs.Command as commands;
 ghost use Rattle.redo_model.specs.Journals.{Numbered};
 ghost use Rattle.redo_journal.specs.Journals.{line_told};
@@ -65,7 +65,7 @@ impl Worker {
 
 /// The entry of a lock that found this word.
 fn claim_entry(number: u32, target: u32, found: u64) -> Entry
-    requires { found ≤ 524288 }
+    requires { found < 4294967296 }
     ensures { TellsLock number target found result }
 {
     let grant = (found / 2 + 1) as u32;

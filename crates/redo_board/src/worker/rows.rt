@@ -1,10 +1,14 @@
-ghost use Rattle.std.specs.Prelude.{◌≡◌, ◌+◌, ◌<◌, true, None, IfOk, OnOk, OnErr, MatchBool, length};
+ghost use Rattle.std.specs.Prelude.{◌≡◌, ◌+◌, ◌^◌, ◌<◌, true, None, IfOk, OnOk, OnErr, MatchBool, length};
 ghost use Rattle.redo_model.specs.Command.{asked_lock};
 ghost use Rattle.redo_model.specs.Renaming.{IsBelow};
+ghost use Rattle.redo_model.specs.Step.{records_after};
 ghost use Rattle.redo_terms.specs.Meaning.{command_of, reply_of};
-ghost use Rattle.redo_store.specs.Stored.{count_of, has_room_for};
+ghost use Rattle.redo_store.specs.Stored.{records_of, naming_of, order_of, applied_of, count_of};
+ghost use Rattle.redo_store.specs.Stored.{has_room_for, IsSameButRoom};
+ghost use Rattle.redo_joint.specs.Replayed.{session_in, flag_in, command_in};
+ghost use Rattle.redo_journal.specs.Plans.{IsPlan, script_of};
 ghost use Rattle.redo_board.specs.Rows.{rows_of};
-ghost use Rattle.redo_board.specs.Core.{row};
+ghost use Rattle.redo_board.specs.Core.{row, IsWord};
 ghost use Rattle.redo_board.specs.Plays.{own_way};
 ghost use Rattle.redo_board.specs.Shown.{session_of, journal_of, tries_of};
 ghost use Rattle.redo_board.specs.Kept.{IsBoardOf, Works, WorksAt};
@@ -20,8 +24,32 @@ use crate::worker::Worker;
 use crate::worker::ways::has;
 use crate::worker::words::{again, flag_of, is_closing, number_of, session_of, target_of, word_of};
 use redo_journal::{Entry, Next, Place, Plan};
+use redo_store::Store;
 use redo_terms::{Command, FileStamp, Reply};
 use std::alloc::{AllocError, Global};
+
+/// Applies the command that a row word names.
+fn apply_word(store: &mut Store, plan: &Plan, word: u64) -> Result<(), AllocError>
+    requires word { IsPlan plan.now × IsWord plan.now word }
+    requires names { count_of store.old ≡ length plan.now.names }
+    requires applied { applied_of store.old + 1 < 2 ^ 32 }
+    ensures after { OnOk result (records_of store.new ≡ records_after (naming_of store.old)
+        (records_of store.old) (session_in word) (flag_in word)
+        (command_in (script_of plan.now) word)) }
+    ensures applied { OnOk result (applied_of store.new ≡ applied_of store.old + 1) }
+    ensures count { count_of store.new ≡ count_of store.old }
+    ensures order { order_of store.new ≡ order_of store.old }
+    ensures err { OnErr result (IsSameButRoom store.old store.new) }
+{
+    // The check only knows how to move a command where the types within it are met.
+    let _none: Option<FileStamp> = None;
+    let session = session_of(word);
+    let holds = flag_of(word);
+    if is_closing(word) {
+        return store.apply(session, &Command::Failed(target_of(word)), holds);
+    }
+    store.apply(session, command_at(plan, session, number_of(word)), holds)
+}
 
 impl Worker {
     /// Applies the word that a lost exchange found, if that wasn't done.
@@ -36,16 +64,7 @@ impl Worker {
         let Some(word) = self.pending else {
             return Ok(());
         };
-        // The check only knows how to move a command where the types within it are met.
-        let _none: Option<FileStamp> = None;
-        let session = session_of(word);
-        if is_closing(word) {
-            let theirs = Command::Failed(target_of(word));
-            self.store.apply(session, &theirs, flag_of(word))?;
-        } else {
-            let theirs = command_at(plan, session, number_of(word));
-            self.store.apply(session, theirs, flag_of(word))?;
-        }
+        apply_word(&mut self.store, plan, word)?;
         self.pending = None;
         Ok(())
     }

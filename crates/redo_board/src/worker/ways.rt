@@ -29,7 +29,7 @@ pub(crate) fn has(holds: &Holds, command: &Command) -> bool
 }
 
 /// The word that the command steps on.
-pub(crate) fn way(holds: &Holds, command: &Command) -> Way
+pub(crate) fn way_for(holds: &Holds, command: &Command) -> Way
     requires { IsBelow (length holds.now) (command_of command.now) }
     ensures { way_of result ≡ way_by holds.now (command_of command.now) }
 {

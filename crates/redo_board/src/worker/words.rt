@@ -1,7 +1,6 @@
 // The words of rows: of a script's line its session, its number and a flag; of a closing command its
 // session and its target.
 ghost use Rattle.std.specs.Prelude.{◌≡◌, ◌<◌, ◌≤◌, ◌↔◌, IfSome, IsSome, false, length, option_map};
-ghost use Rattle.redo_model.specs.Renaming.{IsBelow};
 ghost use Rattle.redo_terms.specs.Meaning.{command_of};
 ghost use Rattle.redo_joint.specs.Replayed.{is_closing, session_in, number_in, flag_in, target_in};
 ghost use Rattle.redo_journal.specs.Plans.{PlanOf, script_of};
@@ -23,7 +22,6 @@ fn flag(holds: bool) -> u64
 
 /// The word of what the session does next.
 pub(crate) fn word_of(session: u8, next: &Next, command: &Command, holds: bool) -> u64
-    requires names { IsBelow 65536 (command_of command.now) }
     ensures { (plan : PlanOf)
         → (IsSome next.now.closing ↔ (length (script_of plan session) ≤ next.now.line))
         → result ≡ word plan session next.now.line (command_of command.now) holds }

@@ -24,7 +24,7 @@ pub list_first-requires-clause-numbers : goal.list_first-requires-clause-numbers
 list_first-requires-clause-numbers g c =
     let e = c.catch_up.ensures in
     numbers_at c.args.plan.now c.args.self.now c.loop-self.self c.catch_up.new.self
-    (record { number = c.args.number; command = command_of c.args.command.now })
+    (record { number = c.args.next.now.line; command = command_of c.args.command.now })
     c.requires.command.next c.loop-self.invariant.2 e.same.0 e.same.1 e.seat e.works
 
 pub reserve-requires : goal.reserve-requires
@@ -33,7 +33,7 @@ reserve-requires g c =
     record {
       numbers =
           numbers_at c.args.plan.now c.args.self.now c.loop-self.self c.catch_up.new.self
-          (record { number = c.args.number; command = command_of c.args.command.now })
+          (record { number = c.args.next.now.line; command = command_of c.args.command.now })
           c.requires.command.next c.loop-self.invariant.2 e.same.0 e.same.1 e.seat e.works;
     }
 
