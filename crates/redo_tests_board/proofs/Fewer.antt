@@ -1,10 +1,10 @@
 -- How many commands a worker has left after a step.
-use Rattle.std.proofs.Common.{◌≡◌, ℕ, ◌-◌, ◌<◌, length, ap, arith}
+use Rattle.std.proofs.Common.{◌≡◌, ◌<◌, length, ap, arith}
 use Rattle.redo_model.specs.Inside.Room.{room_of}
 use Rattle.redo_journal.specs.Plans.{PlanOf, script_of}
 use Rattle.redo_board.specs.declared.board.Board.{Board}
 use Rattle.redo_board.specs.declared.worker.Worker.{Worker}
-use Rattle.redo_board.specs.Shown.{session_of, journal_of}
+use Rattle.redo_board.specs.Shown.{session_of}
 use Rattle.redo_board.specs.Kept.{WorksAt}
 use Rattle.redo_board.specs.Outcomes.{Made, Waits}
 use Rattle.redo_board.proofs.Works.{made_less}

@@ -88,10 +88,10 @@ fn turns_of(alloc: Global, counts: [usize; 2]) -> Result<Vec<usize>, AllocError>
     Ok(turns)
 }
 
-/// Two sessions with targets of their own, of which they hold and build several at their end: six
-/// steps of the first and eight of the second.
+/// Two sessions with targets of their own, of which each holds and builds two at its end: eight
+/// steps of each.
 const APART: [&str; 2] = [
-    "lock b\nstart b\nlock a\n",
+    "lock b\nstart b\nlock a\nstart a\n",
     "lock d\nstart d\nlock c\nstart c\n",
 ];
 
@@ -102,12 +102,12 @@ const TOGETHER: [&str; 2] = [
     "lock a\nstart a\nlock b\n",
 ];
 
-/// Four targets are granted and three of them started; each is let go of. The rows are those of the
-/// starts and of the builds that failed.
+/// Four targets are granted and started; each is let go of. The rows are those of the starts and of
+/// the builds that failed.
 fn check_apart(rt: &impl Abort, lines: &[Line], rows: u32) {
     let all = counted(lines);
-    assert!(rt; all.granted == 4 && all.started == 3 && all.is_let_go());
-    assert!(rt; lines.len() == 14 && rows == 6);
+    assert!(rt; all.granted == 4 && all.started == 4 && all.is_let_go());
+    assert!(rt; lines.len() == 16 && rows == 8);
 }
 
 /// Each grant is followed by an unlock, and each start by a failed build, but for the second session's
@@ -122,12 +122,12 @@ fn check_together(rt: &impl Abort, lines: &[Line], rows: u32) -> usize {
     granted
 }
 
-/// How many schedules there are. In each the sessions let go of all.
+/// In every schedule the sessions let go of all.
 #[test]
 fn every_end_apart(rt: HostRuntime) -> Result<(), AllocError> {
     let alloc = rt.alloc();
     let plan = plan_of(&rt, alloc, &APART)?;
-    let mut turns = turns_of(alloc, [6, 8])?;
+    let mut turns = turns_of(alloc, [8, 8])?;
     let mut count: usize = 0;
     for _ in 0..MOST {
         let (lines, rows, _) = lines_of_schedule(&rt, alloc, &plan, &turns)?;
@@ -137,8 +137,8 @@ fn every_end_apart(rt: HostRuntime) -> Result<(), AllocError> {
             break;
         }
     }
-    // 14! / (6! 8!)
-    assert!(rt; count == 3_003);
+    // 16! / (8! 8!)
+    assert!(rt; count == 12_870);
     Ok(())
 }
 
