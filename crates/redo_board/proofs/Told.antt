@@ -5,7 +5,7 @@ use Rattle.redo_model.specs.Command as commands
 use Rattle.redo_model.specs.Command.{asked_lock}
 use Rattle.redo_journal.specs.Journals.{line_told}
 use Rattle.redo_journal.specs.declared.entry.Entry.{Entry}
-use Rattle.redo_board.specs.Core.{Line, way, row, free}
+use Rattle.redo_board.specs.Core.{Line, way, row, claim, free}
 use Rattle.redo_board.specs.Shown.{told}
 
 pub told-push : (s : ℕ) (script : List (commands.Item ℕ)) (xs ys : List Entry) (x : Entry)
@@ -28,6 +28,16 @@ way-row (commands.Failed u) h b e = refl
 way-row commands.Ood h b e = refl
 way-row commands.Targets h b e = refl
 way-row commands.Sources h b e = refl
+
+pub way-claim : (x : commands.Command ℕ) (h b : Bool) (t : ℕ) → way x h b ≡ claim t
+    → x ≡ commands.Lock t
+way-claim (commands.Lock u) h b t e = cc
+way-claim (commands.Unlock u) h b t e = by (h && not b) e
+  where
+    by : (c : Bool) → cond c (free u) row ≡ claim t → commands.Unlock u ≡ commands.Lock t
+    by true e = absurd cc
+    by false e = absurd cc
+way-claim x h b t e = absurd cc
 
 pub way-free : (x : commands.Command ℕ) (h b : Bool) (t : ℕ) → way x h b ≡ free t
     → x ≡ commands.Unlock t

@@ -1,11 +1,11 @@
 -- A worker after a step.
-use Rattle.std.proofs.Common.{◌≡◌, ◌≢◌, ℕ, ◌+◌, ◌-◌, ◌<◌, ◌≤◌, ◌↔◌, List, [], ◌∷◌, ◌++◌, length, map, get_or, All, Bool, true, Option, Some, None, is_some, option_map, refl, sym, ap, ◌∙◌, subst, inl, arith}
+use Rattle.std.proofs.Common.{◌≡◌, ◌≢◌, ℕ, ◌+◌, ◌-◌, ◌<◌, ◌≤◌, ◌↔◌, List, [], ◌∷◌, ◌++◌, length, map, get_or, All, Bool, true, false, cond, Option, Some, None, is_some, option_map, refl, sym, ap, ◌∙◌, subst, inl, arith}
 use Rattle.std.specs.Prelude.{vec_capacity, vec_len, IfSome, IsSome}
 use Rattle.std.specs.List.{AllByRecursion}
 use Rattle.std.specs.Option.{unwrap_or}
 use Rattle.std.proofs.lemmas.List.{length_push, append-nil, length-map, map-append}
 use Rattle.std.proofs.lemmas.List.Elements.{All-push}
-use Rattle.redo_model.specs.Command.{Command, Item, Ood, commands_in, names_in}
+use Rattle.redo_model.specs.Command.{Command, Item, Lock, Unlock, Failed, Ood, commands_in, names_in}
 use Rattle.redo_model.specs.Reply.{Reply}
 use Rattle.redo_model.specs.Renaming.{IsBelow, AllBelow}
 use Rattle.redo_model.specs.Placed.{Place, line_of, part_of}
@@ -14,7 +14,8 @@ use Rattle.redo_model.specs.Inside.Room.{room_of}
 use Rattle.redo_terms.specs.Meaning.{command_of, reply_of}
 use Rattle.redo_terms.specs.declared.command.Command as terms
 use Rattle.redo_store.specs.Stored.{Stored}
-use Rattle.redo_model.proofs.JournalRoom.{ClosingsOkay}
+use Rattle.redo_model.specs.Closing.{builds}
+use Rattle.redo_model.proofs.Letting.{closing_held}
 use Rattle.redo_model.proofs.Nexts.{next_past_script}
 use Rattle.redo_journal.specs.Plans.{PlanOf, IsPlan, script_of}
 use Rattle.redo_journal.specs.Holds.{Says, Notes}
@@ -197,6 +198,23 @@ closing_lets_go p w number (Some command) x next in-row =
     (next.marked.0 refl) in
     let (t, fails) = closing_fails p w.session (journal_of p w) x closes.closes in-row in
     subst LetsGo (sym (next.told ∙ fails)) tt
+
+not_lock : (b : Bool) (t u : ℕ) → ◌≡◌ {A = Command ℕ} (Lock t) (cond b (Failed u) (Unlock u)) → ⊥
+not_lock true t u e = absurd (cc)
+not_lock false t u e = absurd (cc)
+
+-- a lock is of a line of the script
+pub lock_next : (p : PlanOf) (w : Worker) (number : ℕ) (closing : Option terms.Command) (t : ℕ)
+    → IsNextBy p w number closing (Lock t) → IsNextBy p w number None (Lock t)
+lock_next p w number None t is = is
+lock_next p w number (Some command) t is =
+    let n : Numbered ℕ = record { number = number; command = Lock t } in
+    let closes =
+    next_past_script (naming_of p) (script_of p w.session) (journal_of p w) n is.next
+    (is.marked.0 refl) in
+    let (u, held, lets) =
+    closing_held (naming_of p) (map line_of (journal_of p w)) (Lock t) closes.closes in
+    absurd (not_lock (builds (naming_of p) (map line_of (journal_of p w)) u) t u lets)
 
 entry_tells : (p : PlanOf) (w : Worker) (n : Numbered ℕ) (e : Entry) (reply : Reply ℕ)
     (place : Place ℕ) → IsEntryOf p w n reply place e
