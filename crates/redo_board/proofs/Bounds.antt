@@ -1,9 +1,8 @@
 -- What the row words of a legal history tell, and how many rows, lines and grants it has.
-use Rattle.std.proofs.Common.{◌≡◌, ℕ, ◌+◌, ◌*◌, ◌<◌, ◌≤◌, Bool, true, false, cond, List, [], ◌∷◌, ◌++◌, length, map, get_or, Option, Some, None, refl, sym, ap, ◌∙◌, subst, inl, inr, arith}
+use Rattle.std.proofs.Common.{◌≡◌, ℕ, ◌+◌, ◌*◌, ◌<◌, ◌≤◌, true, false, List, [], ◌∷◌, length, map, get_or, None, refl, sym, ap, ◌∙◌, subst, inl, inr, arith}
 use Rattle.std.specs.List.{AllByRecursion, count_by}
 use Rattle.std.proofs.lemmas.Bool.{false≢true}
 use Rattle.std.proofs.lemmas.List.{get_or_past, get_or_push, get_or_append_left, length_push}
-use Rattle.std.proofs.lemmas.List.Sums.{sum_by-cons, sum_by-append, count_by-le-length}
 use mathlib.Core.Logic.{dite}
 use native.Mathlib.Decide.{dec_lt}
 use Rattle.redo_model.specs.Inside.Names.{IsNaming}
@@ -13,14 +12,13 @@ use Rattle.redo_model.specs.Reply as replies
 use Rattle.redo_model.specs.History as histories
 use Rattle.redo_model.specs.History.{left_by}
 use Rattle.redo_model.specs.Renaming.{IsBelow, AllBelow, IsReplyBelow, IsLineBelow}
-use Rattle.redo_model.specs.Placed.{line_of, part_of, is_row, rows_in, Place}
-use Rattle.redo_model.specs.Inside.Room.{is_lock, is_failed, room_of}
-use Rattle.redo_model.proofs.JournalRoom.{ClosingsOkay}
+use Rattle.redo_model.specs.Placed.{line_of, is_row}
+use Rattle.redo_model.specs.Inside.Room.{is_lock}
 use Rattle.redo_joint.specs.Replayed.{IsLegalOfPlan}
-use Rattle.redo_joint.proofs.Closed.{IsScripted, IsFailing, RowTells, Tells, AllTell, all_tell}
+use Rattle.redo_joint.proofs.Closed.{IsScripted, IsFailing, Tells, AllTell, all_tell}
 use Rattle.redo_joint.proofs.Replayed as joint
 use Rattle.redo_journal.specs.Plans.{PlanOf, IsPlan, script_of}
-use Rattle.redo_board.specs.Rows.{naming_of, rows_of, command}
+use Rattle.redo_board.specs.Rows.{naming_of, command}
 use Rattle.redo_board.specs.Core.{Core, start, Line, Way, row, claim, free, rows_then, place_at, has, way_at, done, IsNext, IsLegal, after_all, row_words, word, IsWord, replay}
 use Rattle.redo_board.proofs.Bridge.{legal_from, below_told, of_plan_told, placed_told}
 use Rattle.redo_board.proofs.ClaimWords.{claim_no_row}

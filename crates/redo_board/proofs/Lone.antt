@@ -1,11 +1,9 @@
 -- What a seat of one session knows of its lines: a legal history has them.
-use Rattle.std.proofs.Common.{◌≡◌, ℕ, ◌+◌, ◌<◌, ◌≤◌, List, [], ◌∷◌, ◌++◌, length, Some, None, refl, sym, ap, ◌∙◌, subst, inl, arith, length-append}
+use Rattle.std.proofs.Common.{◌≡◌, ℕ, ◌<◌, ◌≤◌, List, [], ◌∷◌, length, Some, refl, sym, ap, ◌∙◌, subst, inl, arith, length-append}
 use Rattle.std.specs.List.{AllByRecursion}
-use Rattle.redo_model.specs.Command.{Command, asked_lock}
 use Rattle.redo_model.specs.Placed.{part_of}
 use Rattle.redo_model.specs.Journals.{Numbered}
-use Rattle.redo_journal.specs.Plans.{PlanOf, script_of}
-use Rattle.redo_board.specs.Core.{Line, start, after_all, row, row_words}
+use Rattle.redo_board.specs.Core.{Line, row}
 use Rattle.redo_board.specs.Views.{Part, ViewOf}
 use Rattle.redo_board.specs.Rule.{HasPart, Told}
 use Rattle.redo_board.specs.Plays.{Lone, next, own, own_build, own_way}

@@ -1,13 +1,12 @@
 -- The lines of a session in a legal history: how many rows, entries and grants they have.
-use Rattle.std.proofs.Common.{◌≡◌, ◌≢◌, ℕ, ◌+◌, ◌*◌, ◌<◌, ◌≤◌, Bool, true, false, cond, not, ◌&&◌, List, [], ◌∷◌, ◌++◌, length, map, Some, None, refl, sym, ap, ◌∙◌, subst, inl, inr, arith, append_assoc, append-nil}
-use Rattle.std.specs.List.{AllByRecursion, count_by}
-use Rattle.std.proofs.lemmas.Bool.{false≢true}
-use Rattle.std.proofs.lemmas.List.Sums.{count_by-le-length, sum_by-append, sum_by-cons}
+use Rattle.std.proofs.Common.{◌≡◌, ℕ, ◌<◌, ◌≤◌, Bool, true, false, cond, not, ◌&&◌, List, [], ◌∷◌, ◌++◌, length, map, Some, None, refl, sym, ap, ◌∙◌, subst, inl, inr, arith, append_assoc, append-nil}
+use Rattle.std.specs.List.{AllByRecursion}
+use Rattle.std.proofs.lemmas.List.Sums.{count_by-le-length}
 use mathlib.Core.Logic.{dite}
 use native.Mathlib.Decide.{ℕ_discrete}
 use Rattle.redo_model.specs.Command.{Command, Failed, Unlock, asked_lock}
 use Rattle.redo_model.specs.Reply.{Okay}
-use Rattle.redo_model.specs.Placed.{Place, line_of, part_of, is_row, is_grant, rows_in}
+use Rattle.redo_model.specs.Placed.{Place, line_of, part_of, is_row, rows_in}
 use Rattle.redo_model.specs.Closing as closing
 use Rattle.redo_model.specs.Closing.{closing_of}
 use Rattle.redo_model.specs.Inside.Room.{is_lock, is_failed, locks_in, starts_in, room_of}
@@ -15,11 +14,11 @@ use Rattle.redo_model.specs.Journals.{Numbered, numbered, next_of, IsJournal, Is
 use Rattle.redo_model.proofs.JournalRoom.{ClosingsOkay, journal_room, numbers_fit}
 use Rattle.redo_model.proofs.Letting.{closing_held}
 use Rattle.redo_model.proofs.Nexts.{next_past_script}
-use Rattle.redo_joint.proofs.Closed.{Tells, RowTells, AllTell}
+use Rattle.redo_joint.proofs.Closed.{Tells, AllTell}
 use Rattle.redo_joint.proofs.Own.{part_of-own, part_of-other}
 use Rattle.redo_journal.specs.Plans.{PlanOf, IsPlan, script_of}
 use Rattle.redo_board.specs.Core.{Line, start, IsLegal, row, free}
-use Rattle.redo_board.specs.Plays.{by_number, made, own_way}
+use Rattle.redo_board.specs.Plays.{made, own_way}
 use Rattle.redo_board.specs.Rows as rows
 use Rattle.redo_board.specs.Rows.{naming_of}
 use Rattle.redo_board.proofs.Bounds.{lock_asked, RowAsked, rows_asked, all_told}

@@ -1,13 +1,13 @@
 -- A history's end, and the lines of one session in it.
-use Rattle.std.proofs.Common.{◌≡◌, ℕ, List, [], ◌∷◌, ◌++◌, false, Option, Some, None, refl, sym, ap, ◌∙◌, subst, arith, append_assoc}
+use Rattle.std.proofs.Common.{◌≡◌, ℕ, List, [], ◌∷◌, ◌++◌, Option, refl, sym, ap, ◌∙◌, append_assoc}
 use Rattle.std.proofs.lemmas.List.{append-nil}
 use mathlib.Core.Logic.{dite}
 use native.Mathlib.Decide.{ℕ_discrete}
-use Rattle.redo_model.specs.State.{Locks, target_state}
-use Rattle.redo_model.specs.Command.{Command, Lock, asked_lock}
+use Rattle.redo_model.specs.State.{Locks}
+use Rattle.redo_model.specs.Command.{Command}
 use Rattle.redo_model.specs.Reply.{Reply}
 use Rattle.redo_model.specs.Placed.{part_of}
-use Rattle.redo_model.specs.Step.{after, Answers, Replies, locks_after, locks_granted, locks_freed, verdict_of, unless_refused, holds_target, is_built_by, lock_reply}
+use Rattle.redo_model.specs.Step.{locks_after, locks_granted, locks_freed, verdict_of, unless_refused, holds_target}
 use Rattle.redo_journal.specs.Plans.{PlanOf}
 use Rattle.redo_board.specs.Rows.{naming_of}
 use Rattle.redo_board.specs.Core.{Core, start, word, Way, row, claim, free, rows_then, has, way_at, done, Line, IsNext, IsLegal, after_all, Begins}

@@ -1,9 +1,9 @@
 -- What a session does next: it has room in the journal, and its row word tells it.
-use Rattle.std.proofs.Common.{◌≡◌, ℕ, ◌+◌, ◌<◌, ◌≤◌, List, [], ◌∷◌, ◌++◌, length, Bool, true, false, Some, refl, sym, ap, ◌∙◌, subst, arith, inl, inr}
+use Rattle.std.proofs.Common.{◌≡◌, ℕ, ◌<◌, List, [], ◌∷◌, ◌++◌, length, Bool, Some, sym, ap, ◌∙◌, subst, arith, inl, inr}
 use Rattle.std.specs.Option.{unwrap_or}
 use Rattle.std.proofs.lemmas.Bool.{false≢true}
 use Rattle.std.proofs.lemmas.List.{length_push}
-use Rattle.redo_model.specs.Command.{Command, Failed, target_of}
+use Rattle.redo_model.specs.Command.{target_of}
 use Rattle.redo_model.specs.Reply.{Okay}
 use Rattle.redo_model.specs.Renaming.{IsBelow}
 use Rattle.redo_model.specs.Step.{records_after}

@@ -1,5 +1,5 @@
 -- What holds of the core after a legal history.
-use Rattle.std.proofs.Common.{◌≡◌, ◌≢◌, ℕ, ◌+◌, ◌<◌, eqb, cond, List, [], ◌∷◌, ◌++◌, length, Option, Some, None, refl, sym, ap, ◌∙◌, subst, inl, inr, arith}
+use Rattle.std.proofs.Common.{◌≡◌, ℕ, ◌+◌, ◌<◌, eqb, cond, List, [], ◌∷◌, ◌++◌, length, Option, Some, None, sym, subst, inl, inr, arith}
 use Rattle.std.proofs.lemmas.Bool.{cases_Bool}
 use mathlib.Core.Logic.{dite}
 use native.Mathlib.Decide.{ℕ_discrete}
@@ -11,7 +11,7 @@ use Rattle.redo_model.specs.Step.{after, locks_after, locks_granted, locks_freed
 use Rattle.redo_model.proofs.Held.{BuildersHold, builders_hold_after, builders_hold_at_first}
 use Rattle.redo_journal.specs.Plans.{PlanOf, IsPlan}
 use Rattle.redo_board.specs.Rows.{naming_of}
-use Rattle.redo_board.specs.Core.{Core, start, Way, row, claim, free, has, way_at, done, Line, IsNext, IsLegal, after_all}
+use Rattle.redo_board.specs.Core.{Core, start, Way, row, claim, free, way_at, done, Line, IsNext, IsLegal, after_all}
 use Rattle.redo_board.proofs.Below.{AskBelow, ask-push, next-below}
 use Rattle.redo_board.proofs.Orders.{by_text_is_naming}
 use Rattle.redo_board.proofs.Ways.{goes, Goes}

@@ -2,7 +2,7 @@
 use Rattle.std.proofs.Common.{◌≡◌, ℕ, ◌+◌, ◌<◌, ◌≤◌, ◌^◌, Bool, List, [], ◌∷◌, ◌++◌, length, get_or, Option, Some, None, refl, sym, ap, ◌∙◌, subst, arith, length-append}
 use Rattle.std.proofs.lemmas.List.{length_push}
 use Rattle.redo_model.specs.Names.{texts}
-use Rattle.redo_model.specs.State.{Records, empty}
+use Rattle.redo_model.specs.State.{Records}
 use Rattle.redo_model.specs.Command.{Command}
 use Rattle.redo_model.specs.Reply.{Reply}
 use Rattle.redo_model.specs.Step.{Replies, records_after}

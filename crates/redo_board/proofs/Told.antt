@@ -5,7 +5,7 @@ use Rattle.redo_model.specs.Command as commands
 use Rattle.redo_model.specs.Command.{asked_lock}
 use Rattle.redo_journal.specs.Journals.{line_told}
 use Rattle.redo_journal.specs.declared.entry.Entry.{Entry}
-use Rattle.redo_board.specs.Core.{Line, way, row, claim, free}
+use Rattle.redo_board.specs.Core.{way, row, claim, free}
 use Rattle.redo_board.specs.Shown.{told}
 
 pub told-push : (s : ℕ) (script : List (commands.Item ℕ)) (xs ys : List Entry) (x : Entry)

@@ -1,10 +1,10 @@
 -- How many rows a legal history has, and how many grants.
-use Rattle.std.proofs.Common.{◌≡◌, ℕ, ◌+◌, ◌*◌, ◌<◌, ◌≤◌, Bool, true, List, [], ◌∷◌, ◌++◌, length, get_or, Some, None, refl, sym, ap, ◌∙◌, subst, arith}
+use Rattle.std.proofs.Common.{◌≡◌, ℕ, ◌<◌, ◌≤◌, Bool, List, [], ◌∷◌, ◌++◌, length, Some, None, sym, ◌∙◌, arith}
 use Rattle.std.specs.List.{AllByRecursion, count_by}
 use Rattle.std.proofs.lemmas.List.Sums.{count_by-le-length, sum_by-append, sum_by-cons}
 use Rattle.redo_model.specs.Command.{asked_lock}
 use Rattle.redo_model.specs.Reply.{Okay}
-use Rattle.redo_model.specs.Placed.{Row, part_of, is_row, is_grant, rows_in, grants_in}
+use Rattle.redo_model.specs.Placed.{Row, part_of, is_row, is_grant, rows_in}
 use Rattle.redo_model.specs.Journals.{Numbered, next_of}
 use Rattle.redo_journal.specs.Plans.{PlanOf, IsPlan, script_of}
 use Rattle.redo_board.specs.Core.{Core, Line, start, done, IsLegal, after_all, row_words, row}
@@ -13,7 +13,7 @@ use Rattle.redo_board.specs.Rows as rows
 use Rattle.redo_board.specs.Rows.{naming_of, rows_of}
 use Rattle.redo_board.proofs.Bridge.{stood_told}
 use Rattle.redo_board.proofs.Counts.{total, total-few, total-le, total-lt, rows-total, rows-few, by-parts}
-use Rattle.redo_board.proofs.OwnLines.{IsOwn, own_told, own_rows, own_entries, own_next, room_small}
+use Rattle.redo_board.proofs.OwnLines.{own_told, own_rows, own_entries, own_next, room_small}
 
 pub few_rows : (p : PlanOf) → IsPlan p → rows_of p ≤ 524288
 few_rows p plan = let a = rows-few p.scripts plan.short in let b = plan.few in omega arith

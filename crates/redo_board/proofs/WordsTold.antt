@@ -1,12 +1,12 @@
 -- The row words of a legal history are those of the core.
-use Rattle.std.proofs.Common.{◌≡◌, ℕ, ◌+◌, ◌*◌, List, [], ◌∷◌, ◌++◌, Option, Some, None, refl, sym, ap, ◌∙◌, append_assoc}
+use Rattle.std.proofs.Common.{◌≡◌, ℕ, List, [], ◌∷◌, ◌++◌, Option, Some, None, refl, sym, ap, ◌∙◌, append_assoc}
 use Rattle.std.proofs.lemmas.List.{append-nil}
 use Rattle.redo_model.specs.Command.{target_of}
 use Rattle.redo_model.specs.Placed.{part_of}
 use Rattle.redo_model.specs.Inside.Words.{word_before, row_word_of, row_words_after, row_words_of}
 use Rattle.redo_joint.proofs.Tied.{flag}
 use Rattle.redo_journal.specs.Plans.{PlanOf, IsPlan, script_of}
-use Rattle.redo_board.specs.Rows.{naming_of, bit}
+use Rattle.redo_board.specs.Rows.{naming_of}
 use Rattle.redo_board.specs.Core.{Core, start, Line, IsLegal, Way, row, claim, free, claim_place, place_at, rows_then, has, way_at, done, after_all, row_words, word}
 use Rattle.redo_board.proofs.Bridge.{Stood, start-stood, line_stood}
 use Rattle.redo_board.proofs.Sound.{Sound, start-sound, done-sound}

@@ -1,6 +1,6 @@
 -- A worker after a step.
 use Rattle.std.proofs.Common.{◌≡◌, ◌≢◌, ℕ, ◌+◌, ◌-◌, ◌<◌, ◌≤◌, ◌↔◌, List, [], ◌∷◌, ◌++◌, length, map, get_or, All, Bool, true, false, cond, Option, Some, None, is_some, option_map, refl, sym, ap, ◌∙◌, subst, inl, arith}
-use Rattle.std.specs.Prelude.{vec_capacity, vec_len, IfSome, IsSome}
+use Rattle.std.specs.Prelude.{vec_capacity, vec_len, IfSome}
 use Rattle.std.specs.List.{AllByRecursion}
 use Rattle.std.specs.Option.{unwrap_or}
 use Rattle.std.proofs.lemmas.List.{length_push, append-nil, length-map, map-append}
@@ -8,8 +8,8 @@ use Rattle.std.proofs.lemmas.List.Elements.{All-push}
 use Rattle.redo_model.specs.Command.{Command, Item, Lock, Unlock, Failed, Ood, commands_in, names_in}
 use Rattle.redo_model.specs.Reply.{Reply}
 use Rattle.redo_model.specs.Renaming.{IsBelow, AllBelow}
-use Rattle.redo_model.specs.Placed.{Place, line_of, part_of}
-use Rattle.redo_model.specs.Journals.{Numbered, IsJournal}
+use Rattle.redo_model.specs.Placed.{Place, line_of}
+use Rattle.redo_model.specs.Journals.{Numbered}
 use Rattle.redo_model.specs.Inside.Room.{room_of}
 use Rattle.redo_terms.specs.Meaning.{command_of, reply_of}
 use Rattle.redo_terms.specs.declared.command.Command as terms
@@ -27,7 +27,7 @@ use Rattle.redo_board.specs.Rows.{rows_of, naming_of}
 use Rattle.redo_board.specs.Core.{Line, Begins, row}
 use Rattle.redo_board.specs.Histories.{EndsWith}
 use Rattle.redo_board.specs.Views.{Part, ViewOf, view}
-use Rattle.redo_board.specs.Rule.{HasPart, Told}
+use Rattle.redo_board.specs.Rule.{HasPart}
 use Rattle.redo_board.specs.Plays.{Goes, Claims, Lost, Lone, made, next, own, own_way}
 use Rattle.redo_board.specs.Shown.{NeedsNoRow, IsNextBy, session_of, journal_of, seen_by, entries_of, next_by, told, past, rows_up_to}
 use Rattle.redo_board.specs.Kept.{IsBoardOf, Works, WorksAt, Lags, view_of}
@@ -39,7 +39,6 @@ use Rattle.redo_board.specs.declared.worker.Worker.{Worker}
 use Rattle.redo_board.proofs.Below.{AskBelow, next-below}
 use Rattle.redo_board.proofs.Lone.{own_lines, numbers_small, lines_below, rows_left}
 use Rattle.redo_board.proofs.OwnLines.{IsOwn, closing_fails}
-use Rattle.redo_board.proofs.Bridge.{of_plan_told}
 use Rattle.redo_board.proofs.Ended.{ends-with}
 use Rattle.redo_board.proofs.Rooms.{next_room}
 use Rattle.redo_board.proofs.Steps.{IsWorker, Keeps, lone, goes_keeps, lost_keeps}

@@ -1,10 +1,10 @@
-use Rattle.std.proofs.Common.{◌≡◌, ℕ, ◌+◌, ◌≤◌, List, [], ◌∷◌, ◌++◌, Bool, cond, length, map, take, arith, sym, ap, ◌∙◌}
+use Rattle.std.proofs.Common.{◌≡◌, ℕ, ◌+◌, ◌≤◌, List, [], ◌∷◌, ◌++◌, Bool, cond, map, take, arith, sym, ap, ◌∙◌}
 use Rattle.std.specs.List.{count_by}
 use Rattle.std.proofs.lemmas.List.{take_more, map-append, length_push}
 use Rattle.std.proofs.lemmas.List.Sums.{sum_by_push}
 use Rattle.redo_model.specs.Command as commands
 use Rattle.redo_model.specs.Command.{Command}
-use Rattle.redo_model.specs.Inside.Room.{is_lock, is_start, locks_in, starts_in, room_of}
+use Rattle.redo_model.specs.Inside.Room.{is_lock, is_start, room_of}
 use Rattle.redo_terms.specs.Meaning.{command_of}
 use Rattle.redo_terms.specs.Inside.Meaning.{item_of}
 use Rattle.redo_board.proofs.plan.room_for.Goals as goal

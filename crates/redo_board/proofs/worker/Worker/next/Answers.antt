@@ -1,23 +1,13 @@
-use Rattle.std.proofs.Common.{◌≡◌, ◌↔◌, ℕ, ◌<◌, ◌≤◌, All, List, [], ◌∷◌, length, map, Option, Some, None, option_map, refl, sym, ap, ◌∙◌, subst}
-use Rattle.std.specs.Prelude.{IfSome, IsSome}
+use Rattle.std.proofs.Common.{ℕ, ◌<◌, All, List, [], ◌∷◌, length, sym, subst}
 use Rattle.std.specs.List.{AllByRecursion}
-use Rattle.std.specs.Option.{IfNone}
-use Rattle.std.proofs.lemmas.List.{length-map}
 use Rattle.std.proofs.lemmas.List.Elements.{All-from_recursion}
 use Rattle.redo_model.specs.Command as commands
 use Rattle.redo_model.specs.Names.{Text}
 use Rattle.redo_model.specs.Renaming.{IsBelow}
-use Rattle.redo_terms.specs.Inside.Meaning.{item_of}
-use Rattle.redo_journal.specs.Plans.{PlanOf, script_of}
-use Rattle.redo_journal.specs.Holds.{Says, own_lines}
-use Rattle.redo_journal.specs.Journals.{command_by, command_told, line_told, lines_told}
-use Rattle.redo_journal.specs.Numbers.{numbered_by, next_after}
+use Rattle.redo_journal.specs.Plans.{script_of}
+use Rattle.redo_journal.specs.Journals.{command_told, line_told, lines_told}
 use Rattle.redo_journal.specs.declared.entry.Entry.{Entry}
-use Rattle.redo_journal.specs.declared.next.Next.{Next}
 use Rattle.redo_board.specs.Core.{Line}
-use Rattle.redo_board.specs.Shown.{IsNextBy, IsAtEnd, next_by}
-use Rattle.redo_board.specs.Kept.{Works}
-use Rattle.redo_board.specs.declared.worker.Worker.{Worker}
 use Rattle.redo_board.proofs.Works.{lines_names, lines_numbers}
 use Rattle.redo_board.proofs.worker.Worker.next.Goals as goal
 

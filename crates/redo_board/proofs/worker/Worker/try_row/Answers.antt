@@ -1,4 +1,4 @@
-use Rattle.std.proofs.Common.{◌≡◌, ℕ, ◌+◌, ◌*◌, ◌<◌, ◌∷◌, [], ◌++◌, length, List, arith, refl, sym, ap, ◌∙◌, subst, None, Some, Bool}
+use Rattle.std.proofs.Common.{◌≡◌, ℕ, ◌+◌, ◌∷◌, [], ◌++◌, length, List, arith, refl, sym, ap, ◌∙◌, subst, None, Some, Bool}
 use Rattle.std.proofs.lemmas.List.{length_push}
 use Rattle.redo_model.specs.Command.{asked_lock}
 use Rattle.redo_model.specs.Placed.{Row}
@@ -8,11 +8,10 @@ use Rattle.redo_model.specs.Step.{records_after}
 use Rattle.redo_store.specs.Stored.{records_of, naming_of, count_of}
 use Rattle.redo_terms.specs.Meaning.{command_of, reply_of}
 use Rattle.redo_journal.specs.Plans.{PlanOf}
-use Rattle.redo_board.specs.Rows.{rows_of}
-use Rattle.redo_board.specs.Core.{word, row}
+use Rattle.redo_board.specs.Core.{word}
 use Rattle.redo_board.specs.Views.{view}
-use Rattle.redo_board.specs.Plays.{own, own_build, own_way, SaysRow, Goes, row_line}
-use Rattle.redo_board.specs.Shown.{journal_of, seen_by, next_by}
+use Rattle.redo_board.specs.Plays.{own, own_build, SaysRow, Goes, row_line}
+use Rattle.redo_board.specs.Shown.{journal_of, seen_by}
 use Rattle.redo_board.specs.Kept.{Works, WorksAt, Lags, view_of}
 use Rattle.redo_board.specs.Outcomes.{Made}
 use Rattle.redo_board.specs.Own.{has}
