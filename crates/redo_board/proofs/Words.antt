@@ -73,7 +73,7 @@ line-command p s k h few short =
     let es = line-session s k h few short in
     let en = line-number s k h short in
     λ i. cond (ec i) (Failed (target_in w))
-        (get_or (commands_in (script_of p (es i))) (en i) Ood)
+    (get_or (commands_in (script_of p (es i))) (en i) Ood)
 
 -- so does that of a closing command
 pub closing-closes : (s t : ℕ) → is_closing (closing_word s t) ≡ true

@@ -121,7 +121,12 @@ impl Worker {
             (command_by (script_of plan.now self.now.session) next.closing next.line)) }
         ensures none { IfNone result (IsAtEnd plan.now self.now) }
     {
-        next_step(plan.names(), script(plan, self.session), &self.entries, &self.own)
+        next_step(
+            plan.names(),
+            script(plan, self.session),
+            &self.entries,
+            &self.own,
+        )
     }
 
     /// Writes the entry of a command into the journal, in which there is room.
