@@ -24,6 +24,7 @@ pub mod Ranges
 pub mod Joins
 pub mod Stores
 pub mod Steps
+pub mod NextSteps
 pub mod Works
 pub mod Told
 pub mod Own

@@ -1,24 +1,21 @@
 -- The least of the held names, and the closing command that lets go of it.
-use Rattle.std.proofs.Common.{◌≡◌, ℕ, zero, suc, ◌+◌, ◌<◌, ◌≤◌, Bool, true, false, cond, List, [], ◌∷◌, length, map, drop, get_or, filter, All, Option, Some, None, refl, sym, ap, ◌∙◌, subst, arith}
+use Rattle.std.proofs.Common.{◌≡◌, ℕ, suc, ◌+◌, ◌<◌, Bool, true, false, cond, List, [], ◌∷◌, length, map, drop, get_or, filter, All, Option, Some, None, refl, sym, ap, ◌∙◌, subst, arith}
 use Rattle.std.proofs.Math.Seq.{drop-cons}
-use Rattle.std.proofs.lemmas.Option.{none-some}
-use Rattle.std.specs.Option.{ForSome, option_map}
+use Rattle.std.specs.Option.{option_map}
 use Rattle.std.specs.List.{AllByRecursion, filter_map, cons_option}
 use Rattle.std.proofs.lemmas.List.Elements.{recursion_from_All}
-use Rattle.std.specs.declared.cmp.Ordering.{Ordering}
-use Rattle.std.specs.declared.cmp.Ordering.TheVariants.{Less, Equal, Greater}
 use Rattle.redo_model.specs.Names.{Text, Naming}
 use Rattle.redo_model.specs.Command as commands
 use Rattle.redo_model.specs.Command.{File, Gone, Lock, Unlock, Start, IfChange, IfCreate, Always, Stamp, Done, Failed, Ood, Targets, Sources, asked_lock}
 use Rattle.redo_model.specs.Renaming.{IsBelow, AllBelow}
 use Rattle.redo_model.specs.History.{Line}
 use Rattle.redo_model.specs.Placed.{line_of}
-use Rattle.redo_model.specs.Closing.{holds, builds, lesser, lesser_of, least, held_in, letting_go, closing_of}
+use Rattle.redo_model.specs.Closing.{holds, lesser_of, least, held_in, letting_go, closing_of}
 use Rattle.redo_model.proofs.ClosingBelow.{AllAskBelow, locks_below, closing_below}
 use Rattle.redo_terms.specs.Meaning.{by_text}
 use Rattle.redo_journal.specs.declared.entry.Entry.{Entry}
 use Rattle.redo_journal.specs.declared.holds.Hold.{Hold}
-use Rattle.redo_journal.specs.Journals.{command_told, line_told, lines_told}
+use Rattle.redo_journal.specs.Journals.{command_told, lines_told}
 use Rattle.redo_journal.specs.Holds.{Says, hold_at, is_held, locked_in, lesser_held}
 
 -- one name more in front

@@ -1,5 +1,5 @@
 -- Each journal of a plan.
-use Rattle.std.proofs.Common.{◌≡◌, ◌↔◌, ℕ, ◌<◌, ◌≤◌, List, [], ◌∷◌, length, map, get_or, slice_get, All, Option, Some, None, refl, sym, ap, ◌∙◌, subst, inl, inr, arith}
+use Rattle.std.proofs.Common.{◌≡◌, ◌↔◌, ℕ, ◌<◌, ◌≤◌, List, [], ◌∷◌, length, map, get_or, slice_get, All, Option, Some, sym, ap, ◌∙◌, subst, inl, inr, arith}
 use Rattle.std.specs.Option.{option_map, unwrap_or}
 use Rattle.std.specs.List.{AllByRecursion}
 use Rattle.std.proofs.lemmas.Bool.{cases_lt}
@@ -11,7 +11,6 @@ use Rattle.redo_model.specs.Journals.{IsJournal}
 use Rattle.redo_model.specs.Renaming.{IsBelow}
 use Rattle.redo_terms.specs.Inside.Meaning.{item_of}
 use Rattle.redo_terms.specs.declared.script.Item.{Item}
-use Rattle.redo_journal.specs.declared.entry.Entry.{Entry}
 use Rattle.redo_journal.specs.declared.entry.Journal.{Journal}
 use Rattle.redo_journal.specs.Plans.{PlanOf, AreBelow, scripts_of, script_of}
 use Rattle.redo_journal.specs.Journals.{told_by, journals_of, entries_of, naming_of, IsMarked}

@@ -1,5 +1,5 @@
 -- What the table says, after one line more.
-use Rattle.std.proofs.Common.{◌≡◌, ℕ, ◌<◌, Bool, List, [], ◌∷◌, ◌++◌, length, refl, sym, ap, ◌∙◌, subst}
+use Rattle.std.proofs.Common.{◌≡◌, ℕ, ◌<◌, Bool, List, [], ◌∷◌, ◌++◌, refl, sym, ap, ◌∙◌, subst}
 use Rattle.redo_model.specs.Names.{Text, Naming}
 use Rattle.redo_model.specs.History.{Line}
 use Rattle.redo_model.specs.Closing.{holds_then, holds_after, builds_then, builds_after}

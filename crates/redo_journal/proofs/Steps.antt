@@ -1,6 +1,6 @@
 -- Whether an entry is of what is next.
-use Rattle.std.proofs.Common.{◌≡◌, ◌↔◌, ℕ, zero, suc, ◌+◌, ◌<◌, ◌≤◌, ◌==◌, ◌⊎◌, Bool, IsTrue, eqb-true, rules, true, false, cond, List, [], ◌∷◌, length, map, take, get_or, slice_get, All, Option, Some, None, refl, sym, ap, ◌∙◌, subst, inl, inr, arith}
-use Rattle.std.specs.Option.{option_map, option_or, IsSome}
+use Rattle.std.proofs.Common.{◌≡◌, ◌↔◌, ℕ, zero, suc, ◌+◌, ◌<◌, ◌==◌, Bool, IsTrue, eqb-true, rules, true, false, cond, List, [], ◌∷◌, length, map, take, get_or, slice_get, All, Option, Some, None, refl, sym, ap, ◌∙◌, subst, inl, inr, arith}
+use Rattle.std.specs.Option.{option_map, IsSome}
 use Rattle.std.specs.List.{AllByRecursion}
 use Rattle.std.proofs.lemmas.Bool.{false≢true}
 use Rattle.std.proofs.lemmas.Option.{none-some, slice_get-get_or, slice_get_within, get_or_from_slice_get}
@@ -13,8 +13,8 @@ use Rattle.redo_model.specs.Placed.{PlacedLine, line_of}
 use Rattle.redo_model.specs.Renaming.{IsBelow}
 use Rattle.redo_model.specs.Closing.{closing_of}
 use Rattle.redo_model.specs.Journals.{Numbered, numbered, next_line_of, closing_after, closing_number}
-use Rattle.redo_model.proofs.Nexts.{IsFrom, next_cases, next_is_line, next_is_closing, next_line_from}
-use Rattle.redo_terms.specs.Meaning.{command_of, by_text}
+use Rattle.redo_model.proofs.Nexts.{next_cases, next_is_line, next_is_closing, next_line_from}
+use Rattle.redo_terms.specs.Meaning.{by_text}
 use Rattle.redo_terms.specs.declared.command.Command.{Command}
 use Rattle.redo_journal.specs.declared.entry.Entry.{Entry}
 use Rattle.redo_journal.specs.Journals.{command_told, command_by, line_told, lines_told, IsMarked}

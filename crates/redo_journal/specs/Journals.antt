@@ -6,7 +6,7 @@ use Rattle.redo_model.specs.Command as commands
 use Rattle.redo_model.specs.Command.{Item, Ood, commands_in}
 use Rattle.redo_model.specs.Placed.{PlacedLine}
 use Rattle.redo_model.specs.Placed as placed
-use Rattle.redo_model.specs.Journals.{Numbered, IsJournal}
+use Rattle.redo_model.specs.Journals.{IsJournal}
 use Rattle.redo_terms.specs.Meaning.{command_of, reply_of, by_text}
 use Rattle.redo_terms.specs.declared.command.Command.{Command}
 use Rattle.redo_journal.specs.declared.entry.Place.{Place}

@@ -1,5 +1,5 @@
 -- The numbers of entries, and whether each is the next.
-use Rattle.std.specs.Prelude.{◌≡◌, ℕ, List, map, take, Option, Some, slice_get, slice_index_or}
+use Rattle.std.specs.Prelude.{◌≡◌, ℕ, List, take, Option, Some, slice_get, slice_index_or}
 use Rattle.redo_model.specs.Names.{Text}
 use Rattle.redo_model.specs.Command.{Item, Ood, commands_in}
 use Rattle.redo_model.specs.Journals.{Numbered, numbered, next_of}

@@ -7,8 +7,7 @@ use Rattle.std.specs.declared.cmp.Ordering.TheVariants.{Less, Equal, Greater}
 use Rattle.redo_model.specs.Names.{Naming, numbers}
 use Rattle.redo_model.specs.Inside.Names.{IsNaming}
 use Rattle.redo_model.specs.Command.{Command, Lock, Unlock, Start, Done, Failed, asked_lock}
-use Rattle.redo_model.specs.Reply.{Reply, Okay, Granted, Busy, Stale, Stamped, Refused}
-use Rattle.redo_model.specs.Reply as replies
+use Rattle.redo_model.specs.Reply.{Reply, Okay, Granted}
 use Rattle.redo_model.specs.History.{Line}
 use Rattle.redo_model.specs.Closing.{is_okay, is_granted, lesser, lesser_of, least, holds_then, builds_accepted, builds_then, holds_after, builds_after, holds, held_in, letting_go, closing_of}
 use Rattle.redo_model.specs.Renaming.{named_command, named_line, named_reply, AllBelow, IsBelow}

@@ -1,20 +1,20 @@
 -- How many lines of a script lock and start, told by the lines of its journal, and with them how
 -- many lines a journal has, where its closing lines are answered `ok`.
-use Rattle.std.proofs.Common.{◌≡◌, ℕ, ◌+◌, ◌-◌, ◌<◌, ◌≤◌, Bool, true, false, cond, List, [], ◌∷◌, ◌++◌, length, map, drop, get_or, Some, refl, sym, ap, ◌∙◌, subst, arith, append_assoc, append-nil}
+use Rattle.std.proofs.Common.{◌≡◌, ℕ, ◌+◌, ◌-◌, ◌<◌, ◌≤◌, Bool, cond, List, [], ◌∷◌, ◌++◌, length, map, drop, get_or, refl, sym, ap, ◌∙◌, subst, arith, append_assoc, append-nil}
 use Rattle.std.specs.List.{AllByRecursion, filter, cons_option, count_by, sum_by}
 use Rattle.std.proofs.lemmas.List.{drop-drop, length-append, length-map}
-use Rattle.std.proofs.lemmas.List.Sums.{sum_by-cons, sum_by-append, sum_by-drop_more, sum_by-take-drop, length-filter, count_by-le-length}
+use Rattle.std.proofs.lemmas.List.Sums.{sum_by-cons, sum_by-drop_more, sum_by-take-drop, length-filter, count_by-le-length}
 use Rattle.redo_model.specs.Names.{Naming}
 use Rattle.redo_model.specs.Inside.Names.{IsNaming}
 use Rattle.redo_model.specs.Inside.Room.{is_lock, is_start, is_failed, locks_in, starts_in, room_of}
 use Rattle.redo_model.specs.Command.{Command, Item, Lock, Start, Ood, asked_lock, commands_in}
 use Rattle.redo_model.specs.Reply.{Okay}
 use Rattle.redo_model.specs.Placed.{PlacedLine, line_of}
-use Rattle.redo_model.specs.Closing.{holds, builds, held_in}
+use Rattle.redo_model.specs.Closing.{holds, builds}
 use Rattle.redo_model.specs.Journals.{numbered, IsJournal}
 use Rattle.redo_model.proofs.Nexts.{next_line_from, past_of, past_of_more, closing_number_is}
 use Rattle.redo_model.proofs.Parts.{IsLined, IsClosed, Parts, parts_after, journal_fits, lined_below, closed_past}
-use Rattle.redo_model.proofs.Room.{AllOkay, asked_start, locked_by, started_by, building_in, closed_few}
+use Rattle.redo_model.proofs.Room.{AllOkay, asked_start, locked_by, started_by, closed_few}
 
 filter_short : {X : Type 0} (p : X → Bool) (xs : List X) → length (filter p xs) ≤ length xs
 filter_short p xs =

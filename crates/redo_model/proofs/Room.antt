@@ -1,24 +1,22 @@
 -- How many closing lines a journal has, where they are answered `ok`.
-use Rattle.std.proofs.Common.{◌≡◌, ◌⊎◌, ℕ, ◌+◌, ◌-◌, ◌<◌, ◌≤◌, Bool, true, false, cond, List, [], ◌∷◌, ◌++◌, length, map, drop, get_or, Option, Some, None, refl, sym, ap, ◌∙◌, subst, arith, append-nil, inl, inr}
-use Rattle.std.specs.List.{AllByRecursion, Contains, filter, filter_map, cons_option, count_by, sum_by}
+use Rattle.std.proofs.Common.{◌≡◌, ◌⊎◌, ℕ, ◌+◌, ◌<◌, ◌≤◌, Bool, true, false, cond, List, [], ◌∷◌, ◌++◌, length, map, Option, Some, None, refl, sym, ap, ◌∙◌, subst, arith, append-nil, inl, inr}
+use Rattle.std.specs.List.{AllByRecursion, Contains, filter, filter_map, cons_option, count_by}
 use Rattle.std.proofs.lemmas.Bool.{false≢true}
-use Rattle.std.proofs.lemmas.List.{drop-drop, length-append, length-map, map-append}
+use Rattle.std.proofs.lemmas.List.{map-append}
 use Rattle.std.proofs.lemmas.List.Elements.{filter_map-append, filter_agree}
-use Rattle.std.proofs.lemmas.List.Sums.{sum_by-cons, sum_by-append, sum_by-drop_more, sum_by-take-drop, length-filter, count_by-le-length}
+use Rattle.std.proofs.lemmas.List.Sums.{sum_by-cons}
 use Rattle.redo_model.specs.Names.{Naming}
 use Rattle.redo_model.specs.Inside.Names.{IsNaming}
-use Rattle.redo_model.specs.Inside.Room.{is_lock, is_start, is_failed, locks_in, starts_in, room_of}
-use Rattle.redo_model.specs.Command.{Command, Item, Lock, Unlock, Start, Done, Failed, Ood, asked_lock, commands_in}
+use Rattle.redo_model.specs.Inside.Room.{is_failed}
+use Rattle.redo_model.specs.Command.{Command, Item, Unlock, Start, Done, Failed, asked_lock}
 use Rattle.redo_model.specs.Reply.{Reply, Okay}
 use Rattle.redo_model.specs.History.{Line}
 use Rattle.redo_model.specs.Placed.{PlacedLine, line_of}
 use Rattle.redo_model.specs.Closing.{is_okay, holds_then, holds_after, holds, builds_then, builds_after, builds, held_in}
-use Rattle.redo_model.specs.Journals.{next_of, numbered, Numbered, IsJournal}
 use Rattle.redo_model.proofs.Letting.{lock_true, unlock_true, asked_first, asked_later, closing_held, held_is_asked}
 use Rattle.redo_model.proofs.Members.{contains_cases, contains_none}
-use Rattle.redo_model.proofs.Nexts.{next_line_from, past_of, past_of_more}
 use Rattle.redo_model.proofs.OwnLines.{same_both}
-use Rattle.redo_model.proofs.Parts.{IsLined, IsClosed, Parts, parts_after, journal_fits, closed_past}
+use Rattle.redo_model.proofs.Parts.{IsClosed}
 
 -- a test that passes less keeps less
 module _ {X : Type 0} where

@@ -19,6 +19,17 @@ fn put_names(
     Ok(())
 }
 
+/// Adds the text of a refusal.
+fn put_refusal(out: &mut Vec<u8>, plain: &Plain, refusal: &Refusal) -> Result<(), AllocError> {
+    match refusal {
+        Refusal::NotLocked => put_names(out, plain, "refused not-locked", &[]),
+        Refusal::Building => put_names(out, plain, "refused building", &[]),
+        Refusal::NotBuilding => put_names(out, plain, "refused not-building", &[]),
+        Refusal::Itself => put_names(out, plain, "refused self", &[]),
+        Refusal::Exists(n) => put_names(out, plain, "refused exists", &[*n]),
+    }
+}
+
 /// The text of a reply.
 fn reply_text(alloc: Global, plain: &Plain, reply: &Reply) -> Result<Vec<u8>, AllocError> {
     let mut out = Vec::new(alloc);
@@ -40,18 +51,7 @@ fn reply_text(alloc: Global, plain: &Plain, reply: &Reply) -> Result<Vec<u8>, Al
         Reply::Ood(names) => put_names(&mut out, plain, "ood", names)?,
         Reply::Targets(names) => put_names(&mut out, plain, "targets", names)?,
         Reply::Sources(names) => put_names(&mut out, plain, "sources", names)?,
-        Reply::Refused(Refusal::NotLocked) => put_names(
-            &mut out,
-            plain,
-            "refused not-locked",
-            &[],
-        )?,
-        Reply::Refused(Refusal::Building) => put_names(&mut out, plain, "refused building", &[])?,
-        Reply::Refused(Refusal::NotBuilding) => {
-            put_names(&mut out, plain, "refused not-building", &[])?
-        }
-        Reply::Refused(Refusal::Itself) => put_names(&mut out, plain, "refused self", &[])?,
-        Reply::Refused(Refusal::Exists(n)) => put_names(&mut out, plain, "refused exists", &[*n])?,
+        Reply::Refused(refusal) => put_refusal(&mut out, plain, refusal)?,
     }
     Ok(out)
 }

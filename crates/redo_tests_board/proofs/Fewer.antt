@@ -1,5 +1,6 @@
 -- How many commands a worker has left after a step.
 use Rattle.std.proofs.Common.{◌≡◌, ℕ, ◌-◌, ◌<◌, length, ap, arith}
+use Rattle.redo_model.specs.Inside.Room.{room_of}
 use Rattle.redo_journal.specs.Plans.{PlanOf, script_of}
 use Rattle.redo_board.specs.declared.worker.Worker.{Worker}
 use Rattle.redo_board.specs.Shown.{session_of, journal_of}
@@ -12,7 +13,7 @@ pub by_step : (p : PlanOf) (old new : Worker) → session_of new ≡ session_of 
     → left_by p new < left_by p old
 by_step p old new same made =
     let a = made_less p old new made in
-    let b = ap (λ s. length (script_of p s)) same in
+    let b = ap (λ s. room_of (script_of p s)) same in
     omega arith
 
 -- and so does the next one after a step that was refused
@@ -21,6 +22,6 @@ pub by_next_step : (p : PlanOf) (old middle new : Worker) → session_of middle 
     → left_by p new < left_by p old
 by_next_step p old middle new first second waits made =
     let a = by_step p middle new second made in
-    let b = ap (λ s. length (script_of p s)) first in
+    let b = ap (λ s. room_of (script_of p s)) first in
     let d = ap length waits.same in
     omega arith

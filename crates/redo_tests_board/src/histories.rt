@@ -109,14 +109,14 @@ pub(crate) fn replays(
 /// What the lines of a legal history have in all: locks that were granted, unlocks and starts that were accepted, and
 /// builds that failed or were done.
 #[derive(Clone, Copy)]
-pub(crate) struct Counted {
+pub(crate) struct Totals {
     pub(crate) granted: usize,
     pub(crate) unlocked: usize,
     pub(crate) started: usize,
     pub(crate) ended: usize,
 }
 
-impl Counted {
+impl Totals {
     /// Whether after the lines nothing is held and nothing is building.
     pub(crate) fn is_let_go(self) -> bool {
         self.granted == self.unlocked && self.started == self.ended
@@ -124,8 +124,8 @@ impl Counted {
 }
 
 /// Counts these lines.
-pub(crate) fn counted(lines: &[Line]) -> Counted {
-    let mut all = Counted {
+pub(crate) fn counted(lines: &[Line]) -> Totals {
+    let mut all = Totals {
         granted: 0,
         unlocked: 0,
         started: 0,

@@ -1,74 +1,207 @@
 //! Journals of sessions that let go at their end.
 use crate::plans::plan_of;
+use crate::told::{Answer, reply_of};
 use redo_command::{Command, Kind, Line, Reply};
 use redo_journal::{Entry, Journal, Place, are_journals};
 use redo_replay::merge;
 use std::alloc::{AllocError, Global};
 use std::test::Fail;
 
-/// The first session breaks off in a build, and the second has the target after it.
-const TEXTS: [&str; 2] = ["lock T\nlock a\nstart T\n", "lock T\n"];
-
-/// The kind of closing command that an entry is of, if any, and its target.
-type Closing = Option<(Kind, u32)>;
-
-/// An entry: the number of its command, what it closes, the reply and the place. T is name 0.
-type Made = (u32, Closing, Reply, Place);
-
-/// All that the first session does: its three lines, and then it lets go of `T`, and of `a` after it.
-fn whole() -> [Made; 6] {
-    [
-        (0, None, Reply::Granted(1), Place::Granted(0, 1)),
-        (1, None, Reply::Granted(1), Place::Granted(1, 1)),
-        (2, None, Reply::Okay, Place::Row(0)),
-        (3, Some((Kind::Failed, 0)), Reply::Okay, Place::Row(1)),
-        (
-            4,
-            Some((Kind::Unlock, 0)),
-            Reply::Okay,
-            Place::Released(0, 1),
-        ),
-        (
-            5,
-            Some((Kind::Unlock, 1)),
-            Reply::Okay,
-            Place::Released(1, 1),
-        ),
-    ]
+/// A closing command, of the name with this number.
+#[derive(Clone, Copy)]
+enum Closing {
+    Failed(u32),
+    Unlock(u32),
 }
 
-/// All that the second session does.
-fn other() -> [Made; 2] {
-    [
-        (0, None, Reply::Granted(2), Place::Granted(0, 2)),
-        (
-            1,
-            Some((Kind::Unlock, 0)),
-            Reply::Okay,
-            Place::Released(0, 2),
-        ),
-    ]
+/// Closing commands, each with its number.
+type Closings = &'static [(u32, Closing)];
+
+/// A session: its file, what lines of it were answered, and what it may and may not close after
+/// these. Names have numbers in the order in which they come.
+#[derive(Clone, Copy)]
+struct Case {
+    text: &'static str,
+    told: &'static [(u32, Answer)],
+    may: &'static [Closings],
+    may_not: &'static [Closings],
 }
 
-/// The closing command, if it is one.
-fn command_of(closing: Closing) -> Option<Command> {
+const BUILDS: Case = Case {
+    text: "lock t\nstart t\n",
+    told: &[(0, Answer::Granted(1)), (1, Answer::Okay)],
+    may: &[
+        &[],
+        &[(2, Closing::Failed(0))],
+        &[(2, Closing::Failed(0)), (3, Closing::Unlock(0))],
+    ],
+    may_not: &[
+        // It is building.
+        &[(2, Closing::Unlock(0))],
+        // It has failed already.
+        &[(2, Closing::Failed(0)), (3, Closing::Failed(0))],
+        // Nothing is held any more.
+        &[
+            (2, Closing::Failed(0)),
+            (3, Closing::Unlock(0)),
+            (4, Closing::Unlock(0)),
+        ],
+    ],
+};
+
+const HAS_BUILT: Case = Case {
+    text: "lock t\nstart t\ndone t 5\n",
+    told: &[
+        (0, Answer::Granted(1)),
+        (1, Answer::Okay),
+        (2, Answer::Okay),
+    ],
+    may: &[&[(3, Closing::Unlock(0))]],
+    may_not: &[&[(3, Closing::Failed(0))]],
+};
+
+/// The least name by bytes comes first, and not what was locked first.
+const HOLDS_TWO: Case = Case {
+    text: "lock b\nlock a\n",
+    told: &[(0, Answer::Granted(1)), (1, Answer::Granted(1))],
+    may: &[
+        &[(2, Closing::Unlock(1))],
+        &[(2, Closing::Unlock(1)), (3, Closing::Unlock(0))],
+    ],
+    may_not: &[
+        &[(2, Closing::Unlock(0))],
+        // The numbers aren't the next.
+        &[(1, Closing::Unlock(1))],
+        &[(3, Closing::Unlock(1))],
+        &[(2, Closing::Unlock(1)), (2, Closing::Unlock(0))],
+    ],
+};
+
+const HOLDS_THREE: Case = Case {
+    text: "lock top\nlock all\nlock a.o\n",
+    told: &[
+        (0, Answer::Granted(1)),
+        (1, Answer::Granted(1)),
+        (2, Answer::Granted(1)),
+    ],
+    may: &[&[
+        (3, Closing::Unlock(2)),
+        (4, Closing::Unlock(1)),
+        (5, Closing::Unlock(0)),
+    ]],
+    may_not: &[&[(3, Closing::Unlock(2)), (4, Closing::Unlock(0))]],
+};
+
+/// Only what is built fails.
+const BUILDS_ONE: Case = Case {
+    text: "lock b\nlock a\nstart b\n",
+    told: &[
+        (0, Answer::Granted(1)),
+        (1, Answer::Granted(1)),
+        (2, Answer::Okay),
+    ],
+    may: &[&[
+        (3, Closing::Unlock(1)),
+        (4, Closing::Failed(0)),
+        (5, Closing::Unlock(0)),
+    ]],
+    may_not: &[&[(3, Closing::Failed(0))], &[(3, Closing::Failed(1))]],
+};
+
+/// What another session holds stays.
+const FINDS_IT_BUSY: Case = Case {
+    text: "lock t\n",
+    told: &[(0, Answer::Busy(1))],
+    may: &[&[]],
+    may_not: &[&[(1, Closing::Unlock(0))]],
+};
+
+const HAS_UNLOCKED: Case = Case {
+    text: "lock t\nunlock t\n",
+    told: &[(0, Answer::Granted(1)), (1, Answer::Okay)],
+    may: &[&[]],
+    may_not: &[&[(2, Closing::Unlock(0))]],
+};
+
+const HAS_LOCKED_AGAIN: Case = Case {
+    text: "lock t\nunlock t\nlock t\n",
+    told: &[
+        (0, Answer::Granted(1)),
+        (1, Answer::Okay),
+        (2, Answer::Granted(2)),
+    ],
+    may: &[&[(3, Closing::Unlock(0))]],
+    may_not: &[&[(3, Closing::Failed(0))]],
+};
+
+/// A start that was refused begins no build.
+const STARTS_TOO_LATE: Case = Case {
+    text: "lock a\nlock b\nunlock a\nstart a\n",
+    told: &[
+        (0, Answer::Granted(1)),
+        (1, Answer::Granted(1)),
+        (2, Answer::Okay),
+        (3, Answer::NotLocked),
+    ],
+    may: &[&[(4, Closing::Unlock(1))]],
+    may_not: &[&[(4, Closing::Failed(0))], &[(4, Closing::Unlock(0))]],
+};
+
+/// The lines of the file come before.
+const HAS_A_LINE_LEFT: Case = Case {
+    text: "lock t\ntargets\n",
+    told: &[(0, Answer::Granted(1))],
+    may: &[&[]],
+    may_not: &[&[(1, Closing::Unlock(0))], &[(2, Closing::Unlock(0))]],
+};
+
+/// Lines that are skipped are counted too.
+const SKIPS_A_LINE: Case = Case {
+    text: "lock a\nlock b\n? start b\n",
+    told: &[(0, Answer::Granted(1)), (1, Answer::Busy(1))],
+    may: &[&[(3, Closing::Unlock(0))]],
+    may_not: &[&[(2, Closing::Unlock(0))]],
+};
+
+const CASES: [Case; 11] = [
+    BUILDS,
+    HAS_BUILT,
+    HOLDS_TWO,
+    HOLDS_THREE,
+    BUILDS_ONE,
+    FINDS_IT_BUSY,
+    HAS_UNLOCKED,
+    HAS_LOCKED_AGAIN,
+    STARTS_TOO_LATE,
+    HAS_A_LINE_LEFT,
+    SKIPS_A_LINE,
+];
+
+fn command_of(closing: Closing) -> Command {
     match closing {
-        Some((Kind::Failed, target)) => Some(Command::Failed(target)),
-        Some((_, target)) => Some(Command::Unlock(target)),
-        None => None,
+        Closing::Failed(name) => Command::Failed(name),
+        Closing::Unlock(name) => Command::Unlock(name),
     }
 }
 
-/// The journal of these entries.
+/// What was done with a line, or to close after the lines: its number, and what was answered where.
+type Made = (u32, Option<Closing>, Answer, Place);
+
+fn entry_of(made: Made) -> Entry {
+    let (line, closing, answer, place) = made;
+    Entry {
+        line,
+        closing: closing.map(command_of),
+        reply: reply_of(answer),
+        place,
+    }
+}
+
+/// The journal of the session that did this.
 fn journal_of(alloc: Global, session: u8, made: &[Made]) -> Result<Journal, AllocError> {
     let mut entries = Vec::new(alloc);
-    for (line, closing, reply, place) in made {
-        entries.push(Entry {
-            line: *line,
-            closing: command_of(*closing),
-            reply: reply.copy(alloc)?,
-            place: *place,
-        })?;
+    for one in made {
+        entries.push(entry_of(*one))?;
     }
     Ok(Journal {
         session,
@@ -77,92 +210,98 @@ fn journal_of(alloc: Global, session: u8, made: &[Made]) -> Result<Journal, Allo
     })
 }
 
-/// The journals, where the first session's entries from the fourth on are of these numbers, and close
-/// these.
-fn journals_at(alloc: Global, closing: &[(u32, Closing)]) -> Result<Vec<Journal>, AllocError> {
-    let mut first = journal_of(alloc, 0, &whole())?;
-    first.entries.truncate(closing.len().saturating_add(3));
-    for (entry, (line, closing)) in first.entries.iter_mut().skip(3).zip(closing) {
-        entry.line = *line;
-        entry.closing = command_of(*closing);
+/// The one journal that tells this. Places are not looked at.
+fn journals_of(
+    alloc: Global,
+    told: &[(u32, Answer)],
+    closings: &[(u32, Closing)],
+) -> Result<Vec<Journal>, AllocError> {
+    let mut made = Vec::new(alloc);
+    for (line, answer) in told {
+        made.push((*line, None, *answer, Place::Row(0)))?;
     }
-    Ok(vec![in alloc; first, journal_of(alloc, 1, &other())?]?)
+    for (line, closing) in closings {
+        made.push((*line, Some(*closing), Answer::Okay, Place::Row(0)))?;
+    }
+    Ok(vec![in alloc; journal_of(alloc, 0, &made)?]?)
 }
-
-/// What may come after the lines of the first session, and what may not.
-const CLOSINGS: [(&[(u32, Closing)], bool); 13] = [
-    (&[], true),
-    (&[(3, Some((Kind::Failed, 0)))], true),
-    (
-        &[(3, Some((Kind::Failed, 0))), (4, Some((Kind::Unlock, 0)))],
-        true,
-    ),
-    (
-        &[
-            (3, Some((Kind::Failed, 0))),
-            (4, Some((Kind::Unlock, 0))),
-            (5, Some((Kind::Unlock, 1))),
-        ],
-        true,
-    ),
-    // The target is building.
-    (&[(3, Some((Kind::Unlock, 0)))], false),
-    // It isn't the least that is held.
-    (&[(3, Some((Kind::Unlock, 1)))], false),
-    (&[(3, Some((Kind::Failed, 1)))], false),
-    (
-        &[(3, Some((Kind::Failed, 0))), (4, Some((Kind::Unlock, 1)))],
-        false,
-    ),
-    // The number isn't the next.
-    (&[(4, Some((Kind::Failed, 0)))], false),
-    (&[(2, Some((Kind::Failed, 0)))], false),
-    (
-        &[(3, Some((Kind::Failed, 0))), (3, Some((Kind::Unlock, 0)))],
-        false,
-    ),
-    // It has failed already.
-    (
-        &[(3, Some((Kind::Failed, 0))), (4, Some((Kind::Failed, 0)))],
-        false,
-    ),
-    // No line has this number.
-    (&[(3, None)], false),
-];
 
 /// After the lines comes what lets go of the least target that is held, and nothing else.
 #[test]
 fn journals_with_closing_commands(rt: HostRuntime) -> Result<(), Fail> {
     let alloc = rt.alloc();
-    let plan = plan_of(alloc, &TEXTS)?;
-    for (closing, want) in CLOSINGS {
-        let journals = journals_at(alloc, closing)?;
-        assert!(rt; are_journals(alloc, &plan, &journals)? == want);
+    for case in &CASES {
+        let plan = plan_of(alloc, &[case.text])?;
+        for closings in case.may {
+            let journals = journals_of(alloc, case.told, closings)?;
+            assert!(rt; are_journals(alloc, &plan, &journals)?, "{}", case.text);
+        }
+        for closings in case.may_not {
+            let journals = journals_of(alloc, case.told, closings)?;
+            assert!(rt; !are_journals(alloc, &plan, &journals)?, "{}", case.text);
+        }
     }
     Ok(())
 }
 
-/// Nothing comes before the lines are done, and nothing after the last target.
+/// An entry says that its command is a closing one exactly where no line has its number.
 #[test]
-fn closing_commands_out_of_place(rt: HostRuntime) -> Result<(), Fail> {
+fn marks_of_closing_commands(rt: HostRuntime) -> Result<(), Fail> {
     let alloc = rt.alloc();
-    let plan = plan_of(alloc, &TEXTS)?;
-    let unlock = Some((Kind::Unlock, 0));
-    let early = [
-        (0, None, Reply::Granted(1), Place::Granted(0, 1)),
-        (3, unlock, Reply::Okay, Place::Released(0, 1)),
-    ];
-    let late = [
-        (0, None, Reply::Granted(1), Place::Granted(0, 1)),
-        (1, unlock, Reply::Okay, Place::Released(0, 1)),
-        (2, unlock, Reply::Okay, Place::Released(0, 1)),
-    ];
-    let first = [journal_of(alloc, 0, &early)?, journal_of(alloc, 1, &[])?];
-    assert!(rt; !are_journals(alloc, &plan, &first)?);
-    let second = [journal_of(alloc, 0, &[])?, journal_of(alloc, 1, &late)?];
-    assert!(rt; !are_journals(alloc, &plan, &second)?);
+    let plan = plan_of(alloc, &[HAS_LOCKED_AGAIN.text])?;
+    let closings = [(3, Closing::Unlock(0))];
+    for at in 0..4 {
+        let mut journals = journals_of(alloc, HAS_LOCKED_AGAIN.told, &closings)?;
+        assert!(rt; are_journals(alloc, &plan, &journals)?);
+        let entry = journals
+            .get_mut(0)
+            .and_then(|journal| journal.entries.get_mut(at));
+        if let Some(entry) = entry {
+            entry.closing = if at < 3 {
+                Some(Command::Unlock(0))
+            } else {
+                None
+            };
+        }
+        assert!(rt; !are_journals(alloc, &plan, &journals)?, "{at}");
+    }
     Ok(())
 }
+
+/// The first session breaks off in a build, and the second has the target after it.
+const TEXTS: [&str; 2] = ["lock T\nlock a\nstart T\n", "lock T\n"];
+
+/// All that the first session does: its three lines, and then it lets go of `T`, and of `a` after
+/// it. `T` is name 0.
+const FIRST: [Made; 6] = [
+    (0, None, Answer::Granted(1), Place::Granted(0, 1)),
+    (1, None, Answer::Granted(1), Place::Granted(1, 1)),
+    (2, None, Answer::Okay, Place::Row(0)),
+    (3, Some(Closing::Failed(0)), Answer::Okay, Place::Row(1)),
+    (
+        4,
+        Some(Closing::Unlock(0)),
+        Answer::Okay,
+        Place::Released(0, 1),
+    ),
+    (
+        5,
+        Some(Closing::Unlock(1)),
+        Answer::Okay,
+        Place::Released(1, 1),
+    ),
+];
+
+/// All that the second session does.
+const SECOND: [Made; 2] = [
+    (0, None, Answer::Granted(2), Place::Granted(0, 2)),
+    (
+        1,
+        Some(Closing::Unlock(0)),
+        Answer::Okay,
+        Place::Released(0, 2),
+    ),
+];
 
 /// Whether the line is of this session and kind, about this target, and has this reply.
 fn is(line: &Line, session: u8, kind: Kind, target: u32, reply: Reply) -> bool {
@@ -195,15 +334,13 @@ fn are_the_eight(lines: &[Line]) -> bool {
 fn merging_with_closing_commands(rt: HostRuntime) -> Result<(), Fail> {
     let alloc = rt.alloc();
     let plan = plan_of(alloc, &TEXTS)?;
-    let journals = [
-        journal_of(alloc, 0, &whole())?,
-        journal_of(alloc, 1, &other())?,
-    ];
+    let other = journal_of(alloc, 1, &SECOND)?;
+    let mut journals = [journal_of(alloc, 0, &FIRST)?, other];
     assert!(rt; are_journals(alloc, &plan, &journals)?);
     let lines = merge(alloc, &plan, &journals)?.ok_or("an order")?;
     assert!(rt; are_the_eight(&lines));
-    let left = journals_at(alloc, &[(3, Some((Kind::Failed, 0)))])?;
-    assert!(rt; are_journals(alloc, &plan, &left)?);
-    assert!(rt; merge(alloc, &plan, &left)?.is_none());
+    journals[0].entries.truncate(4);
+    assert!(rt; are_journals(alloc, &plan, &journals)?);
+    assert!(rt; merge(alloc, &plan, &journals)?.is_none());
     Ok(())
 }

@@ -20,7 +20,8 @@ pub(crate) struct Told {
     pub(crate) place: Place,
 }
 
-fn reply_of(answer: Answer) -> Reply {
+/// The reply itself.
+pub(crate) fn reply_of(answer: Answer) -> Reply {
     match answer {
         Answer::Okay => Reply::Okay,
         Answer::Granted(grant) => Reply::Granted(grant),

@@ -1,4 +1,4 @@
-use Rattle.std.proofs.Common.{ℕ, ◌<◌, List, true, get_or, ap, sym, ◌∙◌, length, arith}
+use Rattle.std.proofs.Common.{◌<◌, List, true, get_or, ap, sym, ◌∙◌, length, arith}
 use Rattle.redo_terms.specs.declared.script.Item.{Item}
 use Rattle.redo_journal.proofs.Nexts.{asked}
 use Rattle.redo_journal.proofs.entry.command_at.Goals as goal

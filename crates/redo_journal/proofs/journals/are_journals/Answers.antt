@@ -1,4 +1,4 @@
-use Rattle.std.proofs.Common.{◌≡◌, ◌↔◌, ◌∙◌, ℕ, ◌+◌, ◌<◌, List, All, IsTrue, Bool, length, map, refl, sym, ap, subst, arith}
+use Rattle.std.proofs.Common.{◌↔◌, ◌∙◌, ◌<◌, List, All, IsTrue, length, map, refl, sym, ap, subst, arith}
 use Rattle.std.specs.List.{AllByRecursion}
 use Rattle.std.proofs.lemmas.Bool.{false≢true}
 use Rattle.std.proofs.lemmas.List.{length-map}
@@ -8,7 +8,7 @@ use Rattle.redo_model.specs.Renaming.{IsBelow}
 use Rattle.redo_terms.specs.Meaning.{by_text}
 use Rattle.redo_terms.specs.Inside.Meaning.{item_of}
 use Rattle.redo_terms.specs.declared.script.Item.{Item}
-use Rattle.redo_journal.specs.Plans.{script_of, scripts_of}
+use Rattle.redo_journal.specs.Plans.{script_of}
 use Rattle.redo_journal.specs.Journals.{told_by, IsMarked}
 use Rattle.redo_journal.proofs.Each.{IsEach, IsMarkedAt, script_at, below_at_session, one_at, all_each, all_marked}
 use Rattle.redo_journal.proofs.Steps.{below_next}

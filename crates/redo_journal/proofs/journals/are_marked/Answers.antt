@@ -1,4 +1,4 @@
-use Rattle.std.proofs.Common.{All, map, take, length, ◌≡◌, ◌∙◌, refl, sym, subst, arith}
+use Rattle.std.proofs.Common.{All, map, refl, subst}
 use Rattle.std.proofs.lemmas.List.{take_all}
 use Rattle.std.proofs.lemmas.List.Elements.{All-more}
 use Rattle.redo_terms.specs.Inside.Meaning.{item_of}

@@ -3,7 +3,6 @@ use Rattle.redo_model.specs.Command.{Failed, Unlock}
 use Rattle.redo_model.specs.Journals.{numbered}
 use Rattle.redo_terms.specs.Inside.Meaning.{item_of}
 use Rattle.redo_journal.specs.declared.holds.Hold.{Hold}
-use Rattle.redo_journal.specs.Holds.{hold_at}
 use Rattle.redo_journal.specs.Journals.{command_told, line_told, lines_told}
 use Rattle.redo_journal.proofs.Closings.{no_closing, closing_told}
 use Rattle.redo_journal.proofs.Steps.{same_closing, other_number, nothing_closes}

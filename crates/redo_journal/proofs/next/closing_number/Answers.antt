@@ -1,4 +1,4 @@
-use Rattle.std.proofs.Common.{ℕ, ◌-◌, ◌<◌, sym, ap, ◌∙◌, length, arith}
+use Rattle.std.proofs.Common.{◌-◌, ◌<◌, sym, ap, ◌∙◌, length, arith}
 use Rattle.redo_journal.proofs.Nexts.{number_after, number_at_first}
 use Rattle.redo_journal.proofs.Steps.{of_last}
 use Rattle.redo_journal.proofs.next.closing_number.Goals as goal

@@ -1,4 +1,4 @@
-use Rattle.std.proofs.Common.{◌≡◌, length, map, arith}
+use Rattle.std.proofs.Common.{map, arith}
 use Rattle.redo_model.proofs.Nexts.{next_is_line}
 use Rattle.redo_terms.specs.Meaning.{by_text}
 use Rattle.redo_terms.specs.Inside.Meaning.{item_of}

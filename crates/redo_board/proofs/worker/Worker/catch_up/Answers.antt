@@ -5,7 +5,7 @@ use Rattle.redo_board.specs.Core.{IsWord}
 use Rattle.redo_board.specs.Views.{ViewOf}
 use Rattle.redo_board.specs.Kept.{Works, Lags, view_of}
 use Rattle.redo_board.specs.declared.worker.Worker.{Worker}
-use Rattle.redo_board.proofs.Works.{plan_is}
+use Rattle.redo_board.proofs.NextSteps.{plan_is}
 use Rattle.redo_board.proofs.Stores.{seen_word, lags_few, lags_caught}
 use Rattle.redo_board.proofs.worker.Worker.catch_up.Goals as goal
 

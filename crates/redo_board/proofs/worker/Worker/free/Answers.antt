@@ -11,7 +11,8 @@ use Rattle.redo_board.specs.Kept.{WorksAt, view_of}
 use Rattle.redo_board.specs.Outcomes.{Made}
 use Rattle.redo_board.specs.declared.worker.Worker.{Worker}
 use Rattle.redo_board.proofs.Steps.{frees_as}
-use Rattle.redo_board.proofs.Works.{few_words, target_low, own_below, entered, is_entry, lets_go_by, claim_goes, claimed, room_next}
+use Rattle.redo_board.proofs.NextSteps.{few_words, target_low, own_below, lets_go_by, room_next}
+use Rattle.redo_board.proofs.Works.{entered, is_entry, claim_goes, claimed}
 use Rattle.redo_board.proofs.worker.Worker.free.Goals as goal
 use Rattle.redo_board.proofs.worker.Worker.free.Goals.{After-enter}
 

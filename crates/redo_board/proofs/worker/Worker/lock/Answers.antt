@@ -10,7 +10,8 @@ use Rattle.redo_board.specs.Kept.{WorksAt, view_of}
 use Rattle.redo_board.specs.Outcomes.{Made}
 use Rattle.redo_board.specs.declared.worker.Worker.{Worker}
 use Rattle.redo_board.proofs.Steps.{locks_as}
-use Rattle.redo_board.proofs.Works.{few_words, target_low, own_below, entered, is_entry, claim_goes, claimed, room_next}
+use Rattle.redo_board.proofs.NextSteps.{few_words, target_low, own_below, room_next}
+use Rattle.redo_board.proofs.Works.{entered, is_entry, claim_goes, claimed}
 use Rattle.redo_board.proofs.worker.Worker.lock.Goals as goal
 use Rattle.redo_board.proofs.worker.Worker.lock.Goals.{After-enter}
 

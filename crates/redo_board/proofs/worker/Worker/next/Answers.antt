@@ -8,7 +8,7 @@ use Rattle.redo_journal.specs.Plans.{script_of}
 use Rattle.redo_journal.specs.Journals.{command_told, line_told, lines_told}
 use Rattle.redo_journal.specs.declared.entry.Entry.{Entry}
 use Rattle.redo_board.specs.Core.{Line}
-use Rattle.redo_board.proofs.Works.{lines_names, lines_numbers}
+use Rattle.redo_board.proofs.NextSteps.{lines_names, lines_numbers}
 use Rattle.redo_board.proofs.worker.Worker.next.Goals as goal
 
 -- what is of each line that the entries tell is of each entry

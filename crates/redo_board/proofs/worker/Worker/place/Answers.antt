@@ -8,7 +8,8 @@ use Rattle.redo_board.specs.Shown.{next_by}
 use Rattle.redo_board.specs.Kept.{Works}
 use Rattle.redo_board.specs.declared.worker.Worker.{Worker}
 use Rattle.redo_board.specs.Outcomes.{Waits}
-use Rattle.redo_board.proofs.Works.{next_below, waits-same}
+use Rattle.redo_board.proofs.NextSteps.{next_below}
+use Rattle.redo_board.proofs.Works.{waits-same}
 use Rattle.redo_board.proofs.worker.Worker.place.Goals as goal
 
 -- what is next after the others' words too is of the store's names

@@ -10,7 +10,7 @@ use Rattle.redo_board.specs.Own.{way_by}
 use Rattle.redo_board.specs.Steps.{way_of}
 use Rattle.redo_board.specs.Kept.{WorksAt}
 use Rattle.redo_board.specs.Shown.{IsNextBy, journal_of, tries_of}
-use Rattle.redo_board.proofs.Works.{needs-row, own_below, own_steps, lock_next}
+use Rattle.redo_board.proofs.NextSteps.{needs-row, own_below, own_steps, lock_next}
 use Rattle.redo_board.proofs.Told.{way-claim, way-free}
 use Rattle.redo_board.proofs.worker.Worker.step.Goals as goal
 use Rattle.redo_board.proofs.worker.Worker.step.Goals.{in-Claim, in-Free, in-Row+in_ok-place-in-Row}

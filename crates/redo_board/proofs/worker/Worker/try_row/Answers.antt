@@ -21,7 +21,8 @@ use Rattle.redo_board.proofs.Steps.{tries_as, won_goes}
 use Rattle.redo_board.proofs.Stores.{says, lags_few, lags_won}
 use Rattle.redo_board.proofs.Told.{way-row}
 use Rattle.redo_board.proofs.Briefs.{ready_said}
-use Rattle.redo_board.proofs.Works.{few_words, plan_is, lines_names, next_below, own_below, own_has, row_next, room_next, is_entry, closing_lets_go, entered, both_on, works_lost, waits_lost}
+use Rattle.redo_board.proofs.NextSteps.{few_words, plan_is, lines_names, next_below, own_below, own_has, row_next, room_next, closing_lets_go}
+use Rattle.redo_board.proofs.Works.{is_entry, entered, both_on, works_lost, waits_lost}
 use Rattle.redo_board.proofs.worker.Worker.try_row.Goals as goal
 use Rattle.redo_board.proofs.worker.Worker.try_row.Goals.{After-enter}
 

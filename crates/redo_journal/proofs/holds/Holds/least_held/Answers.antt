@@ -1,4 +1,4 @@
-use Rattle.std.proofs.Common.{ℕ, ◌≡◌, ◌+◌, ◌-◌, ◌<◌, ◌≤◌, List, drop, filter, map, length, Option, Some, None, refl, sym, ap, ◌∙◌, subst, arith}
+use Rattle.std.proofs.Common.{ℕ, ◌≡◌, ◌+◌, ◌-◌, ◌<◌, drop, filter, map, length, Option, Some, None, ap, ◌∙◌, subst, arith}
 use Rattle.std.specs.Option.{ForSome, IfSome}
 use Rattle.redo_model.specs.Closing.{least}
 use Rattle.redo_terms.specs.Meaning.{by_text}
