@@ -1,21 +1,14 @@
 -- How many commands a worker has left after a step.
-use Rattle.std.proofs.Common.{◌≡◌, ℕ, ◌-◌, ◌<◌, Bool, true, false, length, ap, arith}
-use Rattle.std.specs.Prelude.{IsTrue, MatchBool}
-use Rattle.std.proofs.lemmas.Bool.{false≢true}
+use Rattle.std.proofs.Common.{◌≡◌, ◌<◌, length, ap, arith}
 use Rattle.redo_model.specs.Inside.Room.{room_of}
 use Rattle.redo_journal.specs.Plans.{PlanOf, script_of}
 use Rattle.redo_board.specs.declared.board.Board.{Board}
 use Rattle.redo_board.specs.declared.worker.Worker.{Worker}
-use Rattle.redo_board.specs.Shown.{session_of, journal_of}
+use Rattle.redo_board.specs.Shown.{session_of}
 use Rattle.redo_board.specs.Kept.{WorksAt}
 use Rattle.redo_board.specs.Outcomes.{Made, Waits}
 use Rattle.redo_board.proofs.Works.{made_less}
 use Rattle.redo_tests_board.specs.Workers.{left_by}
-
--- what holds where something was done
-pub when_done : (A B : Type 0) (done : Bool) → MatchBool done A B → IsTrue done → A
-when_done A B true holds is = holds
-when_done A B false holds is = absurd (false≢true is)
 
 -- a step that does something leaves fewer
 pub by_step : (p : PlanOf) (b : Board) (old new : Worker) → WorksAt p b old
