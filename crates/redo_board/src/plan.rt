@@ -128,7 +128,7 @@ fn entries_for(command: &Command) -> usize
         + cond (is_start (command_of command.now)) 1 0 }
 {
     match command {
-        Command::Lock(_) | Command::Start(_) => 2,
+        Command::Start(_) | Command::Lock(_) => 2,
         _ => 1,
     }
 }

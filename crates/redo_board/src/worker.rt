@@ -79,9 +79,9 @@ impl Worker {
         })
     }
 
-    /// Does the next line of the script that is unguarded, or that the latest reply lets through; or
-    /// after these a closing command, while the session holds a target. Says whether there was one.
-    /// Where memory runs out its command isn't done, and the next step does it.
+    /// Does the next line of the script that is unguarded, or that the latest reply lets through;
+    /// or after these a closing command, while the session holds a target. Says whether there was
+    /// one. Where memory runs out its command isn't done, and the next step does it.
     pub fn step<G: Gate>(
         &mut self,
         alloc: Global,

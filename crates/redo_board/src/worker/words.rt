@@ -1,5 +1,5 @@
-// The words of rows: of a script's line its session, its number and a flag; of a closing command its
-// session and its target.
+// The words of rows: of a script's line its session, its number and a flag; of a closing command
+// its session and its target.
 ghost use Rattle.std.specs.Prelude.{◌≡◌, ◌<◌, ◌≤◌, ◌↔◌, IfSome, IsSome, false, length, option_map};
 ghost use Rattle.redo_terms.specs.Meaning.{command_of};
 ghost use Rattle.redo_joint.specs.Replayed.{is_closing, session_in, number_in, flag_in, target_in};

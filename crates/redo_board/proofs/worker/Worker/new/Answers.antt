@@ -65,7 +65,8 @@ returns-clause-works c board sits =
             subst (λ (x : List Text × List Line). Says x.0 c.in-Ok-new.own (map line_of x.1))
             (λ i. (c.names.ensures i, sym none-yet i)) c.in-Ok-new.ensures;
         marked =
-            subst (All (IsMarked (script_of p n))) (sym e.items) (All-nil (IsMarked (script_of p n)));
+            subst (All (IsMarked (script_of p n))) (sym e.items)
+            (All-nil (IsMarked (script_of p n)));
         told = subst Told (sym is) (fresh_told p s.first 1 c.session_number-session.ensures.plan);
         lags =
             record {
