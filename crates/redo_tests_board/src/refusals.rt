@@ -131,7 +131,9 @@ fn lost<R: Threads + Abort + Sync>(
         tell(alloc);
         return Err(AllocError);
     };
+    // `join` does without a thread, and doesn't say so.
     if !gate.are_met() {
+        tell(alloc);
         return Err(AllocError);
     }
     assert!(rt; rows == 6 && gate.ready_calls() == 6);
