@@ -33,7 +33,7 @@ class Sweep:
         spared = min(spared, 1)
         if running:
             fault = fault or f"{running} threads not joined"
-        if self.tells and told + spared != refused:
+        if self.tells and (told + spared < refused or told and not refused):
             fault = fault or f"{refused} refused, {told} told, {spared} spared"
         if fault:
             self.wrong.append(f"request {at}: {fault}")

@@ -116,6 +116,7 @@ fn step(alloc: Global, plan: &Plan, standing: &mut Standing, journal: &mut Journ
         .context("no target")?;
     journal.entries.push(Entry {
         line: line as u32,
+        closing: None,
         reply,
         place,
     })?;

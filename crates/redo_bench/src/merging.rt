@@ -26,7 +26,7 @@ pub fn merged<R: Print + AllocGlobal>(
 ) -> Result<()> {
     let plan = plan_of(rt.alloc(), sessions, entries)?;
     let journals = journals_of(rt.alloc(), &plan, entries)?;
-    if !are_journals(&plan, &journals) {
+    if !are_journals(rt.alloc(), &plan, &journals)? {
         bail!("no journals of the plan");
     }
     let mut sum: u64 = 0;

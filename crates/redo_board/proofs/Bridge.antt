@@ -10,7 +10,7 @@ use Rattle.redo_model.specs.Reply.{Reply, Okay}
 use Rattle.redo_model.specs.Reply as replies
 use Rattle.redo_model.specs.Step.{Answers, Replies, lock_reply, holds_target}
 use Rattle.redo_model.specs.History.{LegalFrom}
-use Rattle.redo_model.specs.Renaming.{IsBelow, IsLineBelow}
+use Rattle.redo_model.specs.Renaming.{IsLineBelow}
 use Rattle.redo_model.specs.Placed.{line_of, part_of, Fits, Follows, is_row, rows_in, IsPlacedAfter, IsPlaced}
 use Rattle.redo_model.specs.Journals.{IsJournalAfter, next_of, numbered}
 use Rattle.redo_model.specs.Inside.Journals.{IsOfPlan}
@@ -23,11 +23,10 @@ use Rattle.redo_journal.specs.Plans.{PlanOf, IsPlan, script_of}
 use Rattle.redo_board.specs.Rows.{naming_of}
 use Rattle.redo_board.specs.Core.{Core, start, Way, row, claim, free, rows_then, claim_place, place_at, has, way_at, done, Line, IsNext, IsLegal, after_all, word}
 use Rattle.redo_board.proofs.ClaimWords.{claim_no_row}
-use Rattle.redo_board.proofs.Scripts.{command_below}
 use Rattle.redo_board.proofs.Orders.{by_text_is_naming}
 use Rattle.redo_board.proofs.Ways.{Goes}
 use Rattle.redo_board.proofs.Words.{set-same, set-other}
-use Rattle.redo_board.proofs.Sound.{Sound, start-sound, done-sound, goes-now, command-is}
+use Rattle.redo_board.proofs.Sound.{Sound, start-sound, done-sound, goes-now, command-below}
 
 -- each line has the database's reply at its point
 pub legal_from : (p : PlanOf) (c : Core) (log : List Line) → IsLegal p c log
@@ -39,17 +38,13 @@ pub below_told : (p : PlanOf) (c : Core) (log : List Line) → IsPlan p → Soun
     → IsLegal p c log → AllByRecursion (IsLineBelow (length p.names)) (map line_of log)
 below_told p c [] plan o h = tt
 below_told p c (l ∷ ls) plan o h = (
-  (
-    subst (IsBelow (length p.names)) (sym (command-is p c l plan h.0 o))
-        (command_below p l.session l.number plan),
-    h.0.below,
-  ),
+  (command-below p c l plan h.0 o, h.0.below),
   below_told p (done p c l) ls plan (done-sound p c l plan h.0 o) h.1,
 )
 
 -- each session's part is its journal
 journal_from : (p : PlanOf) (c : Core) (log : List Line) (s : ℕ) → IsLegal p c log
-    → IsJournalAfter s (script_of p s) (c.own s) (part_of s log)
+    → IsJournalAfter (naming_of p) s (script_of p s) (c.own s) (part_of s log)
 journal_from p c [] s h = tt
 journal_from p c (l ∷ ls) s h =
     let rest = journal_from p (done p c l) ls s h.1 in
@@ -58,20 +53,20 @@ journal_from p c (l ∷ ls) s h =
     let own : (done p c l).own s ≡ c.own s ++ l ∷ [] =
     set-same c.own l.session (c.own l.session ++ l ∷ []) s e
     ∙ ap (λ u. c.own u ++ l ∷ []) (sym e) in
-    subst (IsJournalAfter s (script_of p s) (c.own s)) (sym (part_of-own s l ls (sym e))) (
+    subst (IsJournalAfter (naming_of p) s (script_of p s) (c.own s)) (sym (part_of-own s l ls (sym e))) (
       sym e,
       subst
-          (λ u. next_of (script_of p u) (c.own u) ≡ Some (numbered l))
+          (λ u. next_of (naming_of p) (script_of p u) (c.own u) ≡ Some (numbered l))
           (sym e) h.0.next,
-      subst (λ before. IsJournalAfter s (script_of p s) before (part_of s ls)) own rest,
+      subst (λ before. IsJournalAfter (naming_of p) s (script_of p s) before (part_of s ls)) own rest,
     ))
-    (λ ne. subst (IsJournalAfter s (script_of p s) (c.own s))
+    (λ ne. subst (IsJournalAfter (naming_of p) s (script_of p s) (c.own s))
     (sym (part_of-other s l ls (λ q. ne (sym q))))
-    (subst (λ before. IsJournalAfter s (script_of p s) before (part_of s ls))
+    (subst (λ before. IsJournalAfter (naming_of p) s (script_of p s) before (part_of s ls))
     (set-other c.own l.session (c.own l.session ++ l ∷ []) s ne) rest))
 
 pub of_plan_told : (p : PlanOf) (log : List Line) → IsPlan p → IsLegal p start log
-    → IsOfPlan (script_of p) log
+    → IsOfPlan (naming_of p) (script_of p) log
 of_plan_told p log plan h =
     record { journals = λ s. journal_from p start log s h; short = plan.short }
 
@@ -168,7 +163,7 @@ module _ (p : PlanOf) (c : Core) (l : Line) (before : List Line) (so : Stood p c
           rows =
               rows_push (naming_of p) before l
               ∙ (λ i. so.rows i + one_if (is_row (is.place i)))
-              ∙ rows_more w (word s l.number (has c s x));
+              ∙ rows_more w (word p s l.number x (has c s x));
           tied =
               tied_after (by_text_is_naming p.names) c.state before l so.tied next stands.0
               stands.1;

@@ -1,5 +1,5 @@
 -- Steps on a claim word.
-use Rattle.std.proofs.Common.{◌≡◌, ℕ, ◌+◌, ◌%◌, ◌^◌, ◌<◌, ◌≤◌, eqb, cond, List, [], ◌∷◌, length, get_or, set, true, false, Option, Some, None, refl, sym, ap, ◌∙◌, subst, arith, length-set, get_or-set_same, get_or-set_other, eq-eqb, ne_eqb}
+use Rattle.std.proofs.Common.{◌≡◌, ℕ, ◌+◌, ◌%◌, ◌^◌, ◌<◌, eqb, cond, List, [], ◌∷◌, length, get_or, set, true, false, Option, Some, None, refl, sym, ap, ◌∙◌, subst, arith, length-set, get_or-set_same, get_or-set_other, eq-eqb, ne_eqb}
 use Rattle.std.specs.Prelude.{MatchOption}
 use Rattle.std.specs.Int.Bits.{bit_or}
 use mathlib.Core.Logic.{dite}
@@ -21,7 +21,8 @@ use Rattle.redo_board.specs.Views.{ViewOf, view}
 use Rattle.redo_board.specs.Rule.{Orderly}
 use Rattle.redo_board.specs.Plays.{next, made, own_way, Goes, lock_line, free_line, Claims, claimed, freed}
 use Rattle.redo_board.proofs.Ways as ways
-use Rattle.redo_board.proofs.Sound.{Sound, few_steps}
+use Rattle.redo_board.proofs.Sound.{Sound}
+use Rattle.redo_board.proofs.Totals.{few_grants}
 use Rattle.redo_board.proofs.Parts.{claim-locks, free-locks}
 use Rattle.redo_board.proofs.ClaimWords.{lock-is, free-is, claims-locked, claims-freed, claim-small, claim_no_row}
 use Rattle.redo_board.proofs.Kept.{St, board}
@@ -47,10 +48,9 @@ module _ (p : PlanOf) (s : St) (o : Orderly p s) (id t : ℕ) (j : List Line) (s
   claim-is : n₁ ≡ claim_of c₁.state.locks u
   claim-is = o.claims u low
 
-  small₁ : n₁ ≤ 524288
-  small₁ = let a = good₁.small u in
+  small₁ : n₁ < 4294967296
+  small₁ = let a = few_grants p o.log o.plan o.legal u in
       let b = claim-is in
-      let d = few_steps p o.log o.plan o.legal in
       let e = claim-small (c₁.state.locks.holder u) (c₁.state.locks.grants u) in
       omega arith
 
@@ -87,11 +87,11 @@ module _ (p : PlanOf) (s : St) (o : Orderly p s) (id t : ℕ) (j : List Line) (s
       → ((n : ℕ) → rows_then w c₁.rows n ≡ c₁.rows) → (done p c₁ l).rows ≡ c₁.rows
   still l e f w is rests =
       (λ i. rows_then (way_at c₁ (e i) (f i)) c₁.rows
-      (word l.session l.number (has c₁ l.session l.command)))
+      (word p l.session l.number l.command (has c₁ l.session l.command)))
       ∙ ap
-      (λ v. rows_then v c₁.rows (word l.session l.number (has c₁ l.session l.command)))
+      (λ v. rows_then v c₁.rows (word p l.session l.number l.command (has c₁ l.session l.command)))
       is
-      ∙ rests (word l.session l.number (has c₁ l.session l.command))
+      ∙ rests (word p l.session l.number l.command (has c₁ l.session l.command))
 
   goes₁ : (w : Way) → own_way j x₁ ≡ w
       → (way_at c₁ t x₁ ≡ w) × ways.Goes (naming_of p).order c₁.state t x₁ w

@@ -26,6 +26,7 @@ use Rattle.redo_board.specs.Shown.{lines_in}
 use Rattle.redo_board.specs.Views.{Part, ViewOf}
 use Rattle.redo_board.specs.Rule.{HasPart, Fits}
 use Rattle.redo_board.specs.Plays.{Ends}
+use Rattle.redo_board.proofs.Bounds.{no_script, below_most}
 use Rattle.redo_board.proofs.Orders.{by_text_is_naming}
 use Rattle.redo_board.proofs.Bridge.{legal_from, below_told, placed_told, of_plan_told}
 use Rattle.redo_board.proofs.Sound.{start-sound}
@@ -135,4 +136,6 @@ words_fix p one other plan a b same =
           (naming_of p).order (record { alike = λ k m a b. refl }) (map line_of lines) h.below).1
           (subst (Legal texts) (sym (map_map line_of (named_line (text_at p.names)) lines))
           h.legal);
+      few = no_script p plan;
+      below = below_most p plan (map line_of lines) h.below;
     }

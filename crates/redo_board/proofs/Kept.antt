@@ -15,7 +15,7 @@ use Rattle.redo_board.specs.Views.{ViewOf}
 use Rattle.redo_board.specs.Rule.{HasPart, Fits, Apart, AllFit, Orderly, longer}
 use Rattle.redo_joint.proofs.Own.{push_other}
 use Rattle.redo_board.proofs.Parts.{after-push, grows}
-use Rattle.redo_board.proofs.Sound.{sound}
+use Rattle.redo_board.proofs.Bounds.{words_name}
 
 abbrev pub St : Type 0
 St = State (Unit {0}) ViewOf
@@ -124,7 +124,7 @@ module _ (p : PlanOf) (s : St) (o : Orderly p s) (seen : List ℕ) (near : lengt
     (b : Begins (row_words p o.log) seen) where
   pub whole : get_or s.words (length seen + 1) 0 ≡ 0 → row_words p o.log ≡ seen
   whole none-there = dite (dec_lt (length seen) (length (row_words p o.log)))
-      (λ more. let is = (sound p o.log o.plan o.legal).words (length seen) more in
+      (λ more. let is = words_name p o.log o.plan o.legal (length seen) more in
       let a = o.rows (length seen) near in
       absurd (omega (arith, is.some)))
       (λ less. begins_whole (row_words p o.log) seen b.0 b.1 (omega arith))

@@ -1,7 +1,7 @@
 -- Numbers that are ordered as their names: what is done and answered is the same, whoever orders
 -- them.
 use Rattle.std.proofs.Common.{◌≡◌, ℕ, ◌<◌, Bool, List, [], ◌∷◌, Option, Some, None, refl, sym, ◌∙◌, subst, get_or, length, arith}
-use Rattle.std.specs.Prelude.{MatchOption, count_by}
+use Rattle.std.specs.Prelude.{MatchOption}
 use Rattle.std.specs.declared.cmp.Ordering.{Ordering}
 use Rattle.std.proofs.lemmas.Bool.Decides.{Decides-eqb}
 use Rattle.std.proofs.lemmas.List.Elements.{All-from_recursion, All-contains, Contains-get_or}
@@ -11,8 +11,6 @@ use Rattle.redo_model.specs.State.{Records}
 use Rattle.redo_model.specs.Command.{Command, File, Gone, Lock, Unlock, Start, IfChange, IfCreate, Always, Stamp, Done, Failed, Ood, Targets, Sources}
 use Rattle.redo_model.specs.Reply.{Reply, Refusal, Refused}
 use Rattle.redo_model.specs.Step.{Replies, Tells, verdict_of, records_after, stale_reply}
-use Rattle.redo_model.specs.Placed.{Place, Row, Granted, Busy, Released, PlacedLine, is_grant, is_release, grants_in, releases_in}
-use Rattle.redo_board.specs.Plays.{by_number}
 use Rattle.redo_model.specs.Renaming.{IsReplyBelow, AllBelow}
 use Rattle.redo_model.proofs.Texts.{texts_are_names}
 use Rattle.redo_names.specs.Names.{text_at}
@@ -119,24 +117,3 @@ module _ (one two : ℕ → ℕ → Ordering) where
         match_too (verdict_of (numbers two) r s holds x) r x reply below
         (subst (λ v. MatchOption v (Tells (numbers one) r x reply) (λ f. reply ≡ Refused f))
         (same_verdict r s holds x) h)
-
--- no order is looked at in counts of grants and releases
-pub grants_alike : (names : List Text) (lines : List (PlacedLine ℕ)) (t : ℕ)
-    → grants_in (by_text names) lines t ≡ grants_in by_number lines t
-grants_alike names lines t = λ i. count_by (λ (l : PlacedLine ℕ). same l.place i) lines
-  where
-    same : (place : Place ℕ) → is_grant (by_text names) t place ≡ is_grant by_number t place
-    same (Row r) = refl
-    same (Granted u g) = refl
-    same (Busy u g) = refl
-    same (Released u g) = refl
-
-pub releases_alike : (names : List Text) (lines : List (PlacedLine ℕ)) (t : ℕ)
-    → releases_in (by_text names) lines t ≡ releases_in by_number lines t
-releases_alike names lines t = λ i. count_by (λ (l : PlacedLine ℕ). same l.place i) lines
-  where
-    same : (place : Place ℕ) → is_release (by_text names) t place ≡ is_release by_number t place
-    same (Row r) = refl
-    same (Granted u g) = refl
-    same (Busy u g) = refl
-    same (Released u g) = refl

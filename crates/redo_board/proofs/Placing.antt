@@ -1,34 +1,33 @@
 -- What a session does next, at the history's end.
-use Rattle.std.proofs.Common.{◌≡◌, ℕ, ◌+◌, ◌<◌, eqb, List, [], ◌∷◌, ◌++◌, length, get_or, set, true, Option, Some, None, refl, sym, ap, ◌∙◌, subst, inl, ⊎_elim}
+use Rattle.std.proofs.Common.{◌≡◌, ℕ, ◌+◌, ◌<◌, List, [], ◌∷◌, ◌++◌, length, get_or, map, set, true, Option, Some, None, refl, sym, ap, ◌∙◌, subst, inl, ⊎_elim}
 use mathlib.Core.Option.{some}
 use lib.ListN.{get_elem?}
 use Rattle.redo_model.specs.Command.{Command, target_of}
 use Rattle.redo_model.specs.Reply.{Reply}
-use Rattle.redo_model.specs.Step.{Answers, holds_name}
+use Rattle.redo_model.specs.Closing.{holds, builds}
+use Rattle.redo_model.specs.History as histories
+use Rattle.redo_model.specs.History.{left_by}
+use Rattle.redo_model.specs.State.{State, empty, target_state}
+use Rattle.redo_model.specs.Step.{Answers, holds_name, is_held_by, is_built_by}
 use Rattle.redo_model.specs.Renaming.{IsReplyBelow}
-use Rattle.redo_model.specs.Placed.{part_of, is_row}
-use Rattle.redo_model.specs.Inside.Placed.{holds_by}
+use Rattle.redo_model.specs.Placed.{line_of, part_of, is_row}
 use Rattle.redo_model.specs.Journals.{Numbered, next_of}
+use Rattle.redo_model.proofs.OwnLines.{holds_by_part, builds_by_part}
 use Rattle.redo_journal.specs.Plans.{PlanOf, script_of}
 use Rattle.redo_board.specs.Rows.{naming_of, rows_of}
 use Rattle.redo_board.specs.Core.{Line, Core, start, way, place_at, has, way_at, builds_target, builds_name, done, IsLegal, after_all, Begins, claim_of}
 use Rattle.redo_board.specs.Views.{Part, ViewOf, view}
 use Rattle.redo_board.specs.Rule.{Fits, Orderly}
-use Rattle.redo_board.specs.Plays.{by_number, built_name, next, made, own, own_build, own_way, Goes}
+use Rattle.redo_board.specs.Plays.{held_name, built_name, next, made, own, own_build, own_way, Goes}
+use Rattle.redo_joint.proofs.Closed.{part_lines}
 use Rattle.redo_joint.proofs.Own.{push_own}
-use Rattle.redo_joint.proofs.Tied.{flag}
-use Rattle.redo_board.proofs.Bridge.{stood_told}
-use Rattle.redo_board.proofs.Orders.{grants_alike, releases_alike}
-use Rattle.redo_board.proofs.Parts.{after-push, legal-push, own-part, built-part}
+use Rattle.redo_board.proofs.Bounds.{state_from}
+use Rattle.redo_board.proofs.Bridge.{legal_from}
+use Rattle.redo_board.proofs.Held.{holds_alike, builds_alike}
+use Rattle.redo_board.proofs.Orders.{by_text_is_naming}
+use Rattle.redo_board.proofs.Parts.{after-push, legal-push, own-part}
 use Rattle.redo_board.proofs.Sound.{Sound, sound}
 use Rattle.redo_board.proofs.Kept.{St, board, fits_other, fits_set, apart_set, begins_done}
-
--- no order is looked at in counts of grants and releases
-plain : (p : PlanOf) (own : List Line) (a : Option ℕ)
-    → holds_by (naming_of p) own a ≡ holds_by by_number own a
-plain p own None = refl
-plain p own (Some t) =
-    λ i. eqb (grants_alike p.names own t i) (releases_alike p.names own t i + 1)
 
 module _ (p : PlanOf) (s : St) (o : Orderly p s) (id t : ℕ) (j : List Line) (seen also : List ℕ)
     (me : get_elem? s.views id ≡ some (view p ((t, j) ∷ []) seen also))
@@ -48,25 +47,39 @@ module _ (p : PlanOf) (s : St) (o : Orderly p s) (id t : ℕ) (j : List Line) (s
   pub good : Sound p core
   good = sound p o.log o.plan o.legal
 
-  holds_so : (a : Option ℕ)
-      → holds_name core.state.locks t a ≡ holds_by by_number (part_of t o.log) a
-  holds_so a =
-      sym (flag (naming_of p) core.state o.log t a (stood_told p o.log o.plan o.legal).tied)
-      ∙ plain p (part_of t o.log) a
+  -- what the session holds and builds is told by its own lines
+  lines_so : histories.part_of t (map line_of o.log) ≡ map line_of j
+  lines_so = part_lines t o.log ∙ ap (map line_of) journal
 
-  builds_so : (a : Option ℕ)
-      → builds_name core.state.records t a ≡ built_name a (part_of t o.log)
+  left_so : core.state ≡ left_by (naming_of p) empty (map line_of o.log)
+  left_so = state_from p start o.log
+
+  holds_so : (a : Option ℕ) → holds_name core.state.locks t a ≡ held_name a j
+  holds_so None = refl
+  holds_so (Some u) =
+      ap (λ (st : State ℕ). is_held_by t (st.locks.holder u)) left_so
+      ∙ sym (holds_by_part (by_text_is_naming p.names) empty (map line_of o.log) t u
+      (legal_from p start o.log o.legal))
+      ∙ ap (λ ls. holds (naming_of p) ls u) lines_so
+      ∙ sym (holds_alike (naming_of p).order j u)
+
+  builds_so : (a : Option ℕ) → builds_name core.state.records t a ≡ built_name a j
   builds_so None = refl
-  builds_so (Some u) = sym (built-part p o.log t u o.legal)
+  builds_so (Some u) =
+      ap (λ (st : State ℕ). is_built_by t (target_state st.records u)) left_so
+      ∙ sym (builds_by_part (by_text_is_naming p.names) empty (map line_of o.log) t u
+      (legal_from p start o.log o.legal))
+      ∙ ap (λ ls. builds (naming_of p) ls u) lines_so
+      ∙ sym (builds_alike (naming_of p).order j u)
 
   abbrev pub x : Command ℕ
   x = n.command
 
   pub own-is : has core t x ≡ own j x
-  own-is = holds_so (target_of x) ∙ ap (λ ls. holds_by by_number ls (target_of x)) journal
+  own-is = holds_so (target_of x)
 
   build-is : builds_target core.state.records t x ≡ own_build j x
-  build-is = builds_so (target_of x) ∙ ap (built_name (target_of x)) journal
+  build-is = builds_so (target_of x)
 
   pub way-is : way_at core t x ≡ own_way j x
   way-is = λ i. way x (own-is i) (build-is i)
@@ -84,7 +97,7 @@ module _ (p : PlanOf) (s : St) (o : Orderly p s) (id t : ℕ) (j : List Line) (s
         legal-push p start o.log it o.legal
         (record {
           session = is-session;
-          next = ap (next_of (script_of p t)) now ∙ is-next;
+          next = ap (next_of (naming_of p) (script_of p t)) now ∙ is-next;
           place = refl;
           answer = answer;
           below = below;

@@ -11,7 +11,8 @@ use Rattle.redo_board.specs.Rows.{rows_of}
 use Rattle.redo_board.specs.Core.{Line, row_words}
 use Rattle.redo_board.specs.Views.{Part, ViewOf, view}
 use Rattle.redo_board.specs.Rule.{HasPart, Fits, AllFit, Orderly, Told, range, first_view, below, from}
-use Rattle.redo_board.proofs.Sound.{sound, few}
+use Rattle.redo_board.proofs.Bounds.{words_name}
+use Rattle.redo_board.proofs.Totals.{few}
 use Rattle.redo_board.proofs.Kept.{St}
 
 has_range : (n k s : ℕ) (j : List Line) → HasPart (range n k) s j → j ≡ []
@@ -117,7 +118,7 @@ counted p s o n small full stop =
     (o.rows l (omega arith)
     ∙ get_or_past (row_words p o.log) l 0 (let e : l ≤ l = omega arith in e))))
     (λ ge. let more : n < l = omega arith in
-    let is = (sound p o.log o.plan o.legal).words n more in
+    let is = words_name p o.log o.plan o.legal n more in
     dite (dec_lt n (rows_of p))
     (λ near. let a = o.rows n near in let b = stop near in absurd (omega (arith, is.some)))
     (λ far. let b = few p o.log o.plan o.legal in absurd (omega arith))))

@@ -21,6 +21,7 @@ use Rattle.redo_board.specs.Core.{Line, Core, row, rows_then, place_at, has, way
 use Rattle.redo_board.specs.Views.{ViewOf, view}
 use Rattle.redo_board.specs.Rule.{Fits, Orderly}
 use Rattle.redo_board.specs.Plays.{own, own_way, next, made, SaysRow, row_line, Goes, Won, tried}
+use Rattle.redo_board.proofs.Bounds.{records_replayed}
 use Rattle.redo_board.proofs.Orders.{by_text_is_naming}
 use Rattle.redo_board.proofs.Ways as ways
 use Rattle.redo_board.proofs.Parts.{row-locks}
@@ -52,7 +53,7 @@ module _ (p : PlanOf) (s : St) (o : Orderly p s) (id t : ℕ) (j : List Line) (s
   is-way = placing.way-is p s o id t j seen also me is-session n is-next ∙ in-row
 
   abbrev w₀ : ℕ
-  w₀ = word t n.number (own j x₀)
+  w₀ = word p t n.number x₀ (own j x₀)
 
   goes₀ : ways.Goes (naming_of p).order c₀.state t x₀ row
   goes₀ =
@@ -62,7 +63,7 @@ module _ (p : PlanOf) (s : St) (o : Orderly p s) (id t : ℕ) (j : List Line) (s
 
   records-is : c₀.state.records ≡ replay p seen
   records-is =
-      (placing.good p s o id t j seen also me is-session n is-next).replayed ∙ ap (replay p) so
+      records_replayed p o.log o.plan o.legal ∙ ap (replay p) so
 
   answer : Answers (naming_of p) c₀.state t x₀ reply
   answer =
@@ -80,8 +81,8 @@ module _ (p : PlanOf) (s : St) (o : Orderly p s) (id t : ℕ) (j : List Line) (s
 
   rows-is : (done p c₀ e₀).rows ≡ seen ++ w₀ ∷ []
   rows-is =
-      ap (λ w. rows_then w c₀.rows (word t n.number (has c₀ t x₀))) is-way
-      ∙ (λ i. so i ++ word t n.number (is-own i) ∷ [])
+      ap (λ w. rows_then w c₀.rows (word p t n.number x₀ (has c₀ t x₀))) is-way
+      ∙ (λ i. so i ++ word p t n.number x₀ (is-own i) ∷ [])
 
   it-is : e₀ ≡ made t n reply (Row (length seen))
   it-is =
@@ -151,7 +152,7 @@ module _ (p : PlanOf) (s : St) (o : Orderly p s) (id t : ℕ) (j : List Line) (s
       subst
       (λ (y : ((ℕ × List Line) × Numbered ℕ) × Reply ℕ). Goes (lone p t j seen also) y.0.0.0
       y.0.0.1 (row_line (lone p t j seen also) y.0.0.0 y.0.1 y.1)
-      (seen ++ word y.0.0.0 y.0.1.number (own y.0.0.1 y.0.1.command) ∷ []) v₀)
+      (seen ++ word p y.0.0.0 y.0.1.number y.0.1.command (own y.0.0.1 y.0.1.command) ∷ []) v₀)
       (λ i. (same i, it i)) goes-here
 
 pub tries : (p : PlanOf) (slots id t r : ℕ) (j : List Line) (seen also : List ℕ)
@@ -160,11 +161,11 @@ pub tries : (p : PlanOf) (slots id t r : ℕ) (j : List Line) (seen also : List 
     → own_way j n.command ≡ row → (reply : Reply ℕ)
     → SaysRow (lone p t j seen also) t j n.command reply
     → Allows (Orderly p) slots id (lone p t j seen also, c) (r + 1)
-    (λ m. either (eqb m 0) (word t n.number (own j n.command)) m)
-    (tried (step slots (r + 1) 0 (word t n.number (own j n.command)) none)
+    (λ m. either (eqb m 0) (word p t n.number n.command (own j n.command)) m)
+    (tried (step slots (r + 1) 0 (word p t n.number n.command (own j n.command)) none)
     (lone p t j seen also, c))
 tries p slots id t r j seen also c n is-session is-next at near in-row reply says =
-    let w₁ : ℕ = word t n.number (own j n.command) in
+    let w₁ : ℕ = word p t n.number n.command (own j n.command) in
     subst
     (λ x. Allows (Orderly p) slots id (lone p t j seen also, c) (x + 1)
     (λ m. either (eqb m 0) w₁ m)

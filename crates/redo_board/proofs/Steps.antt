@@ -1,23 +1,17 @@
 -- What a worker knows after a step.
-use Rattle.std.proofs.Common.{◌≡◌, ℕ, ◌+◌, ◌%◌, ◌^◌, ◌<◌, ◌≤◌, eqb, true, List, [], ◌∷◌, ◌++◌, length, get_or, Some, None, refl, sym, ap, ◌∙◌, subst, inl, arith, length-append}
+use Rattle.std.proofs.Common.{◌≡◌, ℕ, ◌+◌, ◌%◌, ◌^◌, ◌<◌, eqb, List, [], ◌∷◌, ◌++◌, length, Some, sym, ap, ◌∙◌, subst}
 use Rattle.std.specs.Int.Bits.{bit_or}
 use mathlib.Core.Option.{none}
 use prog.Atomic.{either}
 use Rattle.atomic_table.specs.Table.{step, Allows}
-use Rattle.redo_model.specs.Command.{Command, Ood, asked_lock, commands_in}
 use Rattle.redo_model.specs.Reply.{Reply}
-use Rattle.redo_model.specs.Placed.{part_of}
 use Rattle.redo_model.specs.Journals.{Numbered}
-use Rattle.redo_model.proofs.Nexts.{next_from, past_of}
-use Rattle.redo_journal.specs.Plans.{PlanOf, script_of}
-use Rattle.redo_board.specs.Rows.{rows_of, takes_row}
-use Rattle.redo_board.specs.Core.{Line, start, after_all, word, row, claim, free}
+use Rattle.redo_journal.specs.Plans.{PlanOf}
+use Rattle.redo_board.specs.Rows.{rows_of}
+use Rattle.redo_board.specs.Core.{Line, word, row, claim, free}
 use Rattle.redo_board.specs.Views.{ViewOf, view}
-use Rattle.redo_board.specs.Rule.{HasPart, Orderly, Told}
+use Rattle.redo_board.specs.Rule.{Orderly, Told}
 use Rattle.redo_board.specs.Plays.{own, own_way, next, SaysRow, row_line, Goes, Lone, Lost, Won, tried, claimed, freed}
-use Rattle.redo_board.proofs.Counts.{used, used-lt}
-use Rattle.redo_board.proofs.Parts.{own-part}
-use Rattle.redo_board.proofs.Sound.{counts, sound}
 use Rattle.redo_board.proofs.Rows.{tries}
 use Rattle.redo_board.proofs.Claims.{locks, frees}
 
@@ -34,7 +28,8 @@ lone p t j m is = ap (λ (v : ViewOf). v.parts) is
 module _ (p q : PlanOf) (slots id t : ℕ) (j : List Line) (m : ViewOf) (c : Slots) (key : q ≡ p)
     (is : IsWorker p t j m) (is-session : t < length p.scripts) (n : Numbered ℕ)
     (is-next : next p t j ≡ Some n) where
-  pub tries_as : (r w : ℕ) → w ≡ word t n.number (own j n.command) → r ≡ length m.seen
+  pub tries_as : (r w : ℕ) → w ≡ word p t n.number n.command (own j n.command)
+      → r ≡ length m.seen
       → r < rows_of p → own_way j n.command ≡ row → (reply : Reply ℕ)
       → SaysRow (view p ((t, j) ∷ []) m.seen m.also) t j n.command reply
       → Allows (Orderly q) slots id (m, c) (r + 1) (λ n. either (eqb n 0) w n)
@@ -113,37 +108,16 @@ lost_keeps p t n j m w is lost =
       told = lost.told;
     }
 
--- a command without a lock takes a row
-takes : (x : Command ℕ) → asked_lock x ≡ None → takes_row x ≡ true
-takes x e = grind arith
-
--- a row command that is not placed finds a row
-pub room : (p : PlanOf) (t : ℕ) (j : List Line) (m : ViewOf) (n : Numbered ℕ) → IsWorker p t j m
-    → Told m → t < length p.scripts → next p t j ≡ Some n → asked_lock n.command ≡ None
-    → length m.seen < rows_of p
-room p t j m n is told is-session is-next in-row =
-    let q : m.plan ≡ p = ap (λ (v : ViewOf). v.plan) is in
-    let s = sound m.plan told.log told.plan told.legal in
-    let named = next_from (script_of p t) j n is-next in
-    let own : part_of t told.log ≡ j =
-    told.fits.own t j (subst (λ (v : ViewOf). HasPart v.parts t j) (sym is) (inl (refl, refl))) in
-    let f : ℕ → ℕ = counts (after_all m.plan start told.log) in
-    let now : f t ≡ past_of j = ap past_of (own-part m.plan told.log t ∙ own) in
-    let before : f t ≤ n.number = let a = named.from in omega arith in
-    let here : takes_row (get_or (commands_in (script_of p t)) n.number Ood) ≡ true =
-    ap takes_row named.command ∙ takes n.command in-row in
-    let a = used-lt f p.scripts t n.number is-session before named.within here in
-    let b = ap length told.fits.seen.1 in
-    let d = length-append m.seen told.fits.seen.0 in
-    let e = s.counted in
-    let g = ap (λ (x : PlanOf). used f x.scripts) q in omega arith
-
 -- the row's play, over the worker's own session
 pub won_goes : (p : PlanOf) (t : ℕ) (j : List Line) (m w : ViewOf) (n : Numbered ℕ)
     (reply : Reply ℕ)
     → IsWorker p t j m → Won m w → next p t j ≡ Some n
     → SaysRow (view p ((t, j) ∷ []) m.seen m.also) t j n.command reply
-    → Goes m t j (row_line m t n reply) (m.seen ++ word t n.number (own j n.command) ∷ []) w
+    → Goes m t j (row_line m t n reply)
+    (m.seen ++ word p t n.number n.command (own j n.command) ∷ []) w
 won_goes p t j m w n reply is won is-next says =
-    won t j n reply (lone p t j m is) (ap (λ (v : ViewOf). next v.plan t j) is ∙ is-next)
-    (subst (λ (v : ViewOf). SaysRow v t j n.command reply) (sym is) says)
+    subst
+    (λ (v : ViewOf). Goes m t j (row_line m t n reply)
+    (m.seen ++ word v.plan t n.number n.command (own j n.command) ∷ []) w) is
+    (won t j n reply (lone p t j m is) (ap (λ (v : ViewOf). next v.plan t j) is ∙ is-next)
+    (subst (λ (v : ViewOf). SaysRow v t j n.command reply) (sym is) says))

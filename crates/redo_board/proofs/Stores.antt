@@ -2,23 +2,24 @@
 use Rattle.std.proofs.Common.{◌≡◌, ℕ, ◌+◌, ◌<◌, ◌≤◌, ◌^◌, Bool, List, [], ◌∷◌, ◌++◌, length, get_or, Option, Some, None, refl, sym, ap, ◌∙◌, subst, arith, length-append}
 use Rattle.std.proofs.lemmas.List.{length_push}
 use Rattle.redo_model.specs.Names.{texts}
-use Rattle.redo_model.specs.State.{Records, empty}
+use Rattle.redo_model.specs.State.{Records}
 use Rattle.redo_model.specs.Command.{Command}
 use Rattle.redo_model.specs.Reply.{Reply}
 use Rattle.redo_model.specs.Step.{Replies, records_after}
 use Rattle.redo_model.specs.Renaming.{IsReplyBelow}
 use Rattle.redo_model.specs.Inside.Renaming.{OrdersAlike, numbering}
 use Rattle.redo_store.specs.Stored.{Stored, records_of, count_of, order_of, applied_of, naming_of}
-use Rattle.redo_journal.specs.Plans.{PlanOf}
+use Rattle.redo_journal.specs.Plans.{PlanOf, script_of}
 use Rattle.redo_board.specs.Rows as rows
-use Rattle.redo_board.specs.Rows.{command}
-use Rattle.redo_board.specs.Core.{replay, row_words, word, session_of, number_of, holds_of, IsWord, Begins}
+use Rattle.redo_board.specs.Core.{replay, row_words, IsWord, Begins}
 use Rattle.redo_board.specs.Views.{ViewOf}
 use Rattle.redo_board.specs.Rule.{Told}
 use Rattle.redo_board.specs.Kept.{Lags}
 use Rattle.redo_board.proofs.Orders.{same_records, replies_too}
-use Rattle.redo_board.proofs.Words.{replay-push, replay-word}
-use Rattle.redo_board.proofs.Sound.{sound, few, few_rows}
+use Rattle.redo_joint.specs.Replayed.{session_in, flag_in, command_in}
+use Rattle.redo_board.proofs.Words.{replay-push}
+use Rattle.redo_board.proofs.Bounds.{words_name}
+use Rattle.redo_board.proofs.Totals.{few, few_rows}
 
 get_or_begins : (all xs rest : List ℕ) (n : ℕ) → all ≡ (xs ++ n ∷ []) ++ rest
     → (get_or all (length xs) 0 ≡ n) × (length xs < length all)
@@ -42,10 +43,10 @@ seen_word p v words n q told e =
     subst (Begins (row_words v.plan told.log)) e told.fits.seen in
     let at = get_or_begins (row_words v.plan told.log) words b.0 n b.1 in
     subst (λ (x : PlanOf × ℕ). IsWord x.0 x.1) (λ i. (q i, at.0 i))
-    ((sound v.plan told.log told.plan told.legal).words (length words) at.1)
+    (words_name v.plan told.log told.plan told.legal (length words) at.1)
 
 -- few words were seen
-pub few_seen : (v : ViewOf) → Told v → length v.seen ≤ 262144
+pub few_seen : (v : ViewOf) → Told v → length v.seen ≤ 524288
 few_seen v told =
     let a = few v.plan told.log told.plan told.legal in
     let b = few_rows v.plan told.plan in
@@ -70,21 +71,21 @@ module _ (p : PlanOf) (old new : Stored) (seen : List ℕ)
     (applied : applied_of new ≡ applied_of old + 1) where
   -- the pending word is applied
   pub lags_caught : (n : ℕ) (x : Command ℕ) → Lags p old (Some n) seen
-      → x ≡ command p (session_of n) (number_of n)
+      → x ≡ command_in (script_of p) n
       → records_of new
-      ≡ records_after (naming_of old) (records_of old) (session_of n) (holds_of n) x
+      ≡ records_after (naming_of old) (records_of old) (session_in n) (flag_in n) x
       → Lags p new None seen
   lags_caught n x lags is after = record {
     words = seen;
     behind = refl;
     records =
         after
-        ∙ same_records (order_of old) (rows.naming_of p).order (records_of old) (session_of n)
-        (holds_of n) x
+        ∙ same_records (order_of old) (rows.naming_of p).order (records_of old) (session_in n)
+        (flag_in n) x
         ∙
-        (λ i. records_after (rows.naming_of p) (lags.records i) (session_of n) (holds_of n)
+        (λ i. records_after (rows.naming_of p) (lags.records i) (session_in n) (flag_in n)
         (is i))
-        ∙ sym (replay-push p empty.records lags.words n)
+        ∙ sym (replay-push p lags.words n)
         ∙ ap (replay p) (sym lags.behind);
     applied = let a = lags.applied in
         let b = ap length lags.behind in
@@ -95,21 +96,22 @@ module _ (p : PlanOf) (old new : Stored) (seen : List ℕ)
   }
 
   -- the session's own command is applied
-  pub lags_won : (s k : ℕ) (h : Bool) (x : Command ℕ) → k < 4096 → Lags p old None seen
-      → x ≡ command p s k → records_of new ≡ records_after (naming_of old) (records_of old) s h x
-      → Lags p new None (seen ++ word s k h ∷ [])
-  lags_won s k h x small lags is after = record {
-    words = seen ++ word s k h ∷ [];
+  pub lags_won : (s : ℕ) (w : ℕ) (h : Bool) (x : Command ℕ) → Lags p old None seen
+      → replay p (seen ++ w ∷ []) ≡ records_after (rows.naming_of p) (replay p seen) s h x
+      → records_of new ≡ records_after (naming_of old) (records_of old) s h x
+      → Lags p new None (seen ++ w ∷ [])
+  lags_won s w h x lags tells after = record {
+    words = seen ++ w ∷ [];
     behind = refl;
     records =
         after
         ∙ same_records (order_of old) (rows.naming_of p).order (records_of old) s h x
         ∙ ap (λ r. records_after (rows.naming_of p) r s h x)
         (lags.records ∙ ap (replay p) (sym lags.behind))
-        ∙ sym (replay-word p empty.records seen s k h x small is);
+        ∙ sym tells;
     applied = let a = lags.applied in
         let b = ap length lags.behind in
-        let d = length_push seen (word s k h) in
+        let d = length_push seen w in
         omega arith;
     count = count ∙ lags.count;
     order = subst (OrdersAlike (numbering p.names) texts) (sym order) lags.order;

@@ -1,17 +1,12 @@
--- What one line more tells of what a session holds and builds.
+-- What one entry more tells, and what steps on rows and on claim words.
 use Rattle.std.proofs.Common.{◌≡◌, ℕ, List, [], ◌∷◌, ◌++◌, Bool, true, false, not, ◌&&◌, cond, None, refl, ap, ◌∙◌}
 use Rattle.std.proofs.lemmas.List.{map-append}
 use Rattle.redo_model.specs.Command as commands
 use Rattle.redo_model.specs.Command.{asked_lock}
 use Rattle.redo_journal.specs.Journals.{line_told}
 use Rattle.redo_journal.specs.declared.entry.Entry.{Entry}
-use Rattle.redo_board.specs.Core.{Line, built, turn_build, way, row, free}
+use Rattle.redo_board.specs.Core.{way, row, claim, free}
 use Rattle.redo_board.specs.Shown.{told}
-
-pub built-push : (t : ℕ) (b : Bool) (ls : List Line) (l : Line)
-    → built t b (ls ++ l ∷ []) ≡ turn_build l.command l.reply t (built t b ls)
-built-push t b [] l = refl
-built-push t b (x ∷ ls) l = built-push t (turn_build x.command x.reply t b) ls l
 
 pub told-push : (s : ℕ) (script : List (commands.Item ℕ)) (xs ys : List Entry) (x : Entry)
     → ys ≡ xs ++ x ∷ [] → told s script ys ≡ told s script xs ++ line_told s script x ∷ []
@@ -33,6 +28,16 @@ way-row (commands.Failed u) h b e = refl
 way-row commands.Ood h b e = refl
 way-row commands.Targets h b e = refl
 way-row commands.Sources h b e = refl
+
+pub way-claim : (x : commands.Command ℕ) (h b : Bool) (t : ℕ) → way x h b ≡ claim t
+    → x ≡ commands.Lock t
+way-claim (commands.Lock u) h b t e = cc
+way-claim (commands.Unlock u) h b t e = by (h && not b) e
+  where
+    by : (c : Bool) → cond c (free u) row ≡ claim t → commands.Unlock u ≡ commands.Lock t
+    by true e = absurd cc
+    by false e = absurd cc
+way-claim x h b t e = absurd cc
 
 pub way-free : (x : commands.Command ℕ) (h b : Bool) (t : ℕ) → way x h b ≡ free t
     → x ≡ commands.Unlock t

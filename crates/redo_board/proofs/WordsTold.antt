@@ -1,22 +1,22 @@
 -- The row words of a legal history are those of the core.
-use Rattle.std.proofs.Common.{◌≡◌, ℕ, ◌+◌, ◌*◌, List, [], ◌∷◌, ◌++◌, Option, Some, None, refl, sym, ap, ◌∙◌, append_assoc}
+use Rattle.std.proofs.Common.{◌≡◌, ℕ, List, [], ◌∷◌, ◌++◌, Option, Some, None, refl, sym, ap, ◌∙◌, append_assoc}
 use Rattle.std.proofs.lemmas.List.{append-nil}
 use Rattle.redo_model.specs.Command.{target_of}
 use Rattle.redo_model.specs.Placed.{part_of}
 use Rattle.redo_model.specs.Inside.Words.{word_before, row_word_of, row_words_after, row_words_of}
 use Rattle.redo_joint.proofs.Tied.{flag}
-use Rattle.redo_journal.specs.Plans.{PlanOf, IsPlan}
-use Rattle.redo_board.specs.Rows.{naming_of, bit}
+use Rattle.redo_journal.specs.Plans.{PlanOf, IsPlan, script_of}
+use Rattle.redo_board.specs.Rows.{naming_of}
 use Rattle.redo_board.specs.Core.{Core, start, Line, IsLegal, Way, row, claim, free, claim_place, place_at, rows_then, has, way_at, done, after_all, row_words, word}
 use Rattle.redo_board.proofs.Bridge.{Stood, start-stood, line_stood}
 use Rattle.redo_board.proofs.Sound.{Sound, start-sound, done-sound}
 
 -- the word that a line writes: what the session holds is told by its own lines
 word-is : (p : PlanOf) (c : Core) (l : Line) (before : List Line) → Stood p c before
-    → row_word_of (naming_of p) (part_of l.session before) l
-    ≡ word l.session l.number (has c l.session l.command)
+    → row_word_of (naming_of p) (script_of p) (part_of l.session before) l
+    ≡ word p l.session l.number l.command (has c l.session l.command)
 word-is p c l before so =
-    ap (λ b. 1 + 2 * (4096 * l.session + l.number) + bit b)
+    ap (word p l.session l.number l.command)
     (flag (naming_of p) c.state before l.session (target_of l.command) so.tied)
 
 claim_word_none : (t g n : ℕ) (a : Option ℕ) (ws : List ℕ)
@@ -34,20 +34,20 @@ before-is c (free t) n ws = refl
 
 words_from : (p : PlanOf) (c : Core) (before : List Line) (log : List Line) → IsPlan p
     → Sound p c → Stood p c before → IsLegal p c log
-    → c.rows ++ row_words_after (naming_of p) before log ≡ (after_all p c log).rows
+    → c.rows ++ row_words_after (naming_of p) (script_of p) before log ≡ (after_all p c log).rows
 words_from p c before [] plan o so h = append-nil c.rows
 words_from p c before (l ∷ ls) plan o so h =
     let s : ℕ = l.session in
     let rest =
     words_from p (done p c l) (before ++ l ∷ []) ls plan (done-sound p c l plan h.0 o)
     (line_stood p c l before so plan o h.0).2 h.1 in
-    let ws = row_words_after (naming_of p) (before ++ l ∷ []) ls in
-    let w = word s l.number (has c s l.command) in
+    let ws = row_words_after (naming_of p) (script_of p) (before ++ l ∷ []) ls in
+    let w = word p s l.number l.command (has c s l.command) in
     ap (λ n. c.rows ++ word_before l.place n ws) (word-is p c l before so)
     ∙ ap (λ q. c.rows ++ word_before q w ws) h.0.place
     ∙ before-is c (way_at c s l.command) w ws
     ∙ rest
 
 pub words-told : (p : PlanOf) (log : List Line) → IsPlan p → IsLegal p start log
-    → row_words_of (naming_of p) log ≡ row_words p log
+    → row_words_of (naming_of p) (script_of p) log ≡ row_words p log
 words-told p log plan h = words_from p start [] log plan (start-sound p) (start-stood p) h

@@ -1,108 +1,39 @@
 -- A worker after a step.
-use Rattle.std.proofs.Common.{◌≡◌, ◌≢◌, ℕ, ◌+◌, ◌-◌, ◌<◌, ◌≤◌, List, [], ◌∷◌, ◌++◌, length, get_or, Option, Some, None, refl, sym, ap, ◌∙◌, subst, inl, arith}
-use Rattle.std.specs.Prelude.{vec_capacity, vec_len}
+use Rattle.std.proofs.Common.{◌≡◌, ◌≢◌, ℕ, ◌+◌, ◌-◌, ◌<◌, ◌≤◌, ◌↔◌, List, [], ◌∷◌, ◌++◌, length, map, get_or, All, Bool, true, Option, Some, None, is_some, option_map, refl, sym, ap, ◌∙◌, subst, inl, arith}
+use Rattle.std.specs.Prelude.{vec_capacity}
 use Rattle.std.specs.Option.{unwrap_or}
-use Rattle.std.proofs.lemmas.List.{length_push, append-nil, length-map}
-use Rattle.redo_model.specs.Command.{Command, Ood, commands_in, names_in}
+use Rattle.std.proofs.lemmas.List.{length_push, append-nil, map-append}
+use Rattle.std.proofs.lemmas.List.Elements.{All-push}
+use Rattle.redo_model.specs.Command.{Command, Ood, commands_in}
 use Rattle.redo_model.specs.Reply.{Reply}
-use Rattle.redo_model.specs.Renaming.{IsBelow, AllBelow}
-use Rattle.redo_model.specs.Placed.{Place, part_of}
-use Rattle.redo_model.specs.Journals.{Numbered, IsJournal}
-use Rattle.redo_terms.specs.Meaning.{reply_of}
+use Rattle.redo_model.specs.Placed.{Place, line_of}
+use Rattle.redo_model.specs.Journals.{Numbered}
+use Rattle.redo_model.specs.Inside.Room.{room_of}
+use Rattle.redo_terms.specs.Meaning.{command_of, reply_of}
+use Rattle.redo_terms.specs.declared.command.Command as terms
 use Rattle.redo_store.specs.Stored.{Stored}
-use Rattle.redo_model.proofs.Nexts.{next_in_script, journal_fits}
-use Rattle.redo_journal.specs.Plans.{PlanOf, IsPlan, script_of}
-use Rattle.redo_journal.specs.Journals.{place_of, line_told}
+use Rattle.redo_journal.specs.Plans.{PlanOf, script_of}
+use Rattle.redo_journal.specs.Holds.{Says, Notes}
+use Rattle.redo_journal.specs.Journals.{place_of, line_told, command_told, IsMarked}
 use Rattle.redo_journal.specs.declared.entry.Entry.{Entry}
-use Rattle.redo_board.specs.Rows.{rows_of, command}
+use Rattle.redo_journal.specs.declared.holds.Hold.{Hold}
+use Rattle.redo_journal.proofs.Says.{says_on}
+use Rattle.redo_board.specs.Rows.{rows_of}
 use Rattle.redo_board.specs.Core.{Line, Begins, row}
 use Rattle.redo_board.specs.Histories.{EndsWith}
 use Rattle.redo_board.specs.Views.{Part, ViewOf, view}
-use Rattle.redo_board.specs.Rule.{HasPart, Told}
-use Rattle.redo_board.specs.Plays.{Goes, Claims, Lost, made, next, own, own_way}
-use Rattle.redo_board.specs.Shown.{NeedsNoRow, IsNextBy, session_of, journal_of, seen_by, next_by, told, past, rows_up_to}
+use Rattle.redo_board.specs.Rule.{HasPart}
+use Rattle.redo_board.specs.Plays.{Goes, Claims, Lost, made, next, own_way}
+use Rattle.redo_board.specs.Shown.{IsNextBy, session_of, journal_of, seen_by, entries_of, next_by, told, past, rows_up_to}
 use Rattle.redo_board.specs.Kept.{IsBoardOf, Works, WorksAt, Lags, view_of}
-use Rattle.redo_board.specs.Own.{Says, Notes, names_of, has, way_by}
 use Rattle.redo_board.specs.Outcomes.{Made, Waits}
 use Rattle.redo_board.specs.Steps.{Enters}
 use Rattle.redo_board.specs.declared.board.Board.{Board}
-use Rattle.redo_board.specs.declared.worker.own.Own.{Own}
 use Rattle.redo_board.specs.declared.worker.Worker.{Worker}
-use Rattle.redo_board.proofs.Nexts.{fewer}
-use Rattle.redo_board.proofs.Scripts.{command_below}
-use Rattle.redo_board.proofs.Sound.{few_rows}
-use Rattle.redo_board.proofs.Bridge.{of_plan_told}
 use Rattle.redo_board.proofs.Ended.{ends-with}
-use Rattle.redo_board.proofs.Steps.{IsWorker, Keeps, lone, goes_keeps, lost_keeps}
+use Rattle.redo_board.proofs.Steps.{Keeps, lone, goes_keeps, lost_keeps}
+use Rattle.redo_board.proofs.NextSteps.{next_fits, needs-none}
 use Rattle.redo_board.proofs.Told.{told-push}
-use Rattle.redo_board.proofs.Own.{InTurn, in_turn, says_on, last_fits, has_is, way_is}
-
-pub few_words : (p : PlanOf) (b : Board) → IsBoardOf p b → b.rows ≤ 262144
-few_words p b is = let a = is.rows in let c = few_rows p is.plan in omega arith
-
-pub plan_is : (p : PlanOf) (w : Worker) → Works p w → IsPlan p
-plan_is p w k = subst IsPlan (ap (λ (v : ViewOf). v.plan) k.view) k.told.plan
-
-pub named_next : (p : PlanOf) (w : Worker) (n : Numbered ℕ) → next_by p w ≡ Some n
-    → n.command ≡ command p w.session n.number
-named_next p w n e = sym (next_in_script (script_of p w.session) (journal_of p w) n e).0
-
--- what a session does next is of the plan's names
-pub next_below : (p : PlanOf) (w : Worker) (n : Numbered ℕ) → Works p w → next_by p w ≡ Some n
-    → IsBelow (length p.names) n.command
-next_below p w n k is =
-    subst (IsBelow (length p.names)) (sym (named_next p w n is))
-    (command_below p w.session n.number (plan_is p w k))
-
-pub target_low : (p : PlanOf) (w : Worker) (n : Numbered ℕ) (t : ℕ) → Works p w
-    → next_by p w ≡ Some n → names_in n.command ≡ t ∷ [] → t < length p.names
-target_low p w n t k is names =
-    (subst (AllBelow (length p.names)) names (next_below p w n k is)).0
-
--- by its own lines: what it holds, and where it steps
-pub own_below : (p : PlanOf) (w : Worker) (n : Numbered ℕ) → Works p w → next_by p w ≡ Some n
-    → IsBelow (names_of w.own) n.command
-own_below p w n k is =
-    subst (λ m. IsBelow m n.command) (sym k.own.names) (next_below p w n k is)
-
-pub own_has : (p : PlanOf) (w : Worker) (n : Numbered ℕ) → Works p w → next_by p w ≡ Some n
-    → has w.own n.command ≡ own (journal_of p w) n.command
-own_has p w n k is =
-    has_is (length p.names) w.own (journal_of p w) n.command k.own (next_below p w n k is)
-
-pub own_steps : (p : PlanOf) (w : Worker) (n : Numbered ℕ) → Works p w → next_by p w ≡ Some n
-    → way_by w.own n.command ≡ own_way (journal_of p w) n.command
-own_steps p w n k is =
-    way_is (length p.names) w.own (journal_of p w) n.command k.own (next_below p w n k is)
-
--- the only session's lines are the view's
-has_lone : (p : PlanOf) (s : ℕ) (j : List Line) (v : ViewOf) → IsWorker p s j v
-    → HasPart v.parts s j
-has_lone p s j v is =
-    subst (λ (ps : List Part). HasPart ps s j) (sym (lone p s j v is)) (inl (refl, refl))
-
--- what it does next has room in the journal
-pub room_next : (p : PlanOf) (w : Worker) (n : Numbered ℕ) → Works p w → next_by p w ≡ Some n
-    → vec_len w.entries < vec_capacity w.entries
-room_next p w n k is =
-    let here : part_of w.session k.told.log ≡ journal_of p w =
-    k.told.fits.own w.session (journal_of p w)
-    (has_lone p w.session (journal_of p w) (view_of w) k.view) in
-    let same : (view_of w).plan ≡ p = ap (λ (v : ViewOf). v.plan) k.view in
-    let journal : IsJournal w.session (script_of p w.session) (journal_of p w) =
-    subst (λ (x : PlanOf × List Line). IsJournal w.session (script_of x.0 w.session) x.1)
-    (λ i. (same i, here i))
-    ((of_plan_told (view_of w).plan k.told.log k.told.plan k.told.legal).journals w.session) in
-    let a = fewer w.session (script_of p w.session) (journal_of p w) n journal is in
-    let b = length-map w.entries.items (line_told w.session (script_of p w.session)) in
-    let c = k.room in
-    omega arith
-
--- it was granted and released each target in turn
-turns : (p : PlanOf) (s : ℕ) (j : List Line) (v : ViewOf) → IsWorker p s j v → Told v → InTurn j
-turns p s j v is told =
-    subst InTurn (told.fits.own s j (has_lone p s j v is))
-    (in_turn v.plan told.log s told.plan told.legal)
 
 -- an entry changes the journal, and what is held and built
 pub entered : (old new : Worker) (x : Command ℕ) (e : Entry) → Enters old x e new
@@ -119,21 +50,47 @@ entered old new x e enters P holds = subst P (λ i. record {
 }) holds
 
 -- the entry of what a session does next
-pub entry_tells : (p : PlanOf) (w : Worker) (n : Numbered ℕ) (e : Entry) (reply : Reply ℕ)
-    (place : Place ℕ)
-    → next_by p w ≡ Some n → e.line ≡ n.number → reply_of e.reply ≡ reply
-    → place_of e.place ≡ place
+pub record IsEntryOf (p : PlanOf) (w : Worker) (n : Numbered ℕ) (reply : Reply ℕ)
+    (place : Place ℕ) (e : Entry) : Type 0 where
+  pub line : e.line ≡ n.number
+  pub command : command_told (script_of p w.session) e ≡ n.command
+  pub said : reply_of e.reply ≡ reply
+  pub at : place_of e.place ≡ place
+  pub marked : IsMarked (script_of p w.session) e
+
+is_some_map : (a : Option terms.Command) → is_some (option_map command_of a) ≡ is_some a
+is_some_map None = refl
+is_some_map (Some command) = refl
+
+-- with this number, and the same closing command
+pub is_entry : (p : PlanOf) (w : Worker) (n : Numbered ℕ) (reply : Reply ℕ) (place : Place ℕ)
+    (e : Entry) (closing : Option terms.Command) → IsNextBy p w n.number closing n.command
+    → e.line ≡ n.number → option_map command_of e.closing ≡ option_map command_of closing
+    → reply_of e.reply ≡ reply → place_of e.place ≡ place → IsEntryOf p w n reply place e
+is_entry p w n reply place e closing next line same said at = record {
+  line = line;
+  command =
+      (λ i. unwrap_or (same i) (get_or (commands_in (script_of p w.session)) (line i) Ood))
+      ∙ next.told;
+  said = said;
+  at = at;
+  marked =
+      let some : is_some closing ≡ is_some e.closing =
+      sym (is_some_map closing) ∙ ap is_some (sym same) ∙ is_some_map e.closing in
+      subst (λ (x : Bool × ℕ). (x.0 ≡ true) ↔ (length (script_of p w.session) ≤ x.1))
+      (λ i. (some i, sym line i)) next.marked;
+}
+
+entry_tells : (p : PlanOf) (w : Worker) (n : Numbered ℕ) (e : Entry) (reply : Reply ℕ)
+    (place : Place ℕ) → IsEntryOf p w n reply place e
     → line_told w.session (script_of p w.session) e ≡ made w.session n reply place
-entry_tells p w n e reply place is line said at =
-    let command : get_or (commands_in (script_of p w.session)) e.line Ood ≡ n.command =
-    ap (λ k. get_or (commands_in (script_of p w.session)) k Ood) line
-    ∙ sym (named_next p w n is) in
+entry_tells p w n e reply place is =
     λ i. record {
       session = w.session;
-      number = line i;
-      command = command i;
-      reply = said i;
-      place = at i;
+      number = is.line i;
+      command = is.command i;
+      reply = is.said i;
+      place = is.at i;
     }
 
 pub rows-push : (m : ℕ) (ls : List Line) (l : Line)
@@ -141,21 +98,14 @@ pub rows-push : (m : ℕ) (ls : List Line) (l : Line)
 rows-push m [] l = refl
 rows-push m (x ∷ ls) l = rows-push (past x.place m) ls l
 
--- one that needs no row is next
-pub needs-none : (p : PlanOf) (w : Worker) (n : Numbered ℕ) → next_by p w ≡ Some n
-    → own_way (journal_of p w) n.command ≢ row → NeedsNoRow p w
-needs-none p w n is off m other e =
-    let same : m ≡ n = ap (λ o. unwrap_or o m) (sym other ∙ is) in
-    off (ap (λ (x : Numbered ℕ). own_way (journal_of p w) x.command) (sym same) ∙ e)
-
 -- after the line of the session's next command
 module _ (p : PlanOf) (b : Board) (w w' : Worker) (n : Numbered ℕ) (reply : Reply ℕ)
     (place : Place ℕ) (seen : List ℕ) (k : WorksAt p b w) (is-next : next_by p w ≡ Some n)
     (goes : Goes (view_of w) w.session (journal_of p w) (made w.session n reply place) seen
     (view_of w'))
     (e : Entry) (items : w'.entries.items ≡ w.entries.items ++ e ∷ [])
-    (line : e.line ≡ n.number) (said : reply_of e.reply ≡ reply) (at : place_of e.place ≡ place)
-    (notes : Notes w.own n.command (reply_of e.reply) w'.own)
+    (is-entry : IsEntryOf p w n reply place e)
+    (notes : Notes p.names w.own n.command (reply_of e.reply) w'.own)
     (session : w'.session ≡ w.session) (table : w'.seat.table_id ≡ w.seat.table_id)
     (slots : w'.seat.me.1 ≡ w.seat.me.1)
     (capacity : vec_capacity w.entries ≤ vec_capacity w'.entries) where
@@ -166,22 +116,27 @@ module _ (p : PlanOf) (b : Board) (w w' : Worker) (n : Numbered ℕ) (reply : Re
   grown =
       (λ i. told (session i) (script_of p (session i)) w'.entries.items)
       ∙ told-push w.session (script_of p w.session) w.entries.items w'.entries.items e items
-      ∙ ap (λ x. journal_of p w ++ x ∷ []) (entry_tells p w n e reply place is-next line said at)
+      ∙ ap (λ x. journal_of p w ++ x ∷ []) (entry_tells p w n e reply place is-entry)
 
   keeps : Keeps p w.session (journal_of p w') seen (view_of w')
   keeps =
       goes_keeps p w.session (journal_of p w) (journal_of p w') l₀ seen (view_of w) (view_of w')
       k.works.view goes grown
 
-  says' : Says (length p.names) w'.own (journal_of p w')
+  says' : Says p.names w'.own (map line_of (journal_of p w'))
   says' =
-      let after : InTurn (journal_of p w ++ l₀ ∷ []) =
-      subst InTurn grown (turns p w.session (journal_of p w') (view_of w') keeps.is keeps.told) in
-      subst (Says (length p.names) w'.own) (sym grown)
-      (says_on (length p.names) w.own w'.own (journal_of p w) l₀ k.works.own
-      (subst (λ r. Notes w.own n.command r w'.own) said notes)
-      (turns p w.session (journal_of p w) (view_of w) k.works.view k.works.told) after
-      (last_fits (view_of w').plan goes.ends.before l₀ goes.ends.plan goes.ends.legal))
+      let after : map line_of (journal_of p w') ≡ map line_of (journal_of p w) ++ line_of l₀ ∷ [] =
+      ap (map line_of) grown ∙ map-append line_of (journal_of p w) (l₀ ∷ []) in
+      subst (Says p.names w'.own) (sym after)
+      (says_on p.names w.own w'.own (map line_of (journal_of p w)) (line_of l₀) k.works.own
+      (subst (λ r. Notes p.names w.own n.command r w'.own) is-entry.said notes))
+
+  marked' : All (IsMarked (script_of p w'.session)) (entries_of w')
+  marked' =
+      subst (λ (x : ℕ × List Entry). All (IsMarked (script_of p x.0)) x.1)
+      (λ i. (sym session i, sym items i))
+      (All-push (IsMarked (script_of p w.session)) (entries_of w) e k.works.marked
+      is-entry.marked)
 
   module _ (tries : w'.tries ≡ length seen)
       (spent : w'.tries ≡ past place (rows_up_to 0 (journal_of p w)))
@@ -200,10 +155,11 @@ module _ (p : PlanOf) (b : Board) (w w' : Worker) (n : Numbered ℕ) (reply : Re
         slots = slots ∙ k.works.slots;
         session = subst (λ s. s < length p.scripts) (sym session) k.works.session;
         room =
-            subst (λ s. length (script_of p s) ≤ vec_capacity w'.entries) (sym session)
+            subst (λ s. room_of (script_of p s) ≤ vec_capacity w'.entries) (sym session)
             (let a = k.works.room in omega arith);
         tries = tries ∙ ap length (sym keeps.saw);
         own = says';
+        marked = marked';
         told = keeps.told;
         lags = subst (Lags p w'.store w'.pending) (sym keeps.saw) lags;
         spent = λ _. spent';
@@ -239,8 +195,8 @@ module _ (p : PlanOf) (b : Board) (w w' : Worker) (n : Numbered ℕ) (reply : Re
     (goes : Goes (view_of w) w.session (journal_of p w) (made w.session n reply place) (seen_by w)
     (view_of w'))
     (e : Entry) (items : w'.entries.items ≡ w.entries.items ++ e ∷ [])
-    (line : e.line ≡ n.number) (said : reply_of e.reply ≡ reply) (at : place_of e.place ≡ place)
-    (notes : Notes w.own n.command (reply_of e.reply) w'.own)
+    (is-entry : IsEntryOf p w n reply place e)
+    (notes : Notes p.names w.own n.command (reply_of e.reply) w'.own)
     (session : w'.session ≡ w.session) (table : w'.seat.table_id ≡ w.seat.table_id)
     (slots : w'.seat.me.1 ≡ w.seat.me.1)
     (capacity : vec_capacity w.entries ≤ vec_capacity w'.entries)
@@ -258,7 +214,7 @@ module _ (p : PlanOf) (b : Board) (w w' : Worker) (n : Numbered ℕ) (reply : Re
 
   pub claimed : WorksAt p b w' × Made p w w'
   claimed =
-      both_on p b w w' n reply place (seen_by w) k is-next goes e items line said at notes
+      both_on p b w w' n reply place (seen_by w) k is-next goes e items is-entry notes
       session table slots capacity (tries ∙ k.works.tries) spent₁ lags₁ (
         [],
         sym (append-nil (seen_by w)),
@@ -306,15 +262,18 @@ module _ (p : PlanOf) (b : Board) (w w' : Worker) (found : ℕ) (k : WorksAt p b
       slots = slots ∙ k.works.slots;
       session = subst (λ s. s < length p.scripts) (sym session) k.works.session;
       room =
-          subst (λ (x : ℕ × ℕ). length (script_of p x.0) ≤ x.1)
+          subst (λ (x : ℕ × ℕ). room_of (script_of p x.0) ≤ x.1)
           (λ i. (sym session i, vec_capacity (sym same i))) k.works.room;
       tries = let a = k.works.tries in
           let b = ap length kept.saw in
           let d = length_push (seen_by w) found in
           omega arith;
       own =
-          subst (λ (x : Own × List Line). Says (length p.names) x.0 x.1)
+          subst (λ (x : List Hold × List Line). Says p.names x.0 (map line_of x.1))
           (λ i. (sym own-same i, sym journal-same i)) k.works.own;
+      marked =
+          subst (λ (x : ℕ × List Entry). All (IsMarked (script_of p x.0)) x.1)
+          (λ i. (sym session i, (sym same i).items)) k.works.marked;
       told = kept.told;
       lags =
           subst (λ (x : Stored × Option ℕ). Lags p x.0 x.1 (seen_by w'))
@@ -339,11 +298,6 @@ module _ (p : PlanOf) (b : Board) (w w' : Worker) (found : ℕ) (k : WorksAt p b
   waits_lost =
       record { same = journal-same; next = next-same; begins = (found ∷ [], kept.saw) }
 
--- what is on a row needs one
-pub needs-row : (p : PlanOf) (w : Worker) (k : ℕ) (x : Command ℕ) → IsNextBy p w k x
-    → own_way (journal_of p w) x ≡ row → NeedsNoRow p w → ⊥
-needs-row p w k x is in-row off = off (record { number = k; command = x }) is.next in-row
-
 -- another worker with the same entries waits as well
 pub waits-same : (p : PlanOf) (w v u : Worker) → Waits p w v → u.session ≡ v.session
     → u.entries ≡ v.entries → u.seat ≡ v.seat → Waits p w u
@@ -356,15 +310,11 @@ waits-same p w v u waits session entries seat = record {
     journal : journal_of p u ≡ journal_of p v
     journal = λ i. told (session i) (script_of p (session i)) (entries i).items
 
--- each step that does something leaves less to do
-pub made_less : (p : PlanOf) (old new : Worker) → Made p old new
-    → length (script_of p (session_of old)) - length (journal_of p new)
-    < length (script_of p (session_of old)) - length (journal_of p old)
-made_less p old new made =
-    let s : ℕ = made.line.session in
-    let journal : IsJournal s (script_of p s) (journal_of p new) =
-    subst (IsJournal s (script_of p s)) made.ends.whole (made.ends.history.of_plan.journals s) in
-    let fits = journal_fits s (script_of p s) [] (journal_of p new) journal (omega arith) in
-    let same = ap (λ t. length (script_of p t)) made.session in
+-- each step that does something leaves less room
+pub made_less : (p : PlanOf) (old new : Worker) → Works p old → Made p old new
+    → room_of (script_of p (session_of old)) - length (journal_of p new)
+    < room_of (script_of p (session_of old)) - length (journal_of p old)
+made_less p old new k made =
+    let fits = next_fits p old _ k made.next in
     let grown = ap length made.grown ∙ length_push (journal_of p old) made.line in
     omega arith

@@ -1,51 +1,37 @@
 -- The database as the board runs it: one line after the other, each at its place.
-use Rattle.std.specs.Prelude.{◌≡◌, ℕ, ◌+◌, ◌-◌, ◌*◌, ◌/◌, ◌%◌, ◌<◌, ◌==◌, Bool, true, false, not, ◌&&◌, List, [], ◌∷◌, ◌++◌, length, Option, Some, None, cond}
+use Rattle.std.specs.Prelude.{◌≡◌, ℕ, ◌+◌, ◌-◌, ◌*◌, ◌<◌, ◌==◌, Bool, false, not, ◌&&◌, List, [], ◌∷◌, ◌++◌, length, Option, Some, None, cond, nat_lt}
+use Rattle.std.specs.Option.{unwrap_or}
 use Rattle.redo_model.specs.State.{State, Records, Locks, empty, target_state}
-use Rattle.redo_model.specs.Command.{Command, Lock, Unlock, Start, Done, Failed, target_of, asked_lock}
-use Rattle.redo_model.specs.Reply.{Reply, Okay}
-use Rattle.redo_model.specs.Step.{Answers, after, records_after, holds_target, is_built_by}
-use Rattle.redo_model.specs.Renaming.{IsReplyBelow}
+use Rattle.redo_model.specs.Command.{Command, Lock, Unlock, target_of, asked_lock}
+use Rattle.redo_model.specs.Step.{Answers, after, holds_target, is_built_by}
+use Rattle.redo_model.specs.Renaming.{IsBelow, IsReplyBelow}
 use Rattle.redo_model.specs.Placed.{Place, Row, Granted, Busy, Released, PlacedLine}
 use Rattle.redo_model.specs.Journals.{next_of, numbered}
+use Rattle.redo_joint.specs.Replayed.{is_closing, session_in, number_in, command_in, no_records, replayed}
 use Rattle.redo_journal.specs.Plans.{PlanOf, script_of}
 use Rattle.redo_board.specs.Rows.{naming_of, command, bit}
 
 abbrev pub Line : Type 0
 Line = PlacedLine ℕ
 
--- the word of the command k of the session s, which holds its target or not
-abbrev pub word : ℕ → ℕ → Bool → ℕ
-word s k holds = 1 + 2 * (4096 * s + k) + bit holds
+-- the word of what is done with this number by the session s, which holds its target or not: of a
+-- line of its script, or of a closing command
+abbrev pub word : PlanOf → ℕ → ℕ → Command ℕ → Bool → ℕ
+word p s k x holds =
+    cond (nat_lt k (length (script_of p s))) (1 + 2 * (4096 * s + k) + bit holds)
+    (4294967296 + 65536 * s + unwrap_or (target_of x) 0)
 
-abbrev pub session_of : ℕ → ℕ
-session_of w = (w - 1) / 2 / 4096
-
-abbrev pub number_of : ℕ → ℕ
-number_of w = (w - 1) / 2 % 4096
-
-abbrev pub holds_of : ℕ → Bool
-holds_of w = (w - 1) % 2 == 1
-
--- the word names a command of the plan, which is no lock
+-- the word names a command of a session of the plan, which is no lock
 pub record IsWord (p : PlanOf) (w : ℕ) : Type 0 where
   pub some : 0 < w
-  pub session : session_of w < length p.scripts
-  pub number : number_of w < length (script_of p (session_of w))
-  pub row : asked_lock (command p (session_of w) (number_of w)) ≡ None
-
--- the records after the command that the word names
-abbrev pub replay_one : PlanOf → Records ℕ → ℕ → Records ℕ
-replay_one p r w =
-    records_after (naming_of p) r (session_of w) (holds_of w)
-    (command p (session_of w) (number_of w))
-
-abbrev pub replay_from : PlanOf → Records ℕ → List ℕ → Records ℕ
-replay_from p r [] = r
-replay_from p r (w ∷ ws) = replay_from p (replay_one p r w) ws
+  pub session : session_in w < length p.scripts
+  pub number : is_closing w ≡ false → number_in w < length (script_of p (session_in w))
+  pub row : asked_lock (command_in (script_of p) w) ≡ None
+  pub below : IsBelow (length p.names) (command_in (script_of p) w)
 
 -- the records after the commands that the words name
 abbrev pub replay : PlanOf → List ℕ → Records ℕ
-replay p ws = replay_from p empty.records ws
+replay p ws = replayed (naming_of p) (script_of p) no_records ws
 
 -- the state of the database, the row words so far, and the lines of each session
 pub record Core : Type 0 where
@@ -113,14 +99,14 @@ done p c l = record {
   state = after (naming_of p) c.state l.session l.command;
   rows =
       rows_then (way_at c l.session l.command) c.rows
-      (word l.session l.number (has c l.session l.command));
+      (word p l.session l.number l.command (has c l.session l.command));
   own = set_at c.own l.session (c.own l.session ++ l ∷ []);
 }
 
 -- the line is what its session does next, with the database's reply and the place that it has there
 pub record IsNext (p : PlanOf) (c : Core) (l : Line) : Type 0 where
   pub session : l.session < length p.scripts
-  pub next : next_of (script_of p l.session) (c.own l.session) ≡ Some (numbered l)
+  pub next : next_of (naming_of p) (script_of p l.session) (c.own l.session) ≡ Some (numbered l)
   pub place : l.place ≡ place_at c (way_at c l.session l.command)
   pub answer : Answers (naming_of p) c.state l.session l.command l.reply
   pub below : IsReplyBelow (length p.names) l.reply
@@ -135,24 +121,6 @@ after_all p c (l ∷ ls) = after_all p (done p c l) ls
 
 abbrev pub row_words : PlanOf → List Line → List ℕ
 row_words p log = (after_all p start log).rows
-
--- whether a session builds the target after its lines, by their commands and replies
-abbrev pub is_okay : Reply ℕ → Bool
-is_okay Okay = true
-is_okay reply = false
-
-abbrev pub turn_accepted : Command ℕ → ℕ → Bool → Bool
-turn_accepted (Start u) t b = cond (u == t) true b
-turn_accepted (Done u stamp) t b = cond (u == t) false b
-turn_accepted (Failed u) t b = cond (u == t) false b
-turn_accepted command t b = b
-
-abbrev pub turn_build : Command ℕ → Reply ℕ → ℕ → Bool → Bool
-turn_build command reply t b = cond (is_okay reply) (turn_accepted command t b) b
-
-abbrev pub built : ℕ → Bool → List Line → Bool
-built t b [] = b
-built t b (l ∷ ls) = built t (turn_build l.command l.reply t b) ls
 
 abbrev pub Begins : List ℕ → List ℕ → Type 0
 Begins all seen = (rest : List ℕ) × (all ≡ seen ++ rest)

@@ -28,7 +28,7 @@ at_names p line = named_line (text_at p.names) (line_of line)
 pub record IsHistoryOf (p : PlanOf) (lines : List Line) : Type 0 where
   pub legal : Legal texts (map (at_names p) lines)
   pub placed : IsPlaced (naming_of p) lines
-  pub of_plan : IsOfPlan (script_of p) lines
+  pub of_plan : IsOfPlan (naming_of p) (script_of p) lines
   pub below : AllByRecursion (IsLineBelow (length p.names)) (map line_of lines)
 
 -- each session's lines are the whole part of it
@@ -37,7 +37,7 @@ HasParts parts lines = (s : ℕ) (own : List Line) → HasPart parts s own → p
 
 -- the row words of a history
 abbrev pub words_of : PlanOf → List Line → List ℕ
-words_of p lines = row_words_of (naming_of p) lines
+words_of p lines = row_words_of (naming_of p) (script_of p) lines
 
 -- one legal placed history ends with this line. The session's own lines are the whole part of it,
 -- what they had seen stands in it, and its row words begin with those that the worker saw; after a

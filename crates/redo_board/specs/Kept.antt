@@ -1,18 +1,21 @@
 -- What fits together, and what boards, seats and workers keep.
-use Rattle.std.specs.Prelude.{◌≡◌, ℕ, ◌+◌, ◌-◌, ◌<◌, ◌≤◌, List, [], ◌∷◌, ◌++◌, length, Option, MatchOption, vec_capacity}
+use Rattle.std.specs.Prelude.{◌≡◌, ℕ, ◌+◌, ◌-◌, ◌<◌, ◌≤◌, List, [], ◌∷◌, ◌++◌, length, map, All, Option, MatchOption, vec_capacity}
 use Rattle.redo_model.specs.Names.{texts}
+use Rattle.redo_model.specs.Placed.{line_of}
 use Rattle.redo_model.specs.Inside.Renaming.{OrdersAlike, numbering}
+use Rattle.redo_model.specs.Inside.Room.{room_of}
 use Rattle.redo_store.specs.Stored.{Stored, records_of, count_of, order_of, applied_of}
 use Rattle.redo_journal.specs.Plans.{PlanOf, IsPlan, script_of}
+use Rattle.redo_journal.specs.Holds.{Says}
+use Rattle.redo_journal.specs.Journals.{IsMarked}
 use Rattle.redo_board.specs.declared.board.Board.{Board}
 use Rattle.redo_board.specs.declared.seat.Seat.{Seat}
 use Rattle.redo_board.specs.declared.worker.Worker.{Worker}
 use Rattle.redo_board.specs.Rows.{rows_of}
 use Rattle.redo_board.specs.Core.{replay}
-use Rattle.redo_board.specs.Own.{Says}
 use Rattle.redo_board.specs.Views.{ViewOf, view}
 use Rattle.redo_board.specs.Rule.{Told, range}
-use Rattle.redo_board.specs.Shown.{plan_of, first_of, end_of, journal_of, seen_by, rows_up_to, NeedsNoRow}
+use Rattle.redo_board.specs.Shown.{plan_of, first_of, end_of, journal_of, entries_of, seen_by, rows_up_to, NeedsNoRow}
 
 -- the words of a board: one for the seats, one for each row, one for each name
 pub record IsBoardOf (p : PlanOf) (b : Board) : Type 0 where
@@ -61,9 +64,10 @@ pub record Works (p : PlanOf) (w : Worker) : Type 0 where
   pub view : view_of w ≡ view p ((w.session, journal_of p w) ∷ []) (seen_by w) (view_of w).also
   pub slots : w.seat.me.1 ≡ []
   pub session : w.session < length p.scripts
-  pub room : length (script_of p w.session) ≤ vec_capacity w.entries
+  pub room : room_of (script_of p w.session) ≤ vec_capacity w.entries
   pub tries : w.tries ≡ length (seen_by w)
-  pub own : Says (length p.names) w.own (journal_of p w)
+  pub own : Says p.names w.own (map line_of (journal_of p w))
+  pub marked : All (IsMarked (script_of p w.session)) (entries_of w)
   pub told : Told (view_of w)
   pub lags : Lags p w.store w.pending (seen_by w)
   pub spent : NeedsNoRow p w → w.tries ≡ rows_up_to 0 (journal_of p w)

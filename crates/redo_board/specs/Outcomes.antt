@@ -1,10 +1,10 @@
 -- What the calls leave.
-use Rattle.std.specs.Prelude.{◌≡◌, ℕ, ◌+◌, ◌<◌, ◌≤◌, List, [], ◌∷◌, ◌++◌, length, Some, slice_index}
+use Rattle.std.specs.Prelude.{◌≡◌, ℕ, ◌+◌, ◌<◌, ◌≤◌, List, [], ◌∷◌, ◌++◌, length, All, Some, slice_index}
 use Rattle.redo_model.specs.Placed.{rows_in}
 use Rattle.redo_model.specs.Journals.{numbered, IsJointOrder}
 use Rattle.redo_model.specs.Inside.Words.{claim_word_of}
 use Rattle.redo_journal.specs.Plans.{PlanOf, script_of}
-use Rattle.redo_journal.specs.Journals.{told_by}
+use Rattle.redo_journal.specs.Journals.{told_by, IsMarked}
 use Rattle.redo_journal.specs.declared.entry.Journal.{Journal}
 use Rattle.redo_board.specs.declared.board.Board.{Board}
 use Rattle.redo_board.specs.declared.seat.Seat.{Seat}
@@ -38,6 +38,7 @@ pub record Leaves (p : PlanOf) (b : Board) (w : Worker) (seat : Seat) (journal :
   where
     pub sits : SitsAt p b seat
     pub told : told_by (script_of p (session_of w)) journal ≡ journal_of p w
+    pub marked : All (IsMarked (script_of p (session_of w))) journal.entries.items
     pub parts : parts_of seat ≡ (session_of w, journal_of p w) ∷ []
     pub seen : seen_at seat ≡ seen_by w
 

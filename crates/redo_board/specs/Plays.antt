@@ -1,5 +1,5 @@
 -- What each step tells its seat.
-use Rattle.std.specs.Prelude.{◌≡◌, ◌≢◌, ℕ, ◌≤◌, ◌+◌, ◌/◌, ◌%◌, ◌==◌, Bool, true, false, cond, List, [], ◌∷◌, ◌++◌, length, Option, Some, None}
+use Rattle.std.specs.Prelude.{◌≡◌, ◌≢◌, ℕ, ◌<◌, ◌+◌, ◌/◌, ◌%◌, ◌==◌, Bool, true, false, cond, List, [], ◌∷◌, ◌++◌, length, map, Option, Some, None}
 use Rattle.atomic_table.specs.Table.{Me, Step}
 use Rattle.std.specs.Ordering.{nat_cmp}
 use Rattle.redo_model.specs.Names.{Naming, numbers}
@@ -8,12 +8,12 @@ use Rattle.redo_model.specs.Reply.{Reply, Okay}
 use Rattle.redo_model.specs.Reply as replies
 use Rattle.redo_model.specs.Step.{Replies}
 use Rattle.redo_model.specs.Renaming.{IsReplyBelow}
-use Rattle.redo_model.specs.Placed.{Place, Row, Granted, Busy, Released, is_row}
-use Rattle.redo_model.specs.Inside.Placed.{holds_by}
+use Rattle.redo_model.specs.Placed.{Place, Row, Granted, Busy, Released, line_of, is_row}
+use Rattle.redo_model.specs.Closing.{holds, builds}
 use Rattle.redo_model.specs.Journals.{Numbered, next_of}
 use Rattle.redo_journal.specs.Plans.{PlanOf, IsPlan, script_of}
 use Rattle.redo_board.specs.Rows.{rows_of, naming_of}
-use Rattle.redo_board.specs.Core.{Line, word, replay, built, IsLegal, start, row_words, way, Way}
+use Rattle.redo_board.specs.Core.{Line, word, replay, IsLegal, start, row_words, way, Way}
 use Rattle.redo_board.specs.Views.{ViewOf, view}
 use Rattle.redo_board.specs.Rule.{Fits, Told, longer}
 
@@ -27,17 +27,22 @@ PlayOf = Step (Unit {0}) → Sat → ℕ → Sat → Type 0
 abbrev pub by_number : Naming ℕ
 by_number = numbers nat_cmp
 
+-- whether a session with these lines holds the target, and builds it, by their replies
+abbrev pub held_name : Option ℕ → List Line → Bool
+held_name None j = false
+held_name (Some t) j = holds by_number (map line_of j) t
+
 abbrev pub built_name : Option ℕ → List Line → Bool
 built_name None j = false
-built_name (Some t) j = built t false j
+built_name (Some t) j = builds by_number (map line_of j) t
 
 -- what a session with these lines does next
 abbrev pub next : PlanOf → ℕ → List Line → Option (Numbered ℕ)
-next p s j = next_of (script_of p s) j
+next p s j = next_of (naming_of p) (script_of p s) j
 
 -- whether a session with these lines holds the command's target, and builds it
 abbrev pub own : List Line → Command ℕ → Bool
-own j x = holds_by by_number j (target_of x)
+own j x = held_name (target_of x) j
 
 abbrev pub own_build : List Line → Command ℕ → Bool
 own_build j x = built_name (target_of x) j
@@ -107,7 +112,8 @@ abbrev pub Won : ViewOf → ViewOf → Type 0
 Won v w =
     (s : ℕ) (j : List Line) (n : Numbered ℕ) (reply : Reply ℕ) → Lone v s j
     → next v.plan s j ≡ Some n → SaysRow v s j n.command reply
-    → Goes v s j (row_line v s n reply) (v.seen ++ word s n.number (own j n.command) ∷ []) w
+    → Goes v s j (row_line v s n reply)
+    (v.seen ++ word v.plan s n.number n.command (own j n.command) ∷ []) w
 
 abbrev pub tried : PlayOf
 tried st m r n = (r ≡ 0 → Won m.0 n.0) × (r ≢ 0 → Lost m.0 r n.0) × (n.1 ≡ m.1)
@@ -119,10 +125,10 @@ Claims line word v r w =
     → word ≡ rows_of v.plan + 1 + t → Goes v s j (line s n t r) v.seen w
 
 abbrev pub claimed : PlayOf
-claimed st m r n = Claims lock_line st.word m.0 r n.0 × (r ≤ 524288) × (n.1 ≡ m.1)
+claimed st m r n = Claims lock_line st.word m.0 r n.0 × (r < 4294967296) × (n.1 ≡ m.1)
 
 abbrev pub freed : PlayOf
-freed st m r n = Claims free_line st.word m.0 r n.0 × (r ≤ 524288) × (n.1 ≡ m.1)
+freed st m r n = Claims free_line st.word m.0 r n.0 × (r < 4294967296) × (n.1 ≡ m.1)
 
 -- the longer of what was seen, which both begin
 pub record Looked (v w : ViewOf) : Type 0 where

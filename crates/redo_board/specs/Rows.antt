@@ -1,7 +1,8 @@
--- The rows of a board: one for each line of the plan whose command isn't a lock.
-use Rattle.std.specs.Prelude.{ℕ, ◌+◌, Bool, true, false, cond, List, [], ◌∷◌, slice_index_or}
+-- The rows of a board: one for each line of the plan whose command isn't a lock, and one more for
+-- each start.
+use Rattle.std.specs.Prelude.{ℕ, ◌+◌, Bool, cond, List, [], ◌∷◌, slice_index_or}
 use Rattle.redo_model.specs.Names.{Naming}
-use Rattle.redo_model.specs.Command.{Command, Item, Lock, Ood, commands_in}
+use Rattle.redo_model.specs.Command.{Command, Item, Lock, Start, Ood, commands_in}
 use Rattle.redo_store.specs.Orders.{by_text}
 use Rattle.redo_journal.specs.Plans.{PlanOf, script_of}
 
@@ -16,14 +17,15 @@ command p s k = slice_index_or (commands_in (script_of p s)) k Ood
 abbrev pub bit : Bool → ℕ
 bit b = cond b 1 0
 
--- a lock needs no row
-abbrev pub takes_row : Command ℕ → Bool
-takes_row (Lock t) = false
-takes_row command = true
+-- the rows that a line may need: a lock none; a start one, and one more for a closing `failed`
+abbrev pub rows_for : Command ℕ → ℕ
+rows_for (Lock t) = 0
+rows_for (Start t) = 2
+rows_for command = 1
 
 abbrev pub rows_in : List (Item ℕ) → ℕ
 rows_in [] = 0
-rows_in (x ∷ xs) = bit (takes_row x.command) + rows_in xs
+rows_in (x ∷ xs) = rows_for x.command + rows_in xs
 
 abbrev pub rows_in_all : List (List (Item ℕ)) → ℕ
 rows_in_all [] = 0

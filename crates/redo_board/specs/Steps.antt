@@ -1,20 +1,22 @@
 -- What the code's values say of a step.
-use Rattle.std.specs.Prelude.{◌≡◌, ◌≤◌, ℕ, false, Option, Some, None, ◌∷◌, [], ◌++◌, vec_capacity}
+use Rattle.std.specs.Prelude.{◌≡◌, ◌≤◌, ℕ, false, List, Option, Some, None, ◌∷◌, [], ◌++◌, vec_capacity}
 use Rattle.redo_terms.specs.Meaning.{reply_of}
-use Rattle.redo_model.specs.Command.{Command}
+use Rattle.redo_model.specs.Names.{Text}
+use Rattle.redo_model.specs.Command.{Command, Failed, Unlock}
 use Rattle.redo_model.specs.Reply.{Reply}
 use Rattle.redo_model.specs.Step.{Replies}
 use Rattle.redo_model.specs.Renaming.{IsReplyBelow}
 use Rattle.redo_terms.specs.declared.reply.Reply as commands
 use Rattle.redo_store.specs.Stored.{records_of, naming_of, count_of, lists_names}
 use Rattle.redo_journal.specs.Journals.{place_of}
+use Rattle.redo_journal.specs.Holds.{Notes}
 use Rattle.redo_journal.specs.declared.entry.Entry.{Entry}
 use Rattle.redo_board.specs.Core as core
-use Rattle.redo_board.specs.Own.{has, Notes}
+use Rattle.redo_board.specs.Own.{has}
 use Rattle.redo_board.specs.Plays.{lock_said, lock_place}
 use Rattle.redo_board.specs.declared.worker.Worker.{Worker}
-use Rattle.redo_board.specs.declared.worker.own.Way.{Way}
-use Rattle.redo_board.specs.declared.worker.own.Way.TheVariants.{Row, Claim, Free}
+use Rattle.redo_board.specs.declared.worker.ways.Way.{Way}
+use Rattle.redo_board.specs.declared.worker.ways.Way.TheVariants.{Row, Claim, Free}
 
 abbrev pub way_of : Way → core.Way
 way_of Row = core.row
@@ -24,8 +26,15 @@ way_of (Free t) = core.free t
 -- the entry of a `fetch_or` on the claim word of t that found w
 pub record TellsLock (number t w : ℕ) (entry : Entry) : Type 0 where
   pub line : entry.line ≡ number
+  pub closing : entry.closing ≡ None
   pub said : reply_of entry.reply ≡ lock_said w
   pub at : place_of entry.place ≡ lock_place t w
+
+-- a command that lets go of a target
+abbrev pub LetsGo : Command ℕ → Type 0
+LetsGo (Failed t) = Unit {0}
+LetsGo (Unlock t) = Unit {0}
+LetsGo command = ⊥
 
 -- the reply is that of the worker's store, by what the session holds
 pub record IsSaidBy (w : Worker) (x : Command ℕ) (reply : Reply ℕ) : Type 0 where
@@ -41,7 +50,7 @@ IsReadyBy w x (Some reply) = IsSaidBy w x (reply_of reply)
 pub record Enters (old : Worker) (x : Command ℕ) (entry : Entry) (new : Worker) : Type 0 where
   pub items : new.entries.items ≡ old.entries.items ++ entry ∷ []
   pub capacity : vec_capacity old.entries ≤ vec_capacity new.entries
-  pub notes : Notes old.own x (reply_of entry.reply) new.own
+  pub notes : (names : List Text) → Notes names old.own x (reply_of entry.reply) new.own
   pub seat : new.seat ≡ old.seat
   pub session : new.session ≡ old.session
   pub store : new.store ≡ old.store

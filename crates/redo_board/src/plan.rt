@@ -1,11 +1,13 @@
 // What a board and its workers ask of a plan.
-ghost use Rattle.std.specs.Prelude.{◌≡◌, ◌<◌, ◌≤◌, length, map};
+ghost use Rattle.std.specs.Prelude.{◌≡◌, ◌<◌, ◌≤◌, ◌+◌, ◌*◌, ◌↔◌, IsSome, cond, length, map};
+ghost use Rattle.redo_model.specs.Inside.Room.{is_lock, is_start, room_of};
 ghost use Rattle.redo_terms.specs.Meaning.{command_of};
 ghost use Rattle.redo_terms.specs.Inside.Meaning.{item_of};
 ghost use Rattle.redo_journal.specs.Plans.{IsPlan, script_of};
-ghost use Rattle.redo_board.specs.Rows.{command, rows_in, rows_of, takes_row, bit};
+ghost use Rattle.redo_journal.specs.Journals.{command_by};
+ghost use Rattle.redo_board.specs.Rows.{command, rows_for, rows_in, rows_of};
 
-use redo_journal::Plan;
+use redo_journal::{Next, Plan};
 use redo_terms::{Command, FileStamp, Item, Script};
 
 /// The script of a session.
@@ -38,6 +40,22 @@ pub(crate) fn command_at(plan: &Plan, session: u8, number: usize) -> &Command
     &items(plan, session)[number].command
 }
 
+/// The command that a session does next: the closing one, or else that of the line.
+pub(crate) fn command_next<'a>(plan: &'a Plan, session: u8, next: &'a Next) -> &'a Command
+    requires session { session < length plan.now.scripts }
+    requires marked { IsSome next.now.closing
+        ↔ (length (script_of plan.now session) ≤ next.now.line) }
+    ensures { command_of result.now
+        ≡ command_by (script_of plan.now session) next.now.closing next.now.line }
+{
+    // The check only knows how to move a command where the types within it are met.
+    let _none: Option<FileStamp> = None;
+    match &next.closing {
+        Some(command) => command,
+        None => command_at(plan, session, next.line as usize),
+    }
+}
+
 /// The number of a session, as it is written in a row word.
 pub(crate) fn session_number(plan: &Plan, session: usize) -> u8
     requires { session < length plan.now.scripts }
@@ -56,7 +74,7 @@ pub(crate) fn sessions(plan: &Plan) -> usize
     plan.scripts().len()
 }
 
-/// How many lines have a command that isn't a lock.
+/// How many rows the sessions may need.
 pub(crate) fn rows(plan: &Plan) -> usize
     ensures count { result ≡ rows_of plan.now }
     ensures plan { IsPlan plan.now }
@@ -68,10 +86,11 @@ pub(crate) fn rows(plan: &Plan) -> usize
     rows
 }
 
-/// How many of the lines have a command that isn't a lock.
+/// How many rows a session with these lines may need.
 fn rows_in(items: &[Item]) -> usize
+    requires short { length items.now ≤ 4096 }
     ensures rows { result ≡ rows_in (map item_of items.now) }
-    ensures few { result ≤ length items.now }
+    ensures few { result ≤ 2 * length items.now }
 {
     let mut rows = 0;
     for item in items {
@@ -80,12 +99,36 @@ fn rows_in(items: &[Item]) -> usize
     rows
 }
 
-/// How many rows a command needs.
+/// How many rows a line may need: a lock none; a start one, and one more for a closing `failed`.
 fn needs(command: &Command) -> usize
-    ensures { result ≡ bit (takes_row (command_of command.now)) }
+    ensures { result ≡ rows_for (command_of command.now) }
 {
     match command {
         Command::Lock(_) => 0,
+        Command::Start(_) => 2,
+        _ => 1,
+    }
+}
+
+/// How many entries a session with these lines may need.
+pub(crate) fn room_for(items: &[Item]) -> usize
+    requires short { length items.now ≤ 4096 }
+    ensures { result ≡ room_of (map item_of items.now) }
+{
+    let mut room = 0;
+    for item in items {
+        room += entries_for(&item.command);
+    }
+    room
+}
+
+/// How many entries a line may need: its own, and for a lock or a start that of a closing command.
+fn entries_for(command: &Command) -> usize
+    ensures { result ≡ 1 + cond (is_lock (command_of command.now)) 1 0
+        + cond (is_start (command_of command.now)) 1 0 }
+{
+    match command {
+        Command::Start(_) | Command::Lock(_) => 2,
         _ => 1,
     }
 }

@@ -1,33 +1,32 @@
 ghost use Rattle.std.specs.Prelude.{◌≡◌, ◌+◌, ◌<◌, [], ◌++◌, ◌∷◌, length, IfOk, IfErr, IsOk};
 ghost use Rattle.std.specs.Prelude.{OnErr, MatchBool, None, IfSome, vec_len, vec_capacity};
 ghost use Rattle.std.specs.Option.{IfNone};
-ghost use Rattle.redo_model.specs.Journals.{next_of};
 ghost use Rattle.redo_model.specs.Renaming.{IsBelow};
 ghost use Rattle.redo_terms.specs.Meaning.{command_of};
 ghost use Rattle.redo_journal.specs.Plans.{PlanOf, script_of};
+ghost use Rattle.redo_journal.specs.Journals.{command_by};
 ghost use Rattle.redo_board.specs.declared.board.Board.{Board as BoardOf};
 ghost use Rattle.redo_board.specs.Shown.{session_of, journal_of, tries_of, seen_by, first_of};
 ghost use Rattle.redo_board.specs.Shown.{end_of};
-ghost use Rattle.redo_board.specs.Kept.{IsBoardOf, IsSeatOf, SitsAt, IsFresh, WorksAt};
+ghost use Rattle.redo_board.specs.Kept.{IsBoardOf, IsSeatOf, SitsAt, IsFresh, Works, WorksAt};
 ghost use Rattle.redo_board.specs.Shown.{entries_of, NeedsNoRow, IsNextBy, IsAtEnd, IsLast};
 ghost use Rattle.redo_board.specs.Outcomes.{Made, Waits, Leaves};
-ghost use Rattle.redo_board.specs.Own.{names_of};
-ghost use Rattle.redo_board.specs.Rows.{command};
 ghost use Rattle.redo_board.specs.Steps.{Enters};
 
 use crate::board::Board;
 use crate::gate::Gate;
-use crate::plan::{command_at, items, script, session_number};
+use crate::plan::{command_next, items, room_for, script, session_number};
 use crate::seat::{Seat, Token};
-use crate::worker::own::{Own, Way};
-use redo_journal::{Entry, Journal, Plan, next_line};
+use crate::worker::ways::{Way, way_for};
+use redo_journal::{Entry, Holds, Journal, Next, Plan, next_step};
 use redo_store::Store;
 use redo_terms::{Command, FileStamp, Reply};
 use std::alloc::{AllocError, Global};
 
 mod claims;
-mod own;
 mod rows;
+mod ways;
+mod words;
 
 /// One session at work: its journal, what it holds and builds by that, the rows that it saw, and a
 /// store of its own that is as far as these rows, or one row behind.
@@ -36,7 +35,7 @@ pub struct Worker {
     pub(crate) seat: Token,
     pub(crate) session: u8,
     pub(crate) entries: Vec<Entry>,
-    pub(crate) own: Own,
+    pub(crate) own: Holds,
     pub(crate) store: Store,
     pub(crate) pending: Option<u64>,
     pub(crate) tries: u32,
@@ -55,10 +54,10 @@ impl Worker {
         ensures err { IfErr result (λ back. back ≡ seat) }
     {
         let session = session_number(plan, seat.first);
-        let Ok(entries) = Vec::with_capacity(alloc, items(plan, session).len()) else {
+        let Ok(entries) = Vec::with_capacity(alloc, room_for(items(plan, session))) else {
             return Err(seat);
         };
-        let Ok(own) = Own::new(alloc, plan.names().len()) else {
+        let Ok(own) = Holds::new(alloc, plan.names()) else {
             return Err(seat);
         };
         let Ok(store) = Store::new(alloc, plan.names()) else {
@@ -80,9 +79,9 @@ impl Worker {
         })
     }
 
-    /// Does the next line of the script that is unguarded, or that the latest reply lets through,
-    /// and says whether there was one. Where memory runs out its command isn't done, and the next
-    /// step does it.
+    /// Does the next line of the script that is unguarded, or that the latest reply lets through;
+    /// or after these a closing command, while the session holds a target. Says whether there was
+    /// one. Where memory runs out its command isn't done, and the next step does it.
     pub fn step<G: Gate>(
         &mut self,
         alloc: Global,
@@ -99,35 +98,40 @@ impl Worker {
         ensures no_row { NeedsNoRow plan.now self.old → tries_of self.new ≡ tries_of self.old }
         ensures no_memory { NeedsNoRow plan.now self.old → IsOk result }
     {
-        let Some(number) = self.next(plan) else {
+        let Some(next) = self.next(plan) else {
             return Ok(false);
         };
         // The check only knows how to move a command where the types within it are met.
         let _none: Option<FileStamp> = None;
-        let command = command_at(plan, self.session, number as usize);
-        gate.before(self.session, number);
-        match self.own.way(command) {
-            Way::Claim(target) => self.lock(board, plan, number, target),
-            Way::Free(target) => self.free(board, plan, number, target),
-            Way::Row => self.place(alloc, board, plan, gate, number, command)?,
+        let command = command_next(plan, self.session, &next);
+        gate.before(self.session, next.line);
+        match way_for(&self.own, command) {
+            Way::Claim(target) => self.lock(board, plan, next.line, target),
+            Way::Free(target) => self.free(board, plan, &next, target),
+            Way::Row => self.place(alloc, board, plan, gate, &next, command)?,
         }
-        gate.after(self.session, number);
+        gate.after(self.session, next.line);
         Ok(true)
     }
 
-    /// The number of what the session does next, if there is anything.
-    fn next(&self, plan: &Plan) -> Option<u32>
-        requires { self.now.session < length plan.now.scripts }
-        ensures some { IfSome result (λ number. IsNextBy plan.now self.now number
-            (command plan.now self.now.session number)) }
+    /// What the session does next, if there is anything.
+    fn next(&self, plan: &Plan) -> Option<Next>
+        requires { Works plan.now self.now }
+        ensures some { IfSome result (λ next. IsNextBy plan.now self.now next.line next.closing
+            (command_by (script_of plan.now self.now.session) next.closing next.line)) }
         ensures none { IfNone result (IsAtEnd plan.now self.now) }
     {
-        next_line(script(plan, self.session), &self.entries)
+        next_step(
+            plan.names(),
+            script(plan, self.session),
+            &self.entries,
+            &self.own,
+        )
     }
 
     /// Writes the entry of a command into the journal, in which there is room.
     fn enter(&mut self, command: &Command, entry: Entry)
-        requires names { IsBelow (names_of self.old.own) (command_of command.now) }
+        requires names { IsBelow (length self.old.own) (command_of command.now) }
         requires room { vec_len self.old.entries < vec_capacity self.old.entries }
         ensures { Enters self.old (command_of command.now) entry self.new }
     {

@@ -1,13 +1,12 @@
 -- What a session had seen of the placed histories that were worked out by hand.
 use Rattle.std.proofs.Common.{◌≡◌, ℕ, ap, inl, inr, arith, refl}
-use Rattle.redo_model.specs.Names.{Text}
 use Rattle.redo_model.specs.Placed.{Place, Row, Granted, Busy, Released, part_of}
 use Rattle.redo_model.specs.Seen.{HasSeen}
 use Rattle.redo_model.specs.Inside.Merging.{second_journal, shared}
 use Rattle.redo_joint.specs.Worked.{three_rows}
 
 -- the number of a row, or of a grant
-abbrev number_in : Place Text → ℕ
+abbrev number_in : {N : Type 0} → Place N → ℕ
 number_in (Row r) = r
 number_in (Granted t g) = g
 number_in (Busy t g) = g

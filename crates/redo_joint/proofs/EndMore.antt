@@ -4,7 +4,7 @@ use Rattle.std.proofs.lemmas.List.{map_push}
 use Rattle.redo_model.specs.Names.{Naming}
 use Rattle.redo_model.specs.Inside.Names.{IsNaming}
 use Rattle.redo_model.specs.State.{State, empty, target_state}
-use Rattle.redo_model.specs.Command.{Command, Lock, Unlock, target_of}
+use Rattle.redo_model.specs.Command.{Command, Item, Lock, Unlock, target_of}
 use Rattle.redo_model.specs.Reply.{Reply, Okay}
 use Rattle.redo_model.specs.Reply as replies
 use Rattle.redo_model.specs.Step.{after, Replies, is_built_by, is_held_by}
@@ -41,36 +41,37 @@ line_at s number command reply place = record {
   place = place;
 }
 
-module _ {N : Type 0} (naming : Naming N) where
-  words_more : (before lines : List (PlacedLine N)) (line : PlacedLine N)
-      → row_words_after naming before (lines ++ line ∷ [])
-      ≡ row_words_after naming before lines
+module _ (naming : Naming ℕ) (plan : ℕ → List (Item ℕ)) where
+  words_more : (before lines : List (PlacedLine ℕ)) (line : PlacedLine ℕ)
+      → row_words_after naming plan before (lines ++ line ∷ [])
+      ≡ row_words_after naming plan before lines
       ++ word_before line.place
-      (row_word_of naming (part_of line.session (before ++ lines)) line) []
+      (row_word_of naming plan (part_of line.session (before ++ lines)) line) []
   words_more before [] line =
       ap
-      (λ (xs : List (PlacedLine N)). word_before line.place
-      (row_word_of naming (part_of line.session xs) line) [])
+      (λ (xs : List (PlacedLine ℕ)). word_before line.place
+      (row_word_of naming plan (part_of line.session xs) line) [])
       (sym (append-nil before))
   words_more before (x ∷ lines) line =
-      ap (word_before x.place (row_word_of naming (part_of x.session before) x))
+      ap (word_before x.place (row_word_of naming plan (part_of x.session before) x))
       (words_more (before ++ x ∷ []) lines line
       ∙ ap
-      (λ (xs : List (PlacedLine N)). row_words_after naming (before ++ x ∷ []) lines
-      ++ word_before line.place (row_word_of naming (part_of line.session xs) line) [])
+      (λ (xs : List (PlacedLine ℕ)). row_words_after naming plan (before ++ x ∷ []) lines
+      ++ word_before line.place (row_word_of naming plan (part_of line.session xs) line) [])
       (append_assoc before (x ∷ []) lines))
-      ∙ word_after x.place (row_word_of naming (part_of x.session before) x)
-      (row_words_after naming (before ++ x ∷ []) lines)
+      ∙ word_after x.place (row_word_of naming plan (part_of x.session before) x)
+      (row_words_after naming plan (before ++ x ∷ []) lines)
       (word_before line.place
-      (row_word_of naming (part_of line.session (before ++ (x ∷ lines))) line) [])
+      (row_word_of naming plan (part_of line.session (before ++ (x ∷ lines))) line) [])
 
   -- the row words after one line more
-  pub row_words_more : (lines : List (PlacedLine N)) (line : PlacedLine N)
-      → row_words_of naming (lines ++ line ∷ [])
-      ≡ row_words_of naming lines
-      ++ word_before line.place (row_word_of naming (part_of line.session lines) line) []
+  pub row_words_more : (lines : List (PlacedLine ℕ)) (line : PlacedLine ℕ)
+      → row_words_of naming plan (lines ++ line ∷ [])
+      ≡ row_words_of naming plan lines
+      ++ word_before line.place (row_word_of naming plan (part_of line.session lines) line) []
   row_words_more lines line = words_more [] lines line
 
+module _ {N : Type 0} (naming : Naming N) where
   -- a claim word by grants and releases
   pub word_is : (lines : List (PlacedLine N)) (t : N) → Paired naming lines
       → claim_word_of naming lines t ≡ grants_in naming lines t + releases_in naming lines t

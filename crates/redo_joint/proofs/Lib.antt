@@ -14,6 +14,7 @@ pub mod FromName
 pub mod Standing
 pub mod TwoSessions
 pub mod OneOrder
+pub mod Closed
 pub mod JournalByName
 pub mod OnlySo
 pub mod ByHand

@@ -64,10 +64,10 @@ front_placed naming before (line ∷ front) rest h =
 
 pub joint_of_plan : {N : Type 0} (naming : Naming N) (plan : ℕ → List (Item N))
     (journals : ℕ → List (PlacedLine N)) (lines : List (PlacedLine N))
-    → ((s : ℕ) → IsJournal s (plan s) (journals s)) → ((s : ℕ) → length (plan s) ≤ 4096)
-    → IsJointOrder naming journals lines → IsOfPlan plan lines
+    → ((s : ℕ) → IsJournal naming s (plan s) (journals s)) → ((s : ℕ) → length (plan s) ≤ 4096)
+    → IsJointOrder naming journals lines → IsOfPlan naming plan lines
 joint_of_plan naming plan journals lines whole short joint = record {
-  journals = λ s. subst (IsJournal s (plan s)) (sym (joint.0 s)) (whole s);
+  journals = λ s. subst (IsJournal naming s (plan s)) (sym (joint.0 s)) (whole s);
   short = short;
 }
 

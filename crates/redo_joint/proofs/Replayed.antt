@@ -1,30 +1,49 @@
 -- The row words fix the records.
-use Rattle.std.proofs.Common.{◌≡◌, ℕ, ◌+◌, ◌-◌, ◌*◌, ◌%◌, ◌<◌, ◌≤◌, Bool, true, false, cond, eqb, List, [], ◌∷◌, ◌++◌, length, map, get_or, refl, sym, ap, ◌∙◌, subst, arith}
+use Rattle.std.proofs.Common.{◌≡◌, ℕ, ◌+◌, ◌-◌, ◌*◌, ◌/◌, ◌%◌, ◌<◌, ◌≤◌, Bool, true, false, cond, not, eqb, List, [], ◌∷◌, ◌++◌, length, map, get_or, refl, sym, ap, ◌∙◌, subst, inl, inr, arith}
+use Rattle.std.specs.Prelude.{nat_lt}
+use Rattle.std.specs.Option.{unwrap_or}
+use Rattle.std.specs.List.{AllByRecursion}
+use Rattle.std.proofs.lemmas.Bool.Decides.{Decides-ltb}
+use Rattle.std.proofs.lemmas.Bool.{false_from_ne_true}
 use mathlib.Core.Logic.{dite}
-use native.Mathlib.Decide.{ℕ_discrete}
+use native.Mathlib.Decide.{ℕ_discrete, dec_lt}
 use Rattle.redo_model.specs.Names.{Naming}
 use Rattle.redo_model.specs.Inside.Names.{IsNaming}
 use Rattle.redo_model.specs.State.{State, Records, empty}
-use Rattle.redo_model.specs.Command.{Item, Ood, commands_in, target_of}
+use Rattle.redo_model.specs.Command.{Command, Item, Failed, Ood, commands_in, target_of}
 use Rattle.redo_model.specs.Step.{after, records_after}
 use Rattle.redo_model.specs.History.{left_by, LegalFrom}
-use Rattle.redo_model.specs.Placed.{Place, Row, Granted, Busy, Released, PlacedLine, line_of, part_of, IsPlacedAfter}
+use Rattle.redo_model.specs.Placed.{Place, Row, Granted, Busy, Released, PlacedLine, line_of, part_of, is_row, IsPlacedAfter}
 use Rattle.redo_model.specs.Inside.Placed.{holds_by}
-use Rattle.redo_model.specs.Journals.{numbered, IsJournalAfter}
-use Rattle.redo_model.specs.Inside.Words.{word_before, row_word_of, row_words_after, row_words_of}
-use Rattle.redo_model.proofs.Nexts.{next_in_script}
+use Rattle.redo_model.specs.Inside.Words.{word_before, script_word_of, closing_word_of, row_word_of, row_words_after, row_words_of}
+use Rattle.redo_model.specs.Journals.{IsJournal}
 use Rattle.redo_joint.specs.ByRows.{records_by, records_left}
-use Rattle.redo_joint.specs.Replayed.{session_in, number_in, flag_in, no_records, replayed, IsLegalOfPlan}
-use Rattle.redo_joint.proofs.Own.{part_of-own, part_of-other, push_own, push_other}
+use Rattle.redo_joint.specs.Replayed.{is_closing, session_in, number_in, flag_in, target_in, command_in, no_records, replayed, IsLegalOfPlan}
+use Rattle.redo_joint.proofs.Own.{part_of-own, part_of-other}
 use Rattle.redo_joint.proofs.Bridge.{tied_after}
 use Rattle.redo_joint.proofs.Answered.{from_answers}
+use Rattle.redo_joint.proofs.Closed.{IsScripted, IsFailing, RowTells, AllTell, all_tell}
 use Rattle.redo_joint.proofs.Tied.{Tied, tied_at_first}
 
-decoded_session : (s k f : ℕ) → k < 4096 → f < 2 → session_in (1 + 2 * (4096 * s + k) + f) ≡ s
-decoded_session s k f h g = omega arith
+below_test : (m n : ℕ) → n ≤ m → nat_lt m n ≡ false
+below_test m n from =
+    false_from_ne_true (nat_lt m n)
+    (λ e. let less : m < n = (Decides-ltb m n).0 e in absurd (omega arith))
 
-decoded_number : (s k f : ℕ) → k < 4096 → f < 2 → number_in (1 + 2 * (4096 * s + k) + f) ≡ k
-decoded_number s k f h g = omega arith
+-- a word of a script's line
+script_word : (word : ℕ) → word < 4294967296 → is_closing word ≡ false
+script_word word below = ap not ((Decides-ltb word 4294967296).1 below)
+
+decoded_session : (word s k f : ℕ) → word ≡ 1 + 2 * (4096 * s + k) + f → s < 64 → k < 4096
+    → f < 2 → session_in word ≡ s
+decoded_session word s k f is few short flag =
+    ap (λ b. cond b ((word - 4294967296) / 65536) ((word - 1) / 8192))
+    (script_word word (omega arith))
+    ∙ (let e : (word - 1) / 8192 ≡ s = omega arith in e)
+
+decoded_number : (word s k f : ℕ) → word ≡ 1 + 2 * (4096 * s + k) + f → k < 4096 → f < 2
+    → number_in word ≡ k
+decoded_number word s k f is short flag = omega arith
 
 decoded_flag : (s k : ℕ) (b : Bool) → flag_in (1 + 2 * (4096 * s + k) + cond b 1 0) ≡ b
 decoded_flag s k true = let e : (1 + 2 * (4096 * s + k) + 1 - 1) % 2 ≡ 1 = omega arith in
@@ -32,40 +51,42 @@ decoded_flag s k true = let e : (1 + 2 * (4096 * s + k) + 1 - 1) % 2 ≡ 1 = ome
 decoded_flag s k false = let e : (1 + 2 * (4096 * s + k) + 0 - 1) % 2 ≡ 0 = omega arith in
     ap (λ n. eqb n 1) e
 
-module _ {N : Type 0} (plan : ℕ → List (Item N)) where
-  -- the lines of each session are its journal, after its lines before
-  abbrev pub GoOn : List (PlacedLine N) → List (PlacedLine N) → Type 0
-  GoOn before lines =
-      (s : ℕ) → IsJournalAfter s (plan s) (part_of s before) (part_of s lines)
+-- a word of a closing line
+closing_word : (s t : ℕ) → is_closing (4294967296 + 65536 * s + t) ≡ true
+closing_word s t = ap not (below_test (4294967296 + 65536 * s + t) 4294967296 (omega arith))
 
-  journal_here : (before : List (PlacedLine N)) (line : PlacedLine N) (lines : List (PlacedLine N))
-      (s : ℕ)
-      → line.session ≡ s → GoOn before (line ∷ lines)
-      → IsJournalAfter s (plan s) (part_of s before) (line ∷ part_of s lines)
-  journal_here before line lines s e on =
-      subst (IsJournalAfter s (plan s) (part_of s before)) (part_of-own s line lines e) (on s)
+closing_session : (s t : ℕ) → t < 65536 → session_in (4294967296 + 65536 * s + t) ≡ s
+closing_session s t below =
+    let word : ℕ = 4294967296 + 65536 * s + t in
+    ap (λ b. cond b ((word - 4294967296) / 65536) ((word - 1) / 8192)) (closing_word s t)
+    ∙ (let e : (4294967296 + 65536 * s + t - 4294967296) / 65536 ≡ s = omega arith in e)
 
-  go_on : (before : List (PlacedLine N)) (line : PlacedLine N) (lines : List (PlacedLine N))
-      → GoOn before (line ∷ lines) → GoOn (before ++ line ∷ []) lines
-  go_on before line lines on s = dite (ℕ_discrete line.session s)
-      (λ q. subst (λ own. IsJournalAfter s (plan s) own (part_of s lines))
-      (sym (push_own s before line q)) (journal_here before line lines s q on).2)
-      (λ n. subst (λ own. IsJournalAfter s (plan s) own (part_of s lines))
-      (sym (push_other s before line n))
-      (subst (IsJournalAfter s (plan s) (part_of s before))
-      (part_of-other s line lines n) (on s)))
+closing_target : (s t : ℕ) → t < 65536 → target_in (4294967296 + 65536 * s + t) ≡ t
+closing_target s t below = omega arith
 
-  -- the command of a line is the script's at its number
-  command_here : (before : List (PlacedLine N)) (line : PlacedLine N) (lines : List (PlacedLine N))
-      → GoOn before (line ∷ lines)
-      → (get_or (commands_in (plan line.session)) line.number Ood ≡ line.command)
-      × (line.number < length (plan line.session))
-  command_here before line lines on =
-      next_in_script (plan line.session) (part_of line.session before) (numbered line)
-      (journal_here before line lines line.session refl on).1
+-- the sessions of the lines are among those that have scripts
+no_part : (naming : Naming ℕ) (s : ℕ) (script : List (Item ℕ)) (own : List (PlacedLine ℕ))
+    → script ≡ [] → IsJournal naming s script own → own ≡ []
+no_part naming s script [] e is = refl
+no_part naming s script (line ∷ own) e is =
+    let next = subst (λ items. IsJournal naming s items (line ∷ own)) e is in
+    let none = next.1 in absurd (cc)
 
-module _ {N : Type 0} {naming : Naming N} (law : IsNaming naming) where
-  abbrev pub rows_left : Records N → List (PlacedLine N) → List (PlacedLine N) → Records N
+all_few : (lines : List (PlacedLine ℕ)) → ((s : ℕ) → 64 ≤ s → part_of s lines ≡ [])
+    → AllByRecursion (λ line. line.session < 64) lines
+all_few [] none = tt
+all_few (line ∷ lines) none = (
+  dite (dec_lt line.session 64) (λ less. less)
+      (λ not. let own = part_of-own line.session line lines refl in
+      let nothing = none line.session (omega arith) in absurd (cc)),
+  all_few lines (λ s past. dite (ℕ_discrete line.session s)
+      (λ e. let own = part_of-own s line lines e in
+      let nothing = none s past in absurd (cc))
+      (λ ne. sym (part_of-other s line lines ne) ∙ none s past)),
+)
+
+module _ {naming : Naming ℕ} (law : IsNaming naming) where
+  abbrev pub rows_left : Records ℕ → List (PlacedLine ℕ) → List (PlacedLine ℕ) → Records ℕ
   rows_left r before [] = r
   rows_left r before (line ∷ lines) =
       rows_left
@@ -73,7 +94,7 @@ module _ {N : Type 0} {naming : Naming N} (law : IsNaming naming) where
       (before ++ line ∷ []) lines
 
   -- the records that a legal history leaves are those that its rows leave
-  pub left_is : (state : State N) (before lines : List (PlacedLine N)) → Tied naming state before
+  pub left_is : (state : State ℕ) (before lines : List (PlacedLine ℕ)) → Tied naming state before
       → IsPlacedAfter naming before lines → LegalFrom naming state (map line_of lines)
       → (left_by naming state (map line_of lines)).records ≡ rows_left state.records before lines
   left_is state before [] tied placed legal = refl
@@ -84,74 +105,115 @@ module _ {N : Type 0} {naming : Naming N} (law : IsNaming naming) where
       let next = tied_after law state before line tied placed.1 step.0 step.1 in
       left_is (after naming state line.session line.command) (before ++ line ∷ []) lines next
       placed.2 legal.1
-      ∙ ap (λ (d : State N). rows_left d.records (before ++ line ∷ []) lines) step.1
+      ∙ ap (λ (d : State ℕ). rows_left d.records (before ++ line ∷ []) lines) step.1
 
-  module _ (plan : ℕ → List (Item N)) (short : (s : ℕ) → length (plan s) ≤ 4096) where
+  module _ (plan : ℕ → List (Item ℕ)) (short : (s : ℕ) → length (plan s) ≤ 4096) where
     flag_below : (b : Bool) → cond b 1 0 < 2
     flag_below true = omega arith
     flag_below false = omega arith
 
-    row_replayed : (records : Records N) (own : List (PlacedLine N)) (line : PlacedLine N)
-        → get_or (commands_in (plan line.session)) line.number Ood ≡ line.command
-        → line.number < length (plan line.session)
-        → let word = row_word_of naming own line in
-        records_after naming records (session_in word) (flag_in word)
-        (get_or (commands_in (plan (session_in word))) (number_in word) Ood)
+    -- what the word of a row tells is what the line does
+    abbrev Replays : Records ℕ → List (PlacedLine ℕ) → PlacedLine ℕ → ℕ → Type 0
+    Replays records own line word =
+        records_after naming records (session_in word) (flag_in word) (command_in plan word)
         ≡ records_after naming records line.session
-        (holds_by naming own (target_of line.command))
-        line.command
-    row_replayed records own line command long =
+        (holds_by naming own (target_of line.command)) line.command
+
+    at_script : (records : Records ℕ) (own : List (PlacedLine ℕ)) (line : PlacedLine ℕ)
+        → line.session < 64 → IsScripted plan line
+        → Replays records own line (script_word_of naming plan own line)
+    at_script records own line few is =
         let b = holds_by naming own (target_of line.command) in
-        let k : line.number < 4096 = let a = short line.session in omega arith in
-        let es = decoded_session line.session line.number (cond b 1 0) k (flag_below b) in
-        let en = decoded_number line.session line.number (cond b 1 0) k (flag_below b) in
+        let word : ℕ = script_word_of naming plan own line in
+        let within = is.within in
+        let long = short line.session in
+        let k : line.number < 4096 = omega arith in
+        let f = flag_below b in
+        let ec = script_word word (omega arith) in
+        let es = decoded_session word line.session line.number (cond b 1 0) refl few k f in
+        let en = decoded_number word line.session line.number (cond b 1 0) refl k f in
         let ef = decoded_flag line.session line.number b in
         (λ i. records_after naming records (es i) (ef i)
-        (get_or (commands_in (plan (es i))) (en i) Ood))
-        ∙ (λ i. records_after naming records line.session b (command i))
+        (cond (ec i) (Failed (target_in word))
+        (get_or (commands_in (plan (es i))) (en i) Ood)))
+        ∙ (λ i. records_after naming records line.session b (is.command i))
 
-    at_place : (place : Place N) (records : Records N) (own : List (PlacedLine N))
-        (line : PlacedLine N)
-        (words : List ℕ) (rest : Records N → Records N)
-        → get_or (commands_in (plan line.session)) line.number Ood ≡ line.command
-        → line.number < length (plan line.session)
-        → ((d : Records N) → replayed naming plan d words ≡ rest d)
-        → replayed naming plan records (word_before place (row_word_of naming own line) words)
+    at_closing : (records : Records ℕ) (own : List (PlacedLine ℕ)) (line : PlacedLine ℕ)
+        → IsFailing plan line → Replays records own line (closing_word_of naming plan line)
+    at_closing records own line is =
+        let s : ℕ = line.session in
+        let t : ℕ = is.target in
+        let word : ℕ = 4294967296 + 65536 * s + t in
+        let same : closing_word_of naming plan line ≡ word =
+        ap (λ (c : Command ℕ). 4294967296 + 65536 * s + unwrap_or (target_of c) 0) is.command in
+        let ec = closing_word s t in
+        let es = closing_session s t is.below in
+        let et = closing_target s t is.below in
+        subst (Replays records own line) (sym same)
+        ((λ i. records_after naming records (es i) (flag_in word)
+        (cond (ec i) (Failed (et i)) (get_or (commands_in (plan (es i))) (number_in word) Ood)))
+        ∙ ap (records_after naming records s (holds_by naming own (target_of line.command)))
+        (sym is.command))
+
+    row_replayed : (records : Records ℕ) (own : List (PlacedLine ℕ)) (line : PlacedLine ℕ)
+        → line.session < 64 → RowTells plan line
+        → Replays records own line (row_word_of naming plan own line)
+    row_replayed records own line few (inl is) =
+        subst (λ b. Replays records own line
+        (cond b (script_word_of naming plan own line) (closing_word_of naming plan line)))
+        (sym ((Decides-ltb line.number (length (plan line.session))).1 is.within))
+        (at_script records own line few is)
+    row_replayed records own line few (inr is) =
+        subst (λ b. Replays records own line
+        (cond b (script_word_of naming plan own line) (closing_word_of naming plan line)))
+        (sym (below_test line.number (length (plan line.session)) is.past))
+        (at_closing records own line is)
+
+    at_place : (place : Place ℕ) (records : Records ℕ) (own : List (PlacedLine ℕ))
+        (line : PlacedLine ℕ) (words : List ℕ) (rest : Records ℕ → Records ℕ)
+        → line.session < 64 → (is_row place ≡ true → RowTells plan line)
+        → ((d : Records ℕ) → replayed naming plan d words ≡ rest d)
+        → replayed naming plan records
+        (word_before place (row_word_of naming plan own line) words)
         ≡ rest (records_by naming place records own line.session line.command)
-    at_place (Row n) records own line words rest command long same =
-        ap (λ (d : Records N). replayed naming plan d words)
-        (row_replayed records own line command long)
+    at_place (Row n) records own line words rest few tells same =
+        ap (λ (d : Records ℕ). replayed naming plan d words)
+        (row_replayed records own line few (tells refl))
         ∙ same
         (records_after naming records line.session
         (holds_by naming own (target_of line.command))
         line.command)
-    at_place (Granted t g) records own line words rest command long same = same records
-    at_place (Busy t g) records own line words rest command long same = same records
-    at_place (Released t g) records own line words rest command long same = same records
+    at_place (Granted t g) records own line words rest few tells same = same records
+    at_place (Busy t g) records own line words rest few tells same = same records
+    at_place (Released t g) records own line words rest few tells same = same records
 
-    replay_is : (records : Records N) (before lines : List (PlacedLine N)) → GoOn plan before lines
-        → replayed naming plan records (row_words_after naming before lines)
+    replay_is : (records : Records ℕ) (before lines : List (PlacedLine ℕ))
+        → AllTell law plan lines → AllByRecursion (λ line. line.session < 64) lines
+        → replayed naming plan records (row_words_after naming plan before lines)
         ≡ rows_left records before lines
-    replay_is records before [] h = refl
-    replay_is records before (line ∷ lines) h =
-        let c = command_here plan before line lines h in
+    replay_is records before [] tell few = refl
+    replay_is records before (line ∷ lines) tell few =
         at_place line.place records (part_of line.session before) line
-        (row_words_after naming (before ++ line ∷ []) lines)
+        (row_words_after naming plan (before ++ line ∷ []) lines)
         (λ d. rows_left d (before ++ line ∷ []) lines)
-        c.0 c.1
-        (λ d. replay_is d (before ++ line ∷ []) lines (go_on plan before line lines h))
+        few.0 tell.0.row
+        (λ d. replay_is d (before ++ line ∷ []) lines tell.1 few.1)
 
   -- the records that a legal placed history leaves are the replay of its row words
-  pub words_replayed : (plan : ℕ → List (Item N)) (lines : List (PlacedLine N))
+  pub words_replayed : (plan : ℕ → List (Item ℕ)) (lines : List (PlacedLine ℕ))
       → IsLegalOfPlan naming plan lines
-      → records_left naming lines ≡ replayed naming plan no_records (row_words_of naming lines)
+      → records_left naming lines
+      ≡ replayed naming plan no_records (row_words_of naming plan lines)
   words_replayed plan lines known =
       left_is empty [] lines (tied_at_first naming) known.placed known.legal
-      ∙ sym (replay_is plan known.of_plan.short no_records [] lines known.of_plan.journals)
+      ∙ sym (replay_is plan known.of_plan.short no_records [] lines
+      (all_tell law plan [] lines tt known.legal known.placed known.of_plan.journals known.below)
+      (all_few lines (λ s past. no_part naming s (plan s) (part_of s lines) (known.few s past)
+      (known.of_plan.journals s))))
 
-  pub words_fix : (plan : ℕ → List (Item N)) (one other : List (PlacedLine N))
+  pub words_fix : (plan : ℕ → List (Item ℕ)) (one other : List (PlacedLine ℕ))
       → IsLegalOfPlan naming plan one → IsLegalOfPlan naming plan other
-      → row_words_of naming one ≡ row_words_of naming other
+      → row_words_of naming plan one ≡ row_words_of naming plan other
       → records_left naming one ≡ records_left naming other
   words_fix plan one other a b same =
       words_replayed plan one a ∙ ap (replayed naming plan no_records) same

@@ -1,38 +1,58 @@
 -- What the row words tell: the records that the commands of the words leave.
-use Rattle.std.specs.Prelude.{ℕ, ◌-◌, ◌/◌, ◌%◌, Bool, List, [], ◌∷◌, map, slice_index_or, ◌==◌}
+use Rattle.std.specs.Prelude.{◌≡◌, ℕ, ◌-◌, ◌/◌, ◌%◌, ◌≤◌, Bool, cond, not, nat_lt, List, [], ◌∷◌, map, slice_index_or, ◌==◌}
+use Rattle.std.specs.List.{AllByRecursion}
 use Rattle.redo_model.specs.Names.{Naming}
 use Rattle.redo_model.specs.State.{Records, empty}
-use Rattle.redo_model.specs.Command.{Item, Ood, commands_in}
+use Rattle.redo_model.specs.Command.{Command, Item, Failed, Ood, commands_in}
 use Rattle.redo_model.specs.Step.{records_after}
 use Rattle.redo_model.specs.History.{Legal}
 use Rattle.redo_model.specs.Placed.{PlacedLine, line_of, IsPlaced}
+use Rattle.redo_model.specs.Renaming.{IsLineBelow}
 use Rattle.redo_model.specs.Inside.Journals.{IsOfPlan}
 
--- the session, the number of the command and the flag that a row word tells
-abbrev pub session_in : ℕ → ℕ
-session_in word = (word - 1) / 8192
+-- whether a row word is that of a closing line
+abbrev pub is_closing : ℕ → Bool
+is_closing word = not (nat_lt word 4294967296)
 
+-- the session that a row word tells
+abbrev pub session_in : ℕ → ℕ
+session_in word = cond (is_closing word) ((word - 4294967296) / 65536) ((word - 1) / 8192)
+
+-- the number of the command and the flag that the word of a script's line tells
 abbrev pub number_in : ℕ → ℕ
 number_in word = (word - 1) / 2 % 4096
 
 abbrev pub flag_in : ℕ → Bool
 flag_in word = (word - 1) % 2 == 1
 
+-- the target that the word of a closing line tells
+abbrev pub target_in : ℕ → ℕ
+target_in word = (word - 4294967296) % 65536
+
+-- the command that a row word tells: one of the script, or that the target's build failed
+abbrev pub command_in : (ℕ → List (Item ℕ)) → ℕ → Command ℕ
+command_in plan word =
+    let commands = commands_in (plan (session_in word)) in
+    cond (is_closing word) (Failed (target_in word))
+    (slice_index_or commands (number_in word) Ood)
+
 -- the records at the start, where nothing is known
 abbrev pub no_records : {N : Type 0} → Records N
 no_records {N} = (empty {N = N}).records
 
-module _ {N : Type 0} (naming : Naming N) (plan : ℕ → List (Item N)) where
+module _ (naming : Naming ℕ) (plan : ℕ → List (Item ℕ)) where
   -- the records that the commands of the words leave
-  abbrev pub replayed : Records N → List ℕ → Records N
+  abbrev pub replayed : Records ℕ → List ℕ → Records ℕ
   replayed records [] = records
   replayed records (word ∷ words) =
-      let commands = commands_in (plan (session_in word)) in
-      let command = slice_index_or commands (number_in word) Ood in
+      let command = command_in plan word in
       replayed (records_after naming records (session_in word) (flag_in word) command) words
 
-  -- a legal placed history of the plan
-  pub record IsLegalOfPlan (lines : List (PlacedLine N)) : Type 0 where
-    pub of_plan : IsOfPlan plan lines
+  -- a legal placed history of the plan, which has scripts for at most 64 sessions, over at most
+  -- 65,536 names
+  pub record IsLegalOfPlan (lines : List (PlacedLine ℕ)) : Type 0 where
+    pub of_plan : IsOfPlan naming plan lines
     pub placed : IsPlaced naming lines
     pub legal : Legal naming (map line_of lines)
+    pub few : (s : ℕ) → 64 ≤ s → plan s ≡ []
+    pub below : AllByRecursion (IsLineBelow 65536) (map line_of lines)

@@ -1,21 +1,59 @@
 -- Placed histories that were worked out by hand, to believe the definitions by.
-use Rattle.std.specs.Prelude.{ℕ, List, [], ◌∷◌, ◌++◌, codes}
-use Rattle.redo_model.specs.Names.{Text}
-use Rattle.redo_model.specs.Command.{Item, File, Lock, Unlock, Start}
+use Rattle.std.specs.Prelude.{ℕ, zero, suc, false, List, [], ◌∷◌, ◌++◌, codes}
+use Rattle.std.specs.Ordering.{nat_cmp}
+use Rattle.redo_model.specs.Names.{Text, Naming, numbers}
+use Rattle.redo_model.specs.Command.{Command, Item, File, Lock, Unlock, Start, Failed}
 use Rattle.redo_model.specs.Reply.{Reply, Okay}
 use Rattle.redo_model.specs.Reply as replies
-use Rattle.redo_model.specs.Placed.{Row, Granted, PlacedLine}
+use Rattle.redo_model.specs.Placed.{Place, Row, Granted, Released, PlacedLine}
 use Rattle.redo_model.specs.Inside.Guarded.{plain_line}
 use Rattle.redo_model.specs.Inside.Merging.{placed_at, shared}
 
--- the first session tells of a file, locks the target and starts it; the second tells of a file
-abbrev pub three_rows : List (PlacedLine Text)
+-- numbers as names, in their order
+abbrev pub by_number : Naming ℕ
+by_number = numbers nat_cmp
+
+abbrev pub numbered_at : ℕ → ℕ → Command ℕ → Reply ℕ → Place ℕ → PlacedLine ℕ
+numbered_at session number command reply place =
+    record { session = session; number = number; command = command; reply = reply; place = place }
+
+abbrev pub item_of : Command ℕ → Item ℕ
+item_of command = record { guarded = false; command = command }
+
+-- the first session tells of a file, locks a target and starts it; the second tells of a file
+abbrev pub two_scripts : ℕ → List (Item ℕ)
+two_scripts zero = item_of (File 0 (codes "1")) ∷ item_of (Lock 1) ∷ item_of (Start 1) ∷ []
+two_scripts (suc zero) = item_of (File 2 (codes "1")) ∷ []
+two_scripts (suc (suc s)) = []
+
+abbrev pub three_rows : List (PlacedLine ℕ)
 three_rows =
-    placed_at 0 0 (File (codes "x") (codes "1")) Okay (Row 0)
-    ∷ placed_at 0 1 (Lock shared) (replies.Granted 1) (Granted shared 1)
-    ∷ placed_at 1 0 (File (codes "y") (codes "1")) Okay (Row 1)
-    ∷ placed_at 0 2 (Start shared) Okay (Row 2)
+    numbered_at 0 0 (File 0 (codes "1")) Okay (Row 0)
+    ∷ numbered_at 0 1 (Lock 1) (replies.Granted 1) (Granted 1 1)
+    ∷ numbered_at 1 0 (File 2 (codes "1")) Okay (Row 1)
+    ∷ numbered_at 0 2 (Start 1) Okay (Row 2)
     ∷ []
+
+-- the first session locks a target and starts it, the second locks it; each breaks off there
+abbrev pub broken_off : ℕ → List (Item ℕ)
+broken_off zero = item_of (Lock 0) ∷ item_of (Start 0) ∷ []
+broken_off (suc zero) = item_of (Lock 0) ∷ []
+broken_off (suc (suc s)) = []
+
+-- the first lets go of the target, then the second locks it
+abbrev pub let_go : List (PlacedLine ℕ)
+let_go =
+    numbered_at 0 0 (Lock 0) (replies.Granted 1) (Granted 0 1)
+    ∷ numbered_at 0 1 (Start 0) Okay (Row 0)
+    ∷ numbered_at 0 2 (Failed 0) Okay (Row 1)
+    ∷ numbered_at 0 3 (Unlock 0) Okay (Released 0 1)
+    ∷ numbered_at 1 0 (Lock 0) (replies.Granted 2) (Granted 0 2)
+    ∷ numbered_at 1 1 (Unlock 0) Okay (Released 0 2)
+    ∷ []
+
+-- a session lets the build of a target fail
+abbrev pub closing_row : ℕ → ℕ → ℕ → PlacedLine ℕ
+closing_row session number t = numbered_at session number (Failed t) Okay (Row 0)
 
 -- the session's first command, a lock
 abbrev pub one_lock : ℕ → Text → PlacedLine Text

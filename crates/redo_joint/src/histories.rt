@@ -43,8 +43,9 @@ pub fn legal_in_every_order()
 pub fn joint_order_is_of_plan()
     ensures { (plan : ℕ → List (Item Text)) (journals : ℕ → List (PlacedLine Text))
         (lines : List (PlacedLine Text)) →
-        ((s : ℕ) → IsJournal s (plan s) (journals s)) → ((s : ℕ) → length (plan s) ≤ 4096) →
-        IsJointOrder texts journals lines → IsOfPlan plan lines }
+        ((s : ℕ) → IsJournal texts s (plan s) (journals s)) →
+        ((s : ℕ) → length (plan s) ≤ 4096) →
+        IsJointOrder texts journals lines → IsOfPlan texts plan lines }
 {}
 
 /// What a session had seen at a line stands before that line.

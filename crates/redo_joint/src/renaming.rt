@@ -6,8 +6,8 @@ ghost use Rattle.redo_model.specs.Command.{Item};
 ghost use Rattle.redo_model.specs.Journals.{IsFirstJointOrder, IsJointOrder, IsJournal, IsWholeJournal};
 ghost use Rattle.redo_model.specs.Names.{Text, numbers, texts};
 ghost use Rattle.redo_model.specs.Placed.{PlacedLine};
-ghost use Rattle.redo_model.specs.Inside.Renaming.{IsRenaming, Renaming};
-ghost use Rattle.redo_model.specs.Renaming.{named_item};
+ghost use Rattle.redo_model.specs.Inside.Renaming.{IsRenaming, OrdersAlike, Renaming};
+ghost use Rattle.redo_model.specs.Renaming.{IsBelow, named_item};
 ghost use Rattle.std.specs.List.{AllByRecursion};
 ghost use Rattle.std.specs.declared.cmp.Ordering.{Ordering};
 
@@ -51,10 +51,18 @@ pub fn first_joint_order_by_name()
 
 /// A journal over numbers, under their names, is one over the names; and a whole one a whole one.
 pub fn journal_by_name()
-    ensures journal { (name : ℕ → Text) (s : ℕ) (script : List (Item ℕ))
-        (lines : List (PlacedLine ℕ)) → IsJournal s script lines →
-        IsJournal s (map (named_item name) script) (map (named_placed_line name) lines) }
-    ensures whole { (name : ℕ → Text) (s : ℕ) (script : List (Item ℕ))
-        (lines : List (PlacedLine ℕ)) → IsWholeJournal s script lines →
-        IsWholeJournal s (map (named_item name) script) (map (named_placed_line name) lines) }
+    ensures journal { (to : Renaming Text) (order : ℕ → ℕ → Ordering) (s : ℕ)
+        (script : List (Item ℕ)) (lines : List (PlacedLine ℕ)) →
+        IsRenaming to → OrdersAlike to texts order →
+        AllByRecursion (λ line. IsBelow to.count line.command) lines →
+        IsJournal (numbers order) s script lines →
+        IsJournal texts s (map (named_item to.name) script)
+        (map (named_placed_line to.name) lines) }
+    ensures whole { (to : Renaming Text) (order : ℕ → ℕ → Ordering) (s : ℕ)
+        (script : List (Item ℕ)) (lines : List (PlacedLine ℕ)) →
+        IsRenaming to → OrdersAlike to texts order →
+        AllByRecursion (λ line. IsBelow to.count line.command) lines →
+        IsWholeJournal (numbers order) s script lines →
+        IsWholeJournal texts s (map (named_item to.name) script)
+        (map (named_placed_line to.name) lines) }
 {}

@@ -1,21 +1,30 @@
 //! What the words of a board tell of a placed history.
 
 ghost use Rattle.std.specs.Prelude.{◌+◌, ◌++◌, ◌∷◌, ◌≡◌, List, [], ℕ};
+ghost use Rattle.std.specs.declared.cmp.Ordering.{Ordering};
 ghost use Rattle.redo_joint.specs.ByRows.{records_left};
 ghost use Rattle.redo_joint.specs.Events.{moved_by};
 ghost use Rattle.redo_joint.specs.Replayed.{IsLegalOfPlan, no_records, replayed};
 ghost use Rattle.redo_model.specs.Command.{Item};
-ghost use Rattle.redo_model.specs.Names.{Text, texts};
+ghost use Rattle.redo_model.specs.Names.{Text, numbers, texts};
 ghost use Rattle.redo_model.specs.Placed.{IsPlaced, PlacedLine, part_of};
+ghost use Rattle.redo_model.specs.Inside.Names.{IsNaming};
 ghost use Rattle.redo_model.specs.Inside.Words.{claim_word_of, row_word_of, row_words_of, word_before};
 
-/// The words after one line more.
+/// The words after one line more, over numbers, and the claim words over texts too.
 pub fn words_by_one_more()
-    ensures rows { (lines : List (PlacedLine Text)) (line : PlacedLine Text) →
-        let word = row_word_of texts (part_of line.session lines) line in
-        row_words_of texts (lines ++ line ∷ [])
-        ≡ row_words_of texts lines ++ word_before line.place word [] }
-    ensures claims { (lines : List (PlacedLine Text)) (line : PlacedLine Text) (t : Text) →
+    ensures rows { (order : ℕ → ℕ → Ordering) (plan : ℕ → List (Item ℕ))
+        (lines : List (PlacedLine ℕ)) (line : PlacedLine ℕ) →
+        let word = row_word_of (numbers order) plan (part_of line.session lines) line in
+        row_words_of (numbers order) plan (lines ++ line ∷ [])
+        ≡ row_words_of (numbers order) plan lines ++ word_before line.place word [] }
+    ensures claims { (order : ℕ → ℕ → Ordering) (lines : List (PlacedLine ℕ))
+        (line : PlacedLine ℕ) (t : ℕ) →
+        IsNaming (numbers order) → IsPlaced (numbers order) (lines ++ line ∷ []) →
+        claim_word_of (numbers order) (lines ++ line ∷ []) t
+        ≡ claim_word_of (numbers order) lines t + moved_by (numbers order) line.place t }
+    ensures claims_on_texts { (lines : List (PlacedLine Text)) (line : PlacedLine Text)
+        (t : Text) →
         IsPlaced texts (lines ++ line ∷ []) →
         claim_word_of texts (lines ++ line ∷ []) t
         ≡ claim_word_of texts lines t + moved_by texts line.place t }
@@ -24,15 +33,18 @@ pub fn words_by_one_more()
 /// The records that a legal placed history leaves are those that the commands of its row words
 /// leave.
 pub fn records_by_words()
-    ensures { (plan : ℕ → List (Item Text)) (lines : List (PlacedLine Text)) →
-        IsLegalOfPlan texts plan lines →
-        records_left texts lines ≡ replayed texts plan no_records (row_words_of texts lines) }
+    ensures { (order : ℕ → ℕ → Ordering) (plan : ℕ → List (Item ℕ))
+        (lines : List (PlacedLine ℕ)) →
+        IsNaming (numbers order) → IsLegalOfPlan (numbers order) plan lines →
+        records_left (numbers order) lines
+        ≡ replayed (numbers order) plan no_records (row_words_of (numbers order) plan lines) }
 {}
 
 /// Two legal placed histories of one plan with the same row words leave the same records.
 pub fn words_fix_the_state()
-    ensures { (plan : ℕ → List (Item Text)) (one other : List (PlacedLine Text)) →
-        IsLegalOfPlan texts plan one → IsLegalOfPlan texts plan other →
-        row_words_of texts one ≡ row_words_of texts other →
-        records_left texts one ≡ records_left texts other }
+    ensures { (order : ℕ → ℕ → Ordering) (plan : ℕ → List (Item ℕ))
+        (one other : List (PlacedLine ℕ)) → IsNaming (numbers order) →
+        IsLegalOfPlan (numbers order) plan one → IsLegalOfPlan (numbers order) plan other →
+        row_words_of (numbers order) plan one ≡ row_words_of (numbers order) plan other →
+        records_left (numbers order) one ≡ records_left (numbers order) other }
 {}

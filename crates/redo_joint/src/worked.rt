@@ -1,18 +1,23 @@
-//! Placed histories that were worked out by hand: their words, what a session had seen, journals, and
-//! which order comes first.
+//! Placed histories that were worked out by hand: their words, what a session had seen, journals,
+//! and which order comes first.
 
-ghost use Rattle.std.specs.Prelude.{◌≡◌, ◌∷◌, [], map};
+ghost use Rattle.std.specs.Prelude.{◌≡◌, ◌∷◌, [], map, take};
 ghost use Rattle.redo_joint.specs.Worked.{
+  broken_off,
+  by_number,
+  closing_row,
+  let_go,
   one_hold,
   one_hold_and_more,
   one_hold_turned,
   three_rows,
   two_locks,
   two_locks_turned,
+  two_scripts,
 };
 ghost use Rattle.redo_model.specs.History.{Legal};
 ghost use Rattle.redo_model.specs.Inside.Merging.{first_journal, merging, second_journal, shared};
-ghost use Rattle.redo_model.specs.Inside.Words.{claim_word_of, row_words_of};
+ghost use Rattle.redo_model.specs.Inside.Words.{claim_word_of, row_word_of, row_words_of};
 ghost use Rattle.redo_model.specs.Journals.{IsJournal, IsWholeJournal, NoLater};
 ghost use Rattle.redo_model.specs.Names.{texts};
 ghost use Rattle.redo_model.specs.Placed.{Granted, IsPlaced, Released, Row, line_of, part_of};
@@ -20,15 +25,28 @@ ghost use Rattle.redo_model.specs.Seen.{HasSeen};
 
 /// The words of two placed histories.
 pub fn words_by_hand()
-    ensures placed { IsPlaced texts three_rows }
-    ensures legal { Legal texts (map line_of three_rows) }
-    ensures rows { row_words_of texts three_rows ≡ 1 ∷ 8193 ∷ 6 ∷ [] }
-    ensures held { claim_word_of texts three_rows shared ≡ 1 }
+    ensures placed { IsPlaced by_number three_rows }
+    ensures legal { Legal by_number (map line_of three_rows) }
+    ensures rows { row_words_of by_number two_scripts three_rows ≡ 1 ∷ 8193 ∷ 6 ∷ [] }
+    ensures held { claim_word_of by_number three_rows 1 ≡ 1 }
     ensures released { claim_word_of texts merging shared ≡ 3 }
 {}
 
-/// A session had seen all rows up to its latest one, and of a target all grants up to the one that it
-/// was told of, and the releases before that one; and no more.
+/// Two sessions that break off, the first in a build, let go of their target: the words of their
+/// rows, and of rows of other closing lines.
+pub fn closing_words_by_hand()
+    ensures placed { IsPlaced by_number let_go }
+    ensures legal { Legal by_number (map line_of let_go) }
+    ensures first { IsWholeJournal by_number 0 (broken_off 0) (part_of 0 let_go) }
+    ensures second { IsWholeJournal by_number 1 (broken_off 1) (part_of 1 let_go) }
+    ensures goes_on { IsWholeJournal by_number 0 (broken_off 0) (take 3 (part_of 0 let_go)) → ⊥ }
+    ensures rows { row_words_of by_number broken_off let_go ≡ 4 ∷ 4294967296 ∷ [] }
+    ensures other { row_word_of by_number broken_off [] (closing_row 1 1 1) ≡ 4295032833 }
+    ensures greatest { row_word_of by_number broken_off [] (closing_row 63 0 65535) ≡ 4299161599 }
+{}
+
+/// A session had seen all rows up to its latest one, and of a target all grants up to the one that
+/// it was told of, and the releases before that one; and no more.
 pub fn seen_by_hand()
     ensures row { HasSeen (part_of 0 three_rows) (Row 2) }
     ensures earlier_row { HasSeen (part_of 0 three_rows) (Row 1) }
@@ -39,12 +57,13 @@ pub fn seen_by_hand()
     ensures no_later_release { HasSeen (second_journal 1) (Released shared 2) → ⊥ }
 {}
 
-/// A journal has the commands of its script in their order, and is whole at the script's end.
+/// A journal has the commands of its script in their order, and is whole at the script's end where
+/// nothing is held.
 pub fn journals_by_hand()
-    ensures whole { IsWholeJournal 0 one_hold first_journal }
-    ensures goes_on { IsWholeJournal 0 one_hold_and_more first_journal → ⊥ }
-    ensures other_order { IsJournal 0 one_hold_turned first_journal → ⊥ }
-    ensures other_session { IsJournal 1 one_hold first_journal → ⊥ }
+    ensures whole { IsWholeJournal texts 0 one_hold first_journal }
+    ensures goes_on { IsWholeJournal texts 0 one_hold_and_more first_journal → ⊥ }
+    ensures other_order { IsJournal texts 0 one_hold_turned first_journal → ⊥ }
+    ensures other_session { IsJournal texts 1 one_hold first_journal → ⊥ }
 {}
 
 /// Of two orders that are placed, the one in which the first session goes first comes first.

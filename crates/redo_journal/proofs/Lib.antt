@@ -1,3 +1,7 @@
 pub mod Plans
-mod Told
+pub mod Closings
+pub mod Says
+mod Each
 mod Nexts
+mod Steps
+mod Told

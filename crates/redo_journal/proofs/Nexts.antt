@@ -1,21 +1,20 @@
 -- How what is next is found: line by line, after the last entry.
-use Rattle.std.proofs.Common.{◌≡◌, ◌↔◌, ℕ, suc, ◌+◌, ◌-◌, ◌<◌, ◌≤◌, ◌==◌, Bool, IsTrue, eqb-true, rules, true, false, not, ◌||◌, cond, List, [], ◌∷◌, ◌++◌, length, map, take, drop, get_or, slice_get, Option, Some, None, refl, sym, ap, ◌∙◌, subst, arith}
+use Rattle.std.proofs.Common.{◌≡◌, ℕ, suc, ◌+◌, ◌-◌, ◌<◌, ◌≤◌, Bool, true, false, not, ◌||◌, cond, List, [], ◌∷◌, ◌++◌, length, map, drop, get_or, slice_get, Option, Some, None, refl, sym, ap, ◌∙◌, subst, arith}
 use Rattle.std.proofs.Math.Seq.{drop-cons}
 use Rattle.std.proofs.lemmas.List.{length-map, map_push, drop_all, get_or-map}
 use Rattle.std.proofs.lemmas.Option.{slice_get-get_or, none-some}
-use mathlib.Core.Logic.{dite}
-use native.Mathlib.Decide.{ℕ_discrete}
 use Rattle.redo_model.specs.Command as commands
 use Rattle.redo_model.specs.Command.{Ood, commands_in}
+use Rattle.redo_model.specs.Placed.{PlacedLine}
 use Rattle.redo_model.specs.Reply.{lets_through}
-use Rattle.redo_model.specs.Journals.{Numbered, first_from, next_of}
-use Rattle.redo_model.proofs.Nexts.{next_of_more}
+use Rattle.redo_model.specs.Journals.{Numbered, first_from, next_line_of, closing_number}
+use Rattle.redo_model.proofs.Nexts.{next_line_of_more}
 use Rattle.redo_terms.specs.Meaning.{command_of, reply_of}
 use Rattle.redo_terms.specs.Inside.Meaning.{item_of}
 use Rattle.redo_terms.specs.declared.script.Item.{Item}
 use Rattle.redo_journal.specs.declared.entry.Entry.{Entry}
-use Rattle.redo_journal.specs.Journals.{line_told}
-use Rattle.redo_journal.specs.Numbers.{numbers_in, numbered_in, IsNextAfter, IsNextAt}
+use Rattle.redo_journal.specs.Journals.{line_told, lines_told}
+use Rattle.redo_journal.specs.Numbers.{numbered_in}
 
 abbrev pub first_at : List Item → Bool → ℕ → Option (Numbered ℕ)
 first_at script through at = first_from through at (drop at (map item_of script))
@@ -28,7 +27,7 @@ module _ (script : List Item) (through : Bool) (at : ℕ) (item : Item) (within 
   stands : get_or (map item_of script) at (item_of item) ≡ item_of item
   stands = get_or-map item_of script at item (item_of item) within ∙ ap item_of (sym is)
 
-  asked : get_or (commands_in (map item_of script)) at Ood ≡ command_of item.command
+  pub asked : get_or (commands_in (map item_of script)) at Ood ≡ command_of item.command
   asked =
       get_or-map (λ (x : commands.Item ℕ). x.command) (map item_of script) at (item_of item) Ood
       long
@@ -95,59 +94,58 @@ none_is (x ∷ xs) none =
     let there = slice_get-get_or (x ∷ xs) (length (x ∷ xs) - 1) x (omega arith) in
     absurd (none-some _ (sym none ∙ there))
 
+-- the number of a closing command after a line
+pub closing_number_more : (script : List (commands.Item ℕ)) (before : List (PlacedLine ℕ))
+    (line : PlacedLine ℕ)
+    → closing_number script (before ++ line ∷ [])
+    ≡ length script + (line.number + 1 - length script)
+closing_number_more script [] line = refl
+closing_number_more script (first ∷ []) line = refl
+closing_number_more script (first ∷ second ∷ before) line =
+    closing_number_more script (second ∷ before) line
+
 module _ (s : ℕ) (script : List Item) (entries : List Entry) where
-  -- after the last entry
-  pub next_after : (last : Entry) → slice_get entries (length entries - 1) ≡ Some last
-      → next_of (map item_of script) (map (line_told s (map item_of script)) entries)
-      ≡ first_at script (lets_through (reply_of last.reply)) (last.line + 1)
-  next_after last got =
+  ends_with : (last : Entry) → slice_get entries (length entries - 1) ≡ Some last
+      → (before : List (PlacedLine ℕ))
+      × (lines_told s (map item_of script) entries
+      ≡ before ++ line_told s (map item_of script) last ∷ [])
+  ends_with last got =
       let told = line_told s (map item_of script) in
       let ends = last_is entries last got in
-      ap (λ es. next_of (map item_of script) (map told es)) ends.1
-      ∙ ap (next_of (map item_of script)) (map_push told ends.0 last)
-      ∙ next_of_more (map item_of script) (map told ends.0) (told last)
+      (map told ends.0, ap (map told) ends.1 ∙ map_push told ends.0 last)
+
+  -- the script's line after the last entry
+  pub line_after : (last : Entry) → slice_get entries (length entries - 1) ≡ Some last
+      → next_line_of (map item_of script) (lines_told s (map item_of script) entries)
+      ≡ first_at script (lets_through (reply_of last.reply)) (last.line + 1)
+  line_after last got =
+      let ends = ends_with last got in
+      ap (next_line_of (map item_of script)) ends.1
+      ∙ next_line_of_more (map item_of script) ends.0 (line_told s (map item_of script) last)
 
   -- where there is none
-  pub next_at_first : slice_get entries (length entries - 1) ≡ None
-      → next_of (map item_of script) (map (line_told s (map item_of script)) entries)
+  pub line_at_first : slice_get entries (length entries - 1) ≡ None
+      → next_line_of (map item_of script) (lines_told s (map item_of script) entries)
       ≡ first_at script true 0
-  next_at_first none =
-      let told = line_told s (map item_of script) in
-      ap (λ es. next_of (map item_of script) (map told es)) (none_is entries none)
+  line_at_first none =
+      ap (λ es. next_line_of (map item_of script) (lines_told s (map item_of script) es))
+      (none_is entries none)
 
-eqb-same : (n : ℕ) → (n == n) ≡ true
-eqb-same n = search rules
+  -- the number of a closing command after the last entry
+  pub number_after : (last : Entry) → slice_get entries (length entries - 1) ≡ Some last
+      → closing_number (map item_of script) (lines_told s (map item_of script) entries)
+      ≡ length script + (last.line + 1 - length script)
+  number_after last got =
+      let ends = ends_with last got in
+      ap (closing_number (map item_of script)) ends.1
+      ∙ closing_number_more (map item_of script) ends.0 (line_told s (map item_of script) last)
+      ∙ ap (λ n. n + (last.line + 1 - n)) (length-map script item_of)
 
-number_or : Option (Numbered ℕ) → ℕ
-number_or None = 0
-number_or (Some next) = next.number
-
--- what was found is the next where it has its number
-pub same_number : (script : List (commands.Item ℕ)) (next : Option (Numbered ℕ)) (n k : ℕ)
-    → next ≡ Some (numbered_in script n)
-    → IsTrue (n == k) ↔ (next ≡ Some (numbered_in script k))
-unfolding number_or
-same_number script next n k found = (
-  λ e. found ∙ ap (λ m. Some (numbered_in script m)) (eqb-true n k e),
-  λ is.
-      let both : Some (numbered_in script n) ≡ Some (numbered_in script k) = sym found ∙ is in
-      let same : n ≡ k = ap number_or both in
-      subst (λ m. IsTrue (n == m)) same (eqb-same n),
-)
-
--- of the entry at a place
-pub at_place : (s : ℕ) (script : List (commands.Item ℕ)) (entries : List Entry) (at : ℕ)
-    (entry : Entry) → at < length entries → entry ≡ get_or entries at entry
-    → IsNextAfter s script (take at entries) entry.line ↔ IsNextAt s script entries at
-at_place s script entries at entry within is =
-    let number : Entry → ℕ = λ e. e.line in
-    let here : entry.line ≡ get_or (numbers_in entries) at 0 =
-    ap number is ∙ sym (get_or-map number entries at entry 0 within) in
-    let Next : ℕ → Type 0 = IsNextAfter s script (take at entries) in
-    (subst Next here, subst Next (sym here))
-
-pub below_next : (P : ℕ → Type 0) (n : ℕ) → ((k : ℕ) → k < n → P k) → P n
-    → (k : ℕ) → k < n + 1 → P k
-below_next P n below here k within = dite (ℕ_discrete k n)
-    (λ same. subst P (sym same) here)
-    (λ other. below k (omega arith))
+  -- where there is none
+  pub number_at_first : slice_get entries (length entries - 1) ≡ None
+      → closing_number (map item_of script) (lines_told s (map item_of script) entries)
+      ≡ length script
+  number_at_first none =
+      ap (λ es. closing_number (map item_of script) (lines_told s (map item_of script) es))
+      (none_is entries none)
+      ∙ length-map script item_of

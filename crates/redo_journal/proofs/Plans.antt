@@ -12,7 +12,7 @@ pub some_at : (n : ℕ) → (n == 0) ≡ false → 1 ≤ n
 some_at zero e = absurd (false≢true (sym e))
 some_at (suc n) e = omega arith
 
-below_in : (n : ℕ) (script : List Item) → AreBelow n script
+pub below_in : (n : ℕ) (script : List Item) → AreBelow n script
     → AllByRecursion (λ item. IsBelow n item.command) (map item_of script)
 below_in n [] all = tt
 below_in n (x ∷ xs) all = (all.0, below_in n xs all.1)

@@ -1,11 +1,14 @@
 -- What the journals of sessions tell.
-use Rattle.std.specs.Prelude.{◌≡◌, ℕ, List, [], length, map, option_map, slice_get, slice_index_or}
+use Rattle.std.specs.Prelude.{◌≡◌, ℕ, ◌≤◌, ◌↔◌, List, [], length, map, Option, option_map, All, IsSome, slice_get, slice_index_or}
 use Rattle.std.specs.Option.{unwrap_or}
-use Rattle.redo_model.specs.Command.{Command, Item, Ood, commands_in}
+use Rattle.redo_model.specs.Names.{Naming}
+use Rattle.redo_model.specs.Command as commands
+use Rattle.redo_model.specs.Command.{Item, Ood, commands_in}
 use Rattle.redo_model.specs.Placed.{PlacedLine}
 use Rattle.redo_model.specs.Placed as placed
 use Rattle.redo_model.specs.Journals.{IsJournal}
-use Rattle.redo_terms.specs.Meaning.{reply_of}
+use Rattle.redo_terms.specs.Meaning.{command_of, reply_of, by_text}
+use Rattle.redo_terms.specs.declared.command.Command.{Command}
 use Rattle.redo_journal.specs.declared.entry.Place.{Place}
 use Rattle.redo_journal.specs.declared.entry.Place.TheVariants.{Row, Granted, Busy, Released}
 use Rattle.redo_journal.specs.declared.entry.Entry.{Entry}
@@ -18,9 +21,14 @@ place_of (Granted t g) = placed.Granted t g
 place_of (Busy t g) = placed.Busy t g
 place_of (Released t g) = placed.Released t g
 
--- the command that was done: the script's, at the entry's number
-abbrev pub command_told : List (Item ℕ) → Entry → Command ℕ
-command_told script entry = slice_index_or (commands_in script) entry.line Ood
+-- the closing command where there is one, else the script's at the number
+abbrev pub command_by : List (Item ℕ) → Option Command → ℕ → commands.Command ℕ
+command_by script closing k =
+    unwrap_or (option_map command_of closing) (slice_index_or (commands_in script) k Ood)
+
+-- the command that was done
+abbrev pub command_told : List (Item ℕ) → Entry → commands.Command ℕ
+command_told script entry = command_by script entry.closing entry.line
 
 -- what an entry tells of a session with this script
 abbrev pub line_told : ℕ → List (Item ℕ) → Entry → PlacedLine ℕ
@@ -32,16 +40,34 @@ line_told s script entry = record {
   place = place_of entry.place;
 }
 
+abbrev pub lines_told : ℕ → List (Item ℕ) → List Entry → List (PlacedLine ℕ)
+lines_told s script entries = map (line_told s script) entries
+
 -- the lines that a journal tells
 abbrev pub told_by : List (Item ℕ) → Journal → List (PlacedLine ℕ)
-told_by script journal = map (line_told journal.session script) journal.entries.items
+told_by script journal = lines_told journal.session script journal.entries.items
 
 -- the lines that the s-th journal tells; none where there is no such journal
 abbrev pub journals_of : PlanOf → List Journal → ℕ → List (PlacedLine ℕ)
 journals_of plan journals s =
     unwrap_or (option_map (told_by (script_of plan s)) (slice_get journals s)) []
 
+-- the entries of the s-th journal
+abbrev pub entries_of : List Journal → ℕ → List Entry
+entries_of journals s =
+    unwrap_or (option_map (λ journal. journal.entries.items) (slice_get journals s)) []
+
+-- the plan's numbers are ordered as the names that they stand for
+abbrev pub naming_of : PlanOf → Naming ℕ
+naming_of plan = by_text plan.names
+
+-- the command is a closing one exactly where no line of the script has its number
+abbrev pub IsMarked : List (Item ℕ) → Entry → Type 0
+IsMarked script entry = IsSome entry.closing ↔ (length script ≤ entry.line)
+
 -- one journal for each script: what that session did so far
 pub record AreJournals (plan : PlanOf) (journals : List Journal) : Type 0 where
   pub one_each : length journals ≡ length plan.scripts
-  pub each : (s : ℕ) → IsJournal s (script_of plan s) (journals_of plan journals s)
+  pub each : (s : ℕ)
+      → IsJournal (naming_of plan) s (script_of plan s) (journals_of plan journals s)
+  pub marked : (s : ℕ) → All (IsMarked (script_of plan s)) (entries_of journals s)

@@ -1,4 +1,5 @@
 pub mod Plans
 pub mod Kept
 pub mod Journals
+pub mod Holds
 pub mod Numbers

@@ -1,4 +1,10 @@
-use redo_terms::Reply;
+ghost use Rattle.std.specs.Prelude.{◌≡◌, map, option_map, unwrap_or, slice_index_or};
+ghost use Rattle.redo_model.specs.Command.{Ood, commands_in};
+ghost use Rattle.redo_terms.specs.Meaning.{command_of};
+ghost use Rattle.redo_terms.specs.Inside.Meaning.{item_of};
+ghost use Rattle.redo_journal.specs.Journals.{command_told};
+
+use redo_terms::{Command, FileStamp, Reply, Script};
 
 /// Where a command stands: at a row, or among the claims on a target. The numbers of a claim are
 /// the target's and the grant's.
@@ -14,12 +20,40 @@ pub enum Place {
     Released(u32, u32),
 }
 
-/// A command that was done: its number in the script, counted from 0, the reply and the place.
+/// A command that was done, its reply and the place.
 #[derive(Debug, Drop)]
 pub struct Entry {
+    /// The command's number: that of its line in the script, counted from 0. Closing commands are
+    /// counted on from the number of lines.
     pub line: u32,
+    /// The command, where it is a closing one.
+    pub closing: Option<Command>,
     pub reply: Reply,
     pub place: Place,
+}
+
+impl Entry {
+    /// The command that was done. There is none where the script has no line of this number.
+    pub fn command<'a>(&'a self, script: &'a Script) -> Option<&'a Command>
+        ensures { unwrap_or (option_map (λ command. command_of command.now) result) Ood
+            ≡ command_told (map item_of script.now) self.now }
+    {
+        // The check only knows how to move a command where the types within it are met.
+        let _none: Option<FileStamp> = None;
+        match &self.closing {
+            Some(command) => Some(command),
+            None => command_at(script, self.line),
+        }
+    }
+}
+
+/// The command of a line of the script, if there is one of this number.
+fn command_at(script: &Script, line: u32) -> Option<&Command>
+    ensures { unwrap_or (option_map (λ command. command_of command.now) result) Ood
+        ≡ slice_index_or (commands_in (map item_of script.now)) line Ood }
+{
+    let item = script.items().get(line as usize)?;
+    Some(&item.command)
 }
 
 /// What a session did, in order, and how often it tried to fill a row. Sessions are counted from 0.

@@ -1,12 +1,15 @@
 //! The plan of a run, and the journals of its sessions.
 #![tactic(auto)]
 
+mod closing;
 mod entry;
+mod holds;
 mod journals;
 mod next;
 mod plan;
 
 pub use entry::{Entry, Journal, Place};
+pub use holds::{Hold, Holds};
 pub use journals::are_journals;
-pub use next::next_line;
+pub use next::{Next, next_line, next_step};
 pub use plan::{MOST_SESSIONS, Plan, PlanFault};

@@ -1,11 +1,27 @@
-ghost use Rattle.std.specs.Prelude.{◌≡◌, ℕ, ◌↔◌, ◌||◌, not, IsTrue, drop, map, option_map};
-ghost use Rattle.redo_model.specs.Journals.{first_from, next_of};
+ghost use Rattle.std.specs.Prelude.{◌≡◌, ℕ, ◌<◌, ◌≤◌, ◌↔◌, ◌||◌, not, All, IfSome, IsSome, IsTrue, drop, length, map, option_map};
+ghost use Rattle.redo_model.specs.Journals.{first_from, next_line_of, closing_number, closing_after, numbered};
+ghost use Rattle.redo_model.specs.Closing.{closing_of};
+ghost use Rattle.redo_model.specs.Renaming.{IsBelow};
+ghost use Rattle.redo_terms.specs.Meaning.{command_of, by_text};
 ghost use Rattle.redo_terms.specs.Inside.Meaning.{item_of};
-ghost use Rattle.redo_journal.specs.Journals.{line_told};
-ghost use Rattle.redo_journal.specs.Numbers.{numbered_in, IsNextAfter};
+ghost use Rattle.redo_journal.specs.Holds.{Says, AreToldBelow, own_lines};
+ghost use Rattle.redo_journal.specs.Journals.{line_told, lines_told, IsMarked};
+ghost use Rattle.redo_journal.specs.Numbers.{numbered_in, numbered_by, next_after, IsNextAfter};
 
+use crate::closing::lets_go;
 use crate::entry::Entry;
-use redo_terms::{Item, Script};
+use crate::holds::Holds;
+use redo_names::Names;
+use redo_terms::{Command, Item, Script};
+
+/// What a session does next: a line of its script, or a closing command.
+#[derive(Debug, Drop)]
+pub struct Next {
+    /// Its number, as the entry will have it.
+    pub line: u32,
+    /// The command, where it is a closing one.
+    pub closing: Option<Command>,
+}
 
 /// Whether the line is done, where guarded lines are let through or aren't.
 fn is_done(item: &Item, through: bool) -> bool
@@ -16,8 +32,9 @@ fn is_done(item: &Item, through: bool) -> bool
 
 /// From this line on, the number of the first that is done.
 fn first_done(script: &Script, through: bool, from: usize) -> Option<u32>
-    ensures { first_from through from (drop from (map item_of script.now))
+    ensures next { first_from through from (drop from (map item_of script.now))
         ≡ option_map (numbered_in (map item_of script.now)) result }
+    ensures within { IfSome result (λ line. line < length script.now) }
 {
     let items = script.items();
     let mut at = from;
@@ -30,12 +47,13 @@ fn first_done(script: &Script, through: bool, from: usize) -> Option<u32>
     None
 }
 
-/// The number of the line that a session with these entries does next, if there is one: the first
-/// after the last of them that is unguarded, or that the reply there lets through.
+/// The number of the script's line that a session with these entries does next, if there is one:
+/// the first after the last of them that is unguarded, or that the reply there lets through.
 pub fn next_line(script: &Script, entries: &[Entry]) -> Option<u32>
-    ensures { (s : ℕ) → next_of (map item_of script.now)
-        (map (line_told s (map item_of script.now)) entries.now)
+    ensures next { (s : ℕ) → next_line_of (map item_of script.now)
+        (lines_told s (map item_of script.now) entries.now)
         ≡ option_map (numbered_in (map item_of script.now)) result }
+    ensures within { IfSome result (λ line. line < length script.now) }
 {
     match entries.last() {
         None => first_done(script, true, 0),
@@ -43,13 +61,89 @@ pub fn next_line(script: &Script, entries: &[Entry]) -> Option<u32>
     }
 }
 
-/// Whether the entry is of the line that is next after these.
-pub(crate) fn is_next(script: &Script, before: &[Entry], entry: &Entry) -> bool
-    ensures { (s : ℕ) → IsTrue result
-        ↔ IsNextAfter s (map item_of script.now) before.now entry.now.line }
+/// The number of a closing command after these entries.
+fn closing_number(script: &Script, entries: &[Entry]) -> usize
+    ensures number { (s : ℕ) → closing_number (map item_of script.now)
+        (lines_told s (map item_of script.now) entries.now) ≡ result }
+    ensures past { length script.now ≤ result }
+    ensures fits { All (λ entry. entry.line < 4294967295) entries.now → result < 4294967296 }
+{
+    let lines = script.items().len();
+    match entries.last() {
+        None => lines,
+        Some(last) => lines.max(last.line as usize + 1),
+    }
+}
+
+/// What the session with these entries, whose table this is, does next, if there is anything: the
+/// next line of its script, and after these a closing command.
+pub fn next_step(names: &Names, script: &Script, entries: &[Entry], holds: &Holds) -> Option<Next>
+    requires names { length holds.now ≡ length names.now }
+    requires below { AreToldBelow (length names.now) (map item_of script.now) entries.now }
+    requires numbers { All (λ entry. entry.line < 4294967295) entries.now }
+    ensures next { (s : ℕ)
+        → Says names.now holds.now (own_lines s (map item_of script.now) entries.now)
+        → next_after names.now s (map item_of script.now) entries.now
+        ≡ option_map (numbered_by (map item_of script.now)) result }
+    ensures marked { IfSome result (λ next. IsSome next.closing
+        ↔ (length script.now ≤ next.line)) }
+    ensures below { IfSome result (λ next. IfSome next.closing (λ command.
+        IsBelow (length names.now) (command_of command))) }
+{
+    match next_line(script, entries) {
+        Some(line) => Some(Next {
+            line,
+            closing: None,
+        }),
+        None => {
+            let command = holds.closing(names, script, entries)?;
+            Some(Next {
+                line: closing_number(script, entries) as u32,
+                closing: Some(command),
+            })
+        }
+    }
+}
+
+/// Whether the entry is of the closing command that comes after the entries before it.
+fn closes(names: &Names, script: &Script, before: &[Entry], holds: &Holds, entry: &Entry) -> bool
+    requires names { length holds.now ≡ length names.now }
+    requires below { AreToldBelow (length names.now) (map item_of script.now) before.now }
+    ensures { (s : ℕ)
+        → Says names.now holds.now (own_lines s (map item_of script.now) before.now)
+        → IsTrue result
+        ↔ (option_map (closing_after (map item_of script.now)
+        (lines_told s (map item_of script.now) before.now))
+        (closing_of (by_text names.now) (own_lines s (map item_of script.now) before.now))
+        ≡ Some (numbered (line_told s (map item_of script.now) entry.now))) }
+{
+    match holds.least_held(names, script, before) {
+        Some(name) => {
+            closing_number(script, before) == entry.line as usize
+                && lets_go(script, entry, name, holds.at(name))
+        }
+        None => false,
+    }
+}
+
+/// Whether the entry is of what is next after the entries before it.
+pub(crate) fn is_next(
+    names: &Names,
+    script: &Script,
+    before: &[Entry],
+    holds: &Holds,
+    entry: &Entry,
+) -> bool
+    requires names { length holds.now ≡ length names.now }
+    requires below { AreToldBelow (length names.now) (map item_of script.now) before.now }
+    requires marked { IsMarked (map item_of script.now) entry.now }
+    ensures { (s : ℕ)
+        → Says names.now holds.now (own_lines s (map item_of script.now) before.now)
+        → IsTrue result
+        ↔ IsNextAfter names.now s (map item_of script.now) before.now entry.now }
 {
     match next_line(script, before) {
         Some(number) => number == entry.line,
-        None => false,
+        None => closes(names, script, before, holds, entry),
     }
 }

@@ -43,7 +43,7 @@ module _ {N : Type 0} {naming : Naming N} (law : IsNaming naming) where
             (there (λ d. false≢true (sym e ∙ (law.decides n m).1 d)))
       ]
 
-  holder_is : (s : ℕ) (o : Option ℕ) → not (is_held_by s o) ≡ false → o ≡ Some s
+  pub holder_is : (s : ℕ) (o : Option ℕ) → not (is_held_by s o) ≡ false → o ≡ Some s
   holder_is s None e = absurd (cc)
   holder_is s (Some h) e =
       ap Some (eqb-true h s (elim (cases_Bool (eqb h s)) [ inl f ↦ f | inr f ↦ absurd (cc) ]))

@@ -1,12 +1,13 @@
--- What a session does next: laws of `next_of`, and of journals by it.
-use Rattle.std.proofs.Common.{◌≡◌, ℕ, suc, ◌+◌, ◌-◌, ◌<◌, ◌≤◌, Bool, true, false, not, ◌||◌, cond, List, [], ◌∷◌, ◌++◌, length, map, drop, get_or, Option, Some, None, refl, sym, ap, ◌∙◌, subst, arith, append_assoc, append-nil}
-use Rattle.std.proofs.lemmas.List.{get_or-drop, length-drop, drop-map, drop-drop}
-use Rattle.std.proofs.lemmas.Option.{none-some}
-use Rattle.std.specs.List.{AllByRecursion}
+-- What a session does next: laws of `next_line_of` and of `next_of`.
+use Rattle.std.proofs.Common.{◌≡◌, ◌⊎◌, ℕ, suc, ◌+◌, ◌-◌, ◌<◌, ◌≤◌, Bool, true, false, not, ◌||◌, cond, List, [], ◌∷◌, ◌++◌, length, map, drop, get_or, Option, Some, None, refl, sym, ap, ◌∙◌, subst, arith, inl, inr}
+use Rattle.std.specs.Option.{option_or, option_map}
+use Rattle.std.proofs.lemmas.List.{get_or-drop, length-drop, drop-map, drop_all}
+use Rattle.redo_model.specs.Names.{Naming}
 use Rattle.redo_model.specs.Command.{Command, Item, Ood, commands_in}
 use Rattle.redo_model.specs.Reply.{lets_through}
-use Rattle.redo_model.specs.Placed.{PlacedLine}
-use Rattle.redo_model.specs.Journals.{Numbered, first_from, next_of, numbered, IsJournalAfter, IsWholeJournal}
+use Rattle.redo_model.specs.Placed.{PlacedLine, line_of}
+use Rattle.redo_model.specs.Closing.{closing_of}
+use Rattle.redo_model.specs.Journals.{Numbered, first_from, next_line_of, closing_number, closing_after, next_of, numbered, IsJournalAfter}
 
 module _ {N : Type 0} where
   -- a command of the script, from this number on
@@ -95,104 +96,160 @@ module _ {N : Type 0} where
   past_of_more (first ∷ second ∷ before) line = past_of_more (second ∷ before) line
 
   -- after a line
-  pub next_of_more : (script : List (Item N)) (before : List (PlacedLine N)) (line : PlacedLine N)
-      → next_of script (before ++ line ∷ [])
+  pub next_line_of_more : (script : List (Item N)) (before : List (PlacedLine N))
+      (line : PlacedLine N) → next_line_of script (before ++ line ∷ [])
       ≡ first_from (lets_through line.reply) (line.number + 1) (drop (line.number + 1) script)
-  next_of_more script [] line = refl
-  next_of_more script (first ∷ []) line = refl
-  next_of_more script (first ∷ second ∷ before) line = next_of_more script (second ∷ before) line
+  next_line_of_more script [] line = refl
+  next_line_of_more script (first ∷ []) line = refl
+  next_line_of_more script (first ∷ second ∷ before) line =
+      next_line_of_more script (second ∷ before) line
 
-  -- what is next is a command of the script, after the last line
-  pub next_from : (script : List (Item N)) (own : List (PlacedLine N)) (next : Numbered N)
-      → next_of script own ≡ Some next → IsFrom script (past_of own) next
-  next_from script [] next e = first_in true 0 script next e
-  next_from script (line ∷ []) next e =
+  -- the next line is one of the script, after the last line
+  pub next_line_from : (script : List (Item N)) (own : List (PlacedLine N)) (next : Numbered N)
+      → next_line_of script own ≡ Some next → IsFrom script (past_of own) next
+  next_line_from script [] next e = first_in true 0 script next e
+  next_line_from script (line ∷ []) next e =
       first_in (lets_through line.reply) (line.number + 1) script next e
-  next_from script (line ∷ second ∷ lines) next e = next_from script (second ∷ lines) next e
+  next_line_from script (line ∷ second ∷ lines) next e =
+      next_line_from script (second ∷ lines) next e
 
-  -- a session's next command is the one of its script at its number
-  pub next_in_script : (script : List (Item N)) (own : List (PlacedLine N)) (next : Numbered N)
-      → next_of script own ≡ Some next
-      → (get_or (commands_in script) next.number Ood ≡ next.command)
-      × (next.number < length script)
-  next_in_script script own next e =
-      let found = next_from script own next e in (found.command, found.within)
+  -- past the end of the script no line of it is next
+  none_past : (through : Bool) (here k : ℕ) (script : List (Item N)) → length script ≤ k
+      → first_from through here (drop k script) ≡ None
+  none_past through here k script past = ap (first_from through here) (drop_all k script past)
+
+  pub next_line_past : (script : List (Item N)) (own : List (PlacedLine N))
+      → length script ≤ past_of own → next_line_of script own ≡ None
+  next_line_past script [] past = none_past true 0 0 script past
+  next_line_past script (line ∷ []) past =
+      none_past (lets_through line.reply) (line.number + 1) (line.number + 1) script past
+  next_line_past script (line ∷ second ∷ lines) past = next_line_past script (second ∷ lines) past
+
+  pub closing_number_is : (script : List (Item N)) (own : List (PlacedLine N))
+      → closing_number script own ≡ length script + (past_of own - length script)
+  closing_number_is script [] = omega arith
+  closing_number_is script (line ∷ []) = refl
+  closing_number_is script (line ∷ second ∷ lines) = closing_number_is script (second ∷ lines)
 
   -- the numbers of the lines go up, from this one on
   abbrev pub GoUp : ℕ → List (PlacedLine N) → Type 0
   GoUp here [] = Unit {0}
   GoUp here (line ∷ lines) = (here ≤ line.number) × GoUp (line.number + 1) lines
 
-  module _ (s : ℕ) (script : List (Item N)) where
-    -- the lines of a journal have commands of the script, whose numbers go up
+-- a closing command: no line of the script is left, and the numbers are counted on
+pub record IsClosing {N : Type 0} (naming : Naming N) (script : List (Item N))
+    (own : List (PlacedLine N)) (next : Numbered N) : Type 0 where
+  pub ended : next_line_of script own ≡ None
+  pub closes : closing_of naming (map line_of own) ≡ Some next.command
+  pub number : next.number ≡ closing_number script own
+  pub past : length script ≤ next.number
+  pub from : past_of own ≤ next.number
+
+module _ {N : Type 0} (naming : Naming N) (script : List (Item N)) where
+  closing_case : (own : List (PlacedLine N)) (o : Option (Command N)) (next : Numbered N)
+      → next_line_of script own ≡ None → closing_of naming (map line_of own) ≡ o
+      → option_map (closing_after script own) o ≡ Some next → IsClosing naming script own next
+  closing_case own None next ended closes e = absurd (cc)
+  closing_case own (Some command) next ended closes e =
+      let same : closing_after script own command ≡ next = cc in
+      let number : next.number ≡ closing_number script own =
+      ap (λ (n : Numbered N). n.number) (sym same) in
+      let is = closing_number_is script own in
+      record {
+        ended = ended;
+        closes = closes ∙ ap (λ (n : Numbered N). Some n.command) same;
+        number = number;
+        past = omega arith;
+        from = omega arith;
+      }
+
+  by_line : (own : List (PlacedLine N)) (o : Option (Numbered N)) (next : Numbered N)
+      → next_line_of script own ≡ o
+      → option_or o (option_map (closing_after script own) (closing_of naming (map line_of own)))
+      ≡ Some next
+      → (next_line_of script own ≡ Some next) ⊎ IsClosing naming script own next
+  by_line own None next ended e =
+      inr (closing_case own (closing_of naming (map line_of own)) next ended refl e)
+  by_line own (Some found) next is e = inl (is ∙ e)
+
+  -- what is next is the next line of the script, or else a closing command
+  pub next_cases : (own : List (PlacedLine N)) (next : Numbered N)
+      → next_of naming script own ≡ Some next
+      → (next_line_of script own ≡ Some next) ⊎ IsClosing naming script own next
+  next_cases own next e = by_line own (next_line_of script own) next refl e
+
+  pub next_on_script : (own : List (PlacedLine N)) (next : Numbered N)
+      → next_of naming script own ≡ Some next → next.number < length script
+      → next_line_of script own ≡ Some next
+  next_on_script own next e below = elim (next_cases own next e) [
+    | inl is ↦ is
+    | inr closing ↦ let past = closing.past in absurd (omega arith)
+  ]
+
+  pub next_past_script : (own : List (PlacedLine N)) (next : Numbered N)
+      → next_of naming script own ≡ Some next → length script ≤ next.number
+      → IsClosing naming script own next
+  next_past_script own next e past = elim (next_cases own next e) [
+    | inl is ↦
+        let below = (next_line_from script own next is).within in absurd (omega arith)
+    | inr closing ↦ closing
+  ]
+
+  -- a line of the script comes before any closing command
+  pub next_is_line : (own : List (PlacedLine N)) (next : Numbered N)
+      → next_line_of script own ≡ Some next → next_of naming script own ≡ Some next
+  next_is_line own next e =
+      ap (λ o. option_or o (option_map (closing_after script own)
+      (closing_of naming (map line_of own)))) e
+
+  -- and a closing one comes where none is left
+  pub next_is_closing : (own : List (PlacedLine N)) → next_line_of script own ≡ None
+      → next_of naming script own
+      ≡ option_map (closing_after script own) (closing_of naming (map line_of own))
+  next_is_closing own e =
+      ap (λ o. option_or o (option_map (closing_after script own)
+      (closing_of naming (map line_of own)))) e
+
+  no_closing : (own : List (PlacedLine N)) (o : Option (Command N))
+      → option_map (closing_after script own) o ≡ None → o ≡ None
+  no_closing own None e = refl
+  no_closing own (Some command) e = absurd (cc)
+
+  none_by_line : (own : List (PlacedLine N)) (o : Option (Numbered N))
+      → next_line_of script own ≡ o
+      → option_or o (option_map (closing_after script own) (closing_of naming (map line_of own)))
+      ≡ None
+      → (next_line_of script own ≡ None) × (closing_of naming (map line_of own) ≡ None)
+  none_by_line own None is e = (is, no_closing own (closing_of naming (map line_of own)) e)
+  none_by_line own (Some found) is e = absurd (cc)
+
+  -- where nothing is next, no line is left, and nothing to let go of
+  pub next_none : (own : List (PlacedLine N)) → next_of naming script own ≡ None
+      → (next_line_of script own ≡ None) × (closing_of naming (map line_of own) ≡ None)
+  next_none own e = none_by_line own (next_line_of script own) refl e
+
+  -- what is next comes after the last line
+  pub next_from : (own : List (PlacedLine N)) (next : Numbered N)
+      → next_of naming script own ≡ Some next → past_of own ≤ next.number
+  next_from own next e = elim (next_cases own next e) [
+    | inl is ↦ (next_line_from script own next is).from
+    | inr closing ↦ closing.from
+  ]
+
+  -- a next line of the script is the one at its number
+  pub next_in_script : (own : List (PlacedLine N)) (next : Numbered N)
+      → next_of naming script own ≡ Some next → next.number < length script
+      → get_or (commands_in script) next.number Ood ≡ next.command
+  next_in_script own next e below =
+      (next_line_from script own next (next_on_script own next e below)).command
+
+  module _ (s : ℕ) where
+    -- the numbers of a journal go up
     pub journal_goes_up : (before lines : List (PlacedLine N))
-        → IsJournalAfter s script before lines → GoUp (past_of before) lines
+        → IsJournalAfter naming s script before lines → GoUp (past_of before) lines
     journal_goes_up before [] is = tt
     journal_goes_up before (line ∷ lines) is = (
-      (next_from script before (numbered line) is.1).from,
+      next_from before (numbered line) is.1,
       subst (λ here. GoUp here lines) (past_of_more before line)
           (journal_goes_up (before ++ line ∷ []) lines is.2),
     )
-
-    -- a journal has no more lines than the script
-    pub journal_fits : (before lines : List (PlacedLine N)) → IsJournalAfter s script before lines
-        → past_of before ≤ length script → past_of before + length lines ≤ length script
-    journal_fits before [] is fits = omega arith
-    journal_fits before (line ∷ lines) is fits =
-        let found = next_from script before (numbered line) is.1 in
-        let from = found.from in
-        let within = found.within in
-        let past = past_of_more before line in
-        let rest = journal_fits (before ++ line ∷ []) lines is.2 (omega arith) in
-        omega arith
-
-  abbrev pub AllUnguarded : List (Item N) → Type 0
-  AllUnguarded items = AllByRecursion (λ item. item.guarded ≡ false) items
-
-  -- the first of unguarded lines is done
-  plain_first : (through : Bool) (here : ℕ) (item : Item N) (items : List (Item N))
-      → item.guarded ≡ false → first_from through here (item ∷ items)
-      ≡ Some (record { number = here; command = item.command })
-  plain_first true here item items e = refl
-  plain_first false here item items e =
-      ap (λ (b : Bool). cond (not b) (Some (record { number = here; command = item.command }))
-      (first_from false (here + 1) items)) e
-
-  module _ (s : ℕ) (script : List (Item N)) where
-    whole_after : (through : Bool) (items : List (Item N)) (before lines : List (PlacedLine N))
-        → AllUnguarded items → drop (past_of before) script ≡ items
-        → next_of script before ≡ first_from through (past_of before) items
-        → IsJournalAfter s script before lines → next_of script (before ++ lines) ≡ None
-        → map (λ line. line.command) lines ≡ commands_in items
-    whole_after through [] before [] plain rest here is none = refl
-    whole_after through (item ∷ items) before [] plain rest here is none =
-        absurd (none-some _ (sym none ∙ ap (next_of script) (append-nil before) ∙ here
-        ∙ plain_first through (past_of before) item items plain.0))
-    whole_after through [] before (line ∷ lines) plain rest here is none =
-        absurd (none-some _ (sym here ∙ is.1))
-    whole_after through (item ∷ items) before (line ∷ lines) plain rest here is none =
-        let found : Numbered N = record { number = past_of before; command = item.command } in
-        let told : Some found ≡ Some (numbered line) =
-        sym (plain_first through (past_of before) item items plain.0) ∙ sym here ∙ is.1 in
-        let same : found ≡ numbered line = cc in
-        let number : past_of before + 1 ≡ line.number + 1 =
-        ap (λ (n : Numbered N). n.number + 1) same in
-        let past : past_of (before ++ line ∷ []) ≡ line.number + 1 = past_of_more before line in
-        let left : drop (line.number + 1) script ≡ items =
-        ap (λ n. drop n script) (sym number) ∙ sym (drop-drop 1 (past_of before) script)
-        ∙ ap (drop 1) rest in
-        let next : next_of script (before ++ line ∷ [])
-        ≡ first_from (lets_through line.reply) (past_of (before ++ line ∷ [])) items =
-        next_of_more script before line
-        ∙ (λ i. first_from (lets_through line.reply) (sym past i) (left i)) in
-        let more = whole_after (lets_through line.reply) items (before ++ line ∷ []) lines plain.1
-        (ap (λ n. drop n script) past ∙ left) next is.2
-        (ap (next_of script) (append_assoc before (line ∷ []) lines) ∙ none) in
-        let first : line.command ≡ item.command = ap (λ (n : Numbered N). n.command) (sym same) in
-        λ i. first i ∷ more i
-
-    -- where no line is guarded, a whole journal has all commands
-    pub all_done : (lines : List (PlacedLine N)) → AllUnguarded script
-        → IsWholeJournal s script lines → map (λ line. line.command) lines ≡ commands_in script
-    all_done lines plain whole =
-        whole_after true script [] lines plain refl refl whole.0 whole.1

@@ -1,14 +1,18 @@
 -- A whole journal is all that a session with its script does.
 use Rattle.std.proofs.Common.{◌≡◌, ℕ, ◌+◌, Bool, true, false, not, ◌||◌, cond, List, [], ◌∷◌, ◌++◌, map, drop, Some, None, refl, sym, ap, ◌∙◌, append_assoc, append-nil}
-use Rattle.std.proofs.lemmas.List.{drop-drop}
+use Rattle.std.proofs.lemmas.List.{drop-drop, map-append}
 use Rattle.std.proofs.lemmas.Option.{none-some}
+use Rattle.std.proofs.lemmas.Simd.{map-map}
+use Rattle.redo_model.specs.Names.{Naming}
 use Rattle.redo_model.specs.Command.{Command, Item}
-use Rattle.redo_model.specs.Reply.{Reply, Refusal, Okay, Granted, Busy, Stale, Stamped, Ood, Targets, Sources, Refused, lets_through}
-use Rattle.redo_model.specs.Placed.{PlacedLine}
-use Rattle.redo_model.specs.Journals.{Numbered, first_from, next_of, numbered, IsJournalAfter, IsWholeJournal}
+use Rattle.redo_model.specs.Reply.{Reply, Okay, Granted, Busy, Stale, Stamped, Ood, Targets, Sources, Refused, lets_through}
+use Rattle.redo_model.specs.History.{Line}
+use Rattle.redo_model.specs.Placed.{PlacedLine, line_of}
+use Rattle.redo_model.specs.Journals.{Numbered, first_from, next_line_of, numbered, IsWholeJournal}
 use Rattle.redo_model.specs.Renaming.{named_command, named_item, named_reply}
-use Rattle.redo_model.specs.Scripts.{done_by}
-use Rattle.redo_model.proofs.Nexts.{next_of_more}
+use Rattle.redo_model.specs.Scripts.{done_by, Does}
+use Rattle.redo_model.proofs.Nexts.{next_line_of_more}
+use Rattle.redo_model.proofs.Parts.{IsLined, WholeParts, whole_parts}
 
 module _ {N : Type 0} where
   abbrev found_at : ℕ → Item N → Numbered N
@@ -43,7 +47,7 @@ module _ {N : Type 0} where
         ≡ Some (numbered line)
         → (first_from through (here + 1) items ≡ Some (numbered line)
         → asked (line ∷ lines) ≡ done_by through items (replied (line ∷ lines)))
-        → (next_of script (before ++ line ∷ [])
+        → (next_line_of script (before ++ line ∷ [])
         ≡ first_from (lets_through line.reply) (here + 1) items
         → asked lines ≡ done_by (lets_through line.reply) items (replied lines))
         → asked (line ∷ lines) ≡ cond b
@@ -54,7 +58,7 @@ module _ {N : Type 0} where
         let number : here + 1 ≡ line.number + 1 = ap (λ (n : Numbered N). n.number + 1) same in
         let left : drop (line.number + 1) script ≡ items =
         ap (λ n. drop n script) (sym number) ∙ sym (drop-drop 1 here script) ∙ ap (drop 1) rest in
-        let more = done (next_of_more script before line
+        let more = done (next_line_of_more script before line
         ∙ (λ i. first_from (lets_through line.reply) (sym number i) (left i))) in
         let first : line.command ≡ item.command = ap (λ (n : Numbered N). n.command) (sym same) in
         λ i. first i ∷ more i
@@ -62,12 +66,12 @@ module _ {N : Type 0} where
 
     does_after : (through : Bool) (here : ℕ) (items : List (Item N))
         (before lines : List (PlacedLine N))
-        → drop here script ≡ items → next_of script before ≡ first_from through here items
-        → IsJournalAfter s script before lines → next_of script (before ++ lines) ≡ None
+        → drop here script ≡ items → next_line_of script before ≡ first_from through here items
+        → IsLined s script before lines → next_line_of script (before ++ lines) ≡ None
         → asked lines ≡ done_by through items (replied lines)
     does_after through here items before [] rest next is none =
         nothing_done through here items
-        (sym next ∙ ap (next_of script) (sym (append-nil before)) ∙ none)
+        (sym next ∙ ap (next_line_of script) (sym (append-nil before)) ∙ none)
     does_after through here [] before (line ∷ lines) rest next is none =
         absurd (none-some _ (sym next ∙ is.1))
     does_after through here (item ∷ items) before (line ∷ lines) rest next is none =
@@ -77,12 +81,26 @@ module _ {N : Type 0} where
         (sym next ∙ is.1)
         (λ e. does_after through (here + 1) items before (line ∷ lines) left (is.1 ∙ sym e) is none)
         (λ e. does_after (lets_through line.reply) (here + 1) items (before ++ line ∷ []) lines left
-        e is.2 (ap (next_of script) (append_assoc before (line ∷ []) lines) ∙ none))
+        e is.2 (ap (next_line_of script) (append_assoc before (line ∷ []) lines) ∙ none))
 
-    -- all that is done, as the replies come
-    pub whole_does : (lines : List (PlacedLine N)) → IsWholeJournal s script lines
-        → asked lines ≡ done_by true script (replied lines)
-    whole_does lines whole = does_after true 0 script [] lines refl refl whole.0 whole.1
+module _ {N : Type 0} (naming : Naming N) (s : ℕ) (script : List (Item N)) where
+  does_by_parts : (lines : List (PlacedLine N)) → WholeParts naming s script lines
+      → Does naming script (map line_of lines)
+  does_by_parts lines parts = record {
+    own = map line_of parts.own;
+    closing = map line_of parts.closing;
+    both = ap (map line_of) parts.both ∙ map-append line_of parts.own parts.closing;
+    done = map-map (λ (line : Line N). line.command) line_of parts.own
+        ∙ does_after s script true 0 script [] parts.own refl refl parts.lined parts.ended
+        ∙ ap (done_by true script)
+        (sym (map-map (λ (line : Line N). line.reply) line_of parts.own));
+    closes = parts.closes;
+  }
+
+  -- all that is done, as the replies come
+  pub whole_does : (lines : List (PlacedLine N)) → IsWholeJournal naming s script lines
+      → Does naming script (map line_of lines)
+  whole_does lines whole = does_by_parts lines (whole_parts naming s script lines whole)
 
 -- other names change nothing of it
 module _ {N M : Type 0} (name : N → M) where

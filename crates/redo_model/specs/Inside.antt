@@ -5,6 +5,7 @@ pub mod Placed
 pub mod Journals
 pub mod Words
 pub mod Renaming
+pub mod Room
 pub mod Worked
 pub mod Merging
 pub mod Guarded

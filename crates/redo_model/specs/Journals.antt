@@ -1,9 +1,11 @@
 -- Journals, which tell what one session did, and the histories that journals can be joined to.
-use Rattle.std.specs.Prelude.{◌≡◌, ℕ, ◌+◌, ◌<◌, Bool, true, cond, not, ◌||◌, ◌⊎◌, List, [], ◌∷◌, ◌++◌, drop, Option, Some, None}
+use Rattle.std.specs.Prelude.{◌≡◌, ℕ, ◌+◌, ◌-◌, ◌<◌, Bool, true, cond, not, ◌||◌, ◌⊎◌, List, [], ◌∷◌, ◌++◌, drop, Option, Some, None, length, map, option_map}
+use Rattle.std.specs.Option.{option_or}
 use Rattle.redo_model.specs.Names.{Naming}
 use Rattle.redo_model.specs.Command.{Command, Item}
 use Rattle.redo_model.specs.Reply.{lets_through}
-use Rattle.redo_model.specs.Placed.{PlacedLine, part_of, IsPlaced}
+use Rattle.redo_model.specs.Placed.{PlacedLine, line_of, part_of, IsPlaced}
+use Rattle.redo_model.specs.Closing.{closing_of}
 
 -- a command, and its number in the session's script
 pub record Numbered (N : Type 0) : Type 0 where
@@ -17,23 +19,42 @@ first_from through here (item ∷ items) =
     let found = Some (record { number = here; command = item.command }) in
     cond (through || not item.guarded) found (first_from through (here + 1) items)
 
--- what a session does next, by its script and its lines so far: the first line of the script after
--- the last of them that is unguarded, or that the reply there lets through
-abbrev pub next_of : {N : Type 0} → List (Item N) → List (PlacedLine N) → Option (Numbered N)
-next_of script [] = first_from true 0 script
-next_of script (line ∷ []) =
+-- the line of its script that a session does next, by its lines so far: the first after the last
+-- of them that is unguarded, or that the reply there lets through
+abbrev pub next_line_of : {N : Type 0} → List (Item N) → List (PlacedLine N) → Option (Numbered N)
+next_line_of script [] = first_from true 0 script
+next_line_of script (line ∷ []) =
     let here = line.number + 1 in first_from (lets_through line.reply) here (drop here script)
-next_of script (line ∷ lines) = next_of script lines
+next_line_of script (line ∷ lines) = next_line_of script lines
+
+-- the number of a closing command after the lines: they are counted on from those of the script
+abbrev pub closing_number : {N : Type 0} → List (Item N) → List (PlacedLine N) → ℕ
+closing_number script [] = length script
+closing_number script (line ∷ []) = length script + (line.number + 1 - length script)
+closing_number script (line ∷ lines) = closing_number script lines
+
+-- a closing command after the lines
+abbrev pub closing_after : {N : Type 0} → List (Item N) → List (PlacedLine N) → Command N
+    → Numbered N
+closing_after script own command =
+    record { number = closing_number script own; command = command }
+
+-- what a session does next: the next line of its script, or else a closing command
+abbrev pub next_of : {N : Type 0} → Naming N → List (Item N) → List (PlacedLine N)
+    → Option (Numbered N)
+next_of naming script own =
+    option_or (next_line_of script own)
+    (option_map (closing_after script own) (closing_of naming (map line_of own)))
 
 abbrev pub numbered : {N : Type 0} → PlacedLine N → Numbered N
 numbered line = record { number = line.number; command = line.command }
 
-module _ {N : Type 0} (s : ℕ) (script : List (Item N)) where
+module _ {N : Type 0} (naming : Naming N) (s : ℕ) (script : List (Item N)) where
   -- each line is the session's, with the command that it does next after the lines before it
   abbrev pub IsJournalAfter : List (PlacedLine N) → List (PlacedLine N) → Type 0
   IsJournalAfter before [] = Unit {0}
   IsJournalAfter before (line ∷ lines) =
-      (line.session ≡ s) × (next_of script before ≡ Some (numbered line))
+      (line.session ≡ s) × (next_of naming script before ≡ Some (numbered line))
       × IsJournalAfter (before ++ line ∷ []) lines
 
   -- what the session did so far
@@ -42,7 +63,7 @@ module _ {N : Type 0} (s : ℕ) (script : List (Item N)) where
 
   -- all that it does
   abbrev pub IsWholeJournal : List (PlacedLine N) → Type 0
-  IsWholeJournal lines = IsJournal lines × (next_of script lines ≡ None)
+  IsWholeJournal lines = IsJournal lines × (next_of naming script lines ≡ None)
 
 -- the sessions of the first list come no later in dictionary order
 abbrev pub NoLater : {N : Type 0} → List (PlacedLine N) → List (PlacedLine N) → Type 0

@@ -6,6 +6,7 @@ pub mod OutOfDate
 pub mod Step
 pub mod History
 pub mod Placed
+pub mod Closing
 pub mod Journals
 pub mod Scripts
 pub mod Seen

@@ -1,8 +1,10 @@
 -- What a session does with the lines of its script, over the lines of a history.
-use Rattle.std.specs.Prelude.{◌≡◌, Bool, true, cond, not, ◌||◌, List, [], ◌∷◌, map}
+use Rattle.std.specs.Prelude.{◌≡◌, Bool, true, cond, not, ◌||◌, List, [], ◌∷◌, ◌++◌, map}
+use Rattle.redo_model.specs.Names.{Naming}
 use Rattle.redo_model.specs.Command.{Command, Item}
 use Rattle.redo_model.specs.Reply.{Reply, lets_through}
 use Rattle.redo_model.specs.History.{Line}
+use Rattle.redo_model.specs.Closing.{ClosesAfter}
 
 -- the commands that are done with these items, as these replies come: an unguarded one is, and a
 -- guarded one where the reply before lets it through
@@ -15,8 +17,12 @@ done_by through (item ∷ items) (reply ∷ replies) =
     (item.command ∷ done_by (lets_through reply) items replies)
     (done_by through items (reply ∷ replies))
 
--- the lines are all that a session with this script does: they have the commands that are done with
--- their replies, once and in order
-abbrev pub Does : {N : Type 0} → List (Item N) → List (Line N) → Type 0
-Does script lines =
-    map (λ line. line.command) lines ≡ done_by true script (map (λ line. line.reply) lines)
+-- the lines are all that a session with this script does: its own commands, those that are done with
+-- their replies, once and in order; and then closing ones
+pub record Does {N : Type 0} (naming : Naming N) (script : List (Item N)) (lines : List (Line N)) :
+    Type 0 where
+  pub own : List (Line N)
+  pub closing : List (Line N)
+  pub both : lines ≡ own ++ closing
+  pub done : map (λ line. line.command) own ≡ done_by true script (map (λ line. line.reply) own)
+  pub closes : ClosesAfter naming own closing

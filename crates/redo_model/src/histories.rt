@@ -1,11 +1,12 @@
 //! Histories go on line by line, and what is refused leaves no trace in them.
 
-ghost use Rattle.std.specs.Prelude.{◌≡◌, ◌↔◌, ◌∷◌, ◌++◌, List, [], Some, ℕ};
+ghost use Rattle.std.specs.Prelude.{◌≡◌, ◌↔◌, ◌∷◌, ◌++◌, List, [], None, Some, false, ℕ};
+ghost use Rattle.redo_model.specs.Closing.{closing_of};
 ghost use Rattle.redo_model.specs.Command.{Command};
-ghost use Rattle.redo_model.specs.History.{Legal, Line, left_by};
+ghost use Rattle.redo_model.specs.History.{Legal, Line, left_by, part_of};
 ghost use Rattle.redo_model.specs.Names.{Text, texts};
-ghost use Rattle.redo_model.specs.Reply.{Refusal, Refused};
-ghost use Rattle.redo_model.specs.State.{Building, State, empty, target_state};
+ghost use Rattle.redo_model.specs.Reply.{Okay, Refusal, Refused};
+ghost use Rattle.redo_model.specs.State.{Building, State, empty, is_building, target_state};
 ghost use Rattle.redo_model.specs.Step.{Answers, after};
 
 /// The history without lines is legal.
@@ -32,4 +33,19 @@ pub fn refused_changes_nothing()
     ensures { (state : State Text) (session : ℕ) (command : Command Text) (refusal : Refusal Text)
         → Answers texts state session command (Refused refusal)
         → after texts state session command ≡ state }
+{}
+
+/// The closing command that comes after a session's lines is answered `ok`.
+pub fn closing_is_accepted()
+    ensures { (lines : List (Line Text)) (session : ℕ) (command : Command Text) → Legal texts lines
+        → closing_of texts (part_of session lines) ≡ Some command
+        → Answers texts (left_by texts empty lines) session command Okay }
+{}
+
+/// Where each session has let go of what it held, nothing is held and nothing is building.
+pub fn nothing_is_held()
+    ensures { (lines : List (Line Text)) → Legal texts lines
+        → ((session : ℕ) → closing_of texts (part_of session lines) ≡ None)
+        → (t : Text) → ((left_by texts empty lines).locks.holder t ≡ None)
+        × (is_building (target_state (left_by texts empty lines).records t) ≡ false) }
 {}

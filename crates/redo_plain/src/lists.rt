@@ -18,6 +18,17 @@ impl Plain {
         Ok(())
     }
 
+    /// The names whose lock the session holds, by their bytes.
+    pub(crate) fn held(&self, alloc: Global, session: u8) -> Result<Vec<u32>, AllocError> {
+        let mut list = Vec::new(alloc);
+        for n in 0..self.count() {
+            if self.holds(session, n) {
+                self.insert(&mut list, n)?;
+            }
+        }
+        Ok(list)
+    }
+
     /// The targets that have a file, by the bytes of their names.
     pub(crate) fn targets(&self, alloc: Global) -> Result<Vec<u32>, AllocError> {
         let mut list = Vec::new(alloc);

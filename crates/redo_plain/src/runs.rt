@@ -1,7 +1,7 @@
 //! What comes of a whole text: the run text of a session file, and the verdict on a history.
 use crate::plain::Plain;
-use crate::reader::{Fault, Reader};
-use redo_command::{Refusal, Reply};
+use crate::reader::{Asked, Fault, Reader};
+use redo_command::{Command, Refusal, Reply};
 use std::alloc::{AllocError, Global};
 
 /// Adds a word, and after it the names of these numbers.
@@ -17,6 +17,17 @@ fn put_names(
         out.extend_from_slice(plain.text(*n))?;
     }
     Ok(())
+}
+
+/// Adds the text of a refusal.
+fn put_refusal(out: &mut Vec<u8>, plain: &Plain, refusal: &Refusal) -> Result<(), AllocError> {
+    match refusal {
+        Refusal::NotLocked => put_names(out, plain, "refused not-locked", &[]),
+        Refusal::Building => put_names(out, plain, "refused building", &[]),
+        Refusal::NotBuilding => put_names(out, plain, "refused not-building", &[]),
+        Refusal::Itself => put_names(out, plain, "refused self", &[]),
+        Refusal::Exists(n) => put_names(out, plain, "refused exists", &[*n]),
+    }
 }
 
 /// The text of a reply.
@@ -40,18 +51,7 @@ fn reply_text(alloc: Global, plain: &Plain, reply: &Reply) -> Result<Vec<u8>, Al
         Reply::Ood(names) => put_names(&mut out, plain, "ood", names)?,
         Reply::Targets(names) => put_names(&mut out, plain, "targets", names)?,
         Reply::Sources(names) => put_names(&mut out, plain, "sources", names)?,
-        Reply::Refused(Refusal::NotLocked) => put_names(
-            &mut out,
-            plain,
-            "refused not-locked",
-            &[],
-        )?,
-        Reply::Refused(Refusal::Building) => put_names(&mut out, plain, "refused building", &[])?,
-        Reply::Refused(Refusal::NotBuilding) => {
-            put_names(&mut out, plain, "refused not-building", &[])?
-        }
-        Reply::Refused(Refusal::Itself) => put_names(&mut out, plain, "refused self", &[])?,
-        Reply::Refused(Refusal::Exists(n)) => put_names(&mut out, plain, "refused exists", &[*n])?,
+        Reply::Refused(refusal) => put_refusal(&mut out, plain, refusal)?,
     }
     Ok(out)
 }
@@ -65,36 +65,90 @@ fn put_line(out: &mut Vec<u8>, command: &[u8], reply: &[u8]) -> Result<(), Alloc
     Ok(())
 }
 
+/// A session as far as it has come: the lines of its history and its own, and how many they are.
+#[derive(Drop)]
+struct Run {
+    plain: Plain,
+    history: Vec<u8>,
+    done: usize,
+    own: Vec<u8>,
+    lines: usize,
+}
+
+impl Run {
+    /// Puts one of the session's own lines.
+    fn put(&mut self, command: &[u8], reply: &[u8]) -> Result<(), AllocError> {
+        self.lines = self.lines.saturating_add(1);
+        put_line(&mut self.own, command, reply)
+    }
+
+    /// Does a command of this text. Answers whether the reply stops the guarded lines after it.
+    fn call(&mut self, alloc: Global, text: &[u8], command: &Command) -> Result<bool, AllocError> {
+        let reply = self.plain.call(alloc, 0, command)?;
+        let is_stopped = matches!(reply, Reply::Busy(_) | Reply::Refused(_));
+        let reply = reply_text(alloc, &self.plain, &reply)?;
+        self.history.extend_from_slice(b"1 ")?;
+        put_line(&mut self.history, text, &reply)?;
+        self.done = self.done.saturating_add(1);
+        self.put(text, &reply)?;
+        Ok(is_stopped)
+    }
+
+    /// Does the lines of the file.
+    fn call_all(&mut self, alloc: Global, asked: &[Asked]) -> Result<(), AllocError> {
+        let mut is_stopped = false;
+        for one in asked {
+            if one.guarded {
+                self.own.extend_from_slice(b"? ")?;
+            }
+            if one.guarded && is_stopped {
+                self.put(&one.text, b"skipped")?;
+            } else {
+                is_stopped = self.call(alloc, &one.text, &one.command)?;
+            }
+        }
+        Ok(())
+    }
+
+    /// The text of a closing command.
+    fn closing(&self, alloc: Global, word: &str, t: u32) -> Result<Vec<u8>, AllocError> {
+        let mut text = Vec::new(alloc);
+        put_names(&mut text, &self.plain, word, &[t])?;
+        Ok(text)
+    }
+
+    /// Lets go of all that is held, by the bytes of the names: a build that isn't over is failed.
+    fn close(&mut self, alloc: Global) -> Result<(), AllocError> {
+        for t in &self.plain.held(alloc, 0)? {
+            if self.plain.is_building(*t) {
+                let text = self.closing(alloc, "failed", *t)?;
+                self.call(alloc, &text, &Command::Failed(*t))?;
+            }
+            let text = self.closing(alloc, "unlock", *t)?;
+            self.call(alloc, &text, &Command::Unlock(*t))?;
+        }
+        Ok(())
+    }
+}
+
 /// The run text of the session that a file holds, or the file's fault.
 pub fn run_of(alloc: Global, file: &[u8]) -> Result<Vec<u8>, Fault> {
     let mut reader = Reader::new(alloc);
     let asked = reader.session(alloc, file)?;
-    let mut plain = Plain::of(alloc, reader.names)?;
-    let mut history = Vec::new(alloc);
-    let mut own = Vec::new(alloc);
-    let mut count = 0usize;
-    let mut is_stopped = false;
-    for one in &asked {
-        if one.guarded {
-            own.extend_from_slice(b"? ")?;
-        }
-        if one.guarded && is_stopped {
-            put_line(&mut own, &one.text, b"skipped")?;
-            continue;
-        }
-        let reply = plain.call(alloc, 0, &one.command)?;
-        is_stopped = matches!(reply, Reply::Busy(_) | Reply::Refused(_));
-        let reply = reply_text(alloc, &plain, &reply)?;
-        history.extend_from_slice(b"1 ")?;
-        put_line(&mut history, &one.text, &reply)?;
-        put_line(&mut own, &one.text, &reply)?;
-        count = count.saturating_add(1);
-    }
-    let mut text = Vec::from_slice(alloc, format!(in alloc; "history {count}\n")?.as_bytes())?;
-    text.extend_from_slice(&history)?;
-    let all = asked.len();
-    text.extend_from_slice(format!(in alloc; "session 1 {all}\n")?.as_bytes())?;
-    text.extend_from_slice(&own)?;
+    let mut run = Run {
+        plain: Plain::of(alloc, reader.names)?,
+        history: Vec::new(alloc),
+        done: 0,
+        own: Vec::new(alloc),
+        lines: 0,
+    };
+    run.call_all(alloc, &asked)?;
+    run.close(alloc)?;
+    let (done, lines) = (run.done, run.lines);
+    let mut text = Vec::from_slice(alloc, format!(in alloc; "history {done}\n")?.as_bytes())?;
+    text.extend_from_slice(&run.history)?;
+    text.extend_from_slice(format!(in alloc; "session 1 {lines}\n")?.as_bytes())?;
+    text.extend_from_slice(&run.own)?;
     Ok(text)
 }
 

@@ -14,5 +14,6 @@ pub mod Replayed
 pub mod TextCuts
 pub mod Unmerged
 mod BusyCounts
+mod ToldEntries
 mod TurnsShown
 mod MergeSteps

@@ -3,7 +3,6 @@ use Rattle.std.proofs.Common.{◌≡◌, ℕ, zero, suc, ◌+◌, ◌<◌, ◌�
 use Rattle.std.proofs.Math.ListN.{set, replicate}
 use Rattle.std.proofs.lemmas.List.{get_or_default, map-append, get_or-replicate, length-replicate, get_or_past, get_or-set_same, get_or-set_other, length-map}
 use Rattle.std.proofs.Math.ListN.{length-set}
-use Rattle.std.specs.List.{AllByRecursion}
 use mathlib.Core.Logic.{dite}
 use native.Mathlib.Decide.{dec_lt}
 use Rattle.redo_model.specs.Command as commands
@@ -24,13 +23,15 @@ use Rattle.redo_journal.specs.declared.entry.Place.{Place}
 use Rattle.redo_journal.specs.declared.entry.Place.TheVariants.{Row, Granted, Busy, Released}
 use Rattle.redo_journal.specs.declared.entry.Entry.{Entry}
 use Rattle.redo_journal.specs.declared.entry.Journal.{Journal}
+use Rattle.redo_journal.proofs.Closings.{TellsBelow}
 use Rattle.redo_replay.specs.declared.merging.turning.Turns.{Turns}
 use Rattle.redo_journal.specs.Plans.{PlanOf, IsPlan, scripts_of, script_of}
-use Rattle.redo_journal.specs.Journals.{place_of, command_told, journals_of, AreJournals}
+use Rattle.redo_journal.specs.Journals.{place_of, command_told, naming_of, journals_of, AreJournals, entries_of}
 use Rattle.redo_replay.specs.Merges.{by_number, AreMerged}
 use Rattle.redo_replay.specs.Inside.Merges.{HaveNoOrder}
-use Rattle.redo_replay.specs.Inside.Merging.{entries_of, tally, busy_one, busy_below, none, Turned, Tells, AllFit, OneMisfits, IsWithin, AreWithin, IsLeast, MayTake, AreOfScript, NoneMayCome}
-use Rattle.redo_replay.proofs.Unmerged.{entries_at, entries_past, left, left_less, told_is, lines_of, session_is, script_at}
+use Rattle.redo_replay.specs.Inside.Merging.{tally, busy_one, busy_in, busy_below, none, Turned, Tells, AllFit, OneMisfits, IsWithin, AreWithin, IsLeast, MayTake, NoneMayCome}
+use Rattle.redo_replay.proofs.Unmerged.{entries_at, entries_past, left, left_less, told_is, journal_is, session_is, script_at}
+use Rattle.redo_replay.proofs.ToldEntries.{told_below, busy_few}
 use Rattle.redo_replay.proofs.TurnsShown.{numbers_are_names, ticketed, shown, told_at, rests, left_entries, shown_after, may_here, can_back, takes_here, counts_step, no_rest, some_rest, below_same, map_in}
 
 -- how far the merge has come
@@ -64,16 +65,25 @@ within_of names (Granted t g) c reply fits below = (subst (IsBelow names) fits.0
 within_of names (Busy t g) c reply fits below = (subst (IsBelow names) fits.0 below).0
 within_of names (Released t g) c reply fits below = (subst (IsBelow names) fits.0 below).0
 
-below_at : (n : ℕ) (script : List (commands.Item ℕ)) (i : ℕ) → i < length script
-    → AllByRecursion (λ item. IsBelow n item.command) script
-    → IsBelow n (get_or (commands.commands_in script) i commands.Ood)
-below_at n [] i h all = absurd (omega arith)
-below_at n (x ∷ xs) zero h all = all.0
-below_at n (x ∷ xs) (suc i) h all = below_at n xs i (omega arith) all.1
+below_at : (n : ℕ) (script : List (commands.Item ℕ)) (entries : List Entry) (k : ℕ)
+    → k < length entries → TellsBelow n script entries
+    → IsBelow n (command_told script (get_or entries k none))
+below_at n script [] k h all = absurd (omega arith)
+below_at n script (e ∷ es) zero h all = all.0
+below_at n script (e ∷ es) (suc k) h all = below_at n script es k (omega arith) all.1
 
 module _ (plan : PlanOf) (js : List Journal) (are : AreJournals plan js) where
   told_at_is : (s : ℕ) → journals_of plan js s ≡ map (told_at plan js s) (entries_of js s)
   told_at_is = told_is plan js are
+
+  -- of each grant a journal has few busy answers
+  pub few_busy : IsPlan plan → AllFit plan.scripts js → (t g s : ℕ)
+      → busy_in t g (entries_of js s) ≤ 4096
+  few_busy is fit t g s =
+      let few = busy_few (naming_of plan) s (script_of plan s) t g (entries_of js s)
+      (journal_is plan js are s) (fit s) in
+      let short = is.short s in
+      omega arith
 
   pub all_within : IsPlan plan → AllFit plan.scripts js → (s : ℕ)
       → AreWithin (length plan.names) (entries_of js s)
@@ -81,8 +91,9 @@ module _ (plan : PlanOf) (js : List Journal) (are : AreJournals plan js) where
       let e = get_or (entries_of js s) k none in
       within_of (length plan.names) e.place (command_told (script_of plan s) e) (reply_of e.reply)
       (fit s k h)
-      (below_at (length plan.names) (script_of plan s) e.line
-      (lines_of plan js are s k h) (is.below s))
+      (below_at (length plan.names) (script_of plan s) (entries_of js s) k h
+      (told_below (naming_of plan) s (script_of plan s) (length plan.names) (is.below s)
+      (entries_of js s) (journal_is plan js are s)))
 
   they_fit : AllFit plan.scripts js → (s : ℕ) (l : PlacedLine ℕ) → In l (journals_of plan js s)
       → Fits l.place l.command l.reply
@@ -196,11 +207,9 @@ module _ (plan : PlanOf) (js : List Journal) (are : AreJournals plan js) where
     in_next : s < length next
     in_next = let a = m.sized in let b = least.below in omega arith
 
-    pub can_take : IsPlan plan → AllFit plan.scripts js
-        → MayTake w counts (script_of plan s) (entries_of js s) at
+    pub can_take : IsPlan plan → AllFit plan.scripts js → MayTake w counts (entries_of js s) at
     can_take is fit = record {
       more = least.may.more;
-      line = lines_of plan js are s at least.may.more;
       within =
           subst (λ (n : ℕ). IsWithin n entry.place) (sym m.wide)
           (all_within is fit s at least.may.more);
@@ -253,13 +262,6 @@ module _ (plan : PlanOf) (js : List Journal) (are : AreJournals plan js) where
 module _ (plan : PlanOf) (js : List Journal) (are : AreJournals plan js)
     (scripts : List (List Item))
     (same : scripts_of scripts ≡ plan.scripts) where
-  pub lines_lent : (s : ℕ) → AreOfScript (get_or (scripts_of scripts) s []) (entries_of js s)
-  lines_lent s =
-      subst
-      (λ (all : List (List (commands.Item ℕ))). AreOfScript (get_or all s [])
-      (entries_of js s))
-      (sym same) (lines_of plan js are s)
-
   pub fit_lent : AllFit (scripts_of scripts) js → AllFit plan.scripts js
   fit_lent = subst (λ (all : List (List (commands.Item ℕ))). AllFit all js) same
 
@@ -268,29 +270,29 @@ module _ (plan : PlanOf) (js : List Journal) (are : AreJournals plan js)
       misfit_none plan js are
       (subst (λ (all : List (List (commands.Item ℕ))). OneMisfits all js) same bad)
 
-  script_lent : (s : ℕ) (d cs : List Item) → s < length js → d ≡ get_or scripts s d → cs ≡ d
-      → script_of plan s ≡ map item_of cs
-  script_lent s d cs below d-is cs-is =
+  script_lent : (s : ℕ) (d : List Item) → s < length js → d ≡ get_or scripts s d
+      → script_of plan s ≡ map item_of d
+  script_lent s d below d-is =
       let a = ap length same in
       let b = length-map scripts (λ (script : List Item). map item_of script) in
       let c = are.one_each in
       ap (λ (all : List (List (commands.Item ℕ))). get_or all s []) (sym same)
-      ∙ script_at scripts s d (omega arith) ∙ ap (map item_of) (sym d-is ∙ sym cs-is)
+      ∙ script_at scripts s d (omega arith) ∙ ap (map item_of) (sym d-is)
 
   -- one step, for the values that the loop has at hand: next as a slice, the script of s that was
-  -- lent, with its commands, the journal of s and the place in it
+  -- lent, the journal of s and the place in it
   module _ {S : Type 0} (w : Turns) (counts : HashMap (ℕ × ℕ) ℕ S) (next : List ℕ)
       (lines : List Line)
       (m : Merging plan js w counts next lines)
       (ns : List ℕ) (ns-is : ns ≡ next) (s : ℕ) (least_at : IsLeast w counts js ns s)
       (script : List Item) (script-is : script ≡ get_or scripts s script)
-      (cs : List Item) (cs-is : cs ≡ script) (d : Journal) (d-is : d ≡ get_or js s d)
+      (d : Journal) (d-is : d ≡ get_or js s d)
       (k : ℕ) (k-is : k ≡ get_or next s k) where
     least : IsLeast w counts js next s
     least = subst (λ (others : List ℕ). IsLeast w counts js others s) ns-is least_at
 
-    commands-are : script_of plan s ≡ map item_of cs
-    commands-are = script_lent s script cs least.below script-is cs-is
+    commands-are : script_of plan s ≡ map item_of script
+    commands-are = script_lent s script least.below script-is
 
     items-are : entries_of js s ≡ d.entries.items
     items-are =
@@ -312,12 +314,11 @@ module _ (plan : PlanOf) (js : List Journal) (are : AreJournals plan js)
         ∙ session_is plan js are s d (let a = least.may.more in omega arith)
 
     pub take_lent : IsPlan plan → AllFit (scripts_of scripts) js
-        → MayTake w counts (map item_of cs) d.entries.items k
+        → MayTake w counts d.entries.items k
     take_lent is fit =
-        subst (λ commands. MayTake w counts commands d.entries.items k) commands-are
-        (subst (λ items. MayTake w counts (script_of plan s) items k) items-are
-        (subst (MayTake w counts (script_of plan s) (entries_of js s)) place-is
-        (can_take plan js are w counts next lines m s least is (fit_lent fit))))
+        subst (λ items. MayTake w counts items k) items-are
+        (subst (MayTake w counts (entries_of js s)) place-is
+        (can_take plan js are w counts next lines m s least is (fit_lent fit)))
 
     pub less_lent :
         left (λ i. get_or (set next s (k + 1)) i 0) js < left (λ i. get_or next i 0) js
@@ -332,11 +333,12 @@ module _ (plan : PlanOf) (js : List Journal) (are : AreJournals plan js)
         → ((t g : ℕ)
         → tally counts2 t g + busy_one t g (get_or d.entries.items k none).place
         ≡ tally counts t g)
-        → Tells lines lines2 d.session (map item_of cs) (get_or d.entries.items k none)
+        → Tells lines lines2 d.session (map item_of script) (get_or d.entries.items k none)
         → Merging plan js w2 counts2 (set next s (k + 1)) lines2
     merging_lent w2 counts2 lines2 turned taken told =
         let told_here =
-        subst (λ (u : ℕ). Tells lines lines2 u (map item_of cs) (get_or d.entries.items k none))
+        subst
+        (λ (u : ℕ). Tells lines lines2 u (map item_of script) (get_or d.entries.items k none))
         its-session told in
         let told_of =
         subst (λ commands. Tells lines lines2 s commands (get_or d.entries.items k none))

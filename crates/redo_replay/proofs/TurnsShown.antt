@@ -1,11 +1,10 @@
 -- The merge's values, seen as lines with tickets.
-use Rattle.std.proofs.Common.{◌≡◌, ◌≢◌, ◌↔◌, ℕ, zero, suc, ◌+◌, ◌*◌, ◌<◌, ◌≤◌, ◌&&◌, eqb, true, false, List, [], ◌∷◌, Option, Some, None, refl, sym, ap, ◌∙◌, subst, inl, inr, arith, length, get_or, drop, map, eq-eqb, eqb-true, nat_cmp}
+use Rattle.std.proofs.Common.{◌≡◌, ◌≢◌, ◌↔◌, ℕ, zero, suc, ◌+◌, ◌*◌, ◌<◌, ◌≤◌, ◌&&◌, eqb, true, List, [], ◌∷◌, Option, Some, None, refl, sym, ap, ◌∙◌, subst, inl, inr, arith, length, get_or, drop, map, eq-eqb, eqb-true, nat_cmp}
 use Rattle.std.proofs.Math.ListN.{set}
 use Rattle.std.specs.Cmp.{tied_itself, nat_cmp_total}
 use Rattle.std.specs.HashMap.{HashMap}
 use Rattle.std.proofs.lemmas.Bool.{cases_Bool, false≢true}
 use Rattle.std.proofs.lemmas.List.{drop_more, get_or-set_same, get_or-set_other}
-use Rattle.std.proofs.lemmas.List.Sums.{sum_by-cons}
 use mathlib.Core.Logic.{dite}
 use native.Mathlib.Decide.{ℕ_discrete, dec_lt}
 use Rattle.redo_model.specs.Names.{numbers}
@@ -23,11 +22,11 @@ use Rattle.redo_journal.specs.declared.entry.Entry.{Entry}
 use Rattle.redo_journal.specs.declared.entry.Journal.{Journal}
 use Rattle.redo_replay.specs.declared.merging.turning.Turns.{Turns}
 use Rattle.redo_journal.specs.Plans.{PlanOf, script_of}
-use Rattle.redo_journal.specs.Journals.{place_of, line_told}
-use Rattle.redo_replay.specs.Inside.Merging.{entries_of, is_busy, busy_one, busy_in, busy_below, none, tally, IsFree, Turned, SessionMayCome}
+use Rattle.redo_journal.specs.Journals.{place_of, line_told, entries_of}
+use Rattle.redo_replay.specs.Inside.Merging.{is_busy, busy_one, busy_in, busy_below, none, tally, IsFree, Turned, SessionMayCome}
 use Rattle.redo_replay.specs.Inside.Merging as merging
 use Rattle.redo_replay.proofs.Unmerged.{entries_past}
-use Rattle.redo_replay.proofs.BusyCounts.{and_true}
+use Rattle.redo_replay.proofs.BusyCounts.{and_true, busy_in-cons}
 
 pub numbers_are_names : IsNaming (numbers nat_cmp)
 numbers_are_names = record {
@@ -105,10 +104,6 @@ busy_ticket (Busy u v) t g h = let both = and_true (eqb u t) (eqb v g) h in
     let b = eqb-true v g both.1 in
     (ap Some a, (let x : 2 * v + 1 ≡ 2 * g + 1 = omega arith in x), refl)
 busy_ticket (Released u v) t g h = absurd (false≢true h)
-
-busy_in-cons : (t g : ℕ) (x : Entry) (xs : List Entry)
-    → busy_in t g (x ∷ xs) ≡ busy_one t g x.place + busy_in t g xs
-busy_in-cons t g x xs = sum_by-cons (λ (e : Entry). one_if (is_busy t g e.place)) x xs
 
 in_some : (e : Entry) (xs : List Entry) (t g : ℕ) → In e xs → is_busy t g e.place ≡ true
     → 0 < busy_in t g xs

@@ -1,22 +1,20 @@
 -- The entries of journals, the lines that they tell, and how many are left.
-use Rattle.std.proofs.Common.{◌≡◌, ◌≢◌, ℕ, zero, suc, ◌+◌, ◌-◌, ◌<◌, ◌≤◌, List, [], ◌∷◌, ◌++◌, Option, Some, None, refl, sym, ap, ◌∙◌, subst, arith, length, get_or, map, slice_get}
+use Rattle.std.proofs.Common.{◌≡◌, ◌≢◌, ℕ, zero, suc, ◌+◌, ◌-◌, ◌<◌, ◌≤◌, List, [], ◌∷◌, refl, sym, ap, ◌∙◌, subst, arith, length, get_or, map, slice_get}
 use Rattle.std.specs.Option.{option_map, unwrap_or}
-use Rattle.std.proofs.lemmas.List.{get_or_default, length-map}
-use lib.ListN.{get_or-map}
+use Rattle.std.proofs.lemmas.List.{get_or_default}
 use mathlib.Core.Logic.{dite}
 use native.Mathlib.Decide.{ℕ_discrete}
+use Rattle.redo_model.specs.Names.{Naming}
 use Rattle.redo_model.specs.Command as commands
-use Rattle.redo_model.specs.Placed.{PlacedLine, Fits}
-use Rattle.redo_model.specs.Journals.{IsJournal, IsJournalAfter}
-use Rattle.redo_model.proofs.Nexts.{past_of, next_in_script, journal_fits}
+use Rattle.redo_model.specs.Placed.{PlacedLine}
+use Rattle.redo_model.specs.Journals.{IsJournal}
 use Rattle.redo_terms.specs.declared.script.Item.{Item}
-use Rattle.redo_terms.specs.Meaning.{command_of, reply_of}
 use Rattle.redo_terms.specs.Inside.Meaning.{item_of}
 use Rattle.redo_journal.specs.declared.entry.Entry.{Entry}
 use Rattle.redo_journal.specs.declared.entry.Journal.{Journal}
 use Rattle.redo_journal.specs.Plans.{PlanOf, scripts_of, script_of}
-use Rattle.redo_journal.specs.Journals.{place_of, line_told, told_by, journals_of, AreJournals}
-use Rattle.redo_replay.specs.Inside.Merging.{entries_of, AreOfScript, FitsScript, FitsAt, MisfitsAt, none}
+use Rattle.redo_journal.specs.Journals.{lines_told, told_by, journals_of, naming_of, AreJournals, entries_of}
+use Rattle.redo_replay.specs.Inside.Merging.{FitsScript, FitsAt, MisfitsAt, none}
 
 -- the entries of a journal that is there
 pub entries_at : (js : List Journal) (s : ℕ) (d : Journal) → s < length js
@@ -69,55 +67,22 @@ script_at [] s d h = absurd (omega arith)
 script_at (x ∷ xs) zero d h = refl
 script_at (x ∷ xs) (suc s) d h = script_at xs s d (omega arith)
 
--- the command of an item that is there
-pub command_here : (items : List Item) (i : ℕ) (d : Item) → i < length items
-    → get_or (commands.commands_in (map item_of items)) i commands.Ood
-    ≡ command_of (get_or items i d).command
-command_here items i d h =
-    get_or_default (commands.commands_in (map item_of items)) i commands.Ood
-    (command_of d.command) (let a = length-map items item_of in
-    let b = length-map (map item_of items) (λ (item : commands.Item ℕ). item.command) in
-    omega arith)
-    ∙ get_or-map (λ (item : commands.Item ℕ). item.command) (map item_of items) i (item_of d)
-    ∙ ap (λ (item : commands.Item ℕ). item.command) (get_or-map item_of items i d)
-
 -- what is read by an index is what stands there
-module _ (items : List Item) (entries : List Entry) (k : ℕ) (e : Entry) (d : Item)
+module _ (script : List (commands.Item ℕ)) (entries : List Entry) (k : ℕ) (e : Entry)
     (below : k < length entries) (is : e ≡ get_or entries k e) where
   entry_is : e ≡ get_or entries k none
   entry_is = is ∙ get_or_default entries k e none below
 
-  pub fits_here : e.line < length items
-      → Fits (place_of e.place) (command_of (get_or items e.line d).command) (reply_of e.reply)
-      → FitsScript (map item_of items) (get_or entries k none)
-  fits_here line h =
-      let told = command_here items e.line d line in
-      subst (FitsScript (map item_of items)) entry_is
-      (subst (λ c. Fits (place_of e.place) c (reply_of e.reply)) (sym told) h)
+  pub fits_here : FitsScript script e → FitsScript script (get_or entries k none)
+  fits_here = subst (FitsScript script) entry_is
 
-  pub fits_there : e.line < length items → FitsScript (map item_of items) (get_or entries k none)
-      → Fits (place_of e.place) (command_of (get_or items e.line d).command) (reply_of e.reply)
-  fits_there line h =
-      let told = command_here items e.line d line in
-      subst (λ c. Fits (place_of e.place) c (reply_of e.reply)) told
-      (subst (FitsScript (map item_of items)) (sym entry_is) h)
-
-  pub line_here : AreOfScript (map item_of items) entries → e.line < length items
-  line_here h =
-      let a =
-      subst (λ (x : Entry). x.line < length (map item_of items)) (sym entry_is) (h k below) in
-      let b = length-map items item_of in
-      omega arith
+  pub fits_there : FitsScript script (get_or entries k none) → FitsScript script e
+  fits_there = subst (FitsScript script) (sym entry_is)
 
 -- what is found of one journal, of the journals
 module _ (scripts : List (List Item)) (js : List Journal) (s : ℕ) (items : List Entry)
     (lines : List Item) (here : entries_of js s ≡ items)
     (script : get_or (scripts_of scripts) s [] ≡ map item_of lines) where
-  pub of_script : AreOfScript (get_or (scripts_of scripts) s []) (entries_of js s)
-      → AreOfScript (map item_of lines) items
-  of_script h = subst (AreOfScript (map item_of lines)) here
-      (subst (λ cs. AreOfScript cs (entries_of js s)) script h)
-
   pub fits_back : ((k : ℕ) → FitsAt (map item_of lines) items k)
       → (k : ℕ) → FitsAt (get_or (scripts_of scripts) s []) (entries_of js s) k
   fits_back h k = subst (λ xs. FitsAt (get_or (scripts_of scripts) s []) xs k) (sym here)
@@ -129,78 +94,47 @@ module _ (scripts : List (List Item)) (js : List Journal) (s : ℕ) (items : Lis
       (subst (λ cs. MisfitsAt cs items k) (sym script) h)
 
 -- the entries of a session's journal
-module _ (s : ℕ) (script : List (commands.Item ℕ)) (session : ℕ) where
-  session_of : (entries : List Entry) → IsJournal s script (map (line_told session script) entries)
+module _ (naming : Naming ℕ) (s : ℕ) (script : List (commands.Item ℕ)) (session : ℕ) where
+  session_of : (entries : List Entry)
+      → IsJournal naming s script (lines_told session script entries)
       → 0 < length entries → session ≡ s
   session_of [] h more = absurd (omega arith)
   session_of (e ∷ es) h more = h.0
 
-  told_same : (entries : List Entry) → IsJournal s script (map (line_told session script) entries)
-      → map (line_told session script) entries ≡ map (line_told s script) entries
+  told_same : (entries : List Entry)
+      → IsJournal naming s script (lines_told session script entries)
+      → lines_told session script entries ≡ lines_told s script entries
   told_same [] h = refl
-  told_same (e ∷ es) h = ap (λ (u : ℕ). map (line_told u script) (e ∷ es)) h.0
-
-  lines_below : (before : List (PlacedLine ℕ)) (entries : List Entry)
-      → IsJournalAfter s script before (map (line_told session script) entries)
-      → AreOfScript script entries
-  lines_below before [] h k more = absurd (omega arith)
-  lines_below before (e ∷ es) h zero more = (next_in_script script before _ h.1).1
-  lines_below before (e ∷ es) h (suc k) more =
-      lines_below (before ++ line_told session script e ∷ []) es h.2 k (omega arith)
-
-  few_entries : (before : List (PlacedLine ℕ)) (entries : List Entry)
-      → IsJournalAfter s script before (map (line_told session script) entries)
-      → past_of before ≤ length script → past_of before + length entries ≤ length script
-  few_entries before entries h fits =
-      let a = journal_fits s script before (map (line_told session script) entries) h fits in
-      let b = length-map entries (line_told session script) in
-      omega arith
+  told_same (e ∷ es) h = ap (λ (u : ℕ). lines_told u script (e ∷ es)) h.0
 
 -- the journal at k, where it is that of session s
-module _ (script : List (commands.Item ℕ)) (s : ℕ) where
+module _ (naming : Naming ℕ) (script : List (commands.Item ℕ)) (s : ℕ) where
   abbrev told_at : List Journal → ℕ → List (PlacedLine ℕ)
   told_at js k = unwrap_or (option_map (told_by script) (slice_get js k)) []
 
-  told_is_at : (js : List Journal) (k : ℕ)
-      → IsJournal s script (told_at js k)
-      → told_at js k ≡ map (line_told s script) (entries_of js k)
+  told_is_at : (js : List Journal) (k : ℕ) → IsJournal naming s script (told_at js k)
+      → told_at js k ≡ lines_told s script (entries_of js k)
   told_is_at [] k h = refl
-  told_is_at (j ∷ js) zero h = told_same s script j.session j.entries.items h
+  told_is_at (j ∷ js) zero h = told_same naming s script j.session j.entries.items h
   told_is_at (j ∷ js) (suc k) h = told_is_at js k h
 
-  lines_at : (js : List Journal) (k : ℕ)
-      → IsJournal s script (told_at js k)
-      → AreOfScript script (entries_of js k)
-  lines_at [] k h = λ i more. absurd (omega arith)
-  lines_at (j ∷ js) zero h = lines_below s script j.session [] j.entries.items h
-  lines_at (j ∷ js) (suc k) h = lines_at js k h
-
-  few_at : (js : List Journal) (k : ℕ)
-      → IsJournal s script (told_at js k)
-      → length (entries_of js k) ≤ length script
-  few_at [] k h = omega arith
-  few_at (j ∷ js) zero h =
-      let a = few_entries s script j.session [] j.entries.items h (omega arith) in
-      omega arith
-  few_at (j ∷ js) (suc k) h = few_at js k h
-
   session_at : (js : List Journal) (k : ℕ) (d : Journal)
-      → IsJournal s script (told_at js k)
+      → IsJournal naming s script (told_at js k)
       → 0 < length (entries_of js k) → (get_or js k d).session ≡ s
   session_at [] k d h more = absurd (omega arith)
-  session_at (j ∷ js) zero d h more = session_of s script j.session j.entries.items h more
+  session_at (j ∷ js) zero d h more =
+      session_of naming s script j.session j.entries.items h more
   session_at (j ∷ js) (suc k) d h more = session_at js k d h more
 
 module _ (plan : PlanOf) (js : List Journal) (are : AreJournals plan js) (s : ℕ) where
-  pub told_is : journals_of plan js s ≡ map (line_told s (script_of plan s)) (entries_of js s)
-  told_is = told_is_at (script_of plan s) s js s (are.each s)
+  pub told_is : journals_of plan js s ≡ lines_told s (script_of plan s) (entries_of js s)
+  told_is = told_is_at (naming_of plan) (script_of plan s) s js s (are.each s)
 
-  -- each entry is of a command of its script
-  pub lines_of : AreOfScript (script_of plan s) (entries_of js s)
-  lines_of = lines_at (script_of plan s) s js s (are.each s)
-
-  pub few_of : length (entries_of js s) ≤ length (script_of plan s)
-  few_of = few_at (script_of plan s) s js s (are.each s)
+  -- the entries are those of the session's journal
+  pub journal_is :
+      IsJournal (naming_of plan) s (script_of plan s)
+      (lines_told s (script_of plan s) (entries_of js s))
+  journal_is = subst (IsJournal (naming_of plan) s (script_of plan s)) told_is (are.each s)
 
   pub session_is : (d : Journal) → 0 < length (entries_of js s) → (get_or js s d).session ≡ s
-  session_is d more = session_at (script_of plan s) s js s d (are.each s) more
+  session_is d more = session_at (naming_of plan) (script_of plan s) s js s d (are.each s) more

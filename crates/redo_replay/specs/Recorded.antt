@@ -2,7 +2,6 @@
 use Rattle.std.specs.Prelude.{List, length}
 use Rattle.std.specs.List.{AllByRecursion}
 use Rattle.redo_model.specs.Names.{Text}
-use Rattle.redo_model.specs.History.{Line}
 use Rattle.redo_model.specs.Renaming.{IsLineBelow}
 use Rattle.redo_terms.specs.Meaning.{line_of}
 use Rattle.redo_terms.specs.declared.reply.Line as coded

@@ -4,10 +4,10 @@ ghost use Rattle.std.specs.Prelude.{◌≡◌, ◌↔◌, ℕ, ◌<◌, ◌≤�
 ghost use Rattle.redo_terms.specs.Meaning.{line_of};
 ghost use Rattle.redo_terms.specs.Inside.Meaning.{item_of};
 ghost use Rattle.redo_model.specs.Placed as placed;
-ghost use Rattle.redo_journal.specs.Journals.{AreJournals, line_told};
+ghost use Rattle.redo_journal.specs.Journals.{AreJournals, line_told, entries_of};
 ghost use Rattle.redo_replay.specs.Merges.{AreMerged};
 ghost use Rattle.redo_replay.specs.Inside.Merges.{HaveNoOrder};
-ghost use Rattle.redo_replay.specs.Inside.Merging.{entries_of, none, AreWithin, IsLeast, MayCome, MayTake, NoneMayCome, Tells, Turned, Uncounted};
+ghost use Rattle.redo_replay.specs.Inside.Merging.{none, AreWithin, IsLeast, MayCome, MayTake, NoneMayCome, Tells, Turned, Uncounted};
 
 mod counts;
 mod fitting;
@@ -15,7 +15,7 @@ mod turning;
 
 use counts::{Counts, busy_answers, is_free, take};
 use fitting::all_fit;
-use redo_command::{Item, Line};
+use redo_command::{Command, Line, Script};
 use redo_journal::{Entry, Journal, Plan};
 use std::alloc::{AllocError, Global};
 use turning::{Turns, comes, turn};
@@ -68,12 +68,15 @@ fn is_done(journals: &[Journal], next: &[usize]) -> bool
 }
 
 /// The line that the entry tells of its session.
-fn told(alloc: Global, session: u8, items: &[Item], entry: &Entry) -> Result<Line, AllocError>
-    requires { entry.now.line < length items.now }
+fn told(alloc: Global, session: u8, script: &Script, entry: &Entry) -> Result<Line, AllocError>
     ensures { IfOk result (λ line. line_of line
-        ≡ placed.line_of (line_told session (map item_of items.now) entry.now)) }
+        ≡ placed.line_of (line_told session (map item_of script.now) entry.now)) }
 {
-    let command = items[entry.line as usize].command.copy(alloc)?;
+    let command = match entry.command(script) {
+        Some(command) => command.copy(alloc)?,
+        // No entry of a journal is without a command.
+        None => Command::Ood,
+    };
     let reply = entry.reply.copy(alloc)?;
     Ok(Line {
         session,
@@ -85,25 +88,24 @@ fn told(alloc: Global, session: u8, items: &[Item], entry: &Entry) -> Result<Lin
 /// Takes the entry at k: its line is told, and its place counted. Answers where the next one is.
 fn take_entry(
     alloc: Global,
-    items: &[Item],
+    script: &Script,
     journal: &Journal,
     k: usize,
     turns: &mut Turns,
     counts: &mut Counts,
     lines: &mut Vec<Line>,
 ) -> Result<usize, AllocError>
-    requires { MayTake turns.old counts.old (map item_of items.now)
-        journal.now.entries.items k }
+    requires { MayTake turns.old counts.old journal.now.entries.items k }
     ensures next { IfOk result (λ next. next ≡ k + 1) }
     ensures turned { OnOk result
         (Turned turns.old turns.new (slice_index_or journal.now.entries.items k none).place) }
     ensures taken { OnOk result
         (Uncounted counts.old counts.new (slice_index_or journal.now.entries.items k none).place) }
     ensures told { OnOk result (Tells lines.old.items lines.new.items journal.now.session
-        (map item_of items.now) (slice_index_or journal.now.entries.items k none)) }
+        (map item_of script.now) (slice_index_or journal.now.entries.items k none)) }
 {
     let entry = &journal.entries[k];
-    lines.push(told(alloc, journal.session, items, entry)?)?;
+    lines.push(told(alloc, journal.session, script, entry)?)?;
     turn(turns, entry.place);
     take(counts, entry.place);
     Ok(k + 1)
@@ -131,11 +133,10 @@ pub fn merge(
     let mut next: Vec<usize> = vec![in alloc; 0; journals.len()]?;
     let mut lines: Vec<Line> = Vec::new(alloc);
     'merging: while let Some(s) = least(&turns, &counts, journals, &next) {
-        let items = scripts[s].items();
         let k = next[s];
         next[s] = take_entry(
             alloc,
-            items,
+            &scripts[s],
             &journals[s],
             k,
             &mut turns,

@@ -18,10 +18,10 @@ one_in (suc n) t less = dite (ℕ_discrete t n)
     (λ same. let one = ap bit (eq-eqb t n same) in omega arith)
     (λ other. let before = one_in n t (omega arith) in omega arith)
 
-total_few : (n : ℕ) (f : ℕ → ℕ) → ((s : ℕ) → s < n → f s ≤ 4096) → total n f ≤ n * 4096
-total_few zero f few = omega arith
-total_few (suc n) f few =
-    let before = total_few n f (λ s less. few s (omega arith)) in
+total_few : (most n : ℕ) (f : ℕ → ℕ) → ((s : ℕ) → s < n → f s ≤ most) → total n f ≤ n * most
+total_few most zero f few = omega arith
+total_few most (suc n) f few =
+    let before = total_few most n f (λ s less. few s (omega arith)) in
     let here = few n (omega arith) in
     omega arith
 
@@ -73,11 +73,11 @@ module _ {N : Type 0} where
       let one = one_in n line.session below.0 in
       omega arith
 
-  -- n sessions, each of at most 4,096 lines
-  pub length_by_part : (n : ℕ) (lines : List (Line N))
+  -- n sessions, each of at most so many lines
+  pub length_by_part : (most n : ℕ) (lines : List (Line N))
       → AllByRecursion (λ line. line.session < n) lines
-      → ((s : ℕ) → s < n → length (part_of s lines) ≤ 4096) → length lines ≤ n * 4096
-  length_by_part n lines below few =
+      → ((s : ℕ) → s < n → length (part_of s lines) ≤ most) → length lines ≤ n * most
+  length_by_part most n lines below few =
       let a = few_lines n lines below in
-      let b = total_few n (counts lines) few in
+      let b = total_few most n (counts lines) few in
       omega arith

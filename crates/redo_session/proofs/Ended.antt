@@ -1,27 +1,15 @@
--- Sessions at work: how far one is, and what two ranges that meet have done.
-use Rattle.std.proofs.Common.{◌≡◌, ℕ, ◌+◌, ◌-◌, ◌<◌, [], ◌∷◌, length, refl, sym, ap, ◌∙◌, subst, arith}
-use Rattle.redo_model.specs.Journals.{next_of, numbered}
-use Rattle.redo_model.proofs.Nexts.{past_of, past_of_more, next_from}
+-- A worker at its end has done all that its session does.
+use Rattle.std.proofs.Common.{◌≡◌, ℕ, ◌+◌, [], ◌∷◌, refl, sym, ap, ◌∙◌, subst}
+use Rattle.redo_model.specs.Journals.{next_of}
 use Rattle.redo_journal.specs.Plans.{PlanOf, script_of}
+use Rattle.redo_journal.specs.Journals.{naming_of}
 use Rattle.redo_journal.specs.declared.entry.Journal.{Journal}
 use Rattle.redo_board.specs.declared.board.Board.{Board}
 use Rattle.redo_board.specs.declared.seat.Seat.{Seat}
 use Rattle.redo_board.specs.declared.worker.Worker.{Worker}
 use Rattle.redo_board.specs.Shown.{session_of, journal_of, tries_of, rows_up_to, IsAtEnd}
-use Rattle.redo_board.specs.Outcomes.{Made, Leaves}
+use Rattle.redo_board.specs.Outcomes.{Leaves}
 use Rattle.redo_session.specs.Inside.Sessions.{AreDone}
-
--- each step that does something leaves less to do
-pub made_less : (p : PlanOf) (old new : Worker) → Made p old new
-    → length (script_of p (session_of old)) - past_of (journal_of p new)
-    < length (script_of p (session_of old)) - past_of (journal_of p old)
-made_less p old new made =
-    let found =
-    next_from (script_of p (session_of old)) (journal_of p old) (numbered made.line) made.next in
-    let from = found.from in
-    let within = found.within in
-    let grown = ap past_of made.grown ∙ past_of_more (journal_of p old) made.line in
-    omega arith
 
 -- a worker at its end leaves a journal with nothing left to do
 pub left_done : (p : PlanOf) (b : Board) (s : ℕ) (w : Worker) (seat : Seat) (journal : Journal)
@@ -35,7 +23,8 @@ left_done p b s w seat journal here leaves session tries none rows =
       ended = (
         record {
           session = session;
-          none = ap (next_of (script_of p (session_of w))) leaves.told ∙ none;
+          none = ap (next_of (naming_of p) (script_of p (session_of w))) leaves.told ∙ none;
+          marked = leaves.marked;
           tries = tries ∙ rows ∙ ap (rows_up_to 0) (sym leaves.told);
         },
         tt,

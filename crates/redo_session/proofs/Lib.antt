@@ -2,6 +2,7 @@ pub mod Accepted
 pub mod Asked
 pub mod ByPart
 pub mod Causes
+pub mod Closings
 pub mod CommandsSaid
 pub mod Devices
 pub mod Digests
@@ -10,12 +11,15 @@ pub mod Ended
 pub mod Grants
 pub mod KnownFiles
 pub mod KnownNames
+pub mod LetGo
 pub mod LinesFit
+pub mod Lists
 pub mod NoFault
 pub mod OneRun
 pub mod Outcomes
 pub mod Parts
 pub mod RepliesFit
+pub mod RunLines
 pub mod RunReplays
 pub mod RunTexts
 pub mod ScriptTexts

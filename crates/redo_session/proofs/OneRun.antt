@@ -1,20 +1,22 @@
 -- What a session asks decides what it is answered.
-use Rattle.std.proofs.Common.{◌≡◌, ℕ, ◌<◌, Bool, true, false, not, ◌||◌, cond, List, [], ◌∷◌, Some, length, refl, ap, ◌∙◌, sym, subst, map, lit<, arith}
+use Rattle.std.proofs.Common.{◌≡◌, ℕ, ◌<◌, Bool, true, false, not, ◌||◌, cond, List, [], ◌∷◌, ◌++◌, Some, length, refl, ap, ◌∙◌, sym, subst, map, lit<, arith}
 use Rattle.std.specs.List.{AllByRecursion}
-use Rattle.redo_model.specs.Names.{Naming, Text}
+use Rattle.redo_model.specs.Names.{Naming, Text, texts}
 use Rattle.redo_model.specs.Inside.Names.{IsNaming}
 use Rattle.redo_model.specs.Reply.{Reply, lets_through}
 use Rattle.redo_model.specs.Scripts.{done_by, Does}
 use Rattle.redo_model.specs.State.{State, empty}
 use Rattle.redo_model.specs.Command.{Command, Item}
 use Rattle.redo_model.specs.Step.{Answers, after}
-use Rattle.redo_model.specs.History.{Line, LegalFrom}
+use Rattle.redo_model.specs.Closing.{ClosesAfter}
+use Rattle.redo_model.specs.History.{Line, left_by, Legal, LegalFrom}
 use Rattle.redo_model.proofs.Texts.{texts_are_names}
 use Rattle.redo_model.proofs.Unique.{one_answer}
 use Rattle.redo_text.specs.Grammar.{IsScript}
 use Rattle.redo_session.specs.RunTexts.{run_text_of, sessions_below}
 use Rattle.redo_text.proofs.ScriptLaws.{one_script}
 use Rattle.redo_session.specs.Runs.{IsRun, AreAccepted, RunsAs}
+use Rattle.redo_session.proofs.Closings.{front_of, back_of}
 use Rattle.redo_session.proofs.Parts.{whole_part}
 
 -- below 1 there is session 0 alone
@@ -97,17 +99,69 @@ module _ {N : Type 0} {naming : Naming N} (law : IsNaming naming) where
       λ i. first i ∷ rest i)
       (λ x y. one_history st through items (a ∷ lines) (b ∷ more) s t x y p q) e f
 
+  legal_parts : (st : State N) (own closing : List (Line N)) → LegalFrom naming st (own ++ closing)
+      → LegalFrom naming st own × LegalFrom naming (left_by naming st own) closing
+  legal_parts st [] closing legal = (tt, legal)
+  legal_parts st (line ∷ own) closing legal =
+      let rest = legal_parts (after naming st line.session line.command) own closing legal.1 in
+      ((legal.0, rest.0), rest.1)
+
+  -- after the same lines the same closing ones come
+  one_closing : (st : State N) (own a b : List (Line N))
+      → AllByRecursion (λ line. line.session ≡ 0) a → AllByRecursion (λ line. line.session ≡ 0) b
+      → ClosesAfter naming own a → ClosesAfter naming own b
+      → LegalFrom naming st a → LegalFrom naming st b → a ≡ b
+  one_closing st own [] [] s t e f p q = refl
+  one_closing st own [] (b ∷ bs) s t e f p q = absurd (let wrong = f.0 in cc)
+  one_closing st own (a ∷ left) [] s t e f p q = absurd (let wrong = e.0 in cc)
+  one_closing st own (a ∷ left) (b ∷ bs) s t e f p q =
+      let told : Some a.command ≡ Some b.command = sym e.0 ∙ f.0 in
+      let commands : a.command ≡ b.command = cc in
+      let first = one_line st a b (s.0 ∙ sym t.0) commands p.0 q.0 in
+      let closes : ClosesAfter naming (own ++ a ∷ []) bs =
+      subst (λ (l : Line N). ClosesAfter naming (own ++ l ∷ []) bs) (sym first) f.1 in
+      let legal : LegalFrom naming (after naming st a.session a.command) bs =
+      subst (λ (l : Line N). LegalFrom naming (after naming st l.session l.command) bs)
+      (sym first) q.1 in
+      let rest = one_closing (after naming st a.session a.command) (own ++ a ∷ []) left bs s.1 t.1
+      e.1 closes p.1 legal in
+      λ i. first i ∷ rest i
+
+  -- all that a session does
+  one_doing : (script : List (Item N)) (lines more : List (Line N))
+      → AllByRecursion (λ line. line.session ≡ 0) lines
+      → AllByRecursion (λ line. line.session ≡ 0) more
+      → Does naming script lines → Does naming script more
+      → Legal naming lines → Legal naming more → lines ≡ more
+  one_doing script lines more s t one other p q =
+      let IsFirst : Line N → Type 0 = λ line. line.session ≡ 0 in
+      let s_both = subst (AllByRecursion IsFirst) one.both s in
+      let t_both = subst (AllByRecursion IsFirst) other.both t in
+      let p_both = legal_parts empty one.own one.closing (subst (Legal naming) one.both p) in
+      let q_both = legal_parts empty other.own other.closing (subst (Legal naming) other.both q) in
+      let own : one.own ≡ other.own =
+      one_history empty true script one.own other.own (front_of IsFirst one.own one.closing s_both)
+      (front_of IsFirst other.own other.closing t_both) one.done other.done p_both.0 q_both.0 in
+      let closing : one.closing ≡ other.closing =
+      one_closing (left_by naming empty one.own) one.own one.closing other.closing
+      (back_of IsFirst one.own one.closing s_both) (back_of IsFirst other.own other.closing t_both)
+      one.closes (subst (λ ls. ClosesAfter naming ls other.closing) (sym own) other.closes)
+      p_both.1
+      (subst (λ ls. LegalFrom naming (left_by naming empty ls) other.closing) (sym own) q_both.1) in
+      one.both ∙ (λ i. own i ++ closing i) ∙ sym other.both
+
 -- the lines of one session's run are what its script does
 pub one_done : (script : List (Item Text)) (lines : List (Line Text))
-    → IsRun (script ∷ []) lines → Does script lines
+    → IsRun (script ∷ []) lines → Does texts script lines
 one_done script lines run =
-    subst (Does script) (whole_part lines (alone lines run.sessions)) (run.parts 0 (lit< tt))
+    subst (Does texts script) (whole_part lines (alone lines run.sessions))
+    (run.parts 0 (lit< tt))
 
 -- one run for the script of one session
 pub one_run : (script : List (Item Text)) (a b : List (Line Text)) → IsRun (script ∷ []) a
     → IsRun (script ∷ []) b → a ≡ b
 one_run script a b p q =
-    one_history texts_are_names empty true script a b (alone a p.sessions) (alone b q.sessions)
+    one_doing texts_are_names script a b (alone a p.sessions) (alone b q.sessions)
     (one_done script a p) (one_done script b q) p.legal q.legal
 
 -- the script of one file

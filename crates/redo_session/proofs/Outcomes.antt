@@ -1,8 +1,9 @@
 -- The lines of a joint order of whole journals are a run of the scripts, where one history serves
 -- the journals.
-use Rattle.std.proofs.Common.{◌≡◌, ℕ, ◌<◌, ◌++◌, eqb, true, List, [], ◌∷◌, length, map, get_or, refl, sym, ap, ◌∙◌, subst, arith}
+use Rattle.std.proofs.Common.{◌≡◌, ℕ, ◌<◌, ◌++◌, eqb, Bool, true, false, cond, List, [], ◌∷◌, length, map, get_or, refl, sym, ap, ◌∙◌, subst, arith}
 use Rattle.std.specs.List.{AllByRecursion}
 use Rattle.std.specs.Ordering.{nat_cmp}
+use Rattle.std.specs.declared.cmp.Ordering.{Ordering}
 use Rattle.std.proofs.lemmas.List.{get_or_past, length-map}
 use Rattle.std.proofs.lemmas.Simd.{map-map}
 use lib.ListN.{get_or-map}
@@ -14,10 +15,10 @@ use Rattle.redo_model.specs.Command.{Item}
 use Rattle.redo_model.specs.History as histories
 use Rattle.redo_model.specs.History.{Legal}
 use Rattle.redo_model.specs.Placed.{Place, Row, Granted, Busy, Released, PlacedLine, line_of, part_of, Fits, IsPlacedAfter}
-use Rattle.redo_model.specs.Journals.{IsWholeJournal, IsJointOrder}
-use Rattle.redo_model.specs.Renaming.{IsBelow, IsLineBelow, named_command, named_item, named_reply, named_line}
-use Rattle.redo_model.specs.Scripts.{done_by, Does}
-use Rattle.redo_model.proofs.Scripts.{whole_does, done_named}
+use Rattle.redo_model.specs.Journals.{IsJournal, IsWholeJournal, IsJointOrder}
+use Rattle.redo_model.specs.Renaming.{IsBelow, IsLineBelow, named_item, named_line}
+use Rattle.redo_model.specs.Scripts.{Does}
+use Rattle.redo_model.proofs.Scripts.{whole_does}
 use Rattle.redo_model.proofs.Naming.{numbering_is_renaming}
 use Rattle.redo_model.proofs.Texts.{texts_are_names}
 use Rattle.redo_terms.specs.Meaning.{line_at}
@@ -28,9 +29,10 @@ use Rattle.redo_joint.proofs.Exchange.{In}
 use Rattle.redo_joint.proofs.Own.{all_by_parts, all_of_part}
 use Rattle.redo_joint.proofs.Orders.{legal_in_every_order, front_placed}
 use Rattle.redo_joint.proofs.ByName.{joint_by_name, kept_map}
+use Rattle.redo_joint.proofs.JournalByName.{whole_by_name}
 use Rattle.redo_joint.proofs.Standing.{seen_stands}
 use Rattle.redo_journal.specs.Plans.{PlanOf, IsPlan, script_of}
-use Rattle.redo_journal.specs.Journals.{journals_of}
+use Rattle.redo_journal.specs.Journals.{journals_of, naming_of}
 use Rattle.redo_journal.specs.declared.entry.Journal.{Journal}
 use Rattle.redo_board.proofs.Orders.{by_text_is_naming}
 use Rattle.redo_replay.specs.Recorded.{AreLinesBelow}
@@ -38,18 +40,9 @@ use Rattle.redo_replay.specs.Merges.{by_number, AreMerged}
 use Rattle.redo_replay.proofs.Replayed.{all_map}
 use Rattle.redo_session.specs.Runs.{IsRun}
 use Rattle.redo_session.specs.Outcomes.{scripts_named, AreWhole, SeenStands}
-use Rattle.redo_session.proofs.Wholes.{of_session}
+use Rattle.redo_session.proofs.Lists.{all-unmapped, all-weaker}
+use Rattle.redo_session.proofs.Wholes.{of_session, no_lines}
 use Rattle.redo_session.proofs.Served.{Serves, whole_at}
-
-pub all-unmapped : {A B : Type 0} (f : A → B) (P : B → Type 0) (xs : List A)
-    → AllByRecursion P (map f xs) → AllByRecursion (λ x. P (f x)) xs
-all-unmapped f P [] h = tt
-all-unmapped f P (x ∷ xs) h = (h.0, all-unmapped f P xs h.1)
-
-pub all-weaker : {A : Type 0} (P Q : A → Type 0) → ((x : A) → P x → Q x) → (xs : List A)
-    → AllByRecursion P xs → AllByRecursion Q xs
-all-weaker P Q f [] h = tt
-all-weaker P Q f (x ∷ xs) h = (f x h.0, all-weaker P Q f xs h.1)
 
 -- the part of a session under names, without its places
 part_named : (name : ℕ → Text) (s : ℕ) (lines : List (PlacedLine ℕ))
@@ -68,6 +61,17 @@ place_below n l (Row r) f b = tt
 place_below n l (Granted t g) f b = (subst (IsBelow n) f.0 b).0
 place_below n l (Busy t g) f b = (subst (IsBelow n) f.0 b).0
 place_below n l (Released t g) f b = (subst (IsBelow n) f.0 b).0
+
+-- what holds of all lines holds of a session's
+part_all : (P : PlacedLine ℕ → Type 0) (s : ℕ) (lines : List (PlacedLine ℕ))
+    → AllByRecursion P lines → AllByRecursion P (part_of s lines)
+part_all P s [] all = tt
+part_all P s (line ∷ lines) all = by (eqb line.session s) (part_all P s lines all.1)
+  where
+    by : (b : Bool) → AllByRecursion P (part_of s lines)
+        → AllByRecursion P (cond b (line ∷ part_of s lines) (part_of s lines))
+    by true rest = (all.0, rest)
+    by false rest = rest
 
 -- placed lines have no numbers but those of their commands and replies
 told_below : (naming : Naming ℕ) (n : ℕ) (before lines : List (PlacedLine ℕ))
@@ -128,33 +132,39 @@ module _ (p : PlanOf) (js : List Journal) (plan : IsPlan p) (whole : AreWhole p 
 
   -- the lines of a whole journal are all that its session does, over the names too
   own_done : (own : List (PlacedLine ℕ)) (script : List (Item ℕ)) (s : ℕ)
-      → IsWholeJournal s script own
-      → Does (map (named_item (text_at p.names)) script) (map at_names own)
-  own_done own script s is =
-      let name : ℕ → Text = text_at p.names in
-      let commands = map-map (named_command name) (λ (l : PlacedLine ℕ). l.command) own in
-      let replies = map-map (named_reply name) (λ (l : PlacedLine ℕ). l.reply) own in
-      map-map (λ (l : histories.Line Text). l.command) at_names own
-      ∙ sym commands
-      ∙ ap (map (named_command name)) (whole_does s script own is)
-      ∙ sym (done_named name true script (map (λ (l : PlacedLine ℕ). l.reply) own))
-      ∙ ap (done_by true (map (named_item name) script))
-      (replies ∙ sym (map-map (λ (l : histories.Line Text). l.reply) at_names own))
+      → AllByRecursion Below own → IsWholeJournal (naming_of p) s script own
+      → Does texts (map (named_item (text_at p.names)) script) (map at_names own)
+  own_done own script s below is =
+      let name : PlacedLine ℕ → PlacedLine Text = named_placed_line (text_at p.names) in
+      let items : List (Item Text) = map (named_item (text_at p.names)) script in
+      let order : ℕ → ℕ → Ordering =
+      λ m n. texts.order (text_at p.names m) (text_at p.names n) in
+      let whole : IsWholeJournal texts s items (map name own) =
+      whole_by_name (numbering_is_renaming p.names plan.names.distinct) texts_are_names order
+      (record { alike = λ m n k l. refl }) s script own
+      (all-weaker Below (λ l. IsBelow (length p.names) l.command) (λ l b. b.placed.command) own
+      below)
+      is in
+      subst (Does texts items) (map-map line_of name own)
+      (whole_does texts s items (map name own) whole)
 
   -- each session does what its script says, as the replies come
-  commands_done : (lines : List (PlacedLine ℕ)) → Joint lines → (s : ℕ)
-      → Does (get_or (scripts_named p) s []) (histories.part_of s (map at_names lines))
-  commands_done lines joint s =
+  commands_done : Serves p js → (lines : List (PlacedLine ℕ)) → Joint lines → (s : ℕ)
+      → Does texts (get_or (scripts_named p) s []) (histories.part_of s (map at_names lines))
+  commands_done serves lines joint s =
       let named : List (Item ℕ) → List (Item Text) =
       λ script. map (named_item (text_at p.names)) script in
       let part : histories.part_of s (map at_names lines) ≡ map at_names (journals_of p js s) =
       part_named (text_at p.names) s lines ∙ ap (map at_names) (joint.0 s) in
       let script : get_or (scripts_named p) s [] ≡ named (script_of p s) =
       get_or-map named p.scripts s [] in
-      subst (λ (items : List (Item Text)). Does items (histories.part_of s (map at_names lines)))
-      (sym script)
-      (subst (Does (named (script_of p s))) (sym part)
-      (own_done (journals_of p js s) (script_of p s) s (whole_at p js whole s)))
+      let below : AllByRecursion Below (journals_of p js s) =
+      subst (AllByRecursion Below) (joint.0 s)
+      (part_all Below s lines (all_below serves lines joint)) in
+      subst (λ (items : List (Item Text)). Does texts items
+      (histories.part_of s (map at_names lines))) (sym script)
+      (subst (Does texts (named (script_of p s))) (sym part)
+      (own_done (journals_of p js s) (script_of p s) s below (whole_at p js whole s)))
 
   sessions_below : (lines : List (PlacedLine ℕ)) → Joint lines
       → AllByRecursion (λ line. line.session < length (scripts_named p)) (map at_names lines)
@@ -164,14 +174,17 @@ module _ (p : PlanOf) (js : List Journal) (plan : IsPlan p) (whole : AreWhole p 
       λ script. map (named_item (text_at p.names)) script in
       all_map at_names P lines
       (all_by_parts (λ l. P (at_names l)) lines (λ s l i.
-      let of =
-      of_session (script_of p s) s [] (journals_of p js s) (whole_at p js whole s).0 l
-      (subst (In l) (joint.0 s) i) in
+      let is = (whole_at p js whole s).0 in
+      let there : In l (journals_of p js s) = subst (In l) (joint.0 s) i in
+      let own = of_session (naming_of p) s (script_of p s) [] (journals_of p js s) is l there in
       let long = length-map p.scripts name in
       dite (dec_lt s (length p.scripts))
-      (λ less. let e = of.0 in let h : l.session < length (scripts_named p) = omega arith in h)
-      (λ past. let none = ap length (get_or_past p.scripts s [] (omega arith)) in
-      let some = of.1 in absurd (omega arith))))
+      (λ less. let h : l.session < length (scripts_named p) = omega arith in h)
+      (λ past.
+      let none : script_of p s ≡ [] = get_or_past p.scripts s [] (omega arith) in
+      absurd (subst (In l) (no_lines (naming_of p) s (journals_of p js s)
+      (subst (λ script. IsJournal (naming_of p) s script (journals_of p js s)) none is))
+      there))))
 
   -- the history over the names
   named_history : (history : List Line) (lines : List (PlacedLine ℕ))
@@ -187,7 +200,7 @@ module _ (p : PlanOf) (js : List Journal) (plan : IsPlan p) (whole : AreWhole p 
       subst (IsRun (scripts_named p)) (sym (named_history history lines says)) (record {
         legal = legal_too serves lines first.joint;
         sessions = sessions_below lines first.joint;
-        parts = λ s less. commands_done lines first.joint s;
+        parts = λ s less. commands_done serves lines first.joint s;
       })
 
   pub history_below : Serves p js → (history : List Line)

@@ -1,44 +1,43 @@
 -- The lines of one session, as they are printed.
-use Rattle.std.proofs.Common.{◌≡◌, ◌≢◌, ℕ, ◌+◌, ◌<◌, Bool, cond, eqb, List, [], ◌∷◌, refl, sym, ap, ◌∙◌, map, drop, get_or, length}
+use Rattle.std.proofs.Common.{◌≡◌, ◌≢◌, ℕ, ◌+◌, ◌<◌, Bool, cond, eqb, List, [], ◌∷◌, refl, sym, ap, ◌∙◌, drop, get_or, length}
 use Rattle.std.specs.List.{AllByRecursion}
 use Rattle.std.proofs.lemmas.Bool.{eq-eqb, ne_eqb}
 use Rattle.std.proofs.lemmas.List.{drop_more}
 use Rattle.redo_model.specs.Names.{Text}
-use Rattle.redo_model.specs.Reply as replies
 use Rattle.redo_model.specs.History.{part_of}
 use Rattle.redo_model.specs.History as histories
-use Rattle.redo_terms.specs.Meaning.{line_at, reply_at}
+use Rattle.redo_terms.specs.Meaning.{line_at}
 use Rattle.redo_terms.specs.declared.reply.Line.{Line}
-use Rattle.redo_session.specs.Inside.Printed.{replies_in}
+use Rattle.redo_session.specs.Inside.Printed.{part_in}
 
--- the replies among a line and more, where it is said whether the line is the session's
-abbrev replies_with : List Text → ℕ → Line → List Line → Bool → List (replies.Reply Text)
-replies_with names s line lines own =
-    let rest = part_of s (map (line_at names) lines) in
-    map (λ l. l.reply) (cond own (line_at names line ∷ rest) rest)
+-- the part of a line and more, where it is said whether the line is the session's
+abbrev part_with : List Text → ℕ → Line → List Line → Bool → List (histories.Line Text)
+part_with names s line lines own =
+    let rest = part_in names s lines in
+    cond own (line_at names line ∷ rest) rest
 
 module _ (names : List Text) (s : ℕ) (lines : List Line) (k : ℕ) (line : Line)
     (less : k < length lines) (is : line ≡ get_or lines k line) where
-  from_here : replies_in names s (drop k lines)
-      ≡ replies_with names s line (drop (k + 1) lines) (eqb line.session s)
+  from_here : part_in names s (drop k lines)
+      ≡ part_with names s line (drop (k + 1) lines) (eqb line.session s)
   from_here =
-      ap (replies_in names s) (drop_more lines k line less)
-      ∙ ap (λ (l : Line). replies_with names s l (drop (k + 1) lines) (eqb l.session s)) (sym is)
+      ap (part_in names s) (drop_more lines k line less)
+      ∙ ap (λ (l : Line). part_with names s l (drop (k + 1) lines) (eqb l.session s)) (sym is)
 
   -- a line of another session is passed over
   pub of_another : line.session ≢ s
-      → replies_in names s (drop k lines) ≡ replies_in names s (drop (k + 1) lines)
+      → part_in names s (drop k lines) ≡ part_in names s (drop (k + 1) lines)
   of_another other =
       from_here
-      ∙ ap (replies_with names s line (drop (k + 1) lines)) (ne_eqb line.session s other)
+      ∙ ap (part_with names s line (drop (k + 1) lines)) (ne_eqb line.session s other)
 
-  -- the session's own has the next reply
+  -- the session's own is the next
   pub of_own : line.session ≡ s
-      → replies_in names s (drop k lines)
-      ≡ reply_at names line.reply ∷ replies_in names s (drop (k + 1) lines)
+      → part_in names s (drop k lines)
+      ≡ line_at names line ∷ part_in names s (drop (k + 1) lines)
   of_own own =
       from_here
-      ∙ ap (replies_with names s line (drop (k + 1) lines)) (eq-eqb line.session s own)
+      ∙ ap (part_with names s line (drop (k + 1) lines)) (eq-eqb line.session s own)
 
 -- where all lines are of session 0, they are its part
 pub whole_part : {N : Type 0} (lines : List (histories.Line N))

@@ -1,12 +1,11 @@
--- What is printed of a script, line by line, and of the scripts of a plan.
-use Rattle.std.proofs.Common.{◌≡◌, ◌⊎◌, inl, inr, ℕ, suc, ◌+◌, ◌<◌, ◌≤◌, Bool, true, false, not, ◌||◌, cond, List, [], ◌∷◌, ◌++◌, sym, ap, subst, ◌∙◌, map, drop, get_or, length, codes, decimal, arith, append_assoc}
+-- What is printed of a session, line by line, and of the scripts of a plan.
+use Rattle.std.proofs.Common.{◌≡◌, ◌⊎◌, inl, inr, ℕ, suc, ◌+◌, ◌<◌, ◌≤◌, Bool, true, false, not, ◌||◌, cond, List, [], ◌∷◌, ◌++◌, refl, sym, ap, subst, ◌∙◌, map, drop, get_or, length, arith, append_assoc, append-nil, length-append}
 use Rattle.std.specs.List.{AllByRecursion}
-use Rattle.std.proofs.lemmas.List.{at_drop_more, at_drop_all, flat_map_more, get_or_default, get_or-map, length-map}
+use Rattle.std.proofs.lemmas.List.{at_drop_more, at_drop_all, flat_map_more, get_or_default, get_or-map}
 use Rattle.std.proofs.lemmas.Simd.{map-map}
 use Rattle.redo_names.specs.Names.{text_at}
 use Rattle.redo_model.specs.Names.{Text}
 use Rattle.redo_model.specs.Command as model
-use Rattle.redo_model.specs.Reply as replies
 use Rattle.redo_model.specs.Reply.{lets_through}
 use Rattle.redo_model.specs.Renaming.{IsBelow, named_item}
 use Rattle.redo_model.specs.History as histories
@@ -19,16 +18,16 @@ use Rattle.redo_terms.specs.declared.reply.Line.{Line}
 use Rattle.redo_journal.specs.Plans.{PlanOf, IsPlan, AreBelow, script_of}
 use Rattle.redo_replay.specs.Histories.{ended, history_text_of}
 use Rattle.redo_session.specs.Outcomes.{scripts_named}
-use Rattle.redo_session.specs.RunTexts.{done_text_of, skipped_text_of, script_text_of, session_text_of, run_text_of, sessions_below}
-use Rattle.redo_session.specs.Inside.Printed.{replies_in}
-use Rattle.redo_session.proofs.Outcomes.{all-unmapped}
+use Rattle.redo_session.specs.RunTexts.{done_text_of, skipped_text_of, session_lines_of, session_text_of, run_text_of, sessions_below}
+use Rattle.redo_session.specs.Inside.Printed.{part_in, closing_lines_of, ArePrinted}
+use Rattle.redo_session.proofs.Lists.{all-unmapped}
 use Rattle.redo_session.proofs.Parts.{of_own}
 
--- the text from item i on, where the session's next line is the one at this place or comes after it
-abbrev pub text_from : List Text → ℕ → List Item → List Line → Bool → ℕ → ℕ → Text
-text_from names s items lines through i at =
-    script_text_of through (map (item_at names) (drop i items))
-    (replies_in names s (drop at lines))
+-- what is printed from item i on, where the session's next line is the one at this place or comes
+-- after it
+abbrev pub lines_from : List Text → ℕ → List Item → List Line → Bool → ℕ → ℕ → List Text
+lines_from names s items lines through i at =
+    session_lines_of through (map (item_at names) (drop i items)) (part_in names s (drop at lines))
 
 some_line : (lines : List Line) (k : ℕ) → k < length lines → Line
 some_line [] k less = absurd (omega (arith, less))
@@ -42,97 +41,112 @@ module _ (names : List Text) (s : ℕ) (items : List Item) (lines : List Line) (
   abbrev rest : List (model.Item Text)
   rest = map (item_at names) (drop (i + 1) items)
 
-  one_more : (told : List (replies.Reply Text))
-      → script_text_of through (map (item_at names) (drop i items)) told
-      ≡ script_text_of through (here ∷ rest) told
-  one_more told =
-      at_drop_more (λ (xs : List Item). script_text_of through (map (item_at names) xs) told)
+  one_more : (part : List (histories.Line Text))
+      → session_lines_of through (map (item_at names) (drop i items)) part
+      ≡ session_lines_of through (here ∷ rest) part
+  one_more part =
+      at_drop_more (λ (xs : List Item). session_lines_of through (map (item_at names) xs) part)
       items i item less
-      ∙ ap (λ (x : Item). script_text_of through (item_at names x ∷ rest) told) (sym is)
+      ∙ ap (λ (x : Item). session_lines_of through (item_at names x ∷ rest) part) (sym is)
 
   -- the line has the reply to it
   pub done_line : (line : Line) (later : ℕ) → at < length lines → line ≡ get_or lines at line
       → line.session ≡ s → (through || not item.guarded) ≡ true
-      → replies_in names s (drop later lines) ≡ replies_in names s (drop (at + 1) lines)
-      → text_from names s items lines through i at
+      → part_in names s (drop later lines) ≡ part_in names s (drop (at + 1) lines)
+      → lines_from names s items lines through i at
       ≡ done_text_of here (reply_at names line.reply)
-      ++ text_from names s items lines (lets_through (reply_of line.reply)) (i + 1) later
+      ∷ lines_from names s items lines (lets_through (reply_of line.reply)) (i + 1) later
   done_line line later there it own done same =
       let reply = reply_at names line.reply in
-      let told = replies_in names s (drop (at + 1) lines) in
-      one_more (replies_in names s (drop at lines))
-      ∙ ap (script_text_of through (here ∷ rest)) (of_own names s lines at line there it own)
+      let part = part_in names s (drop (at + 1) lines) in
+      one_more (part_in names s (drop at lines))
+      ∙ ap (session_lines_of through (here ∷ rest)) (of_own names s lines at line there it own)
       ∙ ap (λ (b : Bool). cond b
-      (done_text_of here reply ++ script_text_of (lets_through reply) rest told)
-      (skipped_text_of here ++ script_text_of through rest (reply ∷ told))) done
-      ∙ ap (λ (b : Bool). done_text_of here reply ++ script_text_of b rest told)
+      (done_text_of here reply ∷ session_lines_of (lets_through reply) rest part)
+      (skipped_text_of here ∷ session_lines_of through rest (line_at names line ∷ part))) done
+      ∙ ap (λ (b : Bool). done_text_of here reply ∷ session_lines_of b rest part)
       (lets_named (text_at names) (reply_of line.reply))
-      ∙ ap (λ (rs : List (replies.Reply Text)). done_text_of here reply
-      ++ script_text_of (lets_through (reply_of line.reply)) rest rs) (sym same)
+      ∙ ap (λ (ls : List (histories.Line Text)). done_text_of here reply
+      ∷ session_lines_of (lets_through (reply_of line.reply)) rest ls) (sym same)
 
   -- no line of the session is left
   skipped_past : length lines ≤ at
-      → text_from names s items lines through i at
-      ≡ skipped_text_of here ++ text_from names s items lines through (i + 1) at
+      → lines_from names s items lines through i at
+      ≡ skipped_text_of here ∷ lines_from names s items lines through (i + 1) at
   skipped_past past =
-      let none = at_drop_all (replies_in names s) lines at past in
-      one_more (replies_in names s (drop at lines))
-      ∙ ap (script_text_of through (here ∷ rest)) none
-      ∙ ap (λ (rs : List (replies.Reply Text)). skipped_text_of here
-      ++ script_text_of through rest rs) (sym none)
+      let none = at_drop_all (part_in names s) lines at past in
+      one_more (part_in names s (drop at lines))
+      ∙ ap (session_lines_of through (here ∷ rest)) none
+      ∙ ap (λ (ls : List (histories.Line Text)). skipped_text_of here
+      ∷ session_lines_of through rest ls) (sym none)
 
   -- it is guarded, and not let through
   skipped_here : (line : Line) → at < length lines → line ≡ get_or lines at line
       → line.session ≡ s → (through || not item.guarded) ≡ false
-      → text_from names s items lines through i at
-      ≡ skipped_text_of here ++ text_from names s items lines through (i + 1) at
+      → lines_from names s items lines through i at
+      ≡ skipped_text_of here ∷ lines_from names s items lines through (i + 1) at
   skipped_here line there it own stopped =
       let reply = reply_at names line.reply in
-      let told = replies_in names s (drop (at + 1) lines) in
+      let part = part_in names s (drop (at + 1) lines) in
       let next = of_own names s lines at line there it own in
-      one_more (replies_in names s (drop at lines))
-      ∙ ap (script_text_of through (here ∷ rest)) next
+      one_more (part_in names s (drop at lines))
+      ∙ ap (session_lines_of through (here ∷ rest)) next
       ∙ ap (λ (b : Bool). cond b
-      (done_text_of here reply ++ script_text_of (lets_through reply) rest told)
-      (skipped_text_of here ++ script_text_of through rest (reply ∷ told))) stopped
-      ∙ ap (λ (rs : List (replies.Reply Text)). skipped_text_of here
-      ++ script_text_of through rest rs) (sym next)
+      (done_text_of here reply ∷ session_lines_of (lets_through reply) rest part)
+      (skipped_text_of here ∷ session_lines_of through rest (line_at names line ∷ part))) stopped
+      ∙ ap (λ (ls : List (histories.Line Text)). skipped_text_of here
+      ∷ session_lines_of through rest ls) (sym next)
 
   pub skipped_line : ((line : Line) → at < length lines → (get_or lines at line).session ≡ s)
       → (length lines ≤ at) ⊎ ((at < length lines) × ((through || not item.guarded) ≡ false))
-      → text_from names s items lines through i at
-      ≡ skipped_text_of here ++ text_from names s items lines through (i + 1) at
+      → lines_from names s items lines through i at
+      ≡ skipped_text_of here ∷ lines_from names s items lines through (i + 1) at
   skipped_line own (inl past) = skipped_past past
   skipped_line own (inr (there, stopped)) =
       let some = some_line lines at there in
       let line = get_or lines at some in
       skipped_here line there (get_or_default lines at some line there) (own some there) stopped
 
--- behind the header all of the script is left
-pub session_begins : (names : List Text) (s : ℕ) (items : List Item) (lines : List Line)
-    (before text : Text) (at : ℕ)
-    → text ≡ before ++ ended (codes "session " ++ decimal (s + 1) ++ codes " "
-    ++ decimal (length items))
-    → replies_in names s (drop at lines) ≡ replies_in names s lines
-    → text ++ text_from names s items lines true 0 at
-    ≡ before ++ session_text_of s (map (item_at names) items)
-    (part_of s (map (line_at names) lines))
-session_begins names s items lines before text at printed same =
-    let header : ℕ → Text =
-    λ n. ended (codes "session " ++ decimal (s + 1) ++ codes " " ++ decimal n) in
-    let script : List (replies.Reply Text) → Text =
-    script_text_of true (map (item_at names) items) in
-    (λ k. printed k ++ script (same k))
-    ∙ append_assoc before (header (length items)) (script (replies_in names s lines))
-    ∙ ap (λ (n : ℕ). before ++ (header n ++ script (replies_in names s lines)))
-    (sym (length-map items (item_at names)))
+-- past its last item only closing commands are left
+pub script_ends : (names : List Text) (s : ℕ) (items : List Item) (lines : List Line)
+    (through : Bool) (i at : ℕ) → length items ≤ i
+    → lines_from names s items lines through i at
+    ≡ closing_lines_of (part_in names s (drop at lines))
+script_ends names s items lines through i at past =
+    at_drop_all (λ (xs : List Item). session_lines_of through (map (item_at names) xs)
+    (part_in names s (drop at lines))) items i past
 
--- what was printed, one thing more, and what is left
-pub goes_on : (before text more left rest after : Text) → text ≡ before ++ more
-    → left ≡ more ++ rest → before ++ left ≡ after → text ++ rest ≡ after
-goes_on before text more left rest after printed parted all =
-    ap (λ (t : Text). t ++ rest) printed ∙ append_assoc before more rest
-    ∙ ap (λ (t : Text). before ++ t) (sym parted) ∙ all
+module _ (all : List Text) (before : Text) where
+  -- nothing is printed yet
+  pub none_printed : (left : List Text) → all ≡ left → ArePrinted all before before 0 left
+  none_printed left same = record {
+    printed = [];
+    parted = same;
+    shown = sym (append-nil before);
+    counted = refl;
+  }
+
+  -- the same is left
+  pub same_left : (text : Text) (count : ℕ) (left others : List Text) → left ≡ others
+      → ArePrinted all before text count left → ArePrinted all before text count others
+  same_left text count left others same are =
+      subst (ArePrinted all before text count) same are
+
+  -- one line more is printed
+  pub one_printed : (text after : Text) (count : ℕ) (line : Text) (left later : List Text)
+      → ArePrinted all before text count left → left ≡ line ∷ later → after ≡ text ++ ended line
+      → ArePrinted all before after (count + 1) later
+  one_printed text after count line left later are first more = record {
+    printed = are.printed ++ line ∷ [];
+    parted = are.parted ∙ ap (λ (ls : List Text). are.printed ++ ls) first
+        ∙ sym (append_assoc are.printed (line ∷ []) later);
+    shown = more ∙ ap (λ (t : Text). t ++ ended line) are.shown
+        ∙ flat_map_more ended before are.printed line;
+    counted =
+        let long = length-append are.printed (line ∷ []) in
+        let same = are.counted in
+        omega arith;
+  }
 
 module _ (p : PlanOf) (s : ℕ) (items : List Item) (told : map item_of items ≡ script_of p s) where
   -- the session's script, under the names of its numbers

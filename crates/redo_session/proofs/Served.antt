@@ -1,11 +1,13 @@
 -- What a closed board tells of the journals of all sessions.
-use Rattle.std.proofs.Common.{◌≡◌, ◌≢◌, ℕ, zero, suc, ◌+◌, ◌<◌, List, [], ◌∷◌, length, option_map, slice_get, Some, refl, sym, ap, ◌∙◌, subst, inl, inr, arith}
+use Rattle.std.proofs.Common.{◌≡◌, ◌≢◌, ℕ, zero, suc, ◌+◌, ◌<◌, List, [], ◌∷◌, length, Option, option_map, slice_get, Some, refl, sym, ap, ◌∙◌, subst, inl, inr, arith}
+use Rattle.std.specs.Prelude.{All}
 use Rattle.std.specs.Option.{unwrap_or}
 use Rattle.std.proofs.lemmas.List.{get_or_past}
 use Rattle.std.proofs.lemmas.Option.{slice_get_cases}
 use Rattle.redo_model.specs.Journals.{next_of, IsJournal, IsWholeJournal, IsJointOrder}
 use Rattle.redo_journal.specs.Plans.{PlanOf, script_of}
-use Rattle.redo_journal.specs.Journals.{told_by, journals_of, AreJournals}
+use Rattle.redo_journal.specs.Journals.{told_by, journals_of, entries_of, naming_of, IsMarked, AreJournals}
+use Rattle.redo_journal.specs.declared.entry.Entry.{Entry}
 use Rattle.redo_journal.specs.declared.entry.Journal.{Journal}
 use Rattle.redo_joint.proofs.Exchange.{cond_same, cond_other}
 use Rattle.redo_board.specs.declared.board.Board.{Board}
@@ -85,12 +87,25 @@ module _ (p : PlanOf) (b : Board) (seat : Seat) (js : List Journal)
       }
 
   -- each journal is its session's
-  own : Serves p js → (s : ℕ) → IsJournal s (script_of p s) (journals_of p js s)
+  own : Serves p js → (s : ℕ) → IsJournal (naming_of p) s (script_of p s) (journals_of p js s)
   own serves s =
-      subst (IsJournal s (script_of p s)) (serves.joint.0 s) (serves.history.of_plan.journals s)
+      subst (IsJournal (naming_of p) s (script_of p s)) (serves.joint.0 s)
+      (serves.history.of_plan.journals s)
+
+  -- each closing command is marked
+  marked : (s : ℕ) → All (IsMarked (script_of p s)) (entries_of js s)
+  marked s =
+      let entries : Option Journal → List Entry =
+      λ o. unwrap_or (option_map (λ (j : Journal). j.entries.items) o) [] in
+      elim (slice_get_cases js s).1 [
+        | inl at ↦ subst (λ o. All (IsMarked (script_of p s)) (entries o)) (sym at.2)
+            (ended_at p 0 s s js at.0 (omega arith) done.ended at.2).marked
+        | inr past ↦ subst (λ o. All (IsMarked (script_of p s)) (entries o)) (sym past.1)
+            (λ k entry less. absurd (omega (arith, less)))
+      ]
 
   pub are_journals : Serves p js → AreJournals p js
-  are_journals serves = record { one_each = one_each; each = own serves }
+  are_journals serves = record { one_each = one_each; each = own serves; marked = marked }
 
   pub are_whole : Serves p js → AreWhole p js
   are_whole serves = record {
@@ -101,29 +116,29 @@ module _ (p : PlanOf) (b : Board) (seat : Seat) (js : List Journal)
         record {
           session = ended.session;
           whole = (
-            subst (λ o. IsJournal s script (unwrap_or (option_map (told_by script) o) [])) got
-                (own serves s),
+            subst
+                (λ o. IsJournal (naming_of p) s script
+                (unwrap_or (option_map (told_by script) o) [])) got (own serves s),
             ended.none,
           );
+          marked = ended.marked;
           tries = ended.tries;
         };
   }
 
 -- also where there is no such session
 pub whole_at : (p : PlanOf) (js : List Journal) → AreWhole p js → (s : ℕ)
-    → IsWholeJournal s (script_of p s) (journals_of p js s)
-whole_at p js whole s = elim (slice_get_cases js s).1 [
-  | inl at ↦
-      subst
-      (λ o. IsWholeJournal s (script_of p s)
-      (unwrap_or (option_map (told_by (script_of p s)) o) []))
-      (sym at.2) (whole.each s at.0 at.2).whole
-  | inr past ↦
-      let long = whole.one_each in
-      let script : script_of p s ≡ [] =
-      get_or_past p.scripts s [] (let far = past.0 in omega arith) in
-      subst
-      (λ o. IsWholeJournal s (script_of p s)
-      (unwrap_or (option_map (told_by (script_of p s)) o) []))
-      (sym past.1) (tt, ap (λ commands. next_of commands []) script)
-]
+    → IsWholeJournal (naming_of p) s (script_of p s) (journals_of p js s)
+whole_at p js whole s =
+    let IsWhole : Option Journal → Type 0 =
+    λ o. IsWholeJournal (naming_of p) s (script_of p s)
+    (unwrap_or (option_map (told_by (script_of p s)) o) []) in
+    elim (slice_get_cases js s).1 [
+      | inl at ↦ subst IsWhole (sym at.2) (whole.each s at.0 at.2).whole
+      | inr past ↦
+          let long = whole.one_each in
+          let script : script_of p s ≡ [] =
+          get_or_past p.scripts s [] (let far = past.0 in omega arith) in
+          subst IsWhole (sym past.1)
+          (tt, ap (λ commands. next_of (naming_of p) commands []) script)
+    ]

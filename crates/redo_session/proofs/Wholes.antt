@@ -1,18 +1,23 @@
 -- Whose the lines of a journal are.
-use Rattle.std.proofs.Common.{◌≡◌, ℕ, ◌<◌, List, [], ◌∷◌, ◌++◌, length, ap, ◌∙◌, sym, inl, inr, arith}
+use Rattle.std.proofs.Common.{◌≡◌, ℕ, List, [], ◌∷◌, ◌++◌, refl, ap, ◌∙◌, sym, inl, inr}
+use Rattle.redo_model.specs.Names.{Naming}
 use Rattle.redo_model.specs.Command.{Item}
 use Rattle.redo_model.specs.Placed.{PlacedLine}
-use Rattle.redo_model.specs.Journals.{numbered, IsJournalAfter}
-use Rattle.redo_model.proofs.Nexts.{next_in_script}
+use Rattle.redo_model.specs.Journals.{IsJournalAfter, IsJournal}
 use Rattle.redo_joint.proofs.Exchange.{In}
 
-module _ {N : Type 0} (script : List (Item N)) (s : ℕ) where
-  -- who has a line has a script, and the line is its own
-  pub of_session : (before lines : List (PlacedLine N)) → IsJournalAfter s script before lines
-      → (line : PlacedLine N) → In line lines → (line.session ≡ s) × (0 < length script)
-  of_session before [] is line i = absurd i
-  of_session before (first ∷ lines) is line (inl e) =
-      let next = next_in_script script before (numbered first) is.1 in
-      (ap (λ (l : PlacedLine N). l.session) (sym e) ∙ is.0, omega (arith, next.1))
-  of_session before (first ∷ lines) is line (inr i) =
-      of_session (before ++ first ∷ []) lines is.2 line i
+module _ {N : Type 0} (naming : Naming N) (s : ℕ) where
+  -- each line is the session's
+  pub of_session : (script : List (Item N)) (before lines : List (PlacedLine N))
+      → IsJournalAfter naming s script before lines → (line : PlacedLine N) → In line lines
+      → line.session ≡ s
+  of_session script before [] is line i = absurd i
+  of_session script before (first ∷ lines) is line (inl e) =
+      ap (λ (l : PlacedLine N). l.session) (sym e) ∙ is.0
+  of_session script before (first ∷ lines) is line (inr i) =
+      of_session script (before ++ first ∷ []) lines is.2 line i
+
+  -- a session without a script has none
+  pub no_lines : (lines : List (PlacedLine N)) → IsJournal naming s [] lines → lines ≡ []
+  no_lines [] is = refl
+  no_lines (line ∷ lines) is = absurd (let none = is.1 in cc)

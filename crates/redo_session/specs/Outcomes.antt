@@ -1,5 +1,5 @@
 -- What a run leaves.
-use Rattle.std.specs.Prelude.{◌≡◌, ℕ, List, ◌∷◌, ◌++◌, length, map, Some, slice_get}
+use Rattle.std.specs.Prelude.{◌≡◌, ℕ, List, ◌∷◌, ◌++◌, length, map, Some, All, slice_get}
 use Rattle.redo_names.specs.Names.{text_at}
 use Rattle.redo_model.specs.Names.{Text}
 use Rattle.redo_model.specs.Command.{Item}
@@ -8,7 +8,7 @@ use Rattle.redo_model.specs.Journals.{IsWholeJournal, IsJointOrder}
 use Rattle.redo_model.specs.Seen.{HasSeen, StandsIn}
 use Rattle.redo_model.specs.Renaming.{named_item}
 use Rattle.redo_journal.specs.Plans.{PlanOf, script_of}
-use Rattle.redo_journal.specs.Journals.{told_by, journals_of}
+use Rattle.redo_journal.specs.Journals.{told_by, journals_of, naming_of, IsMarked}
 use Rattle.redo_journal.specs.declared.entry.Journal.{Journal}
 use Rattle.redo_board.specs.Shown.{rows_up_to}
 use Rattle.redo_replay.specs.Merges.{by_number}
@@ -17,10 +17,12 @@ use Rattle.redo_replay.specs.Merges.{by_number}
 abbrev pub scripts_named : PlanOf → List (List (Item Text))
 scripts_named p = map (λ script. map (named_item (text_at p.names)) script) p.scripts
 
--- all that the session does, and how many rows it tried: those up to its own latest
+-- all that the session does, with its closing commands marked, and how many rows it tried: those up
+-- to its own latest
 pub record IsWholeOf (p : PlanOf) (s : ℕ) (journal : Journal) : Type 0 where
   pub session : journal.session ≡ s
-  pub whole : IsWholeJournal s (script_of p s) (told_by (script_of p s) journal)
+  pub whole : IsWholeJournal (naming_of p) s (script_of p s) (told_by (script_of p s) journal)
+  pub marked : All (IsMarked (script_of p s)) journal.entries.items
   pub tries : journal.tries ≡ rows_up_to 0 (told_by (script_of p s) journal)
 
 -- one journal for each session, in order, each of all that it does

@@ -6,32 +6,39 @@ use Rattle.redo_model.specs.Command.{Item}
 use Rattle.redo_model.specs.Reply.{Reply, lets_through}
 use Rattle.redo_model.specs.History.{Line, part_of}
 use Rattle.redo_text.specs.Texts.{item_text_of, reply_text_of}
-use Rattle.redo_replay.specs.Histories.{ended, history_text_of}
+use Rattle.redo_replay.specs.Histories.{ended, answer_text_of, history_text_of}
 
 -- a line of a script with the reply to it
 abbrev pub done_text_of : Item Text → Reply Text → Text
-done_text_of item reply = ended (item_text_of item ++ codes " => " ++ reply_text_of reply)
+done_text_of item reply = item_text_of item ++ codes " => " ++ reply_text_of reply
 
 -- and one that was not done
 abbrev pub skipped_text_of : Item Text → Text
-skipped_text_of item = ended (item_text_of item ++ codes " => skipped")
+skipped_text_of item = item_text_of item ++ codes " => skipped"
 
--- the lines of a script, each with its reply where it is done
-abbrev pub script_text_of : Bool → List (Item Text) → List (Reply Text) → Text
-script_text_of through [] replies = []
-script_text_of through (item ∷ items) [] = skipped_text_of item ++ script_text_of through items []
-script_text_of through (item ∷ items) (reply ∷ replies) =
+-- what is printed of a session with this script and these lines: each line of the script, with its
+-- reply where it is done, unguarded or let through; and then the lines that are left, which are
+-- closing commands
+abbrev pub session_lines_of : Bool → List (Item Text) → List (Line Text) → List Text
+session_lines_of through [] part = map answer_text_of part
+session_lines_of through (item ∷ items) [] =
+    skipped_text_of item ∷ session_lines_of through items []
+session_lines_of through (item ∷ items) (line ∷ part) =
     cond (through || not item.guarded)
-    (done_text_of item reply ++ script_text_of (lets_through reply) items replies)
-    (skipped_text_of item ++ script_text_of through items (reply ∷ replies))
+    (done_text_of item line.reply ∷ session_lines_of (lets_through line.reply) items part)
+    (skipped_text_of item ∷ session_lines_of through items (line ∷ part))
 
--- a session's header, and the lines of its script
+-- a session, and how many lines are printed of it
+abbrev pub session_header_of : ℕ → ℕ → Text
+session_header_of s count = ended (codes "session " ++ decimal (s + 1) ++ codes " " ++ decimal count)
+
+-- a session's header and its lines
 abbrev pub session_text_of : ℕ → List (Item Text) → List (Line Text) → Text
 session_text_of s script part =
-    ended (codes "session " ++ decimal (s + 1) ++ codes " " ++ decimal (length script))
-    ++ script_text_of true script (map (λ line. line.reply) part)
+    let lines = session_lines_of true script part in
+    session_header_of s (length lines) ++ flat_map ended lines
 
--- the history, and then each session's script
+-- the history, and then each session's lines
 abbrev pub run_text_of : List (List (Item Text)) → List ℕ → List (Line Text) → Text
 run_text_of scripts sessions lines =
     history_text_of lines

@@ -1,10 +1,11 @@
 -- What a run of some session files is.
-use Rattle.std.specs.Prelude.{◌≡◌, ℕ, ◌<◌, ◌≤◌, List, [], ◌∷◌, ◌++◌, length, map, Option, Some, IfSome, slice_index_or}
+use Rattle.std.specs.Prelude.{◌≡◌, ℕ, ◌<◌, ◌≤◌, false, List, [], ◌∷◌, ◌++◌, length, map, Option, None, Some, IfSome, slice_index_or}
 use Rattle.std.specs.List.{AllByRecursion}
 use Rattle.std.specs.Io.KnownBytes.{Appends}
 use Rattle.redo_model.specs.Names.{Text, texts}
 use Rattle.redo_model.specs.Command.{Item}
-use Rattle.redo_model.specs.History.{Line, part_of, Legal}
+use Rattle.redo_model.specs.State.{empty, is_building, target_state}
+use Rattle.redo_model.specs.History.{Line, part_of, left_by, Legal}
 use Rattle.redo_model.specs.Scripts.{Does}
 use Rattle.redo_text.specs.Grammar.{IsScript}
 use Rattle.redo_session.specs.RunTexts.{run_text_of, sessions_below}
@@ -25,13 +26,21 @@ AreAccepted names (file ∷ files) (script ∷ scripts) after =
     (middle : List Text) × IsAccepted names file script middle
     × AreAccepted middle files scripts after
 
--- one history that holds each session's commands once, in that session's order, each reply the
--- database's at its point; of guarded lines those that the replies let through
+-- one history in which each session does all that its script says, each reply the database's at its
+-- point: the commands of its lines once and in order, of guarded ones those that the replies let
+-- through, and then its closing commands
 pub record IsRun (scripts : List (List (Item Text))) (lines : List (Line Text)) : Type 0 where
   pub legal : Legal texts lines
   pub sessions : AllByRecursion (λ line. line.session < length scripts) lines
   pub parts : (s : ℕ) → s < length scripts
-      → Does (slice_index_or scripts s []) (part_of s lines)
+      → Does texts (slice_index_or scripts s []) (part_of s lines)
+
+-- when the lines are done, no target is held, and none is building
+abbrev pub LeavesNothingHeld : List (Line Text) → Type 0
+LeavesNothingHeld lines =
+    let state = left_by texts empty lines in
+    (t : Text) → (state.locks.holder t ≡ None)
+    × (is_building (target_state state.records t) ≡ false)
 
 -- the text of such a run
 abbrev pub IsRunText : List (List (Item Text)) → Text → Type 0

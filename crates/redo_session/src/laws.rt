@@ -2,14 +2,21 @@
 
 ghost use Rattle.std.specs.Prelude.{◌≡◌, List, [], ◌∷◌, Some, map};
 ghost use Rattle.redo_model.specs.Names.{Text, texts};
+ghost use Rattle.redo_model.specs.Command.{Item};
 ghost use Rattle.redo_model.specs.History.{Line, Legal};
 ghost use Rattle.redo_replay.specs.HistoryTexts.{IsHistory};
-ghost use Rattle.redo_session.specs.Runs.{RunsAs};
+ghost use Rattle.redo_session.specs.Runs.{IsRun, LeavesNothingHeld, RunsAs};
 
 /// One file whose bytes are known has at most one run text: what is printed for a file is a
 /// function of its bytes.
 pub fn one_run()
     ensures { (file a b : Text) → RunsAs (Some file ∷ []) a → RunsAs (Some file ∷ []) b → a ≡ b }
+{}
+
+/// When a run of scripts is done, no target is held, and none is building.
+pub fn run_lets_go()
+    ensures { (scripts : List (List (Item Text))) (lines : List (Line Text))
+        → IsRun scripts lines → LeavesNothingHeld lines }
 {}
 
 /// The run text of files whose bytes are known is a history, whose lines are legal: to replay it

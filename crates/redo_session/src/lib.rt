@@ -11,7 +11,7 @@ mod texts;
 
 pub use fault::TextFault;
 pub use files::read_files;
-pub use laws::{one_run, run_replays};
+pub use laws::{one_run, run_lets_go, run_replays};
 pub use printed::run_text;
 pub use runs::{Outcome, RunFault, run};
 pub use texts::run_texts;

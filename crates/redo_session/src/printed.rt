@@ -1,4 +1,4 @@
-ghost use Rattle.std.specs.Prelude.{◌≡◌, ◌≤◌, ◌<◌, ◌+◌, ◌++◌, ◌⊎◌, ◌||◌, ℕ, List, true, false, not, drop, length, map, codes, decimal, IfOk, OnOk, slice_index_or};
+ghost use Rattle.std.specs.Prelude.{◌≡◌, ◌≤◌, ◌<◌, ◌+◌, ◌++◌, ◌⊎◌, ◌||◌, ℕ, List, [], true, false, not, drop, length, map, IfOk, OnOk, slice_index_or};
 ghost use Rattle.redo_model.specs.Names.{Text};
 ghost use Rattle.redo_model.specs.History.{part_of};
 ghost use Rattle.redo_model.specs.Renaming.{IsBelow, IsReplyBelow};
@@ -7,15 +7,15 @@ ghost use Rattle.redo_terms.specs.Inside.Meaning.{item_at, item_of};
 ghost use Rattle.redo_journal.specs.Plans.{AreBelow, IsPlan, script_of};
 ghost use Rattle.redo_replay.specs.Histories.{ended};
 ghost use Rattle.redo_session.specs.Outcomes.{scripts_named};
-ghost use Rattle.redo_session.specs.RunTexts.{done_text_of, skipped_text_of, session_text_of, run_text_of, sessions_below};
+ghost use Rattle.redo_session.specs.RunTexts.{done_text_of, skipped_text_of, session_lines_of, session_header_of, session_text_of, run_text_of, sessions_below};
 ghost use Rattle.redo_replay.specs.Recorded.{AreLinesBelow};
-ghost use Rattle.redo_session.specs.Inside.Printed.{replies_in};
+ghost use Rattle.redo_session.specs.Inside.Printed.{part_in, closing_lines_of, ArePrinted};
 
 use crate::runs::Outcome;
 use redo_command::{Item, Line, Reply, line_text, reply_text};
 use redo_journal::Plan;
 use redo_names::Names;
-use redo_replay::{history_text, put_number};
+use redo_replay::{history_text, put_answer, put_number};
 use std::alloc::{AllocError, Global};
 
 /// Where the session's first line stands from here on; past all lines where there is none.
@@ -24,8 +24,8 @@ fn own_from(session: u8, lines: &[Line], from: usize) -> usize
     ensures within { result ≤ length lines.now }
     ensures own { (d : Line) → result < length lines.now
         → (slice_index_or lines.now result d).session ≡ session }
-    ensures same { (names : List Text) → replies_in names session (drop result lines.now)
-        ≡ replies_in names session (drop from lines.now) }
+    ensures same { (names : List Text) → part_in names session (drop result lines.now)
+        ≡ part_in names session (drop from lines.now) }
 {
     for at in from..lines.len() {
         if lines[at].session == session {
@@ -55,7 +55,7 @@ fn put_done(
     requires item { IsBelow (length names.now) (command_of item.now.command) }
     requires reply { IsReplyBelow (length names.now) (reply_of reply.now) }
     ensures { OnOk result (text.new.items ≡ text.old.items
-        ++ done_text_of (item_at names.now item.now) (reply_at names.now reply.now)) }
+        ++ ended (done_text_of (item_at names.now item.now) (reply_at names.now reply.now))) }
 {
     text.extend_from_slice(&line_text(alloc, item, names)?)?;
     text.extend_from_slice(b" => ")?;
@@ -73,11 +73,72 @@ fn put_skipped(
 ) -> Result<(), AllocError>
     requires { IsBelow (length names.now) (command_of item.now.command) }
     ensures { OnOk result (text.new.items
-        ≡ text.old.items ++ skipped_text_of (item_at names.now item.now)) }
+        ≡ text.old.items ++ ended (skipped_text_of (item_at names.now item.now))) }
 {
     text.extend_from_slice(&line_text(alloc, item, names)?)?;
     text.extend_from_slice(b" => skipped\n")?;
     Ok(())
+}
+
+/// Prints each line of the session's script, with the reply where it was done. Answers from where
+/// on the session's lines are closing ones.
+fn put_script(
+    alloc: Global,
+    text: &mut Vec<u8>,
+    session: u8,
+    items: &[Item],
+    lines: &[Line],
+    names: &Names,
+) -> Result<usize, AllocError>
+    requires items { AreBelow (length names.now) items.now }
+    requires lines { AreLinesBelow names.now lines.now }
+    ensures within { IfOk result (λ at. at ≤ length lines.now) }
+    ensures printed { IfOk result (λ at. ArePrinted
+        (session_lines_of true (map (item_at names.now) items.now)
+        (part_in names.now session lines.now)) text.old.items text.new.items (length items.now)
+        (closing_lines_of (part_in names.now session (drop at lines.now)))) }
+{
+    let mut through = true;
+    let mut at = own_from(session, lines, 0);
+    for item in items {
+        if !is_answered(item, through, at, lines.len()) {
+            put_skipped(alloc, text, item, names)?;
+            continue;
+        }
+        let reply = &lines[at].reply;
+        put_done(alloc, text, item, reply, names)?;
+        through = reply.lets_through();
+        at = own_from(session, lines, at + 1);
+    }
+    Ok(at)
+}
+
+/// Prints the session's lines from here on, which are closing ones, and answers how many they are.
+fn put_closing(
+    alloc: Global,
+    text: &mut Vec<u8>,
+    session: u8,
+    lines: &[Line],
+    from: usize,
+    names: &Names,
+) -> Result<usize, AllocError>
+    requires lines { AreLinesBelow names.now lines.now }
+    requires from { from ≤ length lines.now }
+    ensures few { IfOk result (λ count. count ≤ length lines.now) }
+    ensures printed { IfOk result (λ count. ArePrinted
+        (closing_lines_of (part_in names.now session (drop from lines.now)))
+        text.old.items text.new.items count []) }
+{
+    let mut count = 0;
+    for at in from..lines.len() {
+        let line = &lines[at];
+        if line.session != session {
+            continue;
+        }
+        put_answer(alloc, text, line, names)?;
+        count += 1;
+    }
+    Ok(count)
 }
 
 fn put_header(
@@ -86,8 +147,7 @@ fn put_header(
     session: u8,
     count: usize,
 ) -> Result<(), AllocError>
-    ensures { OnOk result (text.new.items ≡ text.old.items ++ ended
-        (codes "session " ++ decimal (session + 1) ++ codes " " ++ decimal count)) }
+    ensures { OnOk result (text.new.items ≡ text.old.items ++ session_header_of session count) }
 {
     text.extend_from_slice(b"session ")?;
     put_number(alloc, text, session as usize + 1)?;
@@ -97,7 +157,7 @@ fn put_header(
     Ok(())
 }
 
-/// Prints the session's header and each line of its script, with the reply where it was done.
+/// Prints the session's header, the lines of its script, and its closing lines.
 fn put_session(
     alloc: Global,
     text: &mut Vec<u8>,
@@ -112,19 +172,11 @@ fn put_session(
         ≡ text.old.items ++ session_text_of session (map (item_at names.now) items.now)
         (part_of session (map (line_at names.now) lines.now))) }
 {
-    put_header(alloc, text, session, items.len())?;
-    let mut through = true;
-    let mut at = own_from(session, lines, 0);
-    for item in items {
-        if !is_answered(item, through, at, lines.len()) {
-            put_skipped(alloc, text, item, names)?;
-            continue;
-        }
-        let reply = &lines[at].reply;
-        put_done(alloc, text, item, reply, names)?;
-        through = reply.lets_through();
-        at = own_from(session, lines, at + 1);
-    }
+    let mut body = Vec::new(alloc);
+    let closing = put_script(alloc, &mut body, session, items, lines, names)?;
+    let count = put_closing(alloc, &mut body, session, lines, closing, names)?;
+    put_header(alloc, text, session, items.len() + count)?;
+    text.extend_from_slice(&body)?;
     Ok(())
 }
 
@@ -137,7 +189,7 @@ fn items_of(plan: &Plan, session: usize) -> &[Item]
     plan.scripts()[session].items()
 }
 
-/// The run text: the history, and then each session's script.
+/// The run text: the history, and then each session's lines.
 pub fn run_text(alloc: Global, plan: &Plan, outcome: &Outcome) -> Result<Vec<u8>, AllocError>
     requires { AreLinesBelow plan.now.names outcome.now.history.items }
     ensures { IfOk result (λ text. text.items

@@ -2,7 +2,7 @@ ghost use Rattle.std.specs.Prelude.{map, IfOk};
 ghost use Rattle.redo_terms.specs.Meaning.{line_of, line_at};
 ghost use Rattle.redo_replay.specs.Merges.{AreMerged};
 ghost use Rattle.redo_replay.specs.Recorded.{AreLinesBelow};
-ghost use Rattle.redo_session.specs.Runs.{IsRun};
+ghost use Rattle.redo_session.specs.Runs.{IsRun, LeavesNothingHeld};
 ghost use Rattle.redo_session.specs.Outcomes.{scripts_named, AreWhole, SeenStands};
 
 use crate::sessions::{Sessions, run_all};
@@ -57,9 +57,13 @@ pub fn run<G: Gate + Sync, R: Threads + Wait + Sync>(
         (map line_of outcome.history.items)) }
     ensures seen { IfOk result (λ outcome. SeenStands plan.now outcome.journals.items) }
 
-    // Over the names it is a run of the scripts: one legal history, with each session's commands
-    // once, in order.
+    // Over the names it is a run of the scripts: one legal history, in which each session does all
+    // that its script says, and then lets go of what it holds.
     ensures run { IfOk result (λ outcome. IsRun (scripts_named plan.now)
+        (map (line_at plan.now.names) outcome.history.items)) }
+
+    // When all is done no target is held, and none is building.
+    ensures let_go { IfOk result (λ outcome. LeavesNothingHeld
         (map (line_at plan.now.names) outcome.history.items)) }
     ensures below { IfOk result (λ outcome.
         AreLinesBelow plan.now.names outcome.history.items) }

@@ -3,8 +3,8 @@ use Rattle.std.specs.Prelude.{◌≡◌, ℕ, ◌<◌, ◌==◌, List, Contains,
 use Rattle.std.specs.List.{position_or_len}
 use Rattle.std.specs.Ordering.{nat_cmp}
 use Rattle.std.specs.declared.cmp.Ordering.{Ordering}
-use Rattle.redo_model.specs.Names.{Naming, IsListed, numbers, texts}
-use Rattle.redo_names.specs.Names.{text_at}
+use Rattle.redo_model.specs.Names.{IsListed}
+pub use Rattle.redo_terms.specs.Meaning.{by_text}
 
 -- the place of a number in a list
 abbrev pub place : List ℕ → ℕ → ℕ
@@ -13,10 +13,6 @@ place sorted n = position_or_len (λ m. m == n) sorted
 -- the order in which numbers stand in a list
 unfoldable pub by_place : List ℕ → ℕ → ℕ → Ordering
 by_place sorted m n = nat_cmp (place sorted m) (place sorted n)
-
--- numbers ordered as the texts that they stand for
-abbrev pub by_text : List (List ℕ) → Naming ℕ
-by_text names = numbers (λ m n. texts.order (text_at names m) (text_at names n))
 
 -- the numbers of all names, each once, in the order of their texts
 pub record AreSorted (names : List (List ℕ)) (sorted : List ℕ) : Type 0 where

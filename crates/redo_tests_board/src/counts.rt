@@ -6,10 +6,10 @@ use std::alloc::{AllocError, Global};
 use std::process::Abort;
 use std::sync::atomic::{AtomicU32, Ordering};
 
-/// As many sessions, and as many commands of each, as the plans here have at most.
+/// As many sessions, and as many commands of each, closing ones among them, as the plans here have at most.
 const SESSIONS: usize = 4;
 
-const COMMANDS: usize = 32;
+const COMMANDS: usize = 64;
 
 /// A gate that counts.
 #[derive(Drop)]

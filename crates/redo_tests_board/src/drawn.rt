@@ -1,5 +1,6 @@
 //! Plans that are drawn, the same for the same seed, and what is counted in them.
 use crate::counts::{Counts, check_counts};
+use crate::histories::counted;
 use crate::order::first_schedule;
 use crate::plans::plan_of;
 use crate::random::Random;
@@ -106,7 +107,9 @@ fn drawn_run<R: Threads + Wait + Abort + Sync>(
     let plan = drawn_plan(rt, alloc, random, 4, 32)?;
     let gate = Counts::new(alloc)?;
     let outcome = run(rt, alloc, &plan, &gate)?;
-    assert_eq!(rt; outcome.history.len(), 128);
+    // Each session lets go of at most two targets at its end, by at most four commands.
+    let lines = outcome.history.len();
+    assert!(rt; lines >= 128 && lines <= 144 && counted(&outcome.history).is_let_go());
     let rows = check_counts(rt, &outcome.history, &outcome.journals, &gate);
     Ok((rows, gate.all()))
 }

@@ -1,9 +1,9 @@
 //! Guarded lines: who is let through, and that a skipped line makes no step.
 use crate::gates::{Holds, Moment};
-use crate::outcomes::{ran, tries_of};
+use crate::outcomes::{is_at, ran, tries_of};
 use crate::plans::plan_of;
 use redo_board::Gate;
-use redo_journal::{Journal, Place};
+use redo_journal::Place;
 use redo_session::{Outcome, RunFault, run, run_text};
 use std::process::Abort;
 use std::sync::Wait;
@@ -64,22 +64,6 @@ fn has_history<G: Gate + Sync, R: Threads + Wait + Abort + AllocGlobal + Sync>(
     Ok(outcome)
 }
 
-/// Whether the first journal's entries are of these lines, at these places.
-fn is_at(journals: &[Journal], want: &[(u32, Place)]) -> bool {
-    let Some(journal) = journals.first() else {
-        return false;
-    };
-    if journal.entries.len() != want.len() {
-        return false;
-    }
-    for (entry, (line, place)) in journal.entries.iter().zip(want) {
-        if entry.line != *line || entry.place != *place {
-            return false;
-        }
-    }
-    true
-}
-
 /// Each guarded line that is skipped follows a busy or a refused reply.
 const SKIPS: &str = "? lock T\nlock T\n? start T\n? unlock T\n\
     unlock T\n? start T\n? ood\ntargets\n";
@@ -105,7 +89,7 @@ fn skipped_lines_make_no_step(rt: HostRuntime) -> Result<(), RunFault> {
         (5, Place::Row(0)),
         (7, Place::Row(1)),
     ];
-    assert!(rt; is_at(&outcome.journals, &want));
+    assert!(rt; is_at(&outcome.journals, 0, &want));
     assert!(rt; tries_of(&outcome.journals, 0) == 2);
     Ok(())
 }
@@ -133,7 +117,7 @@ fn guarded_lines_at_the_end(rt: HostRuntime) -> Result<(), RunFault> {
     let want = "history 1\n1 unlock T => refused not-locked\n";
     let outcome = has_history(&rt, &["unlock T\n? ood\n? lock T\n"], &gate, want)?;
     assert!(rt; gate.lines() == [1, 1, 1]);
-    assert!(rt; is_at(&outcome.journals, &[(0, Place::Row(0))]));
+    assert!(rt; is_at(&outcome.journals, 0, &[(0, Place::Row(0))]));
     Ok(())
 }
 
@@ -156,23 +140,25 @@ fn busy_of_another_session(rt: HostRuntime) -> Result<(), RunFault> {
     let outcome = run(&rt, alloc, &plan, &gate)?;
     assert!(rt; gate.are_met());
     let text = run_text(alloc, &plan, &outcome)?;
-    let want = "history 6\n\
+    let want = "history 7\n\
         1 lock t => granted 1\n\
         2 lock t => busy 1\n\
         1 unlock t => ok\n\
         2 lock t => granted 2\n\
         2 start t => ok\n\
         2 done t 2 => ok\n\
+        2 unlock t => ok\n\
         session 1 2\n\
         ? lock t => granted 1\n\
         ? unlock t => ok\n\
-        session 2 6\n\
+        session 2 7\n\
         ? lock t => busy 1\n\
         ? start t => skipped\n\
         ? done t 1 => skipped\n\
         lock t => granted 2\n\
         ? start t => ok\n\
-        ? done t 2 => ok\n";
+        ? done t 2 => ok\n\
+        unlock t => ok\n";
     assert!(rt; text.as_slice() == want.as_bytes(), "{text:?}");
     Ok(())
 }

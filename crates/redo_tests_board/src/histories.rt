@@ -4,7 +4,7 @@ ghost use Rattle.std.specs.List.{AllByRecursion};
 ghost use Rattle.redo_model.specs.Renaming.{AllBelow, IsBelow, IsReplyBelow, IsLineBelow};
 ghost use Rattle.redo_terms.specs.Meaning.{command_of, reply_of, line_of};
 
-use redo_command::{Command, Line, Refusal, Reply};
+use redo_command::{Command, Kind, Line, Refusal, Reply};
 use redo_journal::{Entry, Journal, Place, Plan, are_journals};
 use redo_replay::{HistoryFault, Verdict, history_text, merge, read_history, replay};
 use std::alloc::{AllocError, Global};
@@ -62,7 +62,7 @@ pub(crate) fn merged(
     plan: &Plan,
     journals: &[Journal],
 ) -> Result<Vec<Line>, AllocError> {
-    assert!(rt; are_journals(plan, journals));
+    assert!(rt; are_journals(alloc, plan, journals)?);
     Ok(merge(alloc, plan, journals)?.expect(rt, "a joint order"))
 }
 
@@ -104,6 +104,43 @@ pub(crate) fn replays(
     let is_same = matches!(replay(alloc, &told)?, Verdict::Same(lines) if lines == count);
     assert!(rt; is_same, "{history:?}");
     Ok(())
+}
+
+/// What the lines of a legal history have in all: locks that were granted, unlocks and starts that were accepted, and
+/// builds that failed or were done.
+#[derive(Clone, Copy)]
+pub(crate) struct Totals {
+    pub(crate) granted: usize,
+    pub(crate) unlocked: usize,
+    pub(crate) started: usize,
+    pub(crate) ended: usize,
+}
+
+impl Totals {
+    /// Whether after the lines nothing is held and nothing is building.
+    pub(crate) fn is_let_go(self) -> bool {
+        self.granted == self.unlocked && self.started == self.ended
+    }
+}
+
+/// Counts these lines.
+pub(crate) fn counted(lines: &[Line]) -> Totals {
+    let mut all = Totals {
+        granted: 0,
+        unlocked: 0,
+        started: 0,
+        ended: 0,
+    };
+    for line in lines {
+        match (line.command.kind(), &line.reply) {
+            (Kind::Lock, Reply::Granted(_)) => all.granted = all.granted.saturating_add(1),
+            (Kind::Unlock, Reply::Okay) => all.unlocked = all.unlocked.saturating_add(1),
+            (Kind::Start, Reply::Okay) => all.started = all.started.saturating_add(1),
+            (Kind::Done | Kind::Failed, Reply::Okay) => all.ended = all.ended.saturating_add(1),
+            _ => {}
+        }
+    }
+    all
 }
 
 /// How many entries are at rows.

@@ -41,19 +41,21 @@ fn leave_after(
     Ok(worker.leave())
 }
 
-/// The first session leaves after three commands, and the second one after its four: the number of
-/// filled rows, and the journals.
+/// The first session leaves after so many commands, and then the second one after so many: the number
+/// of filled rows, and the journals.
 fn leave_apart(
     rt: &impl Abort,
     alloc: Global,
     plan: &Plan,
+    first: u32,
+    second: u32,
 ) -> Result<(usize, Vec<Journal>), AllocError>
     requires { length plan.now.scripts ≡ 2 }
 {
     let (board, seat) = Board::open(alloc, plan)?;
     let (left, right) = split(&board, plan, seat, 1);
-    let (left, journal) = leave_after(rt, alloc, &board, plan, left, 3)?;
-    let (right, other) = leave_after(rt, alloc, &board, plan, right, 4)?;
+    let (left, journal) = leave_after(rt, alloc, &board, plan, left, first)?;
+    let (right, other) = leave_after(rt, alloc, &board, plan, right, second)?;
     let all = meet(&board, plan, left, right);
     let rows = close(board, plan, all);
     Ok((rows, vec![in alloc; journal, other]?))
@@ -88,7 +90,31 @@ fn leaves_in_the_middle(rt: HostRuntime) -> Result<(), AllocError> {
     let alloc = rt.alloc();
     let plan = plan_of(&rt, alloc, &FILES)?;
     assert!(rt; plan.scripts().len() == 2);
-    let (rows, journals) = leave_apart(&rt, alloc, &plan)?;
+    let (rows, journals) = leave_apart(&rt, alloc, &plan, 3, 4)?;
     assert!(rt; rows == 5);
     check_left(&rt, alloc, &plan, &journals)
+}
+
+/// The first session breaks off in a build.
+const BROKEN_OFF: [&str; 2] = ["lock t\nstart t\n", "lock t\n"];
+
+/// What comes of them where the first leaves after its lines, and after one closing command: it still
+/// holds the lock.
+const HELD: [&str; 2] = [
+    "history 3\n1 lock t => granted 1\n1 start t => ok\n2 lock t => busy 1\n",
+    "history 4\n1 lock t => granted 1\n1 start t => ok\n1 failed t => ok\n2 lock t => busy 1\n",
+];
+
+/// A worker that leaves before its end doesn't let go.
+#[test]
+fn leaves_before_it_lets_go(rt: HostRuntime) -> Result<(), AllocError> {
+    let alloc = rt.alloc();
+    let plan = plan_of(&rt, alloc, &BROKEN_OFF)?;
+    assert!(rt; plan.scripts().len() == 2);
+    for (commands, want_rows, want) in [(2, 1, HELD[0]), (3, 2, HELD[1])] {
+        let (rows, journals) = leave_apart(&rt, alloc, &plan, commands, 1)?;
+        let history = history_of(&rt, alloc, &plan, &journals)?;
+        assert!(rt; rows == want_rows && history.as_slice() == want.as_bytes());
+    }
+    Ok(())
 }

@@ -1,6 +1,6 @@
 //! What runs of whole plans leave.
 use redo_board::Gate;
-use redo_journal::{Journal, Plan};
+use redo_journal::{Journal, Place, Plan};
 use redo_replay::history_text;
 use redo_session::{Outcome, RunFault, run};
 use std::alloc::Global;
@@ -17,6 +17,22 @@ pub(crate) fn ran<G: Gate + Sync, R: Threads + Wait + Sync>(
     let outcome = run(rt, alloc, plan, gate)?;
     let history = history_text(alloc, &outcome.history, plan.names())?;
     Ok((outcome, history))
+}
+
+/// Whether the entries of the journal of this session are of these lines, at these places.
+pub(crate) fn is_at(journals: &[Journal], session: usize, want: &[(u32, Place)]) -> bool {
+    let Some(journal) = journals.get(session) else {
+        return false;
+    };
+    if journal.entries.len() != want.len() {
+        return false;
+    }
+    for (entry, (line, place)) in journal.entries.iter().zip(want) {
+        if entry.line != *line || entry.place != *place {
+            return false;
+        }
+    }
+    true
 }
 
 /// How many tries the journal at this place tells of.

@@ -3,17 +3,20 @@ ghost use Rattle.std.specs.Prelude.{◌≡◌, length, IfOk};
 ghost use Rattle.redo_board.specs.Kept.{IsBoardOf, SitsAt, IsFreshOf};
 
 use crate::gates::Holds;
-use crate::histories::{history_of, replays};
+use crate::histories::{counted, history_of, replays};
 use crate::outcomes::{ran, tries_of};
 use crate::plans::plan_of;
 use crate::seats::close;
 use crate::threads::journals_of;
 use crate::told::tell;
-use crate::worked::{COMMON_PATH, COMMON_PATH_HISTORY, LOST_TRY, LOST_TRY_HISTORY, lost_try};
+use crate::worked::{
+    BROKEN_OFF, BROKEN_OFF_HISTORY, COMMON_PATH, COMMON_PATH_HISTORY, LOST_TRY, LOST_TRY_HISTORY,
+    lost_try,
+};
 use crate::workers::work;
 use redo_board::{Board, Open, Seat};
 use redo_journal::{Journal, Plan};
-use redo_session::RunFault;
+use redo_session::{Outcome, RunFault};
 use std::alloc::{AllocError, Global};
 use std::process::Abort;
 use std::sync::Wait;
@@ -72,13 +75,13 @@ fn merged(
     }
 }
 
-/// The journal of the one session, which does its whole script.
-fn done_alone(rt: &impl Abort, alloc: Global, plan: &Plan) -> Result<Journal, AllocError>
+/// The journal of the one session, which does its whole script and lets go, with so many rows.
+fn done_alone(rt: &impl Abort, alloc: Global, plan: &Plan, rows: u32) -> Result<Journal, AllocError>
     requires { length plan.now.scripts ≡ 1 }
 {
     let (board, seat) = opened(alloc, plan)?;
     let (seat, journal) = work(rt, alloc, &board, plan, &Open, seat)?;
-    assert!(rt; close(board, plan, seat) == 7 && journal.tries == 7);
+    assert!(rt; close(board, plan, seat) == rows as usize && journal.tries == rows);
     Ok(journal)
 }
 
@@ -95,13 +98,24 @@ fn check_history(
     Ok(())
 }
 
+/// The one session has this history, with so many rows.
+fn check_alone(
+    rt: &impl Abort,
+    alloc: Global,
+    file: &str,
+    rows: u32,
+    want: &str,
+) -> Result<(), AllocError> {
+    let plan = planned(rt, alloc, &[file])?;
+    assert!(rt; plan.scripts().len() == 1);
+    let journal = done_alone(rt, alloc, &plan, rows)?;
+    check_history(rt, alloc, &plan, &[journal], want)
+}
+
 #[test]
 fn every_request_refused(rt: HostRuntime) -> Result<(), AllocError> {
-    let alloc = rt.alloc();
-    let plan = planned(&rt, alloc, &[COMMON_PATH])?;
-    assert!(rt; plan.scripts().len() == 1);
-    let journal = done_alone(&rt, alloc, &plan)?;
-    check_history(&rt, alloc, &plan, &[journal], COMMON_PATH_HISTORY)
+    check_alone(&rt, rt.alloc(), COMMON_PATH, 7, COMMON_PATH_HISTORY)?;
+    check_alone(&rt, rt.alloc(), BROKEN_OFF, 2, BROKEN_OFF_HISTORY)
 }
 
 /// The journals of the lost try. Without a thread of its own, a session waits in vain for the other.
@@ -117,7 +131,9 @@ fn lost<R: Threads + Abort + Sync>(
         tell(alloc);
         return Err(AllocError);
     };
+    // `join` does without a thread, and doesn't say so.
     if !gate.are_met() {
+        tell(alloc);
         return Err(AllocError);
     }
     assert!(rt; rows == 6 && gate.ready_calls() == 6);
@@ -148,24 +164,25 @@ fn refused_after_the_lost_row(rt: HostRuntime) -> Result<(), AllocError> {
     check_history(&rt, alloc, &plan, &journals, LOST_TRY_HISTORY)
 }
 
-/// Two sessions that want one target.
+/// Two sessions that want one target. The second may hold it at its end, and build it: so there are 13
+/// lines and up to two closing ones.
 const TWO_SESSIONS: [&str; 2] = [
     "file a 1\nlock t\nstart t\nifchange t a\ndone t 1\nunlock t\nood\n",
     "lock t\nstart t\nfile a 2\nood\nlock t\ntargets\n",
 ];
 
-/// The history of a run. Where a request or the start of a thread is refused, the run answers that, and the next one
-/// succeeds.
+/// The outcome of a run, and its history. Where a request or the start of a thread is refused, the run answers that,
+/// and the next one succeeds.
 fn ran_again<R: Threads + Wait + Sync>(
     rt: &R,
     alloc: Global,
     plan: &Plan,
-) -> Result<Vec<u8>, RunFault> {
+) -> Result<(Outcome, Vec<u8>), RunFault> {
     match ran(rt, alloc, plan, &Open) {
-        Ok((_, history)) => Ok(history),
+        Ok(both) => Ok(both),
         Err(RunFault::Memory) => {
             tell(alloc);
-            Ok(ran(rt, alloc, plan, &Open)?.1)
+            ran(rt, alloc, plan, &Open)
         }
     }
 }
@@ -174,12 +191,14 @@ fn ran_again<R: Threads + Wait + Sync>(
 fn run_with_each_request_refused(rt: HostRuntime) -> Result<(), RunFault> {
     let alloc = rt.alloc();
     let plan = planned(&rt, alloc, &TWO_SESSIONS)?;
-    let history = ran_again(&rt, alloc, &plan)?;
-    match replays(&rt, alloc, &history, 13) {
+    let (outcome, history) = ran_again(&rt, alloc, &plan)?;
+    let count = outcome.history.len();
+    assert!(rt; count >= 13 && count <= 15 && counted(&outcome.history).is_let_go());
+    match replays(&rt, alloc, &history, count) {
         Ok(()) => Ok(()),
         Err(_) => {
             tell(alloc);
-            Ok(replays(&rt, alloc, &history, 13)?)
+            Ok(replays(&rt, alloc, &history, count)?)
         }
     }
 }

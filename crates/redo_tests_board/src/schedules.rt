@@ -9,12 +9,13 @@ use crate::plans::plan_of;
 use crate::seats::split;
 use crate::workers::worker_of;
 use redo_board::{Board, Seat, Worker};
+use redo_command::Line;
 use redo_journal::{Journal, Place, Plan};
 use std::alloc::{AllocError, Global};
 use std::process::Abort;
 
 /// More schedules than a plan here has.
-const MOST: usize = 20_000;
+pub(crate) const MOST: usize = 20_000;
 
 /// Small plans, whose sessions ask for one target, are refused, lose rows and ask for lists.
 const PLANS: [&[&str]; 5] = [
@@ -68,7 +69,8 @@ fn workers_of(
 }
 
 /// Takes one step, whose command was ready as often as it tried an exchange: as often as its row is
-/// past the session's row before it. So many rows were passed by then.
+/// past the session's row before it. So many rows were passed by then. A session that is at its end
+/// tries none.
 fn take_turn(
     rt: &impl Abort,
     alloc: Global,
@@ -82,11 +84,13 @@ fn take_turn(
     ensures { WorksAt plan.now board.now worker.new }
 {
     let (ready, tries) = (gate.all(), worker.tries());
-    assert!(rt; worker.step(alloc, board, plan, gate)?);
-    let entry = worker.last().expect(rt, "an entry");
-    let passes = match entry.place {
-        Place::Row(row) => row.wrapping_add(1),
-        _ => passed,
+    let passes = if worker.step(alloc, board, plan, gate)? {
+        match worker.last().expect(rt, "an entry").place {
+            Place::Row(row) => row.wrapping_add(1),
+            _ => passed,
+        }
+    } else {
+        passed
     };
     assert_eq!(rt; gate.all().wrapping_sub(ready), passes.wrapping_sub(passed));
     assert_eq!(rt;
@@ -127,14 +131,14 @@ fn journals_of(alloc: Global, workers: Vec<Worker>) -> Result<Vec<Journal>, Allo
     Ok(journals)
 }
 
-/// The history of this schedule is legal, and agrees with what was counted: so many rows, and so
-/// many exchanges.
-pub(crate) fn check_schedule(
+/// The lines of the history of this schedule, which is legal and agrees with what was counted: so
+/// many rows, and so many exchanges.
+pub(crate) fn lines_of_schedule(
     rt: &impl Abort,
     alloc: Global,
     plan: &Plan,
     turns: &[usize],
-) -> Result<(u32, u32), AllocError> {
+) -> Result<(Vec<Line>, u32, u32), AllocError> {
     let (board, seat) = Board::open(alloc, plan)?;
     let mut workers = workers_of(alloc, &board, plan, seat)?;
     let gate = Counts::new(alloc)?;
@@ -142,8 +146,21 @@ pub(crate) fn check_schedule(
     let journals = journals_of(alloc, workers)?;
     let lines = merged(rt, alloc, plan, &journals)?;
     let history = text_of(rt, alloc, plan, &lines)?;
-    replays(rt, alloc, &history, turns.len())?;
-    Ok((check_counts(rt, &lines, &journals, &gate), gate.all()))
+    replays(rt, alloc, &history, lines.len())?;
+    let rows = check_counts(rt, &lines, &journals, &gate);
+    Ok((lines, rows, gate.all()))
+}
+
+/// The same of a schedule in which each turn makes a line: so many rows, and so many exchanges.
+pub(crate) fn check_schedule(
+    rt: &impl Abort,
+    alloc: Global,
+    plan: &Plan,
+    turns: &[usize],
+) -> Result<(u32, u32), AllocError> {
+    let (lines, rows, exchanges) = lines_of_schedule(rt, alloc, plan, turns)?;
+    assert!(rt; lines.len() == turns.len());
+    Ok((rows, exchanges))
 }
 
 /// How many schedules the plan has; the history of each is legal.

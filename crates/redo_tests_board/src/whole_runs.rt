@@ -65,11 +65,12 @@ fn merging(rt: HostRuntime) -> Result<(), RunFault> {
         (Moment::Before(1, 1), Moment::After(0, 1)),
     ];
     let gate = Holds::new(rt.alloc(), &pairs)?;
-    let want = "history 4\n\
+    let want = "history 5\n\
         1 lock t => granted 1\n\
         2 lock t => busy 1\n\
         1 unlock t => ok\n\
-        2 lock t => granted 2\n";
+        2 lock t => granted 2\n\
+        2 unlock t => ok\n";
     let files = ["lock t\nunlock t\n", "lock t\nlock t\n"];
     has_history(&rt, &files, &gate, want)?;
     Ok(())
@@ -97,7 +98,7 @@ fn common_path_beside_own_lock(rt: HostRuntime) -> Result<(), RunFault> {
         (Moment::Before(0, 6), Moment::After(1, 1)),
     ];
     let gate = Holds::new(rt.alloc(), &pairs)?;
-    let want = "history 11\n\
+    let want = "history 12\n\
         1 file a.c 10 => ok\n\
         1 lock a.o => granted 1\n\
         1 start a.o => ok\n\
@@ -108,7 +109,8 @@ fn common_path_beside_own_lock(rt: HostRuntime) -> Result<(), RunFault> {
         1 targets => targets a.o\n\
         1 sources => sources a.c\n\
         2 lock T => granted 1\n\
-        2 lock T => busy 1\n";
+        2 lock T => busy 1\n\
+        2 unlock T => ok\n";
     has_history(&rt, &[COMMON_PATH, "lock T\nlock T\n"], &gate, want)?;
     Ok(())
 }

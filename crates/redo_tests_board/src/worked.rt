@@ -33,6 +33,16 @@ pub(crate) const COMMON_PATH_HISTORY: &str = "history 9\n\
     1 targets => targets a.o\n\
     1 sources => sources a.c\n";
 
+/// One session, which breaks off in a build.
+pub(crate) const BROKEN_OFF: &str = "lock T\nstart T\n";
+
+/// What comes of it.
+pub(crate) const BROKEN_OFF_HISTORY: &str = "history 4\n\
+    1 lock T => granted 1\n\
+    1 start T => ok\n\
+    1 failed T => ok\n\
+    1 unlock T => ok\n";
+
 /// The first session's commands for a target, and its question; the second session's file.
 pub(crate) const LOST_TRY: [&str; 2] = [
     "file a.c 10\nlock a.o\nstart a.o\nifchange a.o a.c\ndone a.o 20\nunlock a.o\nood\n",
@@ -66,13 +76,14 @@ pub(crate) const BUSY: [&str; 3] = [
 ];
 
 /// What comes of them where the second is told busy by the first one's grant, and by the third's.
-pub(crate) const BUSY_HISTORY: &str = "history 6\n\
+pub(crate) const BUSY_HISTORY: &str = "history 7\n\
     1 lock t => granted 1\n\
     2 lock t => busy 1\n\
     1 unlock t => ok\n\
     3 lock t => granted 2\n\
     2 lock t => busy 2\n\
-    3 targets => targets\n";
+    3 targets => targets\n\
+    3 unlock t => ok\n";
 
 /// Each command is held until the one before it in that history is done.
 pub(crate) fn busy(alloc: Global) -> Result<Holds, AllocError> {

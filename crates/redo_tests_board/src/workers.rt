@@ -40,7 +40,6 @@ fn last_of(worker: &Worker) -> Option<(u32, Place)> {
 }
 
 /// One step. Where it is refused, the journal is as it was, and the next step does the command.
-#[tactic(auto, using(crate::proofs::Fewer::by_step, crate::proofs::Fewer::by_next_step))]
 pub(crate) fn step<G: Gate>(
     rt: &impl Abort,
     alloc: Global,

@@ -104,6 +104,20 @@ fn run_of_one(rt: HostRuntime) -> Result<(), Fail> {
     Ok(())
 }
 
+/// A session that breaks off in a build, and its run text.
+const BROKEN_OFF: &str = "lock T\nstart T\nfile a 1\n";
+
+const BROKEN_OFF_TEXT: &str = "history 5\n1 lock T => granted 1\n1 start T => ok\n\
+    1 file a 1 => ok\n1 failed T => ok\n1 unlock T => ok\nsession 1 5\nlock T => granted 1\n\
+    start T => ok\nfile a 1 => ok\nfailed T => ok\nunlock T => ok\n";
+
+#[test]
+fn run_that_breaks_off(rt: HostRuntime) -> Result<(), Fail> {
+    let writer = run_of(&rt, rt.alloc(), &[BROKEN_OFF])?;
+    assert!(&rt; writer.taken.as_slice() == BROKEN_OFF_TEXT.as_bytes());
+    Ok(())
+}
+
 #[test]
 fn run_of_two(rt: HostRuntime) -> Result<(), Fail> {
     let writer = run_of(&rt, rt.alloc(), &[FILE; 2])?;

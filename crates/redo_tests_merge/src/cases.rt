@@ -46,7 +46,7 @@ pub(crate) fn check<R: Abort + AllocGlobal>(
 ) -> Result<Option<Vec<u8>>, Fail> {
     let alloc = rt.alloc();
     let journals = journals_of(alloc, told)?;
-    assert!(rt; are_journals(plan, &journals));
+    assert!(rt; are_journals(alloc, plan, &journals)?);
     let lines = merge(alloc, plan, &journals)?;
     let order = first_order(alloc, plan, told)?;
     let is_right = agree(plan, told, order.as_deref(), lines.as_deref());

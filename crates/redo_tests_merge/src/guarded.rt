@@ -79,7 +79,7 @@ fn journals_with_guards(rt: HostRuntime) -> Result<(), Fail> {
     let plan = plan_of(alloc, &TEXTS)?;
     for (lines, want) in LINES {
         assert!(rt;
-            are_journals(&plan, &journals_at(alloc, lines)?) == want,
+            are_journals(alloc, &plan, &journals_at(alloc, lines)?)? == want,
             "{lines:?}"
         );
     }
@@ -109,7 +109,7 @@ fn merging_with_guards(rt: HostRuntime) -> Result<(), Fail> {
     let alloc = rt.alloc();
     let plan = plan_of(alloc, &TEXTS)?;
     let journals = journals_at(alloc, &[0, 2, 3])?;
-    assert!(rt; are_journals(&plan, &journals));
+    assert!(rt; are_journals(alloc, &plan, &journals)?);
     let lines = merge(alloc, &plan, &journals)?.ok_or("an order")?;
     assert!(rt; are_the_five(&lines));
     Ok(())

@@ -6,6 +6,8 @@ mod cases;
 #[cfg(test)]
 mod changed;
 #[cfg(test)]
+mod closing;
+#[cfg(test)]
 mod drawn;
 #[cfg(test)]
 mod exhaustive;

@@ -20,7 +20,8 @@ pub(crate) struct Told {
     pub(crate) place: Place,
 }
 
-fn reply_of(answer: Answer) -> Reply {
+/// The reply itself.
+pub(crate) fn reply_of(answer: Answer) -> Reply {
     match answer {
         Answer::Okay => Reply::Okay,
         Answer::Granted(grant) => Reply::Granted(grant),
@@ -35,6 +36,7 @@ fn journal_of(alloc: Global, session: u8, told: &[Told]) -> Result<Journal, Allo
     for (line, one) in (0..=u32::MAX).zip(told) {
         entries.push(Entry {
             line,
+            closing: None,
             reply: reply_of(one.answer),
             place: one.place,
         })?;

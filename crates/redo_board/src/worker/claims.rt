@@ -1,4 +1,4 @@
-ghost use Rattle.std.specs.Prelude.{◌≡◌, ◌≤◌};
+ghost use Rattle.std.specs.Prelude.{◌≡◌, ◌<◌, None};
 ghost use Rattle.redo_model.specs.Command as commands;
 ghost use Rattle.redo_model.specs.Journals.{Numbered};
 ghost use Rattle.redo_journal.specs.Journals.{line_told};
@@ -13,14 +13,15 @@ ghost use Rattle.redo_board.specs.Outcomes.{Made};
 use crate::board::Board;
 use crate::rule::{Claim, Free};
 use crate::worker::Worker;
-use redo_journal::{Entry, Place, Plan};
+use crate::worker::words::again;
+use redo_journal::{Entry, Next, Place, Plan};
 use redo_terms::{Command, FileStamp, Reply};
 
 impl Worker {
     /// One `fetch_or` on the claim word of a target.
     pub(crate) fn lock(&mut self, board: &Board, plan: &Plan, number: u32, target: u32)
         requires belongs { IsBoardOf plan.now board.now × WorksAt plan.now board.now self.old }
-        requires command { IsNextBy plan.now self.old number (commands.Lock target) }
+        requires command { IsNextBy plan.now self.old number None (commands.Lock target) }
         ensures works { WorksAt plan.now board.now self.new }
         ensures session { session_of self.new ≡ session_of self.old }
         ensures made { Made plan.now self.old self.new }
@@ -35,9 +36,10 @@ impl Worker {
     }
 
     /// One `fetch_add` on the claim word of a target that the session holds and doesn't build.
-    pub(crate) fn free(&mut self, board: &Board, plan: &Plan, number: u32, target: u32)
+    pub(crate) fn free(&mut self, board: &Board, plan: &Plan, next: &Next, target: u32)
         requires belongs { IsBoardOf plan.now board.now × WorksAt plan.now board.now self.old }
-        requires command { IsNextBy plan.now self.old number (commands.Unlock target) }
+        requires command { IsNextBy plan.now self.old next.now.line next.now.closing
+            (commands.Unlock target) }
         requires way { own_way (journal_of plan.now self.old) (commands.Unlock target)
             ≡ core.free target }
         ensures works { WorksAt plan.now board.now self.new }
@@ -52,7 +54,8 @@ impl Worker {
             .fetch_add::<Free>(&mut self.seat, word, 1);
         let grant = (found / 2 + 1) as u32;
         let entry = Entry {
-            line: number,
+            line: next.line,
+            closing: again(&next.closing),
             reply: Reply::Okay,
             place: Place::Released(target, grant),
         };
@@ -62,19 +65,21 @@ impl Worker {
 
 /// The entry of a lock that found this word.
 fn claim_entry(number: u32, target: u32, found: u64) -> Entry
-    requires { found ≤ 524288 }
+    requires { found < 4294967296 }
     ensures { TellsLock number target found result }
 {
     let grant = (found / 2 + 1) as u32;
     if found % 2 == 0 {
         Entry {
             line: number,
+            closing: None,
             reply: Reply::Granted(grant),
             place: Place::Granted(target, grant),
         }
     } else {
         Entry {
             line: number,
+            closing: None,
             reply: Reply::Busy(grant),
             place: Place::Busy(target, grant),
         }

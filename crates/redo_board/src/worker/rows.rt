@@ -1,14 +1,18 @@
-ghost use Rattle.std.specs.Prelude.{◌≡◌, ◌+◌, ◌<◌, true, None, IfOk, OnOk, OnErr, MatchBool};
+ghost use Rattle.std.specs.Prelude.{◌≡◌, ◌+◌, ◌^◌, ◌<◌, true, None, IfOk, OnOk, OnErr};
+ghost use Rattle.std.specs.Prelude.{MatchBool, length};
 ghost use Rattle.redo_model.specs.Command.{asked_lock};
 ghost use Rattle.redo_model.specs.Renaming.{IsBelow};
+ghost use Rattle.redo_model.specs.Step.{records_after};
 ghost use Rattle.redo_terms.specs.Meaning.{command_of, reply_of};
-ghost use Rattle.redo_store.specs.Stored.{count_of, has_room_for};
-ghost use Rattle.redo_board.specs.Rows.{rows_of, bit};
-ghost use Rattle.redo_board.specs.Core.{row, holds_of};
+ghost use Rattle.redo_store.specs.Stored.{records_of, naming_of, order_of, applied_of, count_of};
+ghost use Rattle.redo_store.specs.Stored.{has_room_for, IsSameButRoom};
+ghost use Rattle.redo_joint.specs.Replayed.{session_in, flag_in, command_in};
+ghost use Rattle.redo_journal.specs.Plans.{IsPlan, script_of};
+ghost use Rattle.redo_board.specs.Rows.{rows_of};
+ghost use Rattle.redo_board.specs.Core.{row, IsWord};
 ghost use Rattle.redo_board.specs.Plays.{own_way};
 ghost use Rattle.redo_board.specs.Shown.{session_of, journal_of, tries_of};
 ghost use Rattle.redo_board.specs.Kept.{IsBoardOf, Works, WorksAt};
-ghost use Rattle.redo_board.specs.Own.{names_of};
 ghost use Rattle.redo_board.specs.Shown.{IsNextBy};
 ghost use Rattle.redo_board.specs.Steps.{IsSaidBy, IsReadyBy};
 ghost use Rattle.redo_board.specs.Outcomes.{Made, Waits};
@@ -18,9 +22,35 @@ use crate::gate::Gate;
 use crate::plan::command_at;
 use crate::rule::Try;
 use crate::worker::Worker;
-use redo_journal::{Entry, Place, Plan};
+use crate::worker::ways::has;
+use crate::worker::words::{again, flag_of, is_closing, number_of, session_of, target_of, word_of};
+use redo_journal::{Entry, Next, Place, Plan};
+use redo_store::Store;
 use redo_terms::{Command, FileStamp, Reply};
 use std::alloc::{AllocError, Global};
+
+/// Applies the command that a row word names.
+fn apply_word(store: &mut Store, plan: &Plan, word: u64) -> Result<(), AllocError>
+    requires word { IsPlan plan.now × IsWord plan.now word }
+    requires names { count_of store.old ≡ length plan.now.names }
+    requires applied { applied_of store.old + 1 < 2 ^ 32 }
+    ensures after { OnOk result (records_of store.new ≡ records_after (naming_of store.old)
+        (records_of store.old) (session_in word) (flag_in word)
+        (command_in (script_of plan.now) word)) }
+    ensures applied { OnOk result (applied_of store.new ≡ applied_of store.old + 1) }
+    ensures count { count_of store.new ≡ count_of store.old }
+    ensures order { order_of store.new ≡ order_of store.old }
+    ensures err { OnErr result (IsSameButRoom store.old store.new) }
+{
+    // The check only knows how to move a command where the types within it are met.
+    let _none: Option<FileStamp> = None;
+    let session = session_of(word);
+    let holds = flag_of(word);
+    if is_closing(word) {
+        return store.apply(session, &Command::Failed(target_of(word)), holds);
+    }
+    store.apply(session, command_at(plan, session, number_of(word)), holds)
+}
 
 impl Worker {
     /// Applies the word that a lost exchange found, if that wasn't done.
@@ -35,10 +65,7 @@ impl Worker {
         let Some(word) = self.pending else {
             return Ok(());
         };
-        let index = (word - 1) / 2;
-        let session = (index / 4096) as u8;
-        let theirs = command_at(plan, session, (index % 4096) as usize);
-        self.store.apply(session, theirs, flag_of(word))?;
+        apply_word(&mut self.store, plan, word)?;
         self.pending = None;
         Ok(())
     }
@@ -47,13 +74,13 @@ impl Worker {
     /// replies take no memory, and are found after the exchange.
     fn list_first(&self, alloc: Global, command: &Command) -> Result<Option<Reply>, AllocError>
         requires numbers { IsBelow (count_of self.now.store) (command_of command.now) }
-        requires names { names_of self.now.own ≡ count_of self.now.store }
+        requires names { length self.now.own ≡ count_of self.now.store }
         requires no_lock { asked_lock (command_of command.now) ≡ None }
         ensures { IfOk result (λ list. IsReadyBy self.now (command_of command.now) list) }
     {
         match command {
             Command::IfChange(..) | Command::Ood | Command::Targets | Command::Sources => {
-                let holds = self.own.has(command);
+                let holds = has(&self.own, command);
                 Ok(Some(self.store.reply(alloc, self.session, command, holds)?))
             }
             _ => Ok(None),
@@ -63,7 +90,7 @@ impl Worker {
     /// The reply that was found first, or else the one that takes no memory.
     fn reply_to(&self, alloc: Global, command: &Command, list: Option<Reply>) -> Reply
         requires numbers { IsBelow (count_of self.now.store) (command_of command.now) }
-        requires names { names_of self.now.own ≡ count_of self.now.store }
+        requires names { length self.now.own ≡ count_of self.now.store }
         requires no_lock { asked_lock (command_of command.now) ≡ None }
         requires ready { IsReadyBy self.now (command_of command.now) list }
         ensures { IsSaidBy self.now (command_of command.now) (reply_of result) }
@@ -71,7 +98,7 @@ impl Worker {
         if let Some(reply) = list {
             return reply;
         }
-        let holds = self.own.has(command);
+        let holds = has(&self.own, command);
         let Ok(reply) = self.store.reply(alloc, self.session, command, holds) else {
             unreachable!()
         };
@@ -84,12 +111,13 @@ impl Worker {
         alloc: Global,
         board: &Board,
         plan: &Plan,
-        number: u32,
+        next: &Next,
         command: &Command,
         list: Option<Reply>,
     ) -> bool
         requires belongs { IsBoardOf plan.now board.now × WorksAt plan.now board.now self.old }
-        requires command { IsNextBy plan.now self.old number (command_of command.now) }
+        requires command { IsNextBy plan.now self.old next.now.line next.now.closing
+            (command_of command.now) }
         requires way { own_way (journal_of plan.now self.old) (command_of command.now) ≡ row }
         requires none { self.old.pending ≡ None }
         requires room { has_room_for self.old.store (command_of command.now) ≡ true }
@@ -101,9 +129,8 @@ impl Worker {
         ensures tries { tries_of self.new ≡ tries_of self.old + 1 }
         ensures row { tries_of self.old < rows_of plan.now }
     {
-        let holds = self.own.has(command);
-        let index = 4096 * self.session as u64 + number as u64;
-        let word = 1 + 2 * index + flag(holds);
+        let holds = has(&self.own, command);
+        let word = word_of(self.session, next, command, holds);
         let row = self.tries;
         let found = board
             .table
@@ -119,7 +146,8 @@ impl Worker {
             unreachable!()
         };
         let entry = Entry {
-            line: number,
+            line: next.line,
+            closing: again(&next.closing),
             reply,
             place: Place::Row(row),
         };
@@ -134,11 +162,12 @@ impl Worker {
         board: &Board,
         plan: &Plan,
         gate: &G,
-        number: u32,
+        next: &Next,
         command: &Command,
     ) -> Result<(), AllocError>
         requires belongs { IsBoardOf plan.now board.now × WorksAt plan.now board.now self.old }
-        requires command { IsNextBy plan.now self.old number (command_of command.now) }
+        requires command { IsNextBy plan.now self.old next.now.line next.now.closing
+            (command_of command.now) }
         requires way { own_way (journal_of plan.now self.old) (command_of command.now) ≡ row }
         ensures works { WorksAt plan.now board.now self.new }
         ensures session { session_of self.new ≡ session_of self.old }
@@ -149,23 +178,10 @@ impl Worker {
             self.catch_up(plan)?;
             let list = self.list_first(alloc, command)?;
             self.store.reserve(command)?;
-            gate.ready(self.session, number, self.tries);
-            if self.try_row(alloc, board, plan, number, command, list) {
+            gate.ready(self.session, next.line, self.tries);
+            if self.try_row(alloc, board, plan, next, command, list) {
                 return Ok(());
             }
         }
     }
-}
-
-fn flag(holds: bool) -> u64
-    ensures { result ≡ bit holds }
-{
-    if holds { 1 } else { 0 }
-}
-
-fn flag_of(word: u64) -> bool
-    requires { 0 < word }
-    ensures { result ≡ holds_of word }
-{
-    (word - 1) % 2 == 1
 }

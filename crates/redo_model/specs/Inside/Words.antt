@@ -1,7 +1,8 @@
 -- The words of the board that a placed history writes.
-use Rattle.std.specs.Prelude.{ℕ, ◌+◌, ◌*◌, cond, List, [], ◌∷◌, ◌++◌, ◌==◌}
+use Rattle.std.specs.Prelude.{ℕ, ◌+◌, ◌*◌, cond, List, [], ◌∷◌, ◌++◌, length, nat_lt, ◌==◌}
+use Rattle.std.specs.Option.{unwrap_or}
 use Rattle.redo_model.specs.Names.{Naming}
-use Rattle.redo_model.specs.Command.{target_of}
+use Rattle.redo_model.specs.Command.{Item, target_of}
 use Rattle.redo_model.specs.Placed.{Place, Row, Granted, Busy, Released, PlacedLine, part_of, grants_in, releases_in}
 use Rattle.redo_model.specs.Inside.Placed.{holds_by}
 
@@ -12,24 +13,35 @@ word_before (Granted t g) word words = words
 word_before (Busy t g) word words = words
 word_before (Released t g) word words = words
 
-module _ {N : Type 0} (naming : Naming N) where
-  -- which command of which session it is, and whether the session holds the command's target, by
-  -- its own lines before
-  abbrev pub row_word_of : List (PlacedLine N) → PlacedLine N → ℕ
-  row_word_of own line =
+module _ (naming : Naming ℕ) (plan : ℕ → List (Item ℕ)) where
+  -- of a line of the script: which command of which session it is, and whether the session holds
+  -- the command's target, by its own lines before
+  abbrev pub script_word_of : List (PlacedLine ℕ) → PlacedLine ℕ → ℕ
+  script_word_of own line =
       let held = cond (holds_by naming own (target_of line.command)) 1 0 in
       1 + 2 * (4096 * line.session + line.number) + held
 
-  abbrev pub row_words_after : List (PlacedLine N) → List (PlacedLine N) → List ℕ
+  -- of a closing line: the session, and the command's target
+  abbrev pub closing_word_of : PlacedLine ℕ → ℕ
+  closing_word_of line =
+      4294967296 + 65536 * line.session + unwrap_or (target_of line.command) 0
+
+  abbrev pub row_word_of : List (PlacedLine ℕ) → PlacedLine ℕ → ℕ
+  row_word_of own line =
+      cond (nat_lt line.number (length (plan line.session))) (script_word_of own line)
+      (closing_word_of line)
+
+  abbrev pub row_words_after : List (PlacedLine ℕ) → List (PlacedLine ℕ) → List ℕ
   row_words_after before [] = []
   row_words_after before (line ∷ lines) =
       let word = row_word_of (part_of line.session before) line in
       word_before line.place word (row_words_after (before ++ line ∷ []) lines)
 
   -- the words of the rows, in order; those of the rows that come after them are 0
-  abbrev pub row_words_of : List (PlacedLine N) → List ℕ
+  abbrev pub row_words_of : List (PlacedLine ℕ) → List ℕ
   row_words_of lines = row_words_after [] lines
 
+module _ {N : Type 0} (naming : Naming N) where
   -- twice the releases of the target, and 1 more while it is held
   abbrev pub claim_word_of : List (PlacedLine N) → N → ℕ
   claim_word_of lines t =

@@ -1,5 +1,5 @@
 -- What the merge looks at, and how it goes on.
-use Rattle.std.specs.Prelude.{◌≡◌, ℕ, suc, zero, ◌+◌, ◌*◌, ◌<◌, ◌≤◌, ◌==◌, ◌&&◌, ⊤, Bool, false, cond, List, [], ◌∷◌, ◌++◌, length, count_by, map, slice_index, slice_index_or}
+use Rattle.std.specs.Prelude.{◌≡◌, ℕ, suc, zero, ◌+◌, ◌*◌, ◌<◌, ◌≤◌, ◌==◌, ◌&&◌, ⊤, Bool, false, cond, List, [], ◌∷◌, ◌++◌, None, length, count_by, map, slice_index, slice_index_or}
 use Rattle.std.specs.Option.{unwrap_or}
 use Rattle.std.specs.HashMap.{get, HashMap}
 use Rattle.redo_model.specs.Command as commands
@@ -9,7 +9,7 @@ use Rattle.redo_joint.specs.Named.{IsPlaceBelow}
 use Rattle.redo_terms.specs.Meaning.{reply_of, line_of}
 use Rattle.redo_terms.specs.declared.reply.Line.{Line}
 use Rattle.redo_terms.specs.declared.reply.Reply.TheVariants.{Okay}
-use Rattle.redo_journal.specs.Journals.{place_of, command_told, line_told}
+use Rattle.redo_journal.specs.Journals.{place_of, command_told, line_told, entries_of}
 use Rattle.redo_journal.specs.declared.entry.Place.{Place}
 use Rattle.redo_journal.specs.declared.entry.Place.TheVariants.{Row, Granted, Busy, Released}
 use Rattle.redo_journal.specs.declared.entry.Entry.{Entry}
@@ -18,15 +18,9 @@ use Rattle.redo_replay.specs.declared.merging.turning.Turns.{Turns}
 
 -- an entry for where there is none
 abbrev pub none : Entry
-none = record { line = 0; reply = Okay; place = Row 0 }
+none = record { line = 0; closing = None; reply = Okay; place = Row 0 }
 
--- the entries of the s-th journal; none where there is no such journal
-abbrev pub entries_of : List Journal → ℕ → List Entry
-entries_of [] s = []
-entries_of (journal ∷ rest) zero = journal.entries.items
-entries_of (journal ∷ rest) (suc s) = entries_of rest s
-
--- the entry's place fits the script's command and the reply
+-- the entry's place fits its command and its reply
 abbrev pub FitsScript : List (commands.Item ℕ) → Entry → Type 0
 FitsScript script entry =
     Fits (place_of entry.place) (command_told script entry) (reply_of entry.reply)
@@ -47,11 +41,6 @@ AllFit scripts js = (s k : ℕ) → FitsAt (slice_index_or scripts s []) (entrie
 -- one of them does not fit it
 abbrev pub OneMisfits : List (List (commands.Item ℕ)) → List Journal → Type 0
 OneMisfits scripts js = (s k : ℕ) × MisfitsAt (slice_index_or scripts s []) (entries_of js s) k
-
--- the entries are of commands of the script
-abbrev pub AreOfScript : List (commands.Item ℕ) → List Entry → Type 0
-AreOfScript script entries =
-    (k : ℕ) → k < length entries → (slice_index_or entries k none).line < length script
 
 -- the place's target, if it has one, is below n
 abbrev pub IsWithin : ℕ → Place → Type 0
@@ -147,11 +136,10 @@ pub record IsLeast {S : Type 0} (turns : Turns) (counts : HashMap (ℕ × ℕ) �
   pub may : SessionMayCome turns counts js next s
   pub least : (u : ℕ) → u < s → SessionMayCome turns counts js next u → ⊥
 
--- the k-th entry can be taken: its command is one of the script, and its place comes next
+-- the k-th entry can be taken: its place comes next
 pub record MayTake {S : Type 0} (turns : Turns) (counts : HashMap (ℕ × ℕ) ℕ S)
-    (script : List (commands.Item ℕ)) (entries : List Entry) (k : ℕ) : Type 0 where
+    (entries : List Entry) (k : ℕ) : Type 0 where
   pub more : k < length entries
-  pub line : (slice_index_or entries k none).line < length script
   pub within : IsWithin (length turns.claims.items) (slice_index_or entries k none).place
   pub comes : Comes turns (slice_index_or entries k none).place
   pub busy : (t g : ℕ) → busy_one t g (slice_index_or entries k none).place ≤ tally counts t g

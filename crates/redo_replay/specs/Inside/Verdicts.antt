@@ -4,7 +4,6 @@ use Rattle.redo_model.specs.Renaming.{IsReplyBelow}
 use Rattle.redo_terms.specs.Meaning.{reply_of}
 use Rattle.redo_replay.specs.declared.verdict.Verdict as declared
 use Rattle.redo_replay.specs.declared.verdict.Verdict.TheVariants as coded
-use Rattle.redo_replay.specs.Verdicts.{Verdict, Same, Differs}
 
 -- the verdict's numbers are below n
 abbrev pub IsVerdictBelow : ℕ → declared.Verdict → Type 0

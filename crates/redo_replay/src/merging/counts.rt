@@ -1,7 +1,8 @@
 //! How many busy answers of each grant are left.
 
 ghost use Rattle.std.specs.Prelude.{◌≡◌, ◌↔◌, ℕ, ◌+◌, ◌<◌, ◌≤◌, ◌^◌, ◌*◌, IfOk, IsTrue, length};
-ghost use Rattle.redo_replay.specs.Inside.Merging.{entries_of, tally, busy_one, busy_in, busy_below, Uncounted, IsFree};
+ghost use Rattle.redo_journal.specs.Journals.{entries_of};
+ghost use Rattle.redo_replay.specs.Inside.Merging.{tally, busy_one, busy_in, busy_below, Uncounted, IsFree};
 
 use redo_journal::{Entry, Journal, Place};
 use std::alloc::{AllocError, Global};
@@ -21,7 +22,7 @@ fn counted(counts: &Counts, target: u32, grant: u32) -> u64
 
 /// Counts a place, where it is a busy answer.
 fn add(counts: &mut Counts, place: Place) -> Result<(), AllocError>
-    requires { (t g : ℕ) → tally counts.old t g + 1 < 2 ^ 64 }
+    requires { (t g : ℕ) → tally counts.old t g + busy_one t g place < 2 ^ 64 }
     ensures { IfOk result (λ _. (t g : ℕ) →
         tally counts.new t g ≡ tally counts.old t g + busy_one t g place) }
 {
@@ -56,7 +57,7 @@ pub(crate) fn is_free(counts: &Counts, place: Place) -> bool
 
 /// Counts the busy answers of a journal.
 fn add_all(counts: &mut Counts, entries: &[Entry]) -> Result<(), AllocError>
-    requires { (t g : ℕ) → tally counts.old t g + length entries.now < 2 ^ 64 }
+    requires { (t g : ℕ) → tally counts.old t g + busy_in t g entries.now < 2 ^ 64 }
     ensures { IfOk result (λ _. (t g : ℕ) →
         tally counts.new t g ≡ tally counts.old t g + busy_in t g entries.now) }
 {
@@ -69,7 +70,7 @@ fn add_all(counts: &mut Counts, entries: &[Entry]) -> Result<(), AllocError>
 /// The busy answers of the journals.
 pub(crate) fn busy_answers(alloc: Global, journals: &[Journal]) -> Result<Counts, AllocError>
     requires few { length journals.now ≤ 64 }
-    requires short { (s : ℕ) → length (entries_of journals.now s) ≤ 4096 }
+    requires short { (t g s : ℕ) → busy_in t g (entries_of journals.now s) ≤ 4096 }
     ensures { IfOk result (λ counts. (t g : ℕ) →
         tally counts t g ≡ busy_below t g (entries_of journals.now) (length journals.now)) }
 {

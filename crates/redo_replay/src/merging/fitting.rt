@@ -1,6 +1,6 @@
 //! Whether each entry has a place that fits it.
 
-ghost use Rattle.std.specs.Prelude.{◌≡◌, ◌↔◌, ℕ, ◌<◌, [], IsTrue, MatchBool, length, map, slice_index_or};
+ghost use Rattle.std.specs.Prelude.{◌≡◌, ◌↔◌, ℕ, IsTrue, MatchBool, length, map};
 ghost use Rattle.redo_model.specs.Command as commands;
 ghost use Rattle.redo_model.specs.Placed as placed;
 ghost use Rattle.redo_model.specs.Placed.{Fits};
@@ -8,9 +8,9 @@ ghost use Rattle.redo_terms.specs.Meaning.{command_of, reply_of};
 ghost use Rattle.redo_terms.specs.Inside.Meaning.{item_of};
 ghost use Rattle.redo_journal.specs.Plans.{scripts_of};
 ghost use Rattle.redo_journal.specs.Journals.{place_of};
-ghost use Rattle.redo_replay.specs.Inside.Merging.{entries_of, AllFit, AreOfScript, FitsAt, MisfitsAt, OneMisfits};
+ghost use Rattle.redo_replay.specs.Inside.Merging.{AllFit, FitsAt, FitsScript, MisfitsAt, OneMisfits};
 
-use redo_command::{Command, Item, Reply, Script};
+use redo_command::{Command, Reply, Script};
 use redo_journal::{Entry, Journal, Place};
 
 fn is_claim(command: &Command, reply: &Reply) -> bool
@@ -55,20 +55,25 @@ fn fits(command: &Command, reply: &Reply, place: Place) -> bool
     }
 }
 
+/// Whether the entry's place fits its command and its reply.
+fn entry_fits(script: &Script, entry: &Entry) -> bool
+    ensures { IsTrue result ↔ FitsScript (map item_of script.now) entry.now }
+{
+    match entry.command(script) {
+        Some(command) => fits(command, &entry.reply, entry.place),
+        // No entry of a journal is without a command.
+        None => fits(&Command::Ood, &entry.reply, entry.place),
+    }
+}
+
 /// Whether each entry's place fits it.
-fn journal_fits(items: &[Item], entries: &[Entry]) -> bool
-    requires { AreOfScript (map item_of items.now) entries.now }
+fn journal_fits(script: &Script, entries: &[Entry]) -> bool
     ensures { MatchBool result
-        ((k : ℕ) → FitsAt (map item_of items.now) entries.now k)
-        ((k : ℕ) × MisfitsAt (map item_of items.now) entries.now k) }
+        ((k : ℕ) → FitsAt (map item_of script.now) entries.now k)
+        ((k : ℕ) × MisfitsAt (map item_of script.now) entries.now k) }
 {
     'fitting: for k in 0..entries.len() {
-        let entry = &entries[k];
-        if !fits(
-            &items[entry.line as usize].command,
-            &entry.reply,
-            entry.place,
-        ) {
+        if !entry_fits(script, &entries[k]) {
             return false;
         }
     }
@@ -78,14 +83,12 @@ fn journal_fits(items: &[Item], entries: &[Entry]) -> bool
 /// Whether each entry of the journals has a place that fits it.
 pub(crate) fn all_fit(scripts: &[Script], journals: &[Journal]) -> bool
     requires sized { length journals.now ≡ length scripts.now }
-    requires lines { (s : ℕ) →
-        AreOfScript (slice_index_or (scripts_of scripts.now) s []) (entries_of journals.now s) }
     ensures { MatchBool result
         (AllFit (scripts_of scripts.now) journals.now)
         (OneMisfits (scripts_of scripts.now) journals.now) }
 {
     'checking: for s in 0..journals.len() {
-        if !journal_fits(scripts[s].items(), &journals[s].entries) {
+        if !journal_fits(&scripts[s], &journals[s].entries) {
             return false;
         }
     }

@@ -1,8 +1,8 @@
 -- Sessions of a plan, one behind the other: before they begin, and when they have done all.
-use Rattle.std.specs.Prelude.{◌≡◌, ℕ, ◌+◌, ◌<◌, ◌≤◌, List, [], ◌∷◌, length, None}
+use Rattle.std.specs.Prelude.{◌≡◌, ℕ, ◌+◌, ◌<◌, ◌≤◌, List, [], ◌∷◌, length, None, All}
 use Rattle.redo_model.specs.Journals.{next_of}
 use Rattle.redo_journal.specs.Plans.{PlanOf, script_of}
-use Rattle.redo_journal.specs.Journals.{told_by}
+use Rattle.redo_journal.specs.Journals.{told_by, naming_of, IsMarked}
 use Rattle.redo_journal.specs.declared.entry.Journal.{Journal}
 use Rattle.redo_board.specs.declared.board.Board.{Board}
 use Rattle.redo_board.specs.declared.seat.Seat.{Seat}
@@ -24,10 +24,12 @@ parts_told p s [] = []
 parts_told p s (journal ∷ journals) =
     (s, told_by (script_of p s) journal) ∷ parts_told p (s + 1) journals
 
--- the session's journal, with nothing left to do, and the rows that it tried
+-- the session's journal, with nothing left to do, its closing commands marked, and the rows that it
+-- tried
 pub record IsEnded (p : PlanOf) (s : ℕ) (journal : Journal) : Type 0 where
   pub session : journal.session ≡ s
-  pub none : next_of (script_of p s) (told_by (script_of p s) journal) ≡ None
+  pub none : next_of (naming_of p) (script_of p s) (told_by (script_of p s) journal) ≡ None
+  pub marked : All (IsMarked (script_of p s)) journal.entries.items
   pub tries : journal.tries ≡ rows_up_to 0 (told_by (script_of p s) journal)
 
 -- the journals of the sessions from s on

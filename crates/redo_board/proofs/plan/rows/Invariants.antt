@@ -8,4 +8,4 @@ invariant-loop-script l =
     (l.rows
     ≡ rows_in_all
     (map (λ script. map item_of script) (take l.script-index l.script-items)))
-    × (l.rows ≤ 4096 * l.script-index)
+    × (l.rows ≤ 8192 * l.script-index)

@@ -2,19 +2,17 @@ use Rattle.std.proofs.Common.{◌≡◌, ◌+◌, [], ◌∷◌, ◌++◌, map, 
 use Rattle.std.proofs.lemmas.List.{take_more, map-append}
 use Rattle.redo_terms.specs.Meaning.{command_of}
 use Rattle.redo_terms.specs.Inside.Meaning.{item_of}
-use Rattle.redo_board.specs.Rows.{rows_in, takes_row}
-use Rattle.redo_board.proofs.Counts.{rows-push, bit-small}
+use Rattle.redo_board.specs.Rows.{rows_in}
+use Rattle.redo_board.proofs.Counts.{rows-push, rows-small}
 use Rattle.redo_board.proofs.plan.rows_in.Goals as goal
 
 pub overflow_add-rows : goal.overflow_add-rows
 overflow_add-rows c =
-    let x = c.item-item.result in
-    let a = bit-small (takes_row (command_of x.command)) in
+    let a = rows-small (command_of c.item-item.result.command) in
     let b = c.needs-rows.ensures in
     let d = c.loop-item.invariant.1 in
-    let e = c.loop-item.auto.item-index-end in
-    let f = c.loop-item.auto.rows-fits in
-    let g = c.args.items in
+    let e = c.loop-item-test.true in
+    let f = c.requires in
     omega arith
 
 pub loop-item-preserved : goal.loop-item-preserved
@@ -32,5 +30,5 @@ loop-item-preserved c =
     let d = c.needs-rows.ensures in
     let e = c.loop-item.invariant.0 in
     let f = c.loop-item.invariant.1 in
-    let g = bit-small (takes_row (command_of x.command)) in
+    let g = rows-small (command_of x.command) in
     (omega arith, omega arith)

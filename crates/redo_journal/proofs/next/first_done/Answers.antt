@@ -2,8 +2,8 @@ use Rattle.std.proofs.Common.{sym, ◌∙◌}
 use Rattle.redo_journal.proofs.Nexts.{done_here, passed_here, none_past}
 use Rattle.redo_journal.proofs.next.first_done.Goals as goal
 
-pub returns-then-is_done : goal.returns-then-is_done
-returns-then-is_done c =
+pub returns-then-is_done-clause-next : goal.returns-then-is_done-clause-next
+returns-then-is_done-clause-next c =
     sym c.loop-at.invariant
     ∙ done_here c.items-items.result.now c.args.script.now c.items-items.ensures.items c.args.through
     c.loop-at.at c.index-items-at.result c.loop-at-test.true c.index-items-at.is
@@ -16,8 +16,8 @@ loop-at-preserved c =
     (sym c.is_done.ensures ∙ c.if-is_done.false)
     ∙ c.loop-at.invariant
 
-pub returns : goal.returns
-returns c =
+pub returns-clause-next : goal.returns-clause-next
+returns-clause-next c =
     sym c.loop-at.invariant
     ∙ none_past c.items-items.result.now c.args.script.now c.items-items.ensures.items c.args.through
     c.loop-at.at c.loop-at-test.false

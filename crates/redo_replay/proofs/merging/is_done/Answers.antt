@@ -1,5 +1,5 @@
 use Rattle.std.proofs.Common.{arith, ℕ, ◌≤◌, ap, length, slice_index}
-use Rattle.redo_replay.specs.Inside.Merging.{entries_of}
+use Rattle.redo_journal.specs.Journals.{entries_of}
 use Rattle.redo_replay.proofs.Unmerged.{entries_at, next_below}
 use Rattle.redo_replay.proofs.merging.is_done.Goals as goal
 

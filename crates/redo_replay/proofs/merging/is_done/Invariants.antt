@@ -1,5 +1,5 @@
 use Rattle.std.proofs.Common.{ℕ, ◌<◌, ◌≤◌, length, slice_index}
-use Rattle.redo_replay.specs.Inside.Merging.{entries_of}
+use Rattle.redo_journal.specs.Journals.{entries_of}
 use Rattle.redo_replay.proofs.merging.is_done.Given as goal
 
 abbrev pub invariant-looking : goal.invariant-looking

@@ -1,7 +1,8 @@
 use Rattle.std.proofs.Common.{ℕ, ◌≡◌, List, sym, ◌∙◌, subst, length, slice_index}
 use Rattle.std.proofs.lemmas.Bool.{false≢true}
 use Rattle.redo_journal.specs.declared.entry.Entry.{Entry}
-use Rattle.redo_replay.specs.Inside.Merging.{entries_of, AreWithin, MayCome, SessionMayCome}
+use Rattle.redo_journal.specs.Journals.{entries_of}
+use Rattle.redo_replay.specs.Inside.Merging.{AreWithin, MayCome, SessionMayCome}
 use Rattle.redo_replay.proofs.Unmerged.{entries_at, next_below}
 use Rattle.redo_replay.proofs.merging.least.Goals as goal
 

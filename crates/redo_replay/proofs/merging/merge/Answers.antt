@@ -1,14 +1,9 @@
-use Rattle.std.proofs.Common.{ℕ, List, ◌<◌, ◌≤◌, arith, ap, get_or, length, subst, sym, ◌∙◌, refl}
+use Rattle.std.proofs.Common.{ℕ, List, ◌<◌, ◌≤◌, ap, get_or, length, subst, sym, ◌∙◌, refl}
 use Rattle.std.proofs.Math.ListN.{replicate}
-use Rattle.redo_replay.specs.Inside.Merging.{entries_of, AreWithin, NoneMayCome}
-use Rattle.redo_replay.proofs.Unmerged.{few_of}
-use Rattle.redo_replay.proofs.MergeSteps.{all_within, lines_lent, fit_lent, misfit_lent, merging_first, take_lent, less_lent, merging_lent, merged, stuck_none}
+use Rattle.redo_journal.specs.Journals.{entries_of}
+use Rattle.redo_replay.specs.Inside.Merging.{AreWithin, NoneMayCome}
+use Rattle.redo_replay.proofs.MergeSteps.{all_within, few_busy, fit_lent, misfit_lent, merging_first, take_lent, less_lent, merging_lent, merged, stuck_none}
 use Rattle.redo_replay.proofs.merging.merge.Goals as goal
-
-pub all_fit-requires-clause-lines : goal.all_fit-requires-clause-lines
-all_fit-requires-clause-lines c =
-    lines_lent c.args.plan.now c.args.journals.now c.requires.journals
-    c.scripts-scripts.result.now c.scripts-scripts.ensures.scripts
 
 pub returns-then-not-all_fit : goal.returns-then-not-all_fit
 returns-then-not-all_fit c = record {
@@ -17,10 +12,11 @@ returns-then-not-all_fit c = record {
 }
 
 pub busy_answers-requires-clause-short : goal.busy_answers-requires-clause-short
-busy_answers-requires-clause-short c s =
-    let few = few_of c.args.plan.now c.args.journals.now c.requires.journals s in
-    let short = c.scripts-scripts.ensures.plan.short s in
-    omega arith
+busy_answers-requires-clause-short c =
+    few_busy c.args.plan.now c.args.journals.now c.requires.journals
+    c.scripts-scripts.ensures.plan
+    (fit_lent c.args.plan.now c.args.journals.now c.requires.journals
+    c.scripts-scripts.result.now c.scripts-scripts.ensures.scripts c.if-not-all_fit.ensures)
 
 pub merging-init : goal.merging-init
 merging-init c =
@@ -47,7 +43,6 @@ take_entry-requires c =
     c.merging.turns c.merging.counts c.merging.next.items c.merging.lines.items c.merging.invariant
     c.deref.result.now c.deref.ensures.value c.in-Some.s c.in-Some.ensures
     c.index-scripts-s.result c.index-scripts-s.is
-    c.items-items.result.now c.items-items.ensures.items
     c.index-journals-s.result c.index-journals-s.is c.index-k.result.now c.index-k.ensures
     c.scripts-scripts.ensures.plan c.if-not-all_fit.ensures
 
@@ -59,7 +54,6 @@ merging-smaller c =
     c.merging.turns c.merging.counts c.merging.next.items c.merging.lines.items c.merging.invariant
     c.deref.result.now c.deref.ensures.value c.in-Some.s c.in-Some.ensures
     c.index-scripts-s.result c.index-scripts-s.is
-    c.items-items.result.now c.items-items.ensures.items
     c.index-journals-s.result c.index-journals-s.is c.index-k.result.now c.index-k.ensures)
 
 pub merging-preserved : goal.merging-preserved
@@ -70,7 +64,6 @@ merging-preserved c =
     c.merging.turns c.merging.counts c.merging.next.items c.merging.lines.items c.merging.invariant
     c.deref.result.now c.deref.ensures.value c.in-Some.s c.in-Some.ensures
     c.index-scripts-s.result c.index-scripts-s.is
-    c.items-items.result.now c.items-items.ensures.items
     c.index-journals-s.result c.index-journals-s.is c.index-k.result.now c.index-k.ensures
     c.take_entry.new.turns c.take_entry.new.counts c.take_entry.new.lines.items
     c.in_ok-next-2.ensures.turned c.in_ok-next-2.ensures.taken c.in_ok-next-2.ensures.told)

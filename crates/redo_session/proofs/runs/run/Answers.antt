@@ -1,6 +1,6 @@
 use Rattle.std.proofs.Common.{◌≡◌, ℕ, List, length, map, ap, sym, subst, ◌∙◌}
 use Rattle.std.proofs.lemmas.List.{length-map}
-use Rattle.redo_terms.specs.Meaning.{line_of}
+use Rattle.redo_terms.specs.Meaning.{line_of, line_at}
 use Rattle.redo_terms.specs.Inside.Meaning.{item_of}
 use Rattle.redo_terms.specs.declared.script.Item.{Item}
 use Rattle.redo_model.specs.Command as model
@@ -11,8 +11,9 @@ use Rattle.redo_board.specs.declared.board.Board.{Board}
 use Rattle.redo_board.specs.declared.seat.Seat.{Seat}
 use Rattle.redo_board.specs.Outcomes.{Closes}
 use Rattle.redo_replay.specs.Merges.{AreMerged}
-use Rattle.redo_session.specs.Outcomes.{AreWhole}
+use Rattle.redo_session.specs.Outcomes.{scripts_named, AreWhole}
 use Rattle.redo_session.specs.Inside.Sessions.{AreDone}
+use Rattle.redo_session.proofs.LetGo.{run_lets_go}
 use Rattle.redo_session.proofs.Served.{Serves, for_all, served, are_journals, are_whole}
 use Rattle.redo_session.proofs.Outcomes.{is_run, history_below, seen_before}
 use Rattle.redo_session.proofs.runs.run.Goals as goal
@@ -89,8 +90,9 @@ returns-clause-journals g c =
 pub returns-clause-seen : goal.returns-clause-seen
 returns-clause-seen g c = seen_before c.args.plan.now c.in_ok-seat.journals.items
 
-pub returns-clause-run : goal.returns-clause-run
-returns-clause-run g c =
+-- the merged history over the names
+is_run_here : goal.returns-clause-run
+is_run_here g c =
     let p = c.args.plan.now in
     let b = c.in_ok-board.board in
     let ran = c.in_ok-seat in
@@ -103,6 +105,14 @@ returns-clause-run g c =
     subst (λ js. AreMerged p js (map line_of history)) c.deref.ensures.value
     (rw c.in-Some.is at c.in_ok-history.ensures.merged) in
     is_run p ran.journals.items c.scripts.ensures.plan all.whole all.serves history merged
+
+pub returns-clause-run : goal.returns-clause-run
+returns-clause-run g c = is_run_here g c
+
+pub returns-clause-let_go : goal.returns-clause-let_go
+returns-clause-let_go g c =
+    let p = c.args.plan.now in
+    run_lets_go (scripts_named p) (map (line_at p.names) c.in-Some.history.items) (is_run_here g c)
 
 pub returns-clause-below : goal.returns-clause-below
 returns-clause-below g c =

@@ -1,10 +1,11 @@
 use Rattle.std.proofs.Common.{rules, ◌≡◌, ◌-◌, ◌<◌, [], ◌∷◌, length, refl, sym, ap, ◌∙◌, subst}
-use Rattle.redo_model.proofs.Nexts.{past_of}
+use Rattle.redo_model.specs.Inside.Room.{room_of}
 use Rattle.redo_journal.specs.Plans.{script_of}
 use Rattle.redo_board.specs.Shown.{session_of, journal_of, tries_of, rows_up_to, IsAtEnd}
 use Rattle.redo_board.specs.Outcomes.{Made}
+use Rattle.redo_board.proofs.Works.{made_less}
 use Rattle.redo_session.specs.Inside.Sessions.{AreDone}
-use Rattle.redo_session.proofs.Ended.{made_less, left_done}
+use Rattle.redo_session.proofs.Ended.{left_done}
 use Rattle.redo_session.proofs.sessions.work.Goals as goal
 
 pub loop-worker-init : goal.loop-worker-init
@@ -21,9 +22,10 @@ loop-worker-smaller g c =
     let new = c.step.new.self in
     let made : Made p old new = search rules in
     subst
-    (λ s. length (script_of p s) - past_of (journal_of p new)
-    < length (script_of p (session_of old)) - past_of (journal_of p old))
-    (sym c.step.ensures.session) (made_less p old new made)
+    (λ s. room_of (script_of p s) - length (journal_of p new)
+    < room_of (script_of p (session_of old)) - length (journal_of p old))
+    (sym c.step.ensures.session)
+    (made_less p old new c.loop-worker.invariant.works.works made)
 
 pub returns : goal.returns
 returns g c =

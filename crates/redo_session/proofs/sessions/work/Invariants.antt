@@ -1,5 +1,5 @@
 use Rattle.std.proofs.Common.{◌≡◌, ◌-◌, length}
-use Rattle.redo_model.proofs.Nexts.{past_of}
+use Rattle.redo_model.specs.Inside.Room.{room_of}
 use Rattle.redo_journal.specs.Plans.{script_of}
 use Rattle.redo_board.specs.Shown.{session_of, journal_of, tries_of, rows_up_to}
 use Rattle.redo_board.specs.Kept.{WorksAt}
@@ -14,4 +14,4 @@ invariant-loop-worker g l = record {
 
 abbrev pub decreases-loop-worker : goal.decreases-loop-worker
 decreases-loop-worker g l =
-    length (script_of l.plan (session_of l.worker)) - past_of (journal_of l.plan l.worker)
+    room_of (script_of l.plan (session_of l.worker)) - length (journal_of l.plan l.worker)

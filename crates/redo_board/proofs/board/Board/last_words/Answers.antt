@@ -5,7 +5,8 @@ use Rattle.redo_board.specs.Core.{row_words}
 use Rattle.redo_board.proofs.Bridge.{stood_told}
 use Rattle.redo_board.proofs.Ended.{history-of, joint-of}
 use Rattle.redo_board.proofs.Running.{row-at, claim-word-at}
-use Rattle.redo_board.proofs.Sound.{sound, few}
+use Rattle.redo_board.proofs.Bounds.{words_name}
+use Rattle.redo_board.proofs.Totals.{few}
 use Rattle.redo_board.proofs.WordsTold.{words-told}
 use Rattle.redo_board.proofs.board.Board.last_words.Goals as goal
 
@@ -30,7 +31,7 @@ returns-clause-words c =
       filled =
           λ r h.
           subst (λ (l : List ℕ). 0 < get_or l r 0) (sym words)
-          ((sound p o.log o.plan o.legal).words r (omega arith)).some;
+          (words_name p o.log o.plan o.legal r (omega arith)).some;
       empty =
           λ r h.
           ap (λ l. get_or l r 0) words ∙ get_or_past (row_words p o.log) r 0 (omega arith);

@@ -3,7 +3,7 @@ use Rattle.std.proofs.lemmas.List.{length-replicate, get_or-replicate, get_or_pa
 use mathlib.Core.Logic.{dite}
 use native.Mathlib.Decide.{dec_lt}
 use lib.ListN.{replicate}
-use Rattle.redo_board.proofs.Sound.{few_rows}
+use Rattle.redo_board.proofs.Totals.{few_rows}
 use Rattle.redo_board.proofs.Ranges.{opens}
 use Rattle.redo_board.proofs.board.Board.open.Goals as goal
 

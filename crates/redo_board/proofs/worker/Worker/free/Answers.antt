@@ -3,6 +3,7 @@ use Rattle.redo_model.specs.Command.{Unlock}
 use Rattle.redo_model.specs.Reply.{Okay}
 use Rattle.redo_model.specs.Placed.{Released}
 use Rattle.redo_model.specs.Journals.{Numbered}
+use Rattle.redo_journal.specs.Plans.{script_of}
 use Rattle.redo_board.specs.Core.{Way, row, free}
 use Rattle.redo_board.specs.Plays.{free_line}
 use Rattle.redo_board.specs.Shown.{journal_of}
@@ -10,7 +11,8 @@ use Rattle.redo_board.specs.Kept.{WorksAt, view_of}
 use Rattle.redo_board.specs.Outcomes.{Made}
 use Rattle.redo_board.specs.declared.worker.Worker.{Worker}
 use Rattle.redo_board.proofs.Steps.{frees_as}
-use Rattle.redo_board.proofs.Works.{few_words, target_low, own_below, entered, claim_goes, claimed, room_next}
+use Rattle.redo_board.proofs.NextSteps.{few_words, target_low, own_below, lets_go_by, room_next}
+use Rattle.redo_board.proofs.Works.{entered, is_entry, claim_goes, claimed}
 use Rattle.redo_board.proofs.worker.Worker.free.Goals as goal
 use Rattle.redo_board.proofs.worker.Worker.free.Goals.{After-enter}
 
@@ -32,7 +34,7 @@ fetch_add-found-requires c =
     let b = c.requires.belongs.0 in
     let k = c.requires.belongs.1 in
     let u : ℕ = c.args.target in
-    let n : Numbered ℕ = record { number = c.args.number; command = Unlock u } in
+    let n : Numbered ℕ = record { number = c.args.next.now.line; command = Unlock u } in
     let low : u < length p.names =
     target_low p w n u k.works c.requires.command.next refl in (
       k.table,
@@ -52,7 +54,7 @@ done c =
     let w = c.args.self.now in
     let k = c.requires.belongs.1 in
     let u : ℕ = c.args.target in
-    let n : Numbered ℕ = record { number = c.args.number; command = Unlock u } in
+    let n : Numbered ℕ = record { number = c.args.next.now.line; command = Unlock u } in
     let e = c.fetch_add-found.ensures in
     let found : ℕ = c.fetch_add-found.result in
     let cap = c.enter.ensures in
@@ -66,7 +68,10 @@ done c =
     (λ v. WorksAt p c.args.board.now v × Made p w v)
     (claimed p c.args.board.now w w' n Okay (Released u (found / 2 + 1)) k
     c.requires.command.next goes
-    _ cap.items refl refl refl cap.notes refl e.0 e.2.2
+    _ cap.items
+    (is_entry p w n Okay (Released u (found / 2 + 1)) _ c.args.next.now.closing c.requires.command
+    refl c.again.ensures refl refl)
+    (cap.notes p.names) refl e.0 e.2.2
     (let m = cap.capacity in omega arith) refl refl refl (no-row u _ c.requires.way) (λ m. refl))
 
 pub returns-clause-works : goal.returns-clause-works
@@ -78,11 +83,16 @@ returns-clause-made c = (done (goal.at.returns-clause-made c).After-enter).1
 pub enter-requires-clause-room : goal.enter-requires-clause-room
 enter-requires-clause-room c =
     let u : ℕ = c.args.target in
-    let n : Numbered ℕ = record { number = c.args.number; command = Unlock u } in
+    let n : Numbered ℕ = record { number = c.args.next.now.line; command = Unlock u } in
     room_next c.args.plan.now c.args.self.now n c.requires.belongs.1.works c.requires.command.next
 
 pub enter-requires-clause-names : goal.enter-requires-clause-names
 enter-requires-clause-names c =
     let u : ℕ = c.args.target in
-    let n : Numbered ℕ = record { number = c.args.number; command = Unlock u } in
+    let n : Numbered ℕ = record { number = c.args.next.now.line; command = Unlock u } in
     own_below c.args.plan.now c.args.self.now n c.requires.belongs.1.works c.requires.command.next
+
+pub again-requires : goal.again-requires
+again-requires c =
+    lets_go_by (script_of c.args.plan.now c.args.self.now.session) c.args.next.now.closing
+    c.args.next.now.line (Unlock c.args.target) c.requires.command.told tt

@@ -1,5 +1,6 @@
-use Rattle.std.proofs.Common.{◌≡◌, ◌≢◌, ℕ, ◌+◌, ◌<◌, length, cond, eqb, Bool, true, false, ◌%◌, ◌/◌, arith, refl, ap}
+use Rattle.std.proofs.Common.{◌≡◌, ◌≢◌, ℕ, ◌+◌, ◌<◌, length, cond, eqb, Bool, true, false, ◌%◌, ◌/◌, None, option_map, arith, refl, ap}
 use Rattle.redo_model.specs.Command.{Lock}
+use Rattle.redo_terms.specs.Meaning.{command_of}
 use Rattle.redo_model.specs.Placed.{Granted, Busy}
 use Rattle.redo_model.specs.Journals.{Numbered}
 use Rattle.redo_board.specs.Core.{row, claim}
@@ -9,7 +10,8 @@ use Rattle.redo_board.specs.Kept.{WorksAt, view_of}
 use Rattle.redo_board.specs.Outcomes.{Made}
 use Rattle.redo_board.specs.declared.worker.Worker.{Worker}
 use Rattle.redo_board.proofs.Steps.{locks_as}
-use Rattle.redo_board.proofs.Works.{few_words, target_low, own_below, entered, claim_goes, claimed, room_next}
+use Rattle.redo_board.proofs.NextSteps.{few_words, target_low, own_below, room_next}
+use Rattle.redo_board.proofs.Works.{entered, is_entry, claim_goes, claimed}
 use Rattle.redo_board.proofs.worker.Worker.lock.Goals as goal
 use Rattle.redo_board.proofs.worker.Worker.lock.Goals.{After-enter}
 
@@ -62,6 +64,7 @@ done c =
     let e = c.fetch_or-found.ensures in
     let found : ℕ = c.fetch_or-found.result in
     let cap = c.enter.ensures in
+    let told = c.claim_entry.ensures in
     let w₁ : Worker = record w { seat = c.fetch_or-found.new.seat } in
     let w' : Worker =
     record w₁ { entries = c.enter.new.self.entries; own = c.enter.new.self.own } in
@@ -72,8 +75,10 @@ done c =
     (λ v. WorksAt p c.args.board.now v × Made p w v)
     (claimed p c.args.board.now w w' n (lock_said found) (lock_place u found) k
     c.requires.command.next goes
-    _ cap.items c.claim_entry.ensures.line c.claim_entry.ensures.said c.claim_entry.ensures.at
-    cap.notes refl e.0 e.2.2
+    _ cap.items
+    (is_entry p w n (lock_said found) (lock_place u found) _ None c.requires.command told.line
+    (ap (option_map command_of) told.closing) told.said told.at)
+    (cap.notes p.names) refl e.0 e.2.2
     (let m = cap.capacity in omega arith) refl refl refl (no-row u) (still u found))
 
 pub returns-clause-works : goal.returns-clause-works

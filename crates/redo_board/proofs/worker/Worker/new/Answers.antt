@@ -1,12 +1,17 @@
-use Rattle.std.proofs.Common.{◌≡◌, ℕ, List, ◌-◌, ◌<◌, sym, ap, subst, ◌∙◌, arith, [], ◌∷◌, length}
+use Rattle.std.proofs.Common.{◌≡◌, ℕ, List, ◌-◌, ◌<◌, sym, ap, subst, ◌∙◌, arith, [], ◌∷◌, length, map, All}
 use Rattle.std.proofs.lemmas.List.{length-map}
+use Rattle.std.proofs.lemmas.List.Elements.{All-nil}
 use Rattle.redo_model.specs.Names.{texts}
 use Rattle.redo_model.specs.Inside.Renaming.{OrdersAlike, numbering}
 use Rattle.redo_store.specs.Stored.{order_of}
 use Rattle.redo_terms.specs.Inside.Meaning.{item_of}
+use Rattle.redo_model.specs.Inside.Room.{room_of}
+use Rattle.redo_model.specs.Names.{Text}
+use Rattle.redo_model.specs.Placed.{line_of}
 use Rattle.redo_journal.specs.Plans.{script_of}
+use Rattle.redo_journal.specs.Holds.{Says}
+use Rattle.redo_journal.specs.Journals.{IsMarked}
 use Rattle.redo_board.specs.Core.{Line}
-use Rattle.redo_board.specs.Own.{Says}
 use Rattle.redo_board.specs.Views.{ViewOf, view}
 use Rattle.redo_board.specs.Rule.{range, Told}
 use Rattle.redo_board.specs.Shown.{told, rows_up_to}
@@ -17,6 +22,13 @@ pub returns-clause-journal : goal.returns-clause-journal
 returns-clause-journal c =
     let n : ℕ = c.session_number-session.result in
     ap (told n (script_of c.args.plan.now n)) c.in-Ok.ensures.items
+
+pub room_for-requires : goal.room_for-requires
+room_for-requires c =
+    let a = length-map c.items.result.now item_of in
+    let b = ap length c.items.ensures.items in
+    let d = c.items.ensures.plan.short c.session_number-session.result in
+    omega arith
 
 pub returns-clause-works : goal.returns-clause-works
 returns-clause-works c board sits =
@@ -45,14 +57,16 @@ returns-clause-works c board sits =
         slots = f.plan.0.slots;
         session = subst (λ k. k < length p.scripts) (sym at) f.plan.1;
         room = let x = e.capacity in
-            let y = ap length c.items.ensures.items in
-            let z = length-map c.items.result.now item_of in
+            let y = ap room_of c.items.ensures.items in
+            let z = c.room_for.ensures in
             omega arith;
         tries = ap length seen;
         own =
-            subst (λ (x : ℕ × List Line). Says x.0 c.in-Ok-new.own x.1)
-            (λ i. ((c.len.ensures.count ∙ ap length c.names.ensures) i, sym none-yet i))
-            c.in-Ok-new.ensures;
+            subst (λ (x : List Text × List Line). Says x.0 c.in-Ok-new.own (map line_of x.1))
+            (λ i. (c.names.ensures i, sym none-yet i)) c.in-Ok-new.ensures;
+        marked =
+            subst (All (IsMarked (script_of p n))) (sym e.items)
+            (All-nil (IsMarked (script_of p n)));
         told = subst Told (sym is) (fresh_told p s.first 1 c.session_number-session.ensures.plan);
         lags =
             record {

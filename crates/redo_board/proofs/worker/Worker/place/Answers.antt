@@ -8,7 +8,8 @@ use Rattle.redo_board.specs.Shown.{next_by}
 use Rattle.redo_board.specs.Kept.{Works}
 use Rattle.redo_board.specs.declared.worker.Worker.{Worker}
 use Rattle.redo_board.specs.Outcomes.{Waits}
-use Rattle.redo_board.proofs.Works.{next_below, waits-same}
+use Rattle.redo_board.proofs.NextSteps.{next_below}
+use Rattle.redo_board.proofs.Works.{waits-same}
 use Rattle.redo_board.proofs.worker.Worker.place.Goals as goal
 
 -- what is next after the others' words too is of the store's names
@@ -24,7 +25,7 @@ pub list_first-requires-clause-numbers : goal.list_first-requires-clause-numbers
 list_first-requires-clause-numbers g c =
     let e = c.catch_up.ensures in
     numbers_at c.args.plan.now c.args.self.now c.loop-self.self c.catch_up.new.self
-    (record { number = c.args.number; command = command_of c.args.command.now })
+    (record { number = c.args.next.now.line; command = command_of c.args.command.now })
     c.requires.command.next c.loop-self.invariant.2 e.same.0 e.same.1 e.seat e.works
 
 pub reserve-requires : goal.reserve-requires
@@ -33,7 +34,7 @@ reserve-requires g c =
     record {
       numbers =
           numbers_at c.args.plan.now c.args.self.now c.loop-self.self c.catch_up.new.self
-          (record { number = c.args.number; command = command_of c.args.command.now })
+          (record { number = c.args.next.now.line; command = command_of c.args.command.now })
           c.requires.command.next c.loop-self.invariant.2 e.same.0 e.same.1 e.seat e.works;
     }
 

@@ -1,40 +1,59 @@
-use Rattle.std.proofs.Common.{◌≡◌, ℕ, ◌∙◌, sym, ap, subst}
-use Rattle.redo_model.specs.Command.{Command, Unlock}
+use Rattle.std.proofs.Common.{◌≡◌, ℕ, length, ◌∙◌, sym, ap, subst}
+use Rattle.redo_model.specs.Command.{Command, Lock, Unlock}
 use Rattle.redo_model.specs.Renaming.{IsBelow}
 use Rattle.redo_model.specs.Journals.{Numbered}
-use Rattle.redo_board.specs.Rows.{command}
-use Rattle.redo_board.specs.Core.{free}
+use Rattle.redo_journal.specs.Plans.{script_of}
+use Rattle.redo_journal.specs.Journals.{command_by}
+use Rattle.redo_board.specs.Core.{claim, free}
 use Rattle.redo_board.specs.Plays.{own, own_build, own_way}
-use Rattle.redo_board.specs.Own.{way_by, names_of}
+use Rattle.redo_board.specs.Own.{way_by}
 use Rattle.redo_board.specs.Steps.{way_of}
-use Rattle.redo_board.specs.Shown.{journal_of, tries_of}
-use Rattle.redo_board.proofs.Works.{needs-row, own_below, own_steps}
-use Rattle.redo_board.proofs.Told.{way-free}
+use Rattle.redo_board.specs.Kept.{WorksAt}
+use Rattle.redo_board.specs.Shown.{IsNextBy, journal_of, tries_of}
+use Rattle.redo_board.proofs.NextSteps.{needs-row, own_below, own_steps, lock_next}
+use Rattle.redo_board.proofs.Told.{way-claim, way-free}
 use Rattle.redo_board.proofs.worker.Worker.step.Goals as goal
 use Rattle.redo_board.proofs.worker.Worker.step.Goals.{in-Claim, in-Free, in-Row+in_ok-place-in-Row}
 
 -- the way that the step goes is the one by the session's own lines
-pub way-requires : goal.way-requires
-way-requires g c =
+pub way_for-requires : goal.way_for-requires
+way_for-requires g c =
     let p = c.args.plan.now in
     let w = c.args.self.now in
-    let k : ℕ = c.in-Some.number in
-    let n : Numbered ℕ = record { number = k; command = command p w.session k } in
-    subst (IsBelow (names_of w.own)) (sym c.command_at-command.ensures.command)
+    let k : ℕ = c.in-Some.next.line in
+    let x : Command ℕ = command_by (script_of p w.session) c.in-Some.next.closing k in
+    let n : Numbered ℕ = record { number = k; command = x } in
+    subst (IsBelow (length w.own)) (sym c.command_next-command.ensures)
     (own_below p w n c.requires.1.works c.in-Some.ensures.some.next)
+
+pub lock-requires-clause-command : goal.lock-requires-clause-command
+lock-requires-clause-command g c =
+    let p = c.args.plan.now in
+    let w = c.args.self.now in
+    let k : ℕ = c.in-Some.next.line in
+    let x : Command ℕ = command_by (script_of p w.session) c.in-Some.next.closing k in
+    let n : Numbered ℕ = record { number = k; command = x } in
+    let steps = own_steps p w n c.requires.1.works c.in-Some.ensures.some.next in
+    let goes : own_way (journal_of p w) x ≡ claim c.in-Claim.target =
+    sym steps ∙ ap (way_by w.own) (sym c.command_next-command.ensures)
+    ∙ sym c.way_for.ensures ∙ ap way_of c.in-Claim.is in
+    let same : x ≡ Lock c.in-Claim.target =
+    way-claim x (own (journal_of p w) x) (own_build (journal_of p w) x) c.in-Claim.target goes in
+    lock_next p w k c.in-Some.next.closing c.in-Claim.target
+    (subst (IsNextBy p w k c.in-Some.next.closing) same c.in-Some.ensures.some)
 
 pub free-requires-clause-way : goal.free-requires-clause-way
 free-requires-clause-way g c =
     let p = c.args.plan.now in
     let w = c.args.self.now in
-    let k : ℕ = c.in-Some.number in
-    let x : Command ℕ = command p w.session k in
+    let k : ℕ = c.in-Some.next.line in
+    let x : Command ℕ = command_by (script_of p w.session) c.in-Some.next.closing k in
     let n : Numbered ℕ = record { number = k; command = x } in
     let j = journal_of p w in
     let steps = own_steps p w n c.requires.1.works c.in-Some.ensures.some.next in
     let goes : own_way j x ≡ free c.in-Free.target =
-    sym steps ∙ ap (way_by w.own) (sym c.command_at-command.ensures.command)
-    ∙ sym c.way.ensures ∙ ap way_of c.in-Free.is in
+    sym steps ∙ ap (way_by w.own) (sym c.command_next-command.ensures)
+    ∙ sym c.way_for.ensures ∙ ap way_of c.in-Free.is in
     let same : x ≡ Unlock c.in-Free.target =
     way-free x (own j x) (own_build j x) c.in-Free.target goes in
     subst (λ y. own_way j y ≡ free c.in-Free.target) same goes
@@ -43,41 +62,53 @@ pub place-requires-clause-way : goal.place-requires-clause-way
 place-requires-clause-way g c =
     let p = c.args.plan.now in
     let w = c.args.self.now in
-    let k : ℕ = c.in-Some.number in
-    let n : Numbered ℕ = record { number = k; command = command p w.session k } in
+    let k : ℕ = c.in-Some.next.line in
+    let x : Command ℕ = command_by (script_of p w.session) c.in-Some.next.closing k in
+    let n : Numbered ℕ = record { number = k; command = x } in
     let steps = own_steps p w n c.requires.1.works c.in-Some.ensures.some.next in
-    let x = c.command_at-command.ensures.command in
-    ap (own_way (journal_of p w)) x
-    ∙ sym steps ∙ ap (way_by w.own) (sym x) ∙ sym c.way.ensures ∙ ap way_of c.in-Row.is
+    let e = c.command_next-command.ensures in
+    ap (own_way (journal_of p w)) e
+    ∙ sym steps ∙ ap (way_by w.own) (sym e) ∙ sym c.way_for.ensures ∙ ap way_of c.in-Row.is
 
 pub returns-in_err-place-in-Row-clause-no_memory :
     goal.returns-in_err-place-in-Row-clause-no_memory
 returns-in_err-place-in-Row-clause-no_memory g c no-row =
     let p = c.args.plan.now in
     let w = c.args.self.now in
-    let k : ℕ = c.in-Some.number in
-    let n : Numbered ℕ = record { number = k; command = command p w.session k } in
+    let k : ℕ = c.in-Some.next.line in
+    let x : Command ℕ = command_by (script_of p w.session) c.in-Some.next.closing k in
+    let n : Numbered ℕ = record { number = k; command = x } in
     let steps = own_steps p w n c.requires.1.works c.in-Some.ensures.some.next in
-    let x = c.command_at-command.ensures.command in
+    let e = c.command_next-command.ensures in
     absurd
-    (needs-row p w k (command p w.session k) c.in-Some.ensures.some
-    (sym steps ∙ ap (way_by w.own) (sym x) ∙ sym c.way.ensures ∙ ap way_of c.in-Row.is)
+    (needs-row p w n c.in-Some.ensures.some.next
+    (sym steps ∙ ap (way_by w.own) (sym e) ∙ sym c.way_for.ensures ∙ ap way_of c.in-Row.is)
     no-row)
 
 pub returns-clause-no_row : goal.returns-clause-no_row
 returns-clause-no_row g c no-row =
     let p = c.args.plan.now in
     let w = c.args.self.now in
-    let k : ℕ = c.in-Some.number in
-    let n : Numbered ℕ = record { number = k; command = command p w.session k } in
+    let k : ℕ = c.in-Some.next.line in
+    let x : Command ℕ = command_by (script_of p w.session) c.in-Some.next.closing k in
+    let n : Numbered ℕ = record { number = k; command = x } in
     let steps = own_steps p w n c.requires.1.works c.in-Some.ensures.some.next in
-    let x = c.command_at-command.ensures.command in
-    elim c.match-way.branch [
+    let e = c.command_next-command.ensures in
+    elim c.match-way_for.branch [
       | in-Claim v ↦ ap tries_of v.self-is ∙ v.lock.ensures.tries
       | in-Free v ↦ ap tries_of v.self-is ∙ v.free.ensures.tries
       | in-Row+in_ok-place-in-Row v ↦
           absurd
-          (needs-row p w k (command p w.session k) c.in-Some.ensures.some
-          (sym steps ∙ ap (way_by w.own) (sym x) ∙ sym c.way.ensures ∙ ap way_of v.in-Row.is)
+          (needs-row p w n c.in-Some.ensures.some.next
+          (sym steps ∙ ap (way_by w.own) (sym e) ∙ sym c.way_for.ensures ∙ ap way_of v.in-Row.is)
           no-row)
+    ]
+
+pub returns-clause-works : goal.returns-clause-works
+returns-clause-works g c =
+    let works = WorksAt c.args.plan.now c.args.board.now in
+    elim c.match-way_for.branch [
+      | in-Claim v ↦ subst works (sym v.self-is) v.lock.ensures.works
+      | in-Free v ↦ subst works (sym v.self-is) v.free.ensures.works
+      | in-Row+in_ok-place-in-Row v ↦ subst works (sym v.self-is) v.place.ensures.works
     ]

@@ -1,4 +1,4 @@
-use Rattle.std.proofs.Common.{◌≡◌, ℕ, ◌+◌, ◌*◌, ◌<◌, ◌∷◌, [], ◌++◌, length, List, arith, refl, sym, ap, ◌∙◌, subst, None, Some, Bool}
+use Rattle.std.proofs.Common.{◌≡◌, ℕ, ◌+◌, ◌∷◌, [], ◌++◌, length, List, arith, refl, sym, ap, ◌∙◌, subst, None, Some, Bool}
 use Rattle.std.proofs.lemmas.List.{length_push}
 use Rattle.redo_model.specs.Command.{asked_lock}
 use Rattle.redo_model.specs.Placed.{Row}
@@ -8,34 +8,23 @@ use Rattle.redo_model.specs.Step.{records_after}
 use Rattle.redo_store.specs.Stored.{records_of, naming_of, count_of}
 use Rattle.redo_terms.specs.Meaning.{command_of, reply_of}
 use Rattle.redo_journal.specs.Plans.{PlanOf}
-use Rattle.redo_board.specs.Rows.{rows_of}
-use Rattle.redo_board.specs.Core.{word, row}
+use Rattle.redo_board.specs.Core.{word}
 use Rattle.redo_board.specs.Views.{view}
-use Rattle.redo_board.specs.Plays.{own, own_build, own_way, SaysRow, Goes, row_line}
-use Rattle.redo_board.specs.Shown.{journal_of, seen_by, next_by}
+use Rattle.redo_board.specs.Plays.{own, own_build, SaysRow, Goes, row_line}
+use Rattle.redo_board.specs.Shown.{journal_of, seen_by}
 use Rattle.redo_board.specs.Kept.{Works, WorksAt, Lags, view_of}
 use Rattle.redo_board.specs.Outcomes.{Made}
 use Rattle.redo_board.specs.Own.{has}
 use Rattle.redo_board.specs.declared.worker.Worker.{Worker}
-use Rattle.redo_board.proofs.Steps.{tries_as, won_goes, room}
+use Rattle.redo_board.proofs.Rooms.{next_word}
+use Rattle.redo_board.proofs.Steps.{tries_as, won_goes}
 use Rattle.redo_board.proofs.Stores.{says, lags_few, lags_won}
 use Rattle.redo_board.proofs.Told.{way-row}
 use Rattle.redo_board.proofs.Briefs.{ready_said}
-use Rattle.redo_board.proofs.Works.{few_words, plan_is, named_next, next_below, own_below, own_has, entered, both_on, works_lost, waits_lost, room_next}
+use Rattle.redo_board.proofs.NextSteps.{few_words, plan_is, lines_names, next_below, own_below, own_has, row_next, room_next, closing_lets_go}
+use Rattle.redo_board.proofs.Works.{is_entry, entered, both_on, works_lost, waits_lost}
 use Rattle.redo_board.proofs.worker.Worker.try_row.Goals as goal
 use Rattle.redo_board.proofs.worker.Worker.try_row.Goals.{After-enter}
-
--- there is a row for the command
-there : (p : PlanOf) (w : Worker) (n : Numbered ℕ) → Works p w → next_by p w ≡ Some n
-    → own_way (journal_of p w) n.command ≡ row → w.tries < rows_of p
-there p w n k is-next in-row =
-    let no-lock : asked_lock n.command ≡ None =
-    way-row n.command (own (journal_of p w) n.command) (own_build (journal_of p w) n.command)
-    in-row in
-    let a = room p w.session (journal_of p w) (view_of w) n k.view k.told k.session is-next no-lock
-    in
-    let b = k.tries in
-    omega arith
 
 lags_now : (p : PlanOf) (w : Worker) → Works p w → w.pending ≡ None
     → Lags p w.store None (seen_by w)
@@ -48,9 +37,9 @@ compare_exchange-found-requires c =
     let b = c.requires.belongs.0 in
     let k = c.requires.belongs.1 in
     let x = command_of c.args.command.now in
-    let n : Numbered ℕ = record { number = c.args.number; command = x } in
+    let n : Numbered ℕ = record { number = c.args.next.now.line; command = x } in
     let is-next = c.requires.command.next in
-    let near = there p w n k.works is-next c.requires.way in
+    let near = row_next p w n k.works is-next c.requires.way in
     let holds : c.has-holds.result ≡ own (journal_of p w) x =
     c.has-holds.ensures ∙ own_has p w n k.works is-next in
     let no-lock : asked_lock x ≡ None =
@@ -63,9 +52,9 @@ compare_exchange-found-requires c =
       tries_as p c.args.board.now.table.shared.key c.args.board.now.table.shared.table_id.slots
           w.seat.id w.session (journal_of p w) (view_of w) w.seat.me.1 b.key k.works.view
           k.works.session n is-next w.tries
-          (1 + 2 * (4096 * w.session + c.args.number) + c.flag.result)
-          (ap (λ z. 1 + 2 * (4096 * w.session + c.args.number) + z) c.flag.ensures
-          ∙ ap (word w.session c.args.number) holds)
+          c.word_of-word.result
+          (c.word_of-word.ensures p c.requires.command.marked
+          ∙ ap (word p w.session c.args.next.now.line x) holds)
           k.works.tries near c.requires.way
           some.0
           (says p w.store (seen_by w) w.session (has w.own x) (own (journal_of p w) x) x some.0
@@ -77,8 +66,8 @@ pub overflow_add-self : goal.overflow_add-self
 overflow_add-self c =
     let p = c.args.plan.now in
     let n : Numbered ℕ =
-    record { number = c.args.number; command = command_of c.args.command.now } in
-    let near = there p c.args.self.now n c.requires.belongs.1.works c.requires.command.next
+    record { number = c.args.next.now.line; command = command_of c.args.command.now } in
+    let near = row_next p c.args.self.now n c.requires.belongs.1.works c.requires.command.next
     c.requires.way in
     let a = few_words p c.args.board.now c.requires.belongs.0 in
     let b = c.requires.belongs.0.rows in
@@ -87,15 +76,15 @@ overflow_add-self c =
 pub returns-then-found-ne0-clause-row : goal.returns-then-found-ne0-clause-row
 returns-then-found-ne0-clause-row c =
     let n : Numbered ℕ =
-    record { number = c.args.number; command = command_of c.args.command.now } in
-    there c.args.plan.now c.args.self.now n c.requires.belongs.1.works c.requires.command.next
+    record { number = c.args.next.now.line; command = command_of c.args.command.now } in
+    row_next c.args.plan.now c.args.self.now n c.requires.belongs.1.works c.requires.command.next
     c.requires.way
 
 pub returns-clause-row : goal.returns-clause-row
 returns-clause-row c =
     let n : Numbered ℕ =
-    record { number = c.args.number; command = command_of c.args.command.now } in
-    there c.args.plan.now c.args.self.now n c.requires.belongs.1.works c.requires.command.next
+    record { number = c.args.next.now.line; command = command_of c.args.command.now } in
+    row_next c.args.plan.now c.args.self.now n c.requires.belongs.1.works c.requires.command.next
     c.requires.way
 
 pub apply-requires-clause-numbers : goal.apply-requires-clause-numbers
@@ -104,7 +93,7 @@ apply-requires-clause-numbers c =
     let w = c.args.self.now in
     let k = c.requires.belongs.1.works in
     let n : Numbered ℕ =
-    record { number = c.args.number; command = command_of c.args.command.now } in
+    record { number = c.args.next.now.line; command = command_of c.args.command.now } in
     subst (λ m. IsBelow m n.command) (sym k.lags.count)
     (next_below p w n k c.requires.command.next)
 
@@ -122,7 +111,7 @@ returns-then-found-ne0-clause-works c =
     let e = c.compare_exchange-found.ensures in
     let found : ℕ = c.compare_exchange-found.result in
     let n : Numbered ℕ =
-    record { number = c.args.number; command = command_of c.args.command.now } in
+    record { number = c.args.next.now.line; command = command_of c.args.command.now } in
     let w' : Worker =
     record {
       seat = c.compare_exchange-found.new.seat;
@@ -167,13 +156,12 @@ done c =
     let cap = c.enter.ensures in
     let r = c.reply_to-reply.ensures in
     let x = command_of c.args.command.now in
-    let n : Numbered ℕ = record { number = c.args.number; command = x } in
+    let n : Numbered ℕ = record { number = c.args.next.now.line; command = x } in
     let is-next = c.requires.command.next in
-    let named = named_next p w n is-next in
     let h : Bool = own (journal_of p w) x in
     let lags = lags_now p w k.works c.requires.none in
     let reply = reply_of c.reply_to-reply.result in
-    let seen : List ℕ = seen_by w ++ word w.session c.args.number h ∷ [] in
+    let seen : List ℕ = seen_by w ++ word p w.session c.args.next.now.line x h ∷ [] in
     let w₁ : Worker =
     record w {
       seat = c.compare_exchange-found.new.seat;
@@ -191,28 +179,29 @@ done c =
     seen (view_of w') =
     won_goes p w.session (journal_of p w) (view_of w) (view_of w') n reply k.works.view
     (e.2.0 c.if-found-ne0.false) is-next said in
-    let small : c.args.number < 4096 =
-    let a = (plan_is p w k.works).short w.session in
-    let b = c.requires.command.within in
-    omega arith in
     let won : Lags p c.apply.new.self None seen =
     lags_won p w.store c.apply.new.self (seen_by w) c.apply.ensures.count c.apply.ensures.order
-    c.in-Ok.ensures.applied w.session c.args.number h x small lags named
+    c.in-Ok.ensures.applied w.session (word p w.session c.args.next.now.line x h) h x lags
+    (next_word p w.session (journal_of p w) n h (seen_by w) (plan_is p w k.works) k.works.session
+    (lines_names p w k.works) is-next c.requires.way)
     (c.in-Ok.ensures.after
     ∙ ap
     (λ z. records_after (naming_of w.store) (records_of w.store) w.session z x)
     holds) in
     let tried : w.tries + 1 ≡ length seen =
     let a = k.works.tries in
-    let b = length_push (seen_by w) (word w.session c.args.number h) in
+    let b = length_push (seen_by w) (word p w.session c.args.next.now.line x h) in
     omega arith in
     entered w₁ c.enter.new.self x _ cap
     (λ v. WorksAt p c.args.board.now v × Made p w v)
     (both_on p c.args.board.now w w' n reply (Row (length (seen_by w))) seen k is-next goes
-    _ cap.items refl refl (ap Row k.works.tries) cap.notes refl e.0 e.2.2
+    _ cap.items
+    (is_entry p w n reply (Row (length (seen_by w))) _ c.args.next.now.closing c.requires.command
+    refl c.again.ensures refl (ap Row k.works.tries))
+    (cap.notes p.names) refl e.0 e.2.2
     (let m = cap.capacity in omega arith) tried (ap (λ m. m + 1) k.works.tries)
     (subst (λ o. Lags p c.apply.new.self o seen) (sym c.requires.none) won)
-    (word w.session c.args.number h ∷ [], refl))
+    (word p w.session c.args.next.now.line x h ∷ [], refl))
 
 pub returns-clause-works : goal.returns-clause-works
 returns-clause-works c = (done (goal.at.returns-clause-works c).After-enter).0
@@ -223,7 +212,7 @@ returns-clause-result c = (done (goal.at.returns-clause-result c).After-enter).1
 pub has-holds-requires : goal.has-holds-requires
 has-holds-requires c =
     let n : Numbered ℕ =
-    record { number = c.args.number; command = command_of c.args.command.now } in
+    record { number = c.args.next.now.line; command = command_of c.args.command.now } in
     own_below c.args.plan.now c.args.self.now n c.requires.belongs.1.works c.requires.command.next
 
 pub reply_to-reply-requires-clause-numbers : goal.reply_to-reply-requires-clause-numbers
@@ -232,18 +221,23 @@ reply_to-reply-requires-clause-numbers c =
     let w = c.args.self.now in
     let k = c.requires.belongs.1.works in
     let n : Numbered ℕ =
-    record { number = c.args.number; command = command_of c.args.command.now } in
+    record { number = c.args.next.now.line; command = command_of c.args.command.now } in
     subst (λ m. IsBelow m n.command) (sym k.lags.count)
     (next_below p w n k c.requires.command.next)
 
 pub enter-requires-clause-names : goal.enter-requires-clause-names
 enter-requires-clause-names c =
     let n : Numbered ℕ =
-    record { number = c.args.number; command = command_of c.args.command.now } in
+    record { number = c.args.next.now.line; command = command_of c.args.command.now } in
     own_below c.args.plan.now c.args.self.now n c.requires.belongs.1.works c.requires.command.next
 
 pub enter-requires-clause-room : goal.enter-requires-clause-room
 enter-requires-clause-room c =
     let n : Numbered ℕ =
-    record { number = c.args.number; command = command_of c.args.command.now } in
+    record { number = c.args.next.now.line; command = command_of c.args.command.now } in
     room_next c.args.plan.now c.args.self.now n c.requires.belongs.1.works c.requires.command.next
+
+pub again-requires : goal.again-requires
+again-requires c =
+    closing_lets_go c.args.plan.now c.args.self.now c.args.next.now.line c.args.next.now.closing
+    (command_of c.args.command.now) c.requires.command c.requires.way

@@ -1,6 +1,7 @@
-use Rattle.std.proofs.Common.{arith, ap, sym, ◌∙◌, length}
+use Rattle.std.proofs.Common.{arith, ap, sym, ◌∙◌}
 use Rattle.redo_journal.specs.declared.entry.Journal.{Journal}
-use Rattle.redo_replay.specs.Inside.Merging.{entries_of, busy_in}
+use Rattle.redo_journal.specs.Journals.{entries_of}
+use Rattle.redo_replay.specs.Inside.Merging.{busy_in}
 use Rattle.redo_replay.proofs.Unmerged.{entries_at}
 use Rattle.redo_replay.proofs.BusyCounts.{busy_below-more, busy_below-le}
 use Rattle.redo_replay.proofs.merging.counts.busy_answers.Goals as goal
@@ -9,12 +10,12 @@ pub add_all-requires : goal.add_all-requires
 add_all-requires c t g =
     let js = c.args.journals.now in
     let here =
-    ap length
+    ap (busy_in t g)
     (entries_at js c.counting.journal-index c.journal-item.result c.counting-test.true
     ∙ ap (λ (j : Journal). j.entries.items) (sym c.journal-item.is)
     ∙ sym c.deref.ensures.value) in
-    let a = c.requires.short c.counting.journal-index in
-    let b = busy_below-le t g (entries_of js) c.counting.journal-index c.requires.short in
+    let a = c.requires.short t g c.counting.journal-index in
+    let b = busy_below-le t g (entries_of js) c.counting.journal-index (c.requires.short t g) in
     let v = c.counting.invariant t g in
     let few = c.requires.few in
     omega arith

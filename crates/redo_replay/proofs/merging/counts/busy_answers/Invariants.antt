@@ -1,5 +1,5 @@
 use Rattle.std.proofs.Common.{◌≡◌, ℕ}
-use Rattle.redo_replay.specs.Inside.Merging.{entries_of}
+use Rattle.redo_journal.specs.Journals.{entries_of}
 use Rattle.redo_replay.specs.Inside.Merging.{tally, busy_below}
 use Rattle.redo_replay.proofs.merging.counts.busy_answers.Given as goal
 

@@ -1,6 +1,7 @@
 use Rattle.std.proofs.Common.{ℕ, ◌<◌, [], slice_index_or}
 use Rattle.redo_journal.specs.Plans.{scripts_of}
-use Rattle.redo_replay.specs.Inside.Merging.{entries_of, FitsAt}
+use Rattle.redo_journal.specs.Journals.{entries_of}
+use Rattle.redo_replay.specs.Inside.Merging.{FitsAt}
 use Rattle.redo_replay.proofs.merging.fitting.all_fit.Given as goal
 
 abbrev pub invariant-checking : goal.invariant-checking

@@ -5,4 +5,4 @@ use Rattle.redo_replay.proofs.merging.fitting.journal_fits.Given as goal
 
 abbrev pub invariant-fitting : goal.invariant-fitting
 invariant-fitting l =
-    (k : ℕ) → k < l.k → FitsScript (map item_of l.items) (slice_index_or l.entries k none)
+    (k : ℕ) → k < l.k → FitsScript (map item_of l.script) (slice_index_or l.entries k none)

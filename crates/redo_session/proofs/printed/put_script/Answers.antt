@@ -1,20 +1,26 @@
-use Rattle.std.proofs.Common.{◌≡◌, ◌+◌, ◌<◌, ◌++◌, ◌∙◌, Bool, ap, sym, length, arith}
+use Rattle.std.proofs.Common.{◌≡◌, ◌+◌, ◌<◌, ◌++◌, ◌∷◌, ◌∙◌, true, Bool, ap, sym, map, length, arith}
 use Rattle.redo_model.specs.Reply.{lets_through}
 use Rattle.redo_terms.specs.Meaning.{reply_at, reply_of}
 use Rattle.redo_terms.specs.Inside.Meaning.{item_at}
 use Rattle.redo_terms.specs.declared.reply.Line.{Line}
-use Rattle.redo_session.specs.RunTexts.{done_text_of, skipped_text_of}
-use Rattle.redo_session.proofs.ScriptTexts.{text_from, session_begins, goes_on, done_line, skipped_line}
-use Rattle.redo_session.proofs.printed.put_session.Goals as goal
+use Rattle.redo_replay.specs.Histories.{ended}
+use Rattle.redo_session.specs.RunTexts.{done_text_of, skipped_text_of, session_lines_of}
+use Rattle.redo_session.proofs.ScriptTexts.{lines_from, none_printed, one_printed, done_line, skipped_line}
+use Rattle.redo_session.proofs.printed.put_script.Goals as goal
 
 pub loop-item-init : goal.loop-item-init
-loop-item-init c = record {
-  within = c.own_from-at.ensures.within;
-  own = c.own_from-at.ensures.own;
-  left = session_begins c.args.names.now c.args.session c.args.items.now c.args.lines.now
-      c.args.text.now.items c.put_header.new.text.items c.own_from-at.result
-      c.in_ok-put_header.ensures (c.own_from-at.ensures.same c.args.names.now);
-}
+loop-item-init c =
+    let names = c.args.names.now in
+    let s = c.args.session in
+    let items = c.args.items.now in
+    let lines = c.args.lines.now in record {
+      within = c.own_from-at.ensures.within;
+      own = c.own_from-at.ensures.own;
+      printed = none_printed (lines_from names s items lines true 0 0) c.args.text.now.items
+          (lines_from names s items lines true 0 c.own_from-at.result)
+          (ap (session_lines_of true (map (item_at names) items))
+          (sym (c.own_from-at.ensures.same names)));
+    }
 
 pub loop-item-preserved-then-not-is_answered : goal.loop-item-preserved-then-not-is_answered
 loop-item-preserved-then-not-is_answered c =
@@ -32,11 +38,12 @@ loop-item-preserved-then-not-is_answered c =
     record {
       within = c.loop-item.invariant.within;
       own = c.loop-item.invariant.own;
-      left = goes_on c.loop-item.text.items c.put_skipped.new.text.items
+      printed = one_printed (lines_from names s items lines true 0 0) c.args.text.now.items
+          c.loop-item.text.items c.put_skipped.new.text.items i
           (skipped_text_of (item_at names item))
-          (text_from names s items lines through i at)
-          (text_from names s items lines through (i + 1) at) _
-          c.in_ok-put_skipped.ensures parted c.loop-item.invariant.left;
+          (lines_from names s items lines through i at)
+          (lines_from names s items lines through (i + 1) at)
+          c.loop-item.invariant.printed parted c.in_ok-put_skipped.ensures;
     }
 
 pub loop-item-preserved : goal.loop-item-preserved
@@ -58,19 +65,21 @@ loop-item-preserved c =
     let goes_through : lets_through (reply_of line.reply) ≡ c.lets_through-through.result =
     ap (λ (l : Line). lets_through (reply_of l.reply)) c.index-lines-at.is
     ∙ sym c.lets_through-through.ensures in
-    let printed =
+    let shown =
     c.in_ok-put_done.ensures ∙ ap (λ (l : Line). c.loop-item.text.items
-    ++ done_text_of (item_at names item) (reply_at names l.reply)) (sym c.index-lines-at.is) in
+    ++ ended (done_text_of (item_at names item) (reply_at names l.reply)))
+    (sym c.index-lines-at.is) in
     let parted = done_line names s items lines through i at item less c.item-item.is line later
     yes.0 c.index-lines-at.is own yes.1 (c.own_from-at-in-loop-item.ensures.same names)
     ∙ ap (λ (b : Bool). done_text_of (item_at names item) (reply_at names line.reply)
-    ++ text_from names s items lines b (i + 1) later) goes_through in
+    ∷ lines_from names s items lines b (i + 1) later) goes_through in
     record {
       within = c.own_from-at-in-loop-item.ensures.within;
       own = c.own_from-at-in-loop-item.ensures.own;
-      left = goes_on c.loop-item.text.items c.put_done.new.text.items
+      printed = one_printed (lines_from names s items lines true 0 0) c.args.text.now.items
+          c.loop-item.text.items c.put_done.new.text.items i
           (done_text_of (item_at names item) (reply_at names line.reply))
-          (text_from names s items lines through i at)
-          (text_from names s items lines c.lets_through-through.result (i + 1) later) _
-          printed parted c.loop-item.invariant.left;
+          (lines_from names s items lines through i at)
+          (lines_from names s items lines c.lets_through-through.result (i + 1) later)
+          c.loop-item.invariant.printed parted shown;
     }

@@ -1,0 +1,59 @@
+-- What a session does next: it has room in the journal, and its row word tells it.
+use Rattle.std.proofs.Common.{◌≡◌, ℕ, ◌<◌, List, [], ◌∷◌, ◌++◌, length, Bool, Some, sym, ap, ◌∙◌, subst, arith, inl, inr}
+use Rattle.std.specs.Option.{unwrap_or}
+use Rattle.std.proofs.lemmas.Bool.{false≢true}
+use Rattle.std.proofs.lemmas.List.{length_push}
+use Rattle.redo_model.specs.Command.{target_of}
+use Rattle.redo_model.specs.Reply.{Okay}
+use Rattle.redo_model.specs.Renaming.{IsBelow}
+use Rattle.redo_model.specs.Step.{records_after}
+use Rattle.redo_model.specs.Placed.{Place, Granted}
+use Rattle.redo_model.specs.Journals.{Numbered}
+use Rattle.redo_model.specs.Inside.Room.{room_of}
+use Rattle.redo_model.proofs.Nexts.{next_cases, next_line_from}
+use Rattle.redo_journal.specs.Plans.{PlanOf, IsPlan, script_of}
+use Rattle.redo_board.specs.Rows.{naming_of}
+use Rattle.redo_board.specs.Core.{Line, word, replay, row}
+use Rattle.redo_board.specs.Plays.{next, own_way, made}
+use Rattle.redo_board.proofs.Below.{AskBelow, next-below}
+use Rattle.redo_board.proofs.OwnLines.{IsOwn, own_entries, own_next, closing_fails}
+use Rattle.redo_board.proofs.Words.{closing_word, word-of-line, word-of-closing, replay-line, replay-closing}
+
+-- it has room in the journal
+pub next_room : (p : PlanOf) (s : ℕ) (j : List Line) (n : Numbered ℕ) → IsOwn p s j
+    → next p s j ≡ Some n → length j < room_of (script_of p s)
+next_room p s j n is is-next =
+    let place : Place ℕ = Granted 0 0 in
+    let room =
+    own_entries p s (j ++ made s n Okay place ∷ [])
+    (own_next p s j n place is is-next (λ r. absurd (false≢true r))) in
+    let long = length_push j (made s n Okay place) in
+    omega arith
+
+-- its row word tells it
+pub next_word : (p : PlanOf) (s : ℕ) (j : List Line) (n : Numbered ℕ) (h : Bool) (ws : List ℕ)
+    → IsPlan p → s < length p.scripts → AskBelow (length p.names) j → next p s j ≡ Some n
+    → own_way j n.command ≡ row
+    → replay p (ws ++ word p s n.number n.command h ∷ [])
+    ≡ records_after (naming_of p) (replay p ws) s h n.command
+next_word p s j n h ws plan here below is-next in-row =
+    let few = plan.few in
+    let short = plan.short s in
+    let names = plan.names.few in
+    elim (next_cases (naming_of p) (script_of p s) j n is-next) [
+      | inl is ↦
+          let found = next_line_from (script_of p s) j n is in
+          let within = found.within in
+          ap (λ w. replay p (ws ++ w ∷ [])) (word-of-line p s n.number n.command h within)
+          ∙ replay-line p ws s n.number h n.command (omega arith) (omega arith)
+          (sym found.command)
+      | inr closing ↦
+          let (t, fails) = closing_fails p s j n.command closing.closes in-row in
+          let low : t < length p.names =
+          (subst (IsBelow (length p.names)) fails (next-below p s j n plan below is-next)).0 in
+          ap (λ w. replay p (ws ++ w ∷ []))
+          (word-of-closing p s n.number n.command h closing.past
+          ∙ ap (λ x. closing_word s (unwrap_or (target_of x) 0)) fails)
+          ∙ replay-closing p ws s t h (omega arith)
+          ∙ ap (λ x. records_after (naming_of p) (replay p ws) s h x) (sym fails)
+    ]

@@ -1,0 +1,15 @@
+use Rattle.std.proofs.Common.{◌<◌, List, true, get_or, ap, sym, ◌∙◌, length, arith}
+use Rattle.redo_terms.specs.declared.script.Item.{Item}
+use Rattle.redo_journal.proofs.Nexts.{asked}
+use Rattle.redo_journal.proofs.entry.command_at.Goals as goal
+
+pub returns : goal.returns
+returns c =
+    let script = c.args.script.now in
+    let item = c.in_ok-item.item.now in
+    let same = c.items.ensures.items in
+    let found = c.in_ok-item.ensures.lookup in
+    let within : c.args.line < length script =
+    let a = found.3.0 in let b = ap length same in omega arith in
+    sym (asked script true c.args.line item within
+    (found.1 ∙ ap (λ (xs : List Item). get_or xs c.args.line item) same))

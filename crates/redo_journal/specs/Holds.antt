@@ -1,0 +1,59 @@
+-- What a table says of the names that a session holds and builds.
+use Rattle.std.specs.Prelude.{◌≡◌, ℕ, ◌<◌, Bool, false, cond, List, map, filter_map, length, All, Option, Some, None, slice_index_or}
+use Rattle.redo_model.specs.Names.{Text, Naming}
+use Rattle.redo_model.specs.Command.{Command, asked_lock}
+use Rattle.redo_model.specs.Command as commands
+use Rattle.redo_model.specs.Reply.{Reply}
+use Rattle.redo_model.specs.History.{Line}
+use Rattle.redo_model.specs.Placed.{line_of}
+use Rattle.redo_model.specs.Renaming.{IsBelow}
+use Rattle.redo_model.specs.Closing as closing
+use Rattle.redo_terms.specs.Meaning.{by_text}
+use Rattle.redo_journal.specs.declared.holds.Hold.{Hold}
+use Rattle.redo_journal.specs.declared.entry.Entry.{Entry}
+use Rattle.redo_journal.specs.Journals.{command_told, lines_told}
+
+abbrev pub no_hold : Hold
+no_hold = record { held = false; building = false }
+
+abbrev pub hold_at : List Hold → ℕ → Hold
+hold_at holds t = slice_index_or holds t no_hold
+
+abbrev pub is_held : List Hold → ℕ → Bool
+is_held holds t = (hold_at holds t).held
+
+-- it says what a session with these lines holds and builds
+pub record Says (names : List Text) (holds : List Hold) (lines : List (Line ℕ)) : Type 0 where
+  pub one_each : length holds ≡ length names
+  pub held : (t : ℕ) → t < length names
+      → (hold_at holds t).held ≡ closing.holds (by_text names) lines t
+  pub building : (t : ℕ) → t < length names
+      → (hold_at holds t).building ≡ closing.builds (by_text names) lines t
+
+-- what a command and its reply change
+pub record Notes (names : List Text) (old : List Hold) (x : Command ℕ) (reply : Reply ℕ)
+    (new : List Hold) : Type 0 where
+  pub one_each : length new ≡ length old
+  pub held : (t : ℕ) → t < length old
+      → (hold_at new t).held ≡ closing.holds_then (by_text names) x reply t (hold_at old t).held
+  pub building : (t : ℕ) → t < length old
+      → (hold_at new t).building
+      ≡ closing.builds_then (by_text names) x reply t (hold_at old t).building
+
+-- the lines that a session with this script and these entries tells, without their places
+abbrev pub own_lines : ℕ → List (commands.Item ℕ) → List Entry → List (Line ℕ)
+own_lines s script entries = map line_of (lines_told s script entries)
+
+-- their commands are over so many names
+abbrev pub AreToldBelow : ℕ → List (commands.Item ℕ) → List Entry → Type 0
+AreToldBelow n script entries = All (λ entry. IsBelow n (command_told script entry)) entries
+
+-- the names that the entries' commands lock
+abbrev pub locked_in : List (commands.Item ℕ) → List Entry → List ℕ
+locked_in script entries = filter_map (λ entry. asked_lock (command_told script entry)) entries
+
+-- the lesser of a name, where it is asked for and held, and of the least so far
+abbrev pub lesser_held : Naming ℕ → List Hold → Option ℕ → Option ℕ → Option ℕ
+lesser_held naming holds None so_far = so_far
+lesser_held naming holds (Some t) so_far =
+    cond (is_held holds t) (Some (closing.lesser_of naming t so_far)) so_far
