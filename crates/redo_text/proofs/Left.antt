@@ -1,7 +1,7 @@
 -- What an error leaves of the names.
-use Rattle.std.proofs.Common.{◌≡◌, ℕ, ◌+◌, ◌<◌, ◌≤◌, Bool, true, false, cond, not, List, [], ◌∷◌, ◌++◌, length, get_or, take, drop, Result, Ok, Err, refl, sym, ap, subst, ◌∙◌, arith, eqb, inl, inr, take-append-drop}
+use Rattle.std.proofs.Common.{◌≡◌, ℕ, ◌+◌, ◌<◌, ◌≤◌, Bool, true, false, cond, List, [], ◌∷◌, ◌++◌, length, get_or, take, drop, Result, Ok, Err, refl, sym, ap, subst, ◌∙◌, arith, eqb, inl, inr, take-append-drop}
 use Rattle.std.specs.Prelude.{IfErr, OnErr}
-use Rattle.std.specs.List.{list_all, list_any}
+use Rattle.std.specs.List.{list_all}
 use Rattle.std.proofs.lemmas.Bool.Decides.{nat_tests}
 use Rattle.std.proofs.lemmas.List.{take_more}
 use Rattle.redo_names.specs.Names.{is_name, has, with_name}
@@ -16,9 +16,9 @@ use Rattle.redo_text.specs.declared.fault.ReadFault.{ReadFault}
 use Rattle.redo_text.specs.declared.fault.ReadFault.TheVariants as faults
 use Rattle.redo_text.specs.Texts.{word_of}
 use Rattle.redo_text.specs.Grammar.{with_names}
-use Rattle.redo_text.specs.Questions.{words_of, has_bad_byte, is_text_byte}
+use Rattle.redo_text.specs.Questions.{words_of, has_bad_byte}
 use Rattle.redo_text.specs.Inside.Faults.{AddsFront, LeavesNames}
-use Rattle.redo_text.specs.Inside.Reading.{Reads, added, target_and_names_in, IsFull, LeavesFront, LeavesSome, LeavesWords}
+use Rattle.redo_text.specs.Inside.Reading.{Reads, added, target_and_names_in, LeavesFront, LeavesSome, LeavesWords}
 use Rattle.redo_text.proofs.Added.{added_is}
 use Rattle.redo_text.proofs.NameLists.{target_and_names_found, all_names, each_name, names_are_visible}
 use Rattle.redo_text.proofs.ScriptParts.{with_names-append}

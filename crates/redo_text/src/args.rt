@@ -18,26 +18,6 @@ pub(crate) fn cut_word(text: &[u8]) -> (&[u8], Option<&[u8]>)
     }
 }
 
-/// What stands after the first word of a text and its space, where that is this word.
-#[inline]
-pub(crate) fn args_after<'a>(text: &'a [u8], word: &[u8]) -> Option<Option<&'a [u8]>>
-    requires { list_any (λ b. b == 32) word.now ≡ false }
-    ensures { MatchOption result ((args : List Text) → words_of text.now ≢ word.now ∷ args)
-        (λ args. words_of text.now ≡ word.now ∷ words_after args) }
-{
-    let Some(rest) = text.strip_prefix(word) else {
-        return None;
-    };
-    let Some((space, args)) = rest.split_first() else {
-        return Some(None);
-    };
-    if *space == b' ' {
-        Some(Some(args))
-    } else {
-        None
-    }
-}
-
 /// The word, where there is one.
 #[inline]
 pub(crate) fn one(args: Option<&[u8]>) -> Option<&[u8]>

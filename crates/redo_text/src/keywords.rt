@@ -1,18 +1,18 @@
 ghost use Rattle.std.specs.Prelude.{◌≡◌, ◌∷◌, List, Some, Err, IfSome, MatchOption};
 ghost use Rattle.redo_model.specs.Names.{Text};
 ghost use Rattle.redo_text.specs.Texts.{word_of};
-ghost use Rattle.redo_text.specs.Questions.{words_of};
+ghost use Rattle.redo_text.specs.Questions.{words_of, kind_named};
 ghost use Rattle.redo_text.specs.Inside.Reading.{words_in, words_after, form_in};
 ghost use Rattle.redo_text.specs.declared.fault.LineFault.TheVariants.{UnknownCommand};
 
-use crate::args::args_after;
+use crate::args::cut_word;
 use redo_terms::{Kind, cases};
 
-/// Leads from a text to the kind in whose row its first word stands, and to what stands after that.
-macro_rules! kind_by_front {
+/// Leads from a word to the kind in whose row it stands.
+macro_rules! kind_by_word {
     ([$given:ident] $(($case:ident $(($($field:ident),*))?, $word:literal, $($rest:tt)*))*) => {{
-        $(if let Some(args) = args_after($given, $word) {
-            return Some((Kind::$case, args));
+        $(if $given == $word.as_slice() {
+            return Some(Kind::$case);
         })*
         None
     }};
@@ -27,16 +27,27 @@ macro_rules! word_by_kind {
     };
 }
 
+/// The kind of command that the word says.
+fn kind_of_word(word: &[u8]) -> Option<Kind>
+    ensures { result ≡ kind_named word.now }
+{
+    cases!(kind_by_word word)
+}
+
 /// The kind of command that the first word of a text says, and what stands after its space,
 /// where it has one.
-#[tactic(auto, using(crate::proofs::Fronts::said))]
+#[tactic(auto, using(crate::proofs::Fronts::words_by_kind, crate::proofs::Fronts::no_kind, crate::proofs::Fronts::word_is))]
 pub(crate) fn cut_kind(text: &[u8]) -> Option<(Kind, Option<&[u8]>)>
     ensures reads { (names : List Text)
         → MatchOption result (words_in names (words_of text.now) ≡ Err UnknownCommand)
         (λ k. words_in names (words_of text.now) ≡ form_in (Some k.0) names (words_after k.1)) }
     ensures words { IfSome result (λ k. words_of text.now ≡ word_of k.0 ∷ words_after k.1) }
 {
-    cases!(kind_by_front text)
+    let (word, args) = cut_word(text);
+    match kind_of_word(word) {
+        Some(kind) => Some((kind, args)),
+        None => None,
+    }
 }
 
 /// The word that says which command it is.

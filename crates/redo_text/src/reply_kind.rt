@@ -1,10 +1,10 @@
 ghost use Rattle.std.specs.Prelude.{◌≡◌, Some, Err, MatchOption};
 ghost use Rattle.redo_text.specs.Questions.{words_of};
 ghost use Rattle.redo_text.specs.Inside.Reading.{words_after};
-ghost use Rattle.redo_text.specs.Inside.ReplyReading.{reply_words_in, reply_args_in};
+ghost use Rattle.redo_text.specs.Inside.ReplyReading.{reply_words_in, reply_args_in, reply_kind_named};
 ghost use Rattle.redo_text.specs.declared.fault.LineFault.TheVariants.{WrongWords};
 
-use crate::args::args_after;
+use crate::args::cut_word;
 use crate::keywords::keyword;
 use redo_terms::Kind;
 
@@ -22,39 +22,50 @@ pub(crate) enum ReplyKind {
     Refused,
 }
 
+/// The kind of reply that the word begins.
+fn reply_kind_of(word: &[u8]) -> Option<ReplyKind>
+    ensures { result ≡ reply_kind_named word.now }
+{
+    if word == b"ok".as_slice() {
+        return Some(ReplyKind::Okay);
+    }
+    if word == b"granted".as_slice() {
+        return Some(ReplyKind::Granted);
+    }
+    if word == b"busy".as_slice() {
+        return Some(ReplyKind::Busy);
+    }
+    if word == b"stale".as_slice() {
+        return Some(ReplyKind::Stale);
+    }
+    if word == b"stamped".as_slice() {
+        return Some(ReplyKind::Stamped);
+    }
+    if word == keyword(Kind::Ood) {
+        return Some(ReplyKind::Ood);
+    }
+    if word == keyword(Kind::Targets) {
+        return Some(ReplyKind::Targets);
+    }
+    if word == keyword(Kind::Sources) {
+        return Some(ReplyKind::Sources);
+    }
+    if word == b"refused".as_slice() {
+        return Some(ReplyKind::Refused);
+    }
+    None
+}
+
 /// The kind of reply that the first word of a text says, and what stands after its space,
 /// where it has one.
-#[tactic(auto, using(crate::proofs::Fronts::answered))]
+#[tactic(auto, using(crate::proofs::Fronts::reply_by_kind, crate::proofs::Fronts::no_reply_kind))]
 pub(crate) fn cut_reply_kind(text: &[u8]) -> Option<(ReplyKind, Option<&[u8]>)>
     ensures { MatchOption result (reply_words_in (words_of text.now) ≡ Err WrongWords)
         (λ k. reply_words_in (words_of text.now) ≡ reply_args_in (Some k.0) (words_after k.1)) }
 {
-    if let Some(args) = args_after(text, b"ok") {
-        return Some((ReplyKind::Okay, args));
+    let (word, args) = cut_word(text);
+    match reply_kind_of(word) {
+        Some(kind) => Some((kind, args)),
+        None => None,
     }
-    if let Some(args) = args_after(text, b"granted") {
-        return Some((ReplyKind::Granted, args));
-    }
-    if let Some(args) = args_after(text, b"busy") {
-        return Some((ReplyKind::Busy, args));
-    }
-    if let Some(args) = args_after(text, b"stale") {
-        return Some((ReplyKind::Stale, args));
-    }
-    if let Some(args) = args_after(text, b"stamped") {
-        return Some((ReplyKind::Stamped, args));
-    }
-    if let Some(args) = args_after(text, keyword(Kind::Ood)) {
-        return Some((ReplyKind::Ood, args));
-    }
-    if let Some(args) = args_after(text, keyword(Kind::Targets)) {
-        return Some((ReplyKind::Targets, args));
-    }
-    if let Some(args) = args_after(text, keyword(Kind::Sources)) {
-        return Some((ReplyKind::Sources, args));
-    }
-    if let Some(args) = args_after(text, b"refused") {
-        return Some((ReplyKind::Refused, args));
-    }
-    None
 }
