@@ -2,7 +2,7 @@
 use redo_command::{Kind, LineFault};
 
 /// What follows the word of a command.
-#[derive(Clone, Copy, PartialEq, Eq)]
+#[derive(Clone, Copy)]
 pub(crate) enum Shape {
     Nothing,
     Name,
@@ -95,7 +95,7 @@ pub(crate) fn kind_of(words: &[&[u8]]) -> Result<Kind, LineFault> {
     if !fits(shape, rest.len()) {
         return Err(LineFault::WrongWords);
     }
-    if shape == Shape::NameAndNames && rest.len() > 65 {
+    if matches!(shape, Shape::NameAndNames) && rest.len() > 65 {
         return Err(LineFault::TooManyNames);
     }
     for (at, word) in rest.iter().enumerate() {
