@@ -4,9 +4,10 @@
 ghost use Rattle.std.specs.Prelude.{◌≡◌, ◌⊎◌, ℕ, ◌<◌, length, IfOk, IfErr};
 
 use redo_command::Watched;
-use redo_job::{Fault, Job, finish, job};
+use redo_job::{Fault, finish};
 use redo_replay::{ReplayFault, Verdict, replay_text};
 use redo_session::{TextFault, run_texts};
+use redo_words::{Job, WordsFault, job};
 use std::io::Read;
 use std::process::ExitCode;
 use std::rt::{Env, Files};
@@ -109,7 +110,11 @@ fn done<R: Threads + Wait + Sync + Files + Input + Print + AllocGlobal>(
 
 fn asked<R: Env + AllocGlobal>(rt: &R) -> Result<Job, Fault> {
     let words = given_words(rt)?;
-    job(rt.alloc(), &words)
+    match job(rt.alloc(), &words) {
+        Ok(job) => Ok(job),
+        Err(WordsFault::Memory) => Err(Fault::Memory),
+        Err(WordsFault::Usage) => Err(Fault::Usage),
+    }
 }
 
 fn main(rt: HostRuntime) -> ExitCode {

@@ -1,8 +1,12 @@
-//! Commands and replies: what they are, how they are read and written; and whole reads and writes.
+//! Why a run of files is refused.
 //!
-//! The items stand in redo_terms, redo_text and redo_whole, and are passed on here.
+//! Passed on are commands and replies, what they are and how they are read and written, and whole
+//! reads and writes: these stand in redo_terms, redo_text and redo_whole.
 #![tactic(auto)]
 
+mod fault;
+
+pub use fault::TextFault;
 pub use redo_terms::{Command, FileStamp, Item, Kind, LONGEST_STAMP, Line, Refusal, Reply, Script};
 pub use redo_text::{
     LONGEST_LINE, LineFault, MOST_COMMANDS, MOST_LISTED_NAMES, ReadFault, ReplyFault,

@@ -3,8 +3,8 @@ use Rattle.std.specs.Prelude.{ℕ, List, ◌++◌, Option, Some, None, Result, O
 use Rattle.std.specs.declared.alloc.Global.{Global}
 use Rattle.redo_text.specs.declared.fault.LineFault.{LineFault}
 use Rattle.redo_text.specs.declared.fault.LineFault.TheVariants.{LineTooLong, BadByte, UnknownCommand, WrongWords, BadName, BadStamp, BadHex, TooManyLines, TooManyNames}
-use Rattle.redo_session.specs.declared.fault.TextFault.{TextFault}
-use Rattle.redo_session.specs.declared.fault.TextFault.TheVariants as texts
+use Rattle.redo_command.specs.declared.fault.TextFault.{TextFault}
+use Rattle.redo_command.specs.declared.fault.TextFault.TheVariants as texts
 use Rattle.redo_replay.specs.declared.fault.HistoryFault.{HistoryFault}
 use Rattle.redo_replay.specs.declared.fault.HistoryFault.TheVariants as histories
 use Rattle.redo_replay.specs.declared.fault.ReplayFault.{ReplayFault}

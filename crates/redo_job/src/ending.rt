@@ -1,14 +1,18 @@
-ghost use Rattle.std.specs.Prelude.{◌≡◌, IfErr, OnOk, OnErr, false, true};
+ghost use Rattle.std.specs.Prelude.{◌≡◌, IfErr, IfSome, OnOk, OnErr, false, true};
+ghost use Rattle.std.specs.List.{flat_map};
 ghost use Rattle.redo_whole.specs.Watched.{is_faulted};
 ghost use Rattle.redo_replay.specs.Devices.{Writes, WritesNothing};
 ghost use Rattle.redo_job.specs.Lines.{word_of, file_name, text_line, history_line, replay_line, fault_line, said, said_of, in_line, status_of};
 
 use crate::fault::Fault;
+use arrayvec::ArrayVec;
 use itoa::Buffer;
-use redo_command::{LineFault, Watched, WriteFault, write_whole};
+use redo_command::{LineFault, TextFault, Watched, WriteFault, write_whole};
 use redo_replay::{HistoryFault, ReplayFault, Verdict};
-use redo_session::TextFault;
 use std::io::Write;
+
+/// A line of at most this many bytes is written at once: a name of 4,096 has room in it.
+const LINE_ROOM: usize = 4352;
 
 fn word(fault: LineFault) -> &'static str
     ensures { result.now ≡ word_of fault }
@@ -35,14 +39,40 @@ fn name(files: &[String], file: usize) -> &str
     }
 }
 
+/// The pieces, one after another, where they have room in one line.
+fn gathered(pieces: &[&str]) -> Option<ArrayVec<u8, LINE_ROOM>>
+    ensures { IfSome result (λ line. line.items ≡ flat_map (λ piece. piece.now) pieces.now) }
+{
+    let mut line = ArrayVec::new();
+    for piece in pieces {
+        if line.try_extend_from_slice(piece.as_bytes()).is_err() {
+            return None;
+        }
+    }
+    Some(line)
+}
+
+/// Writes the pieces, one after another: all at once, where they have room in one line.
+fn write_pieces<W: Write>(err: &mut Watched<W>, pieces: &[&str]) -> Result<(), WriteFault>
+    ensures written { OnOk result
+        (Writes W.contents err.old err.new (flat_map (λ piece. piece.now) pieces.now)) }
+    ensures failed { OnErr result (is_faulted err.new ≡ true) }
+{
+    if let Some(line) = gathered(pieces) {
+        return write_whole(err, &line);
+    }
+    for piece in pieces {
+        write_whole(err, piece.as_bytes())?;
+    }
+    Ok(())
+}
+
 /// `redodb: TEXT`.
 fn say<W: Write>(err: &mut Watched<W>, text: &str) -> Result<(), WriteFault>
     ensures line { OnOk result (Writes W.contents err.old err.new (said text.now)) }
     ensures failed { OnErr result (is_faulted err.new ≡ true) }
 {
-    write_whole(err, b"redodb: ")?;
-    write_whole(err, text.as_bytes())?;
-    write_whole(err, b"\n")
+    write_pieces(err, &["redodb: ", text, "\n"])
 }
 
 /// `redodb: FILE: TEXT`.
@@ -50,11 +80,7 @@ fn say_of_file<W: Write>(err: &mut Watched<W>, name: &str, text: &str) -> Result
     ensures line { OnOk result (Writes W.contents err.old err.new (said_of name.now text.now)) }
     ensures failed { OnErr result (is_faulted err.new ≡ true) }
 {
-    write_whole(err, b"redodb: ")?;
-    write_whole(err, name.as_bytes())?;
-    write_whole(err, b": ")?;
-    write_whole(err, text.as_bytes())?;
-    write_whole(err, b"\n")
+    write_pieces(err, &["redodb: ", name, ": ", text, "\n"])
 }
 
 /// `redodb: FILE: line L: WORD`.
@@ -69,13 +95,11 @@ fn say_line<W: Write>(
     ensures failed { OnErr result (is_faulted err.new ≡ true) }
 {
     let mut digits = Buffer::new();
-    write_whole(err, b"redodb: ")?;
-    write_whole(err, name.as_bytes())?;
-    write_whole(err, b": line ")?;
-    write_whole(err, digits.format(line).as_bytes())?;
-    write_whole(err, b": ")?;
-    write_whole(err, word.as_bytes())?;
-    write_whole(err, b"\n")
+    let number = digits.format(line);
+    write_pieces(
+        err,
+        &["redodb: ", name, ": line ", number, ": ", word, "\n"],
+    )
 }
 
 /// Writes the line of a run's fault.

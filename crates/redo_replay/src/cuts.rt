@@ -3,7 +3,7 @@ ghost use Rattle.redo_model.specs.Names.{Text};
 ghost use Rattle.redo_replay.specs.HistoryFaults.{arrow, IsCutAtSpace, IsCutAtArrow, HasNoArrow};
 ghost use Rattle.redo_replay.specs.Inside.HistoryFaults.{IsCutAt};
 
-use redo_command::place_of;
+use redo_text::place_of;
 
 const ARROW: &[u8] = b" => ";
 

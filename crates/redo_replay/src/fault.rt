@@ -1,4 +1,4 @@
-use redo_command::LineFault;
+use redo_text::LineFault;
 use std::alloc::{AllocError, AllocFailed};
 use thiserror::Error;
 

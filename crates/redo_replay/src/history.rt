@@ -3,8 +3,8 @@ ghost use Rattle.std.specs.List.{AllByRecursion};
 ghost use Rattle.redo_terms.specs.Meaning.{line_of};
 ghost use Rattle.redo_replay.specs.Recorded.{AreLinesBelow};
 
-use redo_command::Line;
 use redo_names::Names;
+use redo_terms::Line;
 use std::marker::Model;
 
 /// How many lines a history has at most.

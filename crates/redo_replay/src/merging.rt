@@ -15,8 +15,8 @@ mod turning;
 
 use counts::{Counts, busy_answers, is_free, take};
 use fitting::all_fit;
-use redo_command::{Command, Line, Script};
 use redo_journal::{Entry, Journal, Plan};
+use redo_terms::{Command, Line, Script};
 use std::alloc::{AllocError, Global};
 use turning::{Turns, comes, turn};
 

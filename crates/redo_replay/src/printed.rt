@@ -4,8 +4,9 @@ ghost use Rattle.redo_terms.specs.Meaning.{line_of, line_at};
 ghost use Rattle.redo_replay.specs.Histories.{ended, answer_text_of, line_text_of, history_text_of};
 ghost use Rattle.redo_replay.specs.Recorded.{AreLinesBelow};
 
-use redo_command::{Line, command_text, reply_text};
 use redo_names::Names;
+use redo_terms::Line;
+use redo_text::{command_text, reply_text};
 use std::alloc::{AllocError, Global};
 
 /// Writes a number in decimal digits.

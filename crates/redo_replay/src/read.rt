@@ -14,9 +14,10 @@ ghost use Rattle.redo_replay.specs.Inside.HistoryFaults.{IsLineCause};
 use crate::cuts::{cut_at, cut_at_arrow, cut_at_space};
 use crate::fault::HistoryFault;
 use crate::history::{History, MOST_LINES};
-use redo_command::{Line, LineFault, ReadFault, ReplyFault, read_command, read_number, read_reply};
 use redo_journal::MOST_SESSIONS;
 use redo_names::Names;
+use redo_terms::Line;
+use redo_text::{LineFault, ReadFault, ReplyFault, read_command, read_number, read_reply};
 use std::alloc::Global;
 
 /// A line of a history has at least this many bytes, its LF among them: `1 ood => ok`.

@@ -9,9 +9,9 @@ ghost use Rattle.redo_replay.specs.Inside.Verdicts.{IsVerdictBelow};
 
 use crate::history::History;
 use crate::verdict::Verdict;
-use redo_command::Line;
 use redo_names::Names;
 use redo_store::Redo;
+use redo_terms::Line;
 use std::alloc::{AllocError, Global};
 
 /// The verdict on lines over these names.

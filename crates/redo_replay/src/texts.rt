@@ -12,7 +12,7 @@ use crate::history::History;
 use crate::read::read_history;
 use crate::replays::replay;
 use crate::verdict::{Verdict, verdict_text};
-use redo_command::{Watched, WholeFault, WriteFault, read_whole, write_whole};
+use redo_whole::{Watched, WholeFault, WriteFault, read_whole, write_whole};
 use std::alloc::Global;
 use std::io::{Read, Write};
 

@@ -3,8 +3,9 @@ ghost use Rattle.redo_replay.specs.Verdicts.{verdict_at, verdict_text_of};
 ghost use Rattle.redo_replay.specs.Inside.Verdicts.{IsVerdictBelow};
 
 use crate::printed::put_number;
-use redo_command::{Reply, reply_text};
 use redo_names::Names;
+use redo_terms::Reply;
+use redo_text::reply_text;
 use std::alloc::{AllocError, Global};
 
 /// Whether a history's replies are those of the database.

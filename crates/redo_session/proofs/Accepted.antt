@@ -11,8 +11,8 @@ use Rattle.redo_terms.specs.declared.script.Item.{Item}
 use Rattle.redo_terms.specs.Meaning.{command_of}
 use Rattle.redo_terms.specs.Inside.Meaning.{item_at}
 use Rattle.redo_text.proofs.Added.{command_at-Extends, IsBelow-Extends}
-use Rattle.redo_session.specs.declared.fault.TextFault.{TextFault}
-use Rattle.redo_session.specs.declared.fault.TextFault.TheVariants.{Memory, Read, TooManySessions, NoSession, Write, Device, TooLong}
+use Rattle.redo_command.specs.declared.fault.TextFault.{TextFault}
+use Rattle.redo_command.specs.declared.fault.TextFault.TheVariants.{Memory, Read, TooManySessions, NoSession, Write, Device, TooLong}
 use Rattle.redo_session.specs.Runs.{IsAccepted, AreAccepted, IsRunText, RunsAs}
 use Rattle.redo_session.specs.Faults.{IsCause}
 use Rattle.redo_session.specs.Inside.Files.{IsScriptBelow, AreScriptsBelow, scripts_at}

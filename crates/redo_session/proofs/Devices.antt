@@ -3,8 +3,8 @@ use Rattle.std.proofs.Common.{◌≡◌, ℕ, ◌<◌, zero, suc, Bool, true, fa
 use Rattle.std.specs.Prelude.{All, Any, IsTrue, slice_index_or, ◌↔◌}
 use Rattle.std.proofs.lemmas.List.{get_or-map, length-map}
 use Rattle.redo_model.specs.Names.{Text}
-use Rattle.redo_session.specs.declared.fault.TextFault.{TextFault}
-use Rattle.redo_session.specs.declared.fault.TextFault.TheVariants.{Memory, Read, TooManySessions, NoSession, Write, Device, TooLong}
+use Rattle.redo_command.specs.declared.fault.TextFault.{TextFault}
+use Rattle.redo_command.specs.declared.fault.TextFault.TheVariants.{Memory, Read, TooManySessions, NoSession, Write, Device, TooLong}
 use Rattle.redo_session.specs.Faults.{IsCause, IsDeviceFault}
 
 module _ {X : Type 0} (flag : X → Bool) where

@@ -9,8 +9,9 @@ ghost use Rattle.redo_session.specs.Inside.Files.{scripts_at, IsScriptBelow, Are
 ghost use Rattle.redo_session.specs.Faults.{IsCause, IsDeviceFault};
 ghost use Rattle.redo_session.specs.Inside.Faults.{IsFileCause};
 
-use crate::fault::TextFault;
-use redo_command::{LineFault, ReadFault, Script, Watched, WholeFault, read_script, read_whole};
+use redo_command::{
+    LineFault, ReadFault, Script, TextFault, Watched, WholeFault, read_script, read_whole,
+};
 use redo_names::Names;
 use std::alloc::Global;
 use std::io::Read;

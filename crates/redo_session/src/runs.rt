@@ -7,7 +7,7 @@ ghost use Rattle.redo_session.specs.Outcomes.{scripts_named, AreWhole, SeenStand
 
 use crate::sessions::{Sessions, run_all};
 use redo_board::{Board, Gate, Journal, Plan};
-use redo_command::Line;
+use redo_command::{Line, TextFault};
 use redo_replay::merge;
 use std::alloc::{AllocError, AllocFailed, Global};
 use std::sync::Wait;
@@ -37,6 +37,17 @@ impl From<AllocError> for RunFault {
 
     fn from(_: AllocError) -> RunFault {
         RunFault::Memory
+    }
+}
+
+impl From<RunFault> for TextFault {
+    ghost use Rattle.std.specs.Prelude.{◌≡◌};
+    ghost use Rattle.redo_command.specs.declared.fault.TextFault.TheVariants.{Memory};
+
+    ghost from_gives = { λ _ fault. fault ≡ Memory };
+
+    fn from(_: RunFault) -> TextFault {
+        TextFault::Memory
     }
 }
 

@@ -6,17 +6,28 @@ ghost use Rattle.redo_session.specs.Files.{bytes_of_files, flags_of_files};
 ghost use Rattle.redo_session.specs.Inside.Files.{scripts_at, AreScriptsBelow};
 ghost use Rattle.redo_session.specs.Faults.{IsCause, IsDeviceFault};
 
-use crate::fault::TextFault;
 use crate::files::read_files;
 use crate::printed::run_text;
 use crate::runs::run;
 use redo_board::{Open, Plan};
-use redo_command::{Script, Watched, WriteFault, write_whole};
+use redo_command::{Script, TextFault, Watched, WriteFault, write_whole};
+use redo_journal::PlanFault;
 use redo_names::Names;
 use std::alloc::Global;
 use std::io::{Read, Write};
 use std::sync::Wait;
 use std::thread::Threads;
+
+/// The run's fault where its plan has this one.
+fn plan_fault(fault: PlanFault) -> TextFault
+    ensures none { (result ≡ TextFault.NoSession) ↔ (fault ≡ PlanFault.NoSession) }
+    ensures many { (result ≡ TextFault.TooManySessions) ↔ (fault ≡ PlanFault.TooManySessions) }
+{
+    match fault {
+        PlanFault::NoSession => TextFault::NoSession,
+        PlanFault::TooManySessions => TextFault::TooManySessions,
+    }
+}
 
 /// The run text of the scripts' sessions, each run on a thread of its own.
 fn text_of_scripts<T: Threads + Wait + Sync>(
@@ -33,7 +44,10 @@ fn text_of_scripts<T: Threads + Wait + Sync>(
     ensures others { IfErr result (λ fault. (fault ≡ TextFault.Memory)
         ⊎ (fault ≡ TextFault.NoSession) ⊎ (fault ≡ TextFault.TooManySessions)) }
 {
-    let plan = Plan::new(scripts, names)?;
+    let plan = match Plan::new(scripts, names) {
+        Ok(plan) => plan,
+        Err(fault) => return Err(plan_fault(fault)),
+    };
     let outcome = run(rt, alloc, &plan, &Open)?;
     Ok(run_text(alloc, &plan, &outcome)?)
 }

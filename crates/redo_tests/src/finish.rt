@@ -1,3 +1,4 @@
+use crate::devices::FailingWriter;
 use redo_command::{LineFault, Reply, Watched};
 use redo_job::{Fault, finish};
 use redo_replay::{HistoryFault, ReplayFault, Verdict};
@@ -137,6 +138,29 @@ fn statuses(rt: HostRuntime) -> Result<(), Fail> {
         let (status, err) = said(rt.alloc(), &Ok(answer))?;
         assert_eq!(rt; status, want);
         assert!(rt; err.is_empty());
+    }
+    Ok(())
+}
+
+/// The line is one write where the name has at most 4,096 bytes, and is whole all the same where the
+/// name is longer.
+#[test]
+fn lines_are_one_write(rt: HostRuntime) -> Result<(), Fail> {
+    let alloc = rt.alloc();
+    for (length, writes) in [(1, 1), (4096, 1), (8192, 5)] {
+        let mut name = String::new(alloc);
+        for _ in 0..length {
+            name.push('n')?;
+        }
+        let want = format!(in alloc; "redodb: {name}: cannot open\n")?;
+        let mut files = Vec::new(alloc);
+        files.push(name)?;
+        let mut device = FailingWriter::new(alloc, 10000, true);
+        let answer = Err(Fault::CannotOpen { file: 0 });
+        let status = finish(&answer, &files, &mut Watched::new(&mut device));
+        assert_eq!(rt; status, 2);
+        assert!(rt; device.taken.as_slice() == want.as_bytes(), "{length}");
+        assert_eq!(rt; device.writes, writes, "{length}");
     }
     Ok(())
 }

@@ -10,8 +10,8 @@ ghost use Rattle.redo_journal.specs.Plans.{scripts_of};
 ghost use Rattle.redo_journal.specs.Journals.{place_of};
 ghost use Rattle.redo_replay.specs.Inside.Merging.{AllFit, FitsAt, FitsScript, MisfitsAt, OneMisfits};
 
-use redo_command::{Command, Reply, Script};
 use redo_journal::{Entry, Journal, Place};
+use redo_terms::{Command, Reply, Script};
 
 fn is_claim(command: &Command, reply: &Reply) -> bool
     ensures { result ≡ placed.is_claim (command_of command.now) (reply_of reply.now) }

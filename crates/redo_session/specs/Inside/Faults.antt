@@ -1,10 +1,8 @@
--- The faults of one file, and those of a plan.
+-- The faults of one file.
 use Rattle.std.specs.Prelude.{◌≡◌, ℕ, Bool, List, Option, IfSome, IsTrue, ⊤}
 use Rattle.redo_model.specs.Names.{Text}
-use Rattle.redo_session.specs.declared.fault.TextFault.{TextFault}
-use Rattle.redo_session.specs.declared.fault.TextFault.TheVariants.{Memory, Read, TooManySessions, NoSession, Write, Device, TooLong}
-use Rattle.redo_journal.specs.declared.plan.PlanFault.{PlanFault}
-use Rattle.redo_journal.specs.declared.plan.PlanFault.TheVariants as plan
+use Rattle.redo_command.specs.declared.fault.TextFault.{TextFault}
+use Rattle.redo_command.specs.declared.fault.TextFault.TheVariants.{Memory, Read, TooManySessions, NoSession, Write, Device, TooLong}
 use Rattle.redo_session.specs.Faults.{HasFaultyLine, AreTooLong}
 
 -- the cause of a fault of one file, which has this number, these bytes and this flag, with the
@@ -18,8 +16,3 @@ IsFileCause names known faulted at NoSession = ⊥
 IsFileCause names known faulted at Write = ⊥
 IsFileCause names known faulted at (Device file) = (file ≡ at) × IsTrue faulted
 IsFileCause names known faulted at (TooLong file) = (file ≡ at) × IfSome known AreTooLong
-
--- the fault that a plan's is
-abbrev pub plan_fault : PlanFault → TextFault
-plan_fault plan.NoSession = NoSession
-plan_fault plan.TooManySessions = TooManySessions

@@ -1,8 +1,8 @@
 -- The files that a job reads.
 use Rattle.std.specs.Prelude.{List, [], ◌∷◌, String}
 use Rattle.std.specs.declared.alloc.Global.{Global}
-use Rattle.redo_job.specs.declared.task.Job.{Job}
-use Rattle.redo_job.specs.declared.task.Job.TheVariants.{Input, Run, Replay}
+use Rattle.redo_words.specs.declared.task.Job.{Job}
+use Rattle.redo_words.specs.declared.task.Job.TheVariants.{Input, Run, Replay}
 
 -- the files that a job reads
 abbrev pub files_of : Job → List (String Global)

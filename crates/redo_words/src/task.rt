@@ -13,7 +13,7 @@ pub enum Job {
 
 impl Job {
     ghost use Rattle.std.specs.Prelude.{◌≡◌};
-    ghost use Rattle.redo_job.specs.Inside.Words.{files_of};
+    ghost use Rattle.redo_words.specs.Inside.Words.{files_of};
 
     /// The files that it reads.
     pub fn files(&self) -> &[String]

@@ -1,6 +1,4 @@
-use crate::runs::RunFault;
-use redo_command::LineFault;
-use redo_journal::PlanFault;
+use redo_text::LineFault;
 use std::alloc::{AllocError, AllocFailed};
 use thiserror::Error;
 
@@ -33,7 +31,7 @@ pub enum TextFault {
 
 impl From<AllocError> for TextFault {
     ghost use Rattle.std.specs.Prelude.{◌≡◌};
-    ghost use Rattle.redo_session.specs.declared.fault.TextFault.TheVariants.{Memory};
+    ghost use Rattle.redo_command.specs.declared.fault.TextFault.TheVariants.{Memory};
 
     ghost from_gives = { λ _ fault. fault ≡ Memory };
 
@@ -44,36 +42,11 @@ impl From<AllocError> for TextFault {
 
 impl<T: Drop> From<AllocFailed<T>> for TextFault {
     ghost use Rattle.std.specs.Prelude.{◌≡◌};
-    ghost use Rattle.redo_session.specs.declared.fault.TextFault.TheVariants.{Memory};
+    ghost use Rattle.redo_command.specs.declared.fault.TextFault.TheVariants.{Memory};
 
     ghost from_gives = { λ _ fault. fault ≡ Memory };
 
     fn from(_: AllocFailed<T>) -> TextFault {
-        TextFault::Memory
-    }
-}
-
-impl From<PlanFault> for TextFault {
-    ghost use Rattle.std.specs.Prelude.{◌≡◌};
-    ghost use Rattle.redo_session.specs.Inside.Faults.{plan_fault};
-
-    ghost from_gives = { λ plan fault. fault ≡ plan_fault plan };
-
-    fn from(fault: PlanFault) -> TextFault {
-        match fault {
-            PlanFault::NoSession => TextFault::NoSession,
-            PlanFault::TooManySessions => TextFault::TooManySessions,
-        }
-    }
-}
-
-impl From<RunFault> for TextFault {
-    ghost use Rattle.std.specs.Prelude.{◌≡◌};
-    ghost use Rattle.redo_session.specs.declared.fault.TextFault.TheVariants.{Memory};
-
-    ghost from_gives = { λ _ fault. fault ≡ Memory };
-
-    fn from(_: RunFault) -> TextFault {
         TextFault::Memory
     }
 }

@@ -1,7 +1,7 @@
 use Rattle.std.proofs.Common.{rules, map}
 use Rattle.clap.specs.Words.{found_of}
-use Rattle.redo_job.proofs.FilesAsked.{asks_run, asks_replay, asks_no_run, asks_no_replay}
-use Rattle.redo_job.proofs.words.job_of.Goals as goal
+use Rattle.redo_words.proofs.FilesAsked.{asks_run, asks_replay, asks_no_run, asks_no_replay}
+use Rattle.redo_words.proofs.words.job_of.Goals as goal
 
 pub returns-in_ok-copies-in-Some-clause-asked : goal.returns-in_ok-copies-in-Some-clause-asked
 returns-in_ok-copies-in-Some-clause-asked c =

@@ -1,8 +1,8 @@
 ghost use Rattle.std.specs.Prelude.{◌≡◌, ◌≢◌, ◌↔◌, ◌⊎◌, [], map, string_bytes, IfOk, IfErr, IfSome, IsSome, OnOk, IsOkAnd};
 ghost use Rattle.clap.specs.Words.{app_of, kind_of, subcommand_rows_of};
-ghost use Rattle.redo_job.specs.Words.{redodb, Asks, AreFaultless, AskFor};
+ghost use Rattle.redo_words.specs.Words.{redodb, Asks, AreFaultless, AskFor};
 
-use crate::fault::Fault;
+use crate::fault::WordsFault;
 use crate::task::Job;
 use clap::error::ErrorKind;
 use clap::{Arg, ArgAction, ArgMatches, Command, Error};
@@ -60,20 +60,21 @@ fn job_of(alloc: Global, matches: &ArgMatches<'_>) -> Result<Option<Job>, AllocE
 
 /// Whatever is refused for another cause than memory is no use of the program, a call for help
 /// included.
-fn refusal(error: &Error) -> Fault
-    ensures memory { (result ≡ Fault.Memory) ↔ (kind_of error.now ≡ ErrorKind.OutOfMemory) }
-    ensures usage { (result ≡ Fault.Usage) ↔ (kind_of error.now ≢ ErrorKind.OutOfMemory) }
+fn refusal(error: &Error) -> WordsFault
+    ensures memory { (result ≡ WordsFault.Memory) ↔ (kind_of error.now ≡ ErrorKind.OutOfMemory) }
+    ensures usage { (result ≡ WordsFault.Usage) ↔ (kind_of error.now ≢ ErrorKind.OutOfMemory) }
 {
     match error.kind() {
-        ErrorKind::OutOfMemory => Fault::Memory,
-        _ => Fault::Usage,
+        ErrorKind::OutOfMemory => WordsFault::Memory,
+        _ => WordsFault::Usage,
     }
 }
 
 /// The job that the words after the program's name ask for. Without words no memory is taken.
-pub fn job(alloc: Global, words: &[String]) -> Result<Job, Fault>
+pub fn job(alloc: Global, words: &[String]) -> Result<Job, WordsFault>
     ensures input { IsOkAnd result (λ job. job ≡ Job.Input) ↔ (words.now ≡ []) }
-    ensures others { IfErr result (λ fault. (fault ≡ Fault.Memory) ⊎ (fault ≡ Fault.Usage)) }
+    ensures others { IfErr result (λ fault. (fault ≡ WordsFault.Memory)
+        ⊎ (fault ≡ WordsFault.Usage)) }
 
     // A job is that of its words, in which clap finds no fault.
     ensures asked { IfOk result (λ job. words.now ≢ [] → AskFor words.now job) }
@@ -82,13 +83,13 @@ pub fn job(alloc: Global, words: &[String]) -> Result<Job, Fault>
     // Words that ask for a job, and in which clap finds no fault, are refused for want of memory
     // alone.
     ensures only { (job : Job) → AskFor words.now job → AreFaultless words.now
-        → IfErr result (λ fault. fault ≡ Fault.Memory) }
+        → IfErr result (λ fault. fault ≡ WordsFault.Memory) }
 {
     if words.is_empty() {
         return Ok(Job::Input);
     }
     let Ok(command) = command(alloc) else {
-        return Err(Fault::Memory);
+        return Err(WordsFault::Memory);
     };
     let matches = match command.try_get_matches_from(words) {
         Ok(matches) => matches,
@@ -96,7 +97,7 @@ pub fn job(alloc: Global, words: &[String]) -> Result<Job, Fault>
     };
     match job_of(alloc, &matches) {
         Ok(Some(job)) => Ok(job),
-        Ok(None) => Err(Fault::Usage),
-        Err(_) => Err(Fault::Memory),
+        Ok(None) => Err(WordsFault::Usage),
+        Err(_) => Err(WordsFault::Memory),
     }
 }

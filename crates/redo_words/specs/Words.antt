@@ -4,8 +4,8 @@ use Rattle.std.specs.declared.alloc.Global.{Global}
 use Rattle.clap.specs.Words.{App, Row, Rule, Text, all_of, fault_of, first_of, new_app, new_rule, subcommand_of, with_rule, with_subcommand}
 use Rattle.clap.specs.Lexer.{usize_max}
 use Rattle.clap.specs.declared.builder.action.ArgAction.TheVariants.{Set, Append}
-use Rattle.redo_job.specs.declared.task.Job.{Job}
-use Rattle.redo_job.specs.declared.task.Job.TheVariants.{Input, Run, Replay}
+use Rattle.redo_words.specs.declared.task.Job.{Job}
+use Rattle.redo_words.specs.declared.task.Job.TheVariants.{Input, Run, Replay}
 
 -- FILE...
 abbrev pub files_rule : Rule

@@ -7,9 +7,9 @@ use Rattle.clap.specs.declared.parser.matches.ArgMatches.{ArgMatches}
 use Rattle.clap.specs.declared.parser.matches.ArgMatches.TheViews.{out-ArgMatches, out-SubCommand}
 use Rattle.clap.specs.declared.parser.matches.Found.{Found}
 use Rattle.clap.proofs.WalkLemmas.{first_value-rows, raw_values-rows}
-use Rattle.redo_job.specs.Words.{Asks}
-use Rattle.redo_job.specs.declared.task.Job.{Job}
-use Rattle.redo_job.specs.declared.task.Job.TheVariants.{Input, Run, Replay}
+use Rattle.redo_words.specs.Words.{Asks}
+use Rattle.redo_words.specs.declared.task.Job.{Job}
+use Rattle.redo_words.specs.declared.task.Job.TheVariants.{Input, Run, Replay}
 
 abbrev both : {T : Type 0} → (T → Text) → (T → List Row) → T → Text × List Row
 both f g x = (f x, g x)

@@ -6,8 +6,8 @@ use Rattle.clap.specs.Lexer.{usize_max}
 use Rattle.clap.specs.declared.builder.action.ArgAction.TheVariants.{Append}
 use Rattle.clap.specs.declared.builder.arg.Arg.{Arg}
 use Rattle.clap.specs.declared.builder.range.ValueRange.{ValueRange}
-use Rattle.redo_job.specs.Words.{file_rule, files_rule, replay_app, run_app, empty_app}
-use Rattle.redo_job.proofs.words.command.Goals as goal
+use Rattle.redo_words.specs.Words.{file_rule, files_rule, replay_app, run_app, empty_app}
+use Rattle.redo_words.proofs.words.command.Goals as goal
 
 some_is : {T : Type 0} (value : Option T) (x : T) → IsSomeAnd value (λ v. v ≡ x) → value ≡ Some x
 some_is (Some v) x is = ap Some is

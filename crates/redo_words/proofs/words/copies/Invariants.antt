@@ -1,5 +1,5 @@
 use Rattle.std.proofs.Common.{◌≡◌, map, take, string_bytes}
-use Rattle.redo_job.proofs.words.copies.Given as goal
+use Rattle.redo_words.proofs.words.copies.Given as goal
 
 abbrev pub invariant-loop-text : goal.invariant-loop-text
 invariant-loop-text l = map string_bytes l.copies.items ≡ map (λ text. text.now)

@@ -1,0 +1,10 @@
+use thiserror::Error;
+
+/// Why there is no job.
+#[derive(Debug, Drop, Error)]
+pub enum WordsFault {
+    #[error("out of memory")]
+    Memory,
+    #[error("words that ask for nothing")]
+    Usage,
+}
