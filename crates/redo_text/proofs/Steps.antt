@@ -1,5 +1,5 @@
 -- What it takes that reading by steps comes to its end.
-use Rattle.std.proofs.Common.{◌≡◌, Bool, true, false, cond, ◌&&◌, ◌||◌, List, [], ◌∷◌, Option, Some, Result, Ok, Err, refl}
+use Rattle.std.proofs.Common.{◌≡◌, ℕ, zero, suc, ◌+◌, ◌<◌, Bool, true, false, cond, ◌&&◌, ◌||◌, List, [], ◌∷◌, length, drop, slice_index_or, Option, Some, Result, Ok, Err, refl, ap, ◌∙◌, arith}
 use Rattle.std.specs.List.{find}
 use Rattle.redo_model.specs.Names.{Text}
 use Rattle.redo_model.specs.Command.{Command}
@@ -42,6 +42,26 @@ found_passes test (y ∷ ys) x e = by (test y) refl e (found_passes test ys x)
         → (find test ys ≡ Some x → test x ≡ true) → test x ≡ true
     by true passes h later = cc
     by false fails h later = later h
+
+-- a search goes on past what doesn't pass
+pub find_past : {X : Type 0} (test : X → Bool) (xs : List X) (k : ℕ) (d : X) → k < length xs
+    → test (slice_index_or xs k d) ≡ false → find test (drop k xs) ≡ find test (drop (k + 1) xs)
+find_past test [] k d below fails = absurd (omega arith)
+find_past test (x ∷ xs) zero d below fails =
+    ap (λ (b : Bool). cond b (Some x) (find test xs)) fails
+find_past test (x ∷ xs) (suc k) d below fails =
+    let next : suc (k + 1) ≡ suc k + 1 = omega arith in
+    find_past test xs k d (omega (arith, below)) fails
+    ∙ ap (λ (n : ℕ). find test (drop n (x ∷ xs))) next
+
+-- and ends at the first that does
+pub find_here : {X : Type 0} (test : X → Bool) (xs : List X) (k : ℕ) (d : X) → k < length xs
+    → test (slice_index_or xs k d) ≡ true → find test (drop k xs) ≡ Some (slice_index_or xs k d)
+find_here test [] k d below passes = absurd (omega arith)
+find_here test (x ∷ xs) zero d below passes =
+    ap (λ (b : Bool). cond b (Some x) (find test xs)) passes
+find_here test (x ∷ xs) (suc k) d below passes =
+    find_here test xs k d (omega (arith, below)) passes
 
 -- the end of reading a line
 abbrev pub read : Command Text × List Text → Reading

@@ -8,14 +8,11 @@ ghost use Rattle.redo_text.specs.declared.fault.LineFault.TheVariants.{UnknownCo
 use crate::args::cut_word;
 use redo_terms::{Kind, cases};
 
-/// Leads from a word to the kind in whose row it stands.
-macro_rules! kind_by_word {
-    ([$given:ident] $(($case:ident $(($($field:ident),*))?, $word:literal, $($rest:tt)*))*) => {{
-        $(if $given == $word.as_slice() {
-            return Some(Kind::$case);
-        })*
-        None
-    }};
+/// Leads to the kinds of all rows.
+macro_rules! kinds {
+    ([] $(($case:ident $(($($field:ident),*))?, $($rest:tt)*))*) => {
+        [$(Kind::$case),*]
+    };
 }
 
 /// Leads from a kind to the word in its row.
@@ -31,7 +28,12 @@ macro_rules! word_by_kind {
 fn kind_of_word(word: &[u8]) -> Option<Kind>
     ensures { result ≡ kind_named word.now }
 {
-    cases!(kind_by_word word)
+    for kind in cases!(kinds) {
+        if word == keyword(kind) {
+            return Some(kind);
+        }
+    }
+    None
 }
 
 /// The kind of command that the first word of a text says, and what stands after its space,

@@ -1,7 +1,7 @@
 ghost use Rattle.std.specs.Prelude.{◌≡◌, Some, Err, MatchOption};
 ghost use Rattle.redo_text.specs.Questions.{words_of};
 ghost use Rattle.redo_text.specs.Inside.Reading.{words_after};
-ghost use Rattle.redo_text.specs.Inside.ReplyReading.{reply_words_in, reply_args_in, reply_kind_named};
+ghost use Rattle.redo_text.specs.Inside.ReplyReading.{reply_words_in, reply_args_in, reply_kind_named, reply_word};
 ghost use Rattle.redo_text.specs.declared.fault.LineFault.TheVariants.{WrongWords};
 
 use crate::args::cut_word;
@@ -22,36 +22,43 @@ pub(crate) enum ReplyKind {
     Refused,
 }
 
+const REPLY_KINDS: [ReplyKind; 9] = [
+    ReplyKind::Okay,
+    ReplyKind::Granted,
+    ReplyKind::Busy,
+    ReplyKind::Stale,
+    ReplyKind::Stamped,
+    ReplyKind::Ood,
+    ReplyKind::Targets,
+    ReplyKind::Sources,
+    ReplyKind::Refused,
+];
+
+/// The word that a reply of this kind begins with.
+fn reply_word(kind: ReplyKind) -> &'static [u8]
+    ensures { result.now ≡ reply_word kind }
+{
+    match kind {
+        ReplyKind::Okay => b"ok",
+        ReplyKind::Granted => b"granted",
+        ReplyKind::Busy => b"busy",
+        ReplyKind::Stale => b"stale",
+        ReplyKind::Stamped => b"stamped",
+        ReplyKind::Ood => keyword(Kind::Ood),
+        ReplyKind::Targets => keyword(Kind::Targets),
+        ReplyKind::Sources => keyword(Kind::Sources),
+        ReplyKind::Refused => b"refused",
+    }
+}
+
 /// The kind of reply that the word begins.
 fn reply_kind_of(word: &[u8]) -> Option<ReplyKind>
     ensures { result ≡ reply_kind_named word.now }
 {
-    if word == b"ok".as_slice() {
-        return Some(ReplyKind::Okay);
-    }
-    if word == b"granted".as_slice() {
-        return Some(ReplyKind::Granted);
-    }
-    if word == b"busy".as_slice() {
-        return Some(ReplyKind::Busy);
-    }
-    if word == b"stale".as_slice() {
-        return Some(ReplyKind::Stale);
-    }
-    if word == b"stamped".as_slice() {
-        return Some(ReplyKind::Stamped);
-    }
-    if word == keyword(Kind::Ood) {
-        return Some(ReplyKind::Ood);
-    }
-    if word == keyword(Kind::Targets) {
-        return Some(ReplyKind::Targets);
-    }
-    if word == keyword(Kind::Sources) {
-        return Some(ReplyKind::Sources);
-    }
-    if word == b"refused".as_slice() {
-        return Some(ReplyKind::Refused);
+    for kind in REPLY_KINDS {
+        if word == reply_word(kind) {
+            return Some(kind);
+        }
     }
     None
 }
