@@ -1,2 +1,1 @@
 pub mod SessionWorkers
-pub mod Fewer

@@ -1,8 +1,8 @@
 //! Sessions that end while they hold and build: they let go, the least name first.
-use crate::gates::{Holds, Moment};
+use crate::gates::Moment;
 use crate::histories::{counted, text_of};
 use crate::order::advance;
-use crate::outcomes::{is_at, ran, tries_of};
+use crate::outcomes::{Run, check_runs, check_text};
 use crate::plans::plan_of;
 use crate::schedules::{MOST, lines_of_schedule};
 use redo_command::Line;
@@ -12,52 +12,43 @@ use std::alloc::{AllocError, Global};
 use std::process::Abort;
 
 /// The second session has the lock once the first, which broke off in a build, has let go of it.
-#[test]
-fn session_lets_go(rt: HostRuntime) -> Result<(), RunFault> {
-    let alloc = rt.alloc();
-    let plan = plan_of(&rt, alloc, &["lock T\nstart T\n", "lock T\n"])?;
-    let gate = Holds::new(alloc, &[(Moment::Before(1, 0), Moment::After(0, 3))])?;
-    let (outcome, history) = ran(&rt, alloc, &plan, &gate)?;
-    let want = "history 6\n\
+const SESSION_LETS_GO: Run = Run {
+    files: &["lock T\nstart T\n", "lock T\n"],
+    pairs: &[(Moment::Before(1, 0), Moment::After(0, 3))],
+    history: "history 6\n\
         1 lock T => granted 1\n\
         1 start T => ok\n\
         1 failed T => ok\n\
         1 unlock T => ok\n\
         2 lock T => granted 2\n\
-        2 unlock T => ok\n";
-    assert!(rt; gate.are_met() && gate.ready_calls() == 2);
-    assert!(rt; history.as_slice() == want.as_bytes(), "{history:?}");
-    let first = [
-        (0, Place::Granted(0, 1)),
-        (1, Place::Row(0)),
-        (2, Place::Row(1)),
-        (3, Place::Released(0, 1)),
-    ];
-    let second = [(0, Place::Granted(0, 2)), (1, Place::Released(0, 2))];
-    assert!(rt; is_at(&outcome.journals, 0, &first) && is_at(&outcome.journals, 1, &second));
-    assert!(rt; tries_of(&outcome.journals, 0) == 2 && tries_of(&outcome.journals, 1) == 0);
-    Ok(())
-}
+        2 unlock T => ok\n",
+    tries: &[2, 0],
+    told: [0b1111, 0b0110, 0b1111],
+    places: &[
+        &[
+            (0, Place::Granted(0, 1)),
+            (1, Place::Row(0)),
+            (2, Place::Row(1)),
+            (3, Place::Released(0, 1)),
+        ],
+        &[(0, Place::Granted(0, 2)), (1, Place::Released(0, 2))],
+    ],
+};
 
 /// A session loses its row to another one's closing command, which it has to know by the row's word:
-/// the target has failed for it, and so is out of date.
-#[test]
-fn closing_row_is_read(rt: HostRuntime) -> Result<(), RunFault> {
-    let alloc = rt.alloc();
-    let files = [
+/// the target has failed for it, and so is out of date. The second asks once the first has let go.
+/// By then two rows came after its own.
+const CLOSING_ROW_IS_READ: Run = Run {
+    files: &[
         "file t 1\nlock t\nstart t\n",
         "file a 1\nood\nlock t\nstart t\nifchange t a\ndone t 2\nood\n",
-    ];
-    let plan = plan_of(&rt, alloc, &files)?;
-    // The second asks once the first has let go. By then two rows came after its own.
-    let pairs = [
+    ],
+    pairs: &[
         (Moment::Before(1, 0), Moment::After(0, 1)),
         (Moment::Before(0, 2), Moment::After(1, 0)),
         (Moment::Before(1, 1), Moment::After(0, 4)),
-    ];
-    let gate = Holds::new(alloc, &pairs)?;
-    let (outcome, history) = ran(&rt, alloc, &plan, &gate)?;
-    let want = "history 13\n\
+    ],
+    history: "history 13\n\
         1 file t 1 => ok\n\
         1 lock t => granted 1\n\
         2 file a 1 => ok\n\
@@ -70,105 +61,149 @@ fn closing_row_is_read(rt: HostRuntime) -> Result<(), RunFault> {
         2 ifchange t a => ok\n\
         2 done t 2 => ok\n\
         2 ood => ood\n\
-        2 unlock t => ok\n";
-    assert!(rt; gate.are_met());
-    assert!(rt; history.as_slice() == want.as_bytes(), "{history:?}");
-    assert!(rt; tries_of(&outcome.journals, 0) == 4 && tries_of(&outcome.journals, 1) == 9);
-    Ok(())
+        2 unlock t => ok\n",
+    tries: &[4, 9],
+    told: [0b1_1111, 0b0_1101, 0b1_1111],
+    places: &[],
+};
+
+#[test]
+fn closing_commands(rt: HostRuntime) -> Result<(), RunFault> {
+    check_runs(&rt, rt.alloc(), &[SESSION_LETS_GO, CLOSING_ROW_IS_READ])
 }
 
 /// The sessions' turns, so many of each, the first session's first.
 fn turns_of(alloc: Global, counts: [usize; 2]) -> Result<Vec<usize>, AllocError> {
-    let mut turns = Vec::new(alloc);
-    for (session, count) in counts.iter().enumerate() {
-        for _ in 0..*count {
-            turns.push(session)?;
-        }
+    let mut turns = Vec::from_elem(alloc, 0, counts[0])?;
+    for _ in 0..counts[1] {
+        turns.push(1)?;
     }
     Ok(turns)
 }
 
-/// Two sessions with targets of their own, of which each holds and builds two at its end: eight
-/// steps of each.
-const APART: [&str; 2] = [
-    "lock b\nstart b\nlock a\nstart a\n",
-    "lock d\nstart d\nlock c\nstart c\n",
-];
-
-/// Two sessions that want the same two targets: eight steps of the first and six of the second at most,
-/// where they get both.
-const TOGETHER: [&str; 2] = [
-    "lock b\nstart b\nlock a\nstart a\n",
-    "lock a\nstart a\nlock b\n",
-];
-
-/// Four targets are granted and started; each is let go of. The rows are those of the starts and of
-/// the builds that failed.
-fn check_apart(rt: &impl Abort, lines: &[Line], rows: u32) {
-    let all = counted(lines);
-    assert!(rt; all.granted == 4 && all.started == 4 && all.is_let_go());
-    assert!(rt; lines.len() == 16 && rows == 8);
+/// Two sessions that hold and build at their end, and in every order of their steps let go of all.
+struct Ends {
+    files: [&'static str; 2],
+    /// How many steps each session takes at most.
+    steps: [usize; 2],
+    /// How many orders of these steps there are.
+    orders: usize,
+    /// The lines of the files: a grant and a start have one line more each, by which they are let go of.
+    lines: usize,
+    /// The starts, each of which has a row, also where it is refused.
+    starts: u32,
+    /// How many grants at most no start follows.
+    unstarted: usize,
+    /// How many grants there are: a bit for each number that is met.
+    grants: u32,
 }
 
-/// Each grant is followed by an unlock, and each start by a failed build, but for the second session's
-/// last lock, which no start follows. The three starts take rows also where they are refused. Answers
-/// how many locks are granted.
-fn check_together(rt: &impl Abort, lines: &[Line], rows: u32) -> usize {
+/// Sessions with targets of their own, of which each holds and builds two at its end: eight steps of
+/// each. There are 16! / (8! 8!) orders.
+const APART: Ends = Ends {
+    files: [
+        "lock b\nstart b\nlock a\nstart a\n",
+        "lock d\nstart d\nlock c\nstart c\n",
+    ],
+    steps: [8, 8],
+    orders: 12_870,
+    lines: 8,
+    starts: 4,
+    unstarted: 0,
+    grants: 0b1_0000,
+};
+
+/// Sessions that want the same two targets: eight steps of the first and six of the second at most,
+/// where they get both. Two, three and four grants are met. There are 14! / (8! 6!) orders.
+const TOGETHER: Ends = Ends {
+    files: [
+        "lock b\nstart b\nlock a\nstart a\n",
+        "lock a\nstart a\nlock b\n",
+    ],
+    steps: [8, 6],
+    orders: 3_003,
+    lines: 7,
+    starts: 3,
+    unstarted: 1,
+    grants: 0b1_1100,
+};
+
+/// Each grant is followed by an unlock, and each start by a failed build, which has a row. Answers the
+/// bit of how many locks are granted.
+fn check_end(rt: &impl Abort, ends: &Ends, lines: &[Line], rows: u32) -> u32 {
     let all = counted(lines);
     let (granted, started) = (all.granted, all.started);
-    assert!(rt; granted >= 2 && granted <= 4 && started <= granted && granted <= started + 1);
-    assert!(rt; all.is_let_go());
-    assert!(rt; lines.len() == 7 + granted + started && rows as usize == 3 + started);
-    granted
+    assert!(rt; all.is_let_go() && granted <= 4 && started <= granted);
+    assert!(rt; granted <= started.wrapping_add(ends.unstarted));
+    assert!(rt; lines.len() == ends.lines.wrapping_add(granted).wrapping_add(started));
+    assert!(rt; rows as usize == started.wrapping_add(ends.starts as usize));
+    1 << granted
 }
 
-/// In every schedule the sessions let go of all.
+/// The bit of how many locks are granted in this order. The sessions let go of all.
+fn granted_in(
+    rt: &impl Abort,
+    alloc: Global,
+    ends: &Ends,
+    plan: &Plan,
+    turns: &[usize],
+) -> Result<u32, AllocError> {
+    let (lines, rows, _) = lines_of_schedule(rt, alloc, plan, turns)?;
+    Ok(check_end(rt, ends, &lines, rows))
+}
+
+/// In every order from this one on the sessions let go of all.
+fn check_orders(
+    rt: &impl Abort,
+    alloc: Global,
+    ends: &Ends,
+    plan: &Plan,
+    turns: &mut [usize],
+) -> Result<(), AllocError> {
+    let (mut orders, mut grants) = (0usize, 0u32);
+    for _ in 0..MOST {
+        grants |= granted_in(rt, alloc, ends, plan, turns)?;
+        orders = orders.wrapping_add(1);
+        if !advance(turns) {
+            break;
+        }
+    }
+    assert!(rt; orders == ends.orders && grants == ends.grants);
+    Ok(())
+}
+
+/// In every order the sessions let go of all.
+fn check_ends(rt: &impl Abort, alloc: Global, ends: &Ends) -> Result<(), AllocError> {
+    let mut turns = turns_of(alloc, ends.steps)?;
+    let plan = plan_of(rt, alloc, &ends.files)?;
+    check_orders(rt, alloc, ends, &plan, &mut turns)
+}
+
 #[test]
 fn every_end_apart(rt: HostRuntime) -> Result<(), AllocError> {
-    let alloc = rt.alloc();
-    let plan = plan_of(&rt, alloc, &APART)?;
-    let mut turns = turns_of(alloc, [8, 8])?;
-    let mut count: usize = 0;
-    for _ in 0..MOST {
-        let (lines, rows, _) = lines_of_schedule(&rt, alloc, &plan, &turns)?;
-        check_apart(&rt, &lines, rows);
-        count = count.wrapping_add(1);
-        if !advance(&mut turns) {
-            break;
-        }
-    }
-    // 16! / (8! 8!)
-    assert!(rt; count == 12_870);
-    Ok(())
+    check_ends(&rt, rt.alloc(), &APART)
 }
 
-/// The same of sessions that want the same: two, three and four grants are all met.
 #[test]
 fn every_end_together(rt: HostRuntime) -> Result<(), AllocError> {
-    let alloc = rt.alloc();
-    let plan = plan_of(&rt, alloc, &TOGETHER)?;
-    let mut turns = turns_of(alloc, [8, 6])?;
-    let mut met = [0u32; 5];
-    let mut count: usize = 0;
-    for _ in 0..MOST {
-        let (lines, rows, _) = lines_of_schedule(&rt, alloc, &plan, &turns)?;
-        let granted = check_together(&rt, &lines, rows);
-        if let Some(met) = met.get_mut(granted) {
-            *met = met.wrapping_add(1);
-        }
-        count = count.wrapping_add(1);
-        if !advance(&mut turns) {
-            break;
-        }
-    }
-    // 14! / (8! 6!)
-    assert!(rt; count == 3_003);
-    assert!(rt; met[2] > 0 && met[3] > 0 && met[4] > 0);
+    check_ends(&rt, rt.alloc(), &TOGETHER)
+}
+
+/// The lines have this text.
+fn check_lines(
+    rt: &impl Abort,
+    alloc: Global,
+    plan: &Plan,
+    lines: &[Line],
+    want: &str,
+) -> Result<(), AllocError> {
+    let history = text_of(rt, alloc, plan, lines)?;
+    check_text(rt, &history, want);
     Ok(())
 }
 
-/// In this schedule the sessions have this history.
-fn has_history(
+/// In this schedule the plan's sessions have this history.
+fn check_schedule(
     rt: &impl Abort,
     alloc: Global,
     plan: &Plan,
@@ -176,9 +211,18 @@ fn has_history(
     want: &str,
 ) -> Result<(), AllocError> {
     let (lines, _, _) = lines_of_schedule(rt, alloc, plan, turns)?;
-    let history = text_of(rt, alloc, plan, &lines)?;
-    assert!(rt; history.as_slice() == want.as_bytes(), "{history:?}");
-    Ok(())
+    check_lines(rt, alloc, plan, &lines, want)
+}
+
+/// In this schedule the sessions that want the same have this history.
+fn has_history(
+    rt: &impl Abort,
+    alloc: Global,
+    turns: &[usize],
+    want: &str,
+) -> Result<(), AllocError> {
+    let plan = plan_of(rt, alloc, &TOGETHER.files)?;
+    check_schedule(rt, alloc, &plan, turns, want)
 }
 
 /// What comes of the sessions that want the same, where the first does all before the second begins.
@@ -212,14 +256,13 @@ const STEP_BY_STEP: &str = "history 11\n\
     1 unlock b => ok\n\
     2 unlock a => ok\n";
 
+/// The turns in these schedules.
+const TURNS_IN_TURN: [usize; 14] = [0, 0, 0, 0, 0, 0, 0, 0, 1, 1, 1, 1, 1, 1];
+
+const TURNS_STEP_BY_STEP: [usize; 12] = [0, 1, 0, 1, 0, 1, 0, 1, 0, 1, 0, 1];
+
 #[test]
 fn ends_by_hand(rt: HostRuntime) -> Result<(), AllocError> {
-    let alloc = rt.alloc();
-    let plan = plan_of(&rt, alloc, &TOGETHER)?;
-    has_history(&rt, alloc, &plan, &turns_of(alloc, [8, 6])?, IN_TURN)?;
-    let mut turns = Vec::new(alloc);
-    for turn in 0..12 {
-        turns.push(turn % 2)?;
-    }
-    has_history(&rt, alloc, &plan, &turns, STEP_BY_STEP)
+    has_history(&rt, rt.alloc(), &TURNS_IN_TURN, IN_TURN)?;
+    has_history(&rt, rt.alloc(), &TURNS_STEP_BY_STEP, STEP_BY_STEP)
 }

@@ -96,12 +96,12 @@ fn pass(rt: &impl Abort, gate: &Counts, journal: &Journal, passed: &mut Passed, 
     passed.entries = passed.entries.wrapping_add(1);
     match entry.place {
         Place::Row(row) => {
-            assert_eq!(rt; row, *rows);
+            assert!(rt; row == *rows);
             *rows = rows.wrapping_add(1);
-            assert_eq!(rt; passed.tried.wrapping_add(ready), *rows);
+            assert!(rt; passed.tried.wrapping_add(ready) == *rows);
             passed.tried = *rows;
         }
-        _ => assert_eq!(rt; ready, 0),
+        _ => assert!(rt; ready == 0),
     }
 }
 
@@ -135,18 +135,21 @@ pub(crate) fn check_counts(
     rows
 }
 
+/// The session's entries were passed, and it has tried the rows up to its last one.
+fn check_sum(rt: &impl Abort, journal: &Journal, passed: Passed, gate: &Counts) {
+    assert!(rt; passed.entries == journal.entries.len());
+    assert!(rt; journal.tries == passed.tried);
+    assert!(rt; load(&gate.of_sessions, journal.session as usize) == passed.tried);
+}
+
 /// Each session has tried the rows up to its last one, each once and in order.
 fn check_sums(rt: &impl Abort, journals: &[Journal], passed: &[Passed], gate: &Counts) {
     let mut all: u32 = 0;
-    for (journal, passed) in journals.iter().zip(passed) {
-        assert_eq!(rt; passed.entries, journal.entries.len());
-        assert_eq!(rt; journal.tries, passed.tried);
-        assert_eq!(rt;
-            load(&gate.of_sessions, journal.session as usize),
-            passed.tried
-        );
-        all = all.wrapping_add(passed.tried);
+    assert!(rt; journals.len() <= passed.len());
+    for at in 0..journals.len() {
+        check_sum(rt, &journals[at], passed[at], gate);
+        all = all.wrapping_add(passed[at].tried);
     }
-    assert_eq!(rt; gate.all(), all);
-    assert_eq!(rt; gate.jumps.load(Ordering::SeqCst), 0);
+    assert!(rt; gate.all() == all);
+    assert!(rt; gate.jumps.load(Ordering::SeqCst) == 0);
 }

@@ -6,7 +6,7 @@ use crate::plans::plan_of;
 use crate::random::Random;
 use crate::schedules::check_schedule;
 use redo_journal::Plan;
-use redo_session::{RunFault, run};
+use redo_session::{Outcome, RunFault, run};
 use std::alloc::{AllocError, Global};
 use std::process::Abort;
 use std::sync::Wait;
@@ -41,6 +41,20 @@ fn file_of(alloc: Global, random: &mut Random, commands: usize) -> Result<String
     Ok(file)
 }
 
+/// Session files of so many sessions, and so many commands of each.
+fn files_of(
+    alloc: Global,
+    random: &mut Random,
+    sessions: usize,
+    commands: usize,
+) -> Result<Vec<String>, AllocError> {
+    let mut files = Vec::new(alloc);
+    for _ in 0..sessions {
+        files.push(file_of(alloc, random, commands)?)?;
+    }
+    Ok(files)
+}
+
 /// A plan of so many sessions, and so many commands of each.
 fn drawn_plan(
     rt: &impl Abort,
@@ -49,15 +63,12 @@ fn drawn_plan(
     sessions: usize,
     commands: usize,
 ) -> Result<Plan, AllocError> {
-    let mut texts = Vec::new(alloc);
-    for _ in 0..sessions {
-        texts.push(file_of(alloc, random, commands)?)?;
+    let files = files_of(alloc, random, sessions, commands)?;
+    let mut texts: Vec<&str> = Vec::new(alloc);
+    for file in &files {
+        texts.push(file.as_str())?;
     }
-    let mut files: Vec<&str> = Vec::new(alloc);
-    for text in &texts {
-        files.push(text.as_str())?;
-    }
-    plan_of(rt, alloc, &files)
+    plan_of(rt, alloc, &texts)
 }
 
 fn shuffle(random: &mut Random, turns: &mut [usize]) {
@@ -67,7 +78,21 @@ fn shuffle(random: &mut Random, turns: &mut [usize]) {
     }
 }
 
-/// The rows and the exchanges of a drawn plan, whose steps are taken on one thread in a drawn order.
+/// The rows and the exchanges of a plan of twelve commands a session, whose steps are taken on one
+/// thread in a drawn order.
+fn shuffled_schedule(
+    rt: &impl Abort,
+    alloc: Global,
+    random: &mut Random,
+    plan: &Plan,
+) -> Result<(u32, u32), AllocError> {
+    let mut turns = first_schedule(alloc, plan)?;
+    assert!(rt; turns.len() == plan.scripts().len().wrapping_mul(12));
+    shuffle(random, &mut turns);
+    check_schedule(rt, alloc, plan, &turns)
+}
+
+/// The same of a drawn plan.
 fn drawn_schedule(
     rt: &impl Abort,
     alloc: Global,
@@ -75,10 +100,7 @@ fn drawn_schedule(
     sessions: usize,
 ) -> Result<(u32, u32), AllocError> {
     let plan = drawn_plan(rt, alloc, random, sessions, 12)?;
-    let mut turns = first_schedule(alloc, &plan)?;
-    assert_eq!(rt; turns.len(), sessions.wrapping_mul(12));
-    shuffle(random, &mut turns);
-    check_schedule(rt, alloc, &plan, &turns)
+    shuffled_schedule(rt, alloc, random, &plan)
 }
 
 /// Plans of one to four sessions.
@@ -91,27 +113,48 @@ fn drawn_schedules(rt: HostRuntime) -> Result<(), AllocError> {
         rows = rows.wrapping_add(counted.0);
         exchanges = exchanges.wrapping_add(counted.1);
     }
-    assert!(rt;
-        rows >= 12_000 && rows <= 15_000 && exchanges >= 30_000,
-        "{rows} {exchanges}"
-    );
+    assert!(rt; rows >= 12_000 && rows <= 15_000 && exchanges >= 30_000);
     Ok(())
 }
 
-/// The rows and the exchanges of a drawn plan of four sessions, each on a thread of its own.
+/// The history is legal at its end, and agrees with what was counted: so many rows. Each session lets
+/// go of at most two targets at its end, by at most four commands.
+fn check_outcome(rt: &impl Abort, outcome: &Outcome, gate: &Counts) -> u32 {
+    let lines = outcome.history.len();
+    assert!(rt; lines >= 128 && lines <= 144 && counted(&outcome.history).is_let_go());
+    check_counts(rt, &outcome.history, &outcome.journals, gate)
+}
+
+/// The rows of a run under the gate.
+fn rows_of_run<R: Threads + Wait + Abort + Sync>(
+    rt: &R,
+    alloc: Global,
+    plan: &Plan,
+    gate: &Counts,
+) -> Result<u32, RunFault> {
+    let outcome = run(rt, alloc, plan, gate)?;
+    Ok(check_outcome(rt, &outcome, gate))
+}
+
+/// The rows and the exchanges of a run of four sessions, each on a thread of its own.
+fn counted_run<R: Threads + Wait + Abort + Sync>(
+    rt: &R,
+    alloc: Global,
+    plan: &Plan,
+) -> Result<(u32, u32), RunFault> {
+    let gate = Counts::new(alloc)?;
+    let rows = rows_of_run(rt, alloc, plan, &gate)?;
+    Ok((rows, gate.all()))
+}
+
+/// The same of a drawn plan.
 fn drawn_run<R: Threads + Wait + Abort + Sync>(
     rt: &R,
     alloc: Global,
     random: &mut Random,
 ) -> Result<(u32, u32), RunFault> {
     let plan = drawn_plan(rt, alloc, random, 4, 32)?;
-    let gate = Counts::new(alloc)?;
-    let outcome = run(rt, alloc, &plan, &gate)?;
-    // Each session lets go of at most two targets at its end, by at most four commands.
-    let lines = outcome.history.len();
-    assert!(rt; lines >= 128 && lines <= 144 && counted(&outcome.history).is_let_go());
-    let rows = check_counts(rt, &outcome.history, &outcome.journals, &gate);
-    Ok((rows, gate.all()))
+    counted_run(rt, alloc, &plan)
 }
 
 #[test]
@@ -123,9 +166,6 @@ fn drawn_runs(rt: HostRuntime) -> Result<(), RunFault> {
         rows = rows.wrapping_add(counted.0);
         exchanges = exchanges.wrapping_add(counted.1);
     }
-    assert!(rt;
-        rows >= 8_000 && rows <= 11_000 && exchanges >= 20_000,
-        "{rows} {exchanges}"
-    );
+    assert!(rt; rows >= 8_000 && rows <= 11_000 && exchanges >= 20_000);
     Ok(())
 }

@@ -1,4 +1,4 @@
-//! Gates that hold sessions back until others have come to some moment.
+//! A gate that holds sessions back until others have come to some moment.
 use redo_board::Gate;
 use std::alloc::{AllocError, Global};
 use std::hint::spin_loop;
@@ -14,6 +14,9 @@ pub(crate) enum Moment {
     Ready(u8, u32, u32),
     After(u8, u32),
 }
+
+/// Who comes to the first moment of a pair is held there until the second has come.
+pub(crate) type Pairs = &'static [(Moment, Moment)];
 
 /// Who comes to the first moment is held there until the second has come.
 #[derive(Drop)]
@@ -46,15 +49,25 @@ impl Hold {
     }
 }
 
-/// A gate with some holds. It knows how often the first session was ready.
+/// A gate with some holds. It knows how often the first session was ready, and keeps which lines of
+/// that session it was told of: a bit for each.
 #[derive(Drop)]
 pub(crate) struct Holds {
     holds: Vec<Hold>,
+    calls: AtomicU64,
+    before: AtomicU64,
     ready: AtomicU64,
+    after: AtomicU64,
+}
+
+/// Notes a line of the first session.
+fn note(lines: &AtomicU64, session: u8, line: u32) {
+    if session == 0 {
+        lines.fetch_or(1 << (line % 64), Ordering::SeqCst);
+    }
 }
 
 impl Holds {
-    /// Who comes to the first moment of a pair is held until the second.
     pub(crate) fn new(alloc: Global, pairs: &[(Moment, Moment)]) -> Result<Holds, AllocError> {
         let mut holds = Vec::new(alloc);
         for (at, until) in pairs {
@@ -62,7 +75,10 @@ impl Holds {
         }
         Ok(Holds {
             holds,
+            calls: AtomicU64::new(0),
+            before: AtomicU64::new(0),
             ready: AtomicU64::new(0),
+            after: AtomicU64::new(0),
         })
     }
 
@@ -77,16 +93,29 @@ impl Holds {
     }
 
     pub(crate) fn ready_calls(&self) -> u64 {
-        self.ready.load(Ordering::SeqCst)
+        self.calls.load(Ordering::SeqCst)
     }
 
-    /// Lets go of who waits for this moment, and then waits where there is a hold.
-    fn come(&self, moment: Moment) {
+    /// Whether these are the lines of the first session of which it was told before, when ready and
+    /// after.
+    pub(crate) fn was_told(&self, lines: [u64; 3]) -> bool {
+        self.before.load(Ordering::SeqCst) == lines[0]
+            && self.ready.load(Ordering::SeqCst) == lines[1]
+            && self.after.load(Ordering::SeqCst) == lines[2]
+    }
+
+    /// Lets go of who waits for this moment.
+    fn let_go(&self, moment: Moment) {
         for hold in &self.holds {
             if hold.until == moment {
                 hold.has_come.store(1, Ordering::SeqCst);
             }
         }
+    }
+
+    /// Lets go of who waits for this moment, and then waits where there is a hold.
+    fn come(&self, moment: Moment) {
+        self.let_go(moment);
         for hold in &self.holds {
             if hold.at == moment && hold.comes() {
                 hold.is_met.store(1, Ordering::SeqCst);
@@ -97,17 +126,20 @@ impl Holds {
 
 impl Gate for Holds {
     fn before(&self, session: u8, line: u32) {
+        note(&self.before, session, line);
         self.come(Moment::Before(session, line));
     }
 
     fn ready(&self, session: u8, line: u32, row: u32) {
+        note(&self.ready, session, line);
         if session == 0 {
-            self.ready.fetch_add(1, Ordering::SeqCst);
+            self.calls.fetch_add(1, Ordering::SeqCst);
         }
         self.come(Moment::Ready(session, line, row));
     }
 
     fn after(&self, session: u8, line: u32) {
+        note(&self.after, session, line);
         self.come(Moment::After(session, line));
     }
 }

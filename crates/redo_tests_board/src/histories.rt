@@ -6,7 +6,7 @@ ghost use Rattle.redo_terms.specs.Meaning.{command_of, reply_of, line_of};
 
 use redo_command::{Command, Kind, Line, Refusal, Reply};
 use redo_journal::{Entry, Journal, Place, Plan, are_journals};
-use redo_replay::{HistoryFault, Verdict, history_text, merge, read_history, replay};
+use redo_replay::{History, HistoryFault, Verdict, history_text, merge, read_history, replay};
 use std::alloc::{AllocError, Global};
 use std::process::Abort;
 
@@ -89,6 +89,31 @@ pub(crate) fn history_of(
     text_of(rt, alloc, plan, &lines)
 }
 
+/// The history of this text, which has no fault.
+fn read(rt: &impl Abort, alloc: Global, history: &[u8]) -> Result<History, AllocError> {
+    match read_history(alloc, history) {
+        Ok(told) => Ok(told),
+        Err(HistoryFault::Memory) => Err(AllocError),
+        Err(_) => panic!(rt; "a faulty history"),
+    }
+}
+
+/// Whether the database answers as the history says that it did, which has so many lines.
+fn is_same(alloc: Global, told: &History, count: usize) -> Result<bool, AllocError> {
+    Ok(matches!(replay(alloc, told)?, Verdict::Same(lines) if lines == count))
+}
+
+/// Whether the database answers as the history of this text says that it did, and it has so many lines.
+fn is_replayed(
+    rt: &impl Abort,
+    alloc: Global,
+    history: &[u8],
+    count: usize,
+) -> Result<bool, AllocError> {
+    let told = read(rt, alloc, history)?;
+    is_same(alloc, &told, count)
+}
+
 /// The database answers as the history says that it did, line by line, and it has so many lines.
 pub(crate) fn replays(
     rt: &impl Abort,
@@ -96,13 +121,7 @@ pub(crate) fn replays(
     history: &[u8],
     count: usize,
 ) -> Result<(), AllocError> {
-    let told = match read_history(alloc, history) {
-        Ok(told) => told,
-        Err(HistoryFault::Memory) => return Err(AllocError),
-        Err(fault) => panic!(rt; "{fault}"),
-    };
-    let is_same = matches!(replay(alloc, &told)?, Verdict::Same(lines) if lines == count);
-    assert!(rt; is_same, "{history:?}");
+    assert!(rt; is_replayed(rt, alloc, history, count)?, "{history:?}");
     Ok(())
 }
 

@@ -27,15 +27,25 @@ fn rise(turns: &[usize]) -> Option<usize>
     None
 }
 
+/// The last turn that is above this one.
+fn above(turns: &[usize], at: usize) -> Option<usize>
+    requires { at < length turns.now }
+    ensures { IfSome result (λ other. other < length turns.now) }
+{
+    for other in (0..turns.len()).rev() {
+        if turns[at] < turns[other] {
+            return Some(other);
+        }
+    }
+    None
+}
+
 /// Goes on to the next order of the same turns, as words go in a dictionary, if there is one.
 pub(crate) fn advance(turns: &mut [usize]) -> bool {
     let Some(at) = rise(turns) else {
         return false;
     };
-    let Some(other) = (at + 1..turns.len())
-        .rev()
-        .find(|&other| turns[at] < turns[other])
-    else {
+    let Some(other) = above(turns, at) else {
         return false;
     };
     turns.swap(at, other);

@@ -1,11 +1,29 @@
 //! What runs of whole plans leave.
+use crate::gates::{Holds, Pairs};
+use crate::plans::plan_of;
 use redo_board::Gate;
-use redo_journal::{Journal, Place, Plan};
+use redo_journal::{Entry, Journal, Place, Plan};
 use redo_replay::history_text;
 use redo_session::{Outcome, RunFault, run};
 use std::alloc::Global;
+use std::process::Abort;
 use std::sync::Wait;
 use std::thread::Threads;
+
+/// The lines of a session's entries, and their places.
+pub(crate) type Places = &'static [(u32, Place)];
+
+/// A run of files under holds that was worked out by hand: its history, how often each session tries to fill a row, of
+/// which lines of the first session the gate is told, and, where they are looked at, the entries of each session.
+#[derive(Clone, Copy)]
+pub(crate) struct Run {
+    pub(crate) files: &'static [&'static str],
+    pub(crate) pairs: Pairs,
+    pub(crate) history: &'static str,
+    pub(crate) tries: &'static [u32],
+    pub(crate) told: [u64; 3],
+    pub(crate) places: &'static [Places],
+}
 
 /// The outcome of a run, and the text of its history.
 pub(crate) fn ran<G: Gate + Sync, R: Threads + Wait + Sync>(
@@ -19,26 +37,110 @@ pub(crate) fn ran<G: Gate + Sync, R: Threads + Wait + Sync>(
     Ok((outcome, history))
 }
 
-/// Whether the entries of the journal of this session are of these lines, at these places.
-pub(crate) fn is_at(journals: &[Journal], session: usize, want: &[(u32, Place)]) -> bool {
-    let Some(journal) = journals.get(session) else {
-        return false;
-    };
-    if journal.entries.len() != want.len() {
+/// The text is this one, and is printed where it isn't.
+pub(crate) fn check_text(rt: &impl Abort, text: &[u8], want: &str) {
+    assert!(rt; text == want.as_bytes(), "{text:?}");
+}
+
+/// Whether the entries are of these lines, at these places.
+fn are_at(entries: &[Entry], places: &[(u32, Place)]) -> bool {
+    if entries.len() != places.len() {
         return false;
     }
-    for (entry, (line, place)) in journal.entries.iter().zip(want) {
-        if entry.line != *line || entry.place != *place {
+    for at in 0..places.len() {
+        let (line, place) = places[at];
+        if entries[at].line != line || entries[at].place != place {
             return false;
         }
     }
     true
 }
 
-/// How many tries the journal at this place tells of.
-pub(crate) fn tries_of(journals: &[Journal], session: usize) -> u32 {
-    match journals.get(session) {
-        Some(journal) => journal.tries,
-        None => 0,
+/// Whether the sessions' entries are at these places, as far as these go.
+fn are_placed(journals: &[Journal], places: &[Places]) -> bool {
+    if journals.len() < places.len() {
+        return false;
     }
+    for session in 0..places.len() {
+        if !are_at(&journals[session].entries, places[session]) {
+            return false;
+        }
+    }
+    true
+}
+
+/// Whether the journals tell of so many tries.
+pub(crate) fn have_tried(journals: &[Journal], tries: &[u32]) -> bool {
+    if journals.len() != tries.len() {
+        return false;
+    }
+    for session in 0..tries.len() {
+        if journals[session].tries != tries[session] {
+            return false;
+        }
+    }
+    true
+}
+
+/// The gate has held each session until its moment had come, and was told so.
+fn check_gate(rt: &impl Abort, gate: &Holds, run: &Run) {
+    assert!(rt; gate.are_met());
+    assert!(rt; gate.was_told(run.told));
+    if let Some(tries) = run.tries.first() {
+        assert!(rt; gate.ready_calls() == u64::from(*tries));
+    }
+}
+
+/// The history and the journals are those of this run.
+fn check_outcome(rt: &impl Abort, outcome: &Outcome, history: &[u8], run: &Run) {
+    check_text(rt, history, run.history);
+    assert!(rt; have_tried(&outcome.journals, run.tries));
+    assert!(rt; are_placed(&outcome.journals, run.places));
+}
+
+/// Under the gate the plan has this run.
+fn check_under<R: Threads + Wait + Abort + Sync>(
+    rt: &R,
+    alloc: Global,
+    plan: &Plan,
+    gate: &Holds,
+    run: &Run,
+) -> Result<(), RunFault> {
+    let left = ran(rt, alloc, plan, gate)?;
+    check_outcome(rt, &left.0, &left.1, run);
+    check_gate(rt, gate, run);
+    Ok(())
+}
+
+/// The plan has this run.
+fn check_planned<R: Threads + Wait + Abort + Sync>(
+    rt: &R,
+    alloc: Global,
+    plan: &Plan,
+    run: &Run,
+) -> Result<(), RunFault> {
+    let gate = Holds::new(alloc, run.pairs)?;
+    check_under(rt, alloc, plan, &gate, run)
+}
+
+/// The files have this run.
+fn check_run<R: Threads + Wait + Abort + Sync>(
+    rt: &R,
+    alloc: Global,
+    run: &Run,
+) -> Result<(), RunFault> {
+    let plan = plan_of(rt, alloc, run.files)?;
+    check_planned(rt, alloc, &plan, run)
+}
+
+/// All these runs.
+pub(crate) fn check_runs<R: Threads + Wait + Abort + Sync>(
+    rt: &R,
+    alloc: Global,
+    runs: &[Run],
+) -> Result<(), RunFault> {
+    for run in runs {
+        check_run(rt, alloc, run)?;
+    }
+    Ok(())
 }

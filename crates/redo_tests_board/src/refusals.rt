@@ -4,17 +4,15 @@ ghost use Rattle.redo_board.specs.Kept.{IsBoardOf, SitsAt, IsFreshOf};
 
 use crate::gates::Holds;
 use crate::histories::{counted, history_of, replays};
-use crate::outcomes::{ran, tries_of};
+use crate::outcomes::{have_tried, ran};
 use crate::plans::plan_of;
 use crate::seats::close;
 use crate::threads::journals_of;
 use crate::told::tell;
-use crate::worked::{
-    BROKEN_OFF, BROKEN_OFF_HISTORY, COMMON_PATH, COMMON_PATH_HISTORY, LOST_TRY, LOST_TRY_HISTORY,
-    lost_try,
-};
-use crate::workers::work;
+use crate::worked::{BROKEN_OFF, BROKEN_OFF_HISTORY, COMMON_PATH, COMMON_PATH_HISTORY, LOST_TRY};
+use crate::workers::{MOST_STEPS, work};
 use redo_board::{Board, Open, Seat};
+use redo_command::Line;
 use redo_journal::{Journal, Plan};
 use redo_session::{Outcome, RunFault};
 use std::alloc::{AllocError, Global};
@@ -50,11 +48,11 @@ fn opened(alloc: Global, plan: &Plan) -> Result<(Board, Seat), AllocError>
 
 /// The gate of the lost try. Where a request is refused, the next try succeeds.
 fn gated(alloc: Global) -> Result<Holds, AllocError> {
-    match lost_try(alloc) {
+    match Holds::new(alloc, LOST_TRY.pairs) {
         Ok(gate) => Ok(gate),
         Err(_) => {
             tell(alloc);
-            lost_try(alloc)
+            Holds::new(alloc, LOST_TRY.pairs)
         }
     }
 }
@@ -80,7 +78,7 @@ fn done_alone(rt: &impl Abort, alloc: Global, plan: &Plan, rows: u32) -> Result<
     requires { length plan.now.scripts ≡ 1 }
 {
     let (board, seat) = opened(alloc, plan)?;
-    let (seat, journal) = work(rt, alloc, &board, plan, &Open, seat)?;
+    let (seat, journal) = work(rt, alloc, &board, plan, &Open, seat, MOST_STEPS)?;
     assert!(rt; close(board, plan, seat) == rows as usize && journal.tries == rows);
     Ok(journal)
 }
@@ -98,6 +96,19 @@ fn check_history(
     Ok(())
 }
 
+/// The plan's one session has this history, with so many rows.
+fn check_planned(
+    rt: &impl Abort,
+    alloc: Global,
+    plan: &Plan,
+    rows: u32,
+    want: &str,
+) -> Result<(), AllocError> {
+    assert!(rt; plan.scripts().len() == 1);
+    let journal = done_alone(rt, alloc, plan, rows)?;
+    check_history(rt, alloc, plan, &[journal], want)
+}
+
 /// The one session has this history, with so many rows.
 fn check_alone(
     rt: &impl Abort,
@@ -107,15 +118,35 @@ fn check_alone(
     want: &str,
 ) -> Result<(), AllocError> {
     let plan = planned(rt, alloc, &[file])?;
-    assert!(rt; plan.scripts().len() == 1);
-    let journal = done_alone(rt, alloc, &plan, rows)?;
-    check_history(rt, alloc, &plan, &[journal], want)
+    check_planned(rt, alloc, &plan, rows, want)
 }
 
 #[test]
 fn every_request_refused(rt: HostRuntime) -> Result<(), AllocError> {
     check_alone(&rt, rt.alloc(), COMMON_PATH, 7, COMMON_PATH_HISTORY)?;
     check_alone(&rt, rt.alloc(), BROKEN_OFF, 2, BROKEN_OFF_HISTORY)
+}
+
+/// The journals of the lost try under this gate.
+fn lost_under<R: Threads + Abort + Sync>(
+    rt: &R,
+    alloc: Global,
+    plan: &Plan,
+    gate: &Holds,
+) -> Result<Vec<Journal>, AllocError>
+    requires { length plan.now.scripts ≡ 2 }
+{
+    let Ok(left) = journals_of(rt, alloc, plan, gate) else {
+        tell(alloc);
+        return Err(AllocError);
+    };
+    // `join` does without a thread, and doesn't say so.
+    if !gate.are_met() {
+        tell(alloc);
+        return Err(AllocError);
+    }
+    assert!(rt; left.0 == 6 && gate.ready_calls() == 6);
+    Ok(left.1)
 }
 
 /// The journals of the lost try. Without a thread of its own, a session waits in vain for the other.
@@ -127,17 +158,7 @@ fn lost<R: Threads + Abort + Sync>(
     requires { length plan.now.scripts ≡ 2 }
 {
     let gate = gated(alloc)?;
-    let Ok((rows, journals)) = journals_of(rt, alloc, plan, &gate) else {
-        tell(alloc);
-        return Err(AllocError);
-    };
-    // `join` does without a thread, and doesn't say so.
-    if !gate.are_met() {
-        tell(alloc);
-        return Err(AllocError);
-    }
-    assert!(rt; rows == 6 && gate.ready_calls() == 6);
-    Ok(journals)
+    lost_under(rt, alloc, plan, &gate)
 }
 
 /// The same. Where a request or the start of a thread is refused, the next try succeeds.
@@ -154,14 +175,22 @@ fn lost_again<R: Threads + Abort + Sync>(
     }
 }
 
+/// The plan's sessions lose the try.
+fn check_lost<R: Threads + Abort + Sync>(
+    rt: &R,
+    alloc: Global,
+    plan: &Plan,
+) -> Result<(), AllocError> {
+    assert!(rt; plan.scripts().len() == 2);
+    let journals = lost_again(rt, alloc, plan)?;
+    assert!(rt; have_tried(&journals, LOST_TRY.tries));
+    check_history(rt, alloc, plan, &journals, LOST_TRY.history)
+}
+
 #[test]
 fn refused_after_the_lost_row(rt: HostRuntime) -> Result<(), AllocError> {
-    let alloc = rt.alloc();
-    let plan = planned(&rt, alloc, &LOST_TRY)?;
-    assert!(rt; plan.scripts().len() == 2);
-    let journals = lost_again(&rt, alloc, &plan)?;
-    assert!(rt; tries_of(&journals, 0) == 6 && tries_of(&journals, 1) == 5);
-    check_history(&rt, alloc, &plan, &journals, LOST_TRY_HISTORY)
+    let plan = planned(&rt, rt.alloc(), LOST_TRY.files)?;
+    check_lost(&rt, rt.alloc(), &plan)
 }
 
 /// Two sessions that want one target. The second may hold it at its end, and build it: so there are 13
@@ -187,18 +216,42 @@ fn ran_again<R: Threads + Wait + Sync>(
     }
 }
 
-#[test]
-fn run_with_each_request_refused(rt: HostRuntime) -> Result<(), RunFault> {
-    let alloc = rt.alloc();
-    let plan = planned(&rt, alloc, &TWO_SESSIONS)?;
-    let (outcome, history) = ran_again(&rt, alloc, &plan)?;
-    let count = outcome.history.len();
-    assert!(rt; count >= 13 && count <= 15 && counted(&outcome.history).is_let_go());
-    match replays(&rt, alloc, &history, count) {
+/// The history replays. Where a request is refused, the next try succeeds.
+fn replays_again(
+    rt: &impl Abort,
+    alloc: Global,
+    history: &[u8],
+    count: usize,
+) -> Result<(), AllocError> {
+    match replays(rt, alloc, history, count) {
         Ok(()) => Ok(()),
         Err(_) => {
             tell(alloc);
-            Ok(replays(&rt, alloc, &history, count)?)
+            replays(rt, alloc, history, count)
         }
     }
+}
+
+/// How many lines a run has, after which nothing is held.
+fn count_of(rt: &impl Abort, lines: &[Line]) -> usize {
+    assert!(rt; lines.len() >= 13 && lines.len() <= 15);
+    assert!(rt; counted(lines).is_let_go());
+    lines.len()
+}
+
+/// The plan's run replays.
+fn check_ran<R: Threads + Wait + Abort + Sync>(
+    rt: &R,
+    alloc: Global,
+    plan: &Plan,
+) -> Result<(), RunFault> {
+    let left = ran_again(rt, alloc, plan)?;
+    let count = count_of(rt, &left.0.history);
+    Ok(replays_again(rt, alloc, &left.1, count)?)
+}
+
+#[test]
+fn run_with_each_request_refused(rt: HostRuntime) -> Result<(), RunFault> {
+    let plan = planned(&rt, rt.alloc(), &TWO_SESSIONS)?;
+    check_ran(&rt, rt.alloc(), &plan)
 }

@@ -7,7 +7,7 @@ ghost use Rattle.redo_tests_board.specs.Workers.{HasFrom};
 use crate::plans::plan_of;
 use crate::seats::{close, meet, split};
 use crate::worked::FILES;
-use crate::workers::work;
+use crate::workers::{MOST_STEPS, work};
 use redo_board::{Board, Gate, Open, Seat};
 use redo_journal::{Journal, Plan};
 use std::alloc::{AllocError, Global};
@@ -37,14 +37,14 @@ fn work_both<G: Gate + Sync, R: Threads + Abort + Sync>(
                 × (first_of left < length plan.now.scripts) }
             ensures { IfOk result (λ r. HasFrom plan.entry.now board.entry.now
                 (first_of left) (end_of left) r.0) }
-        { work(rt, alloc, board, plan, gate, left) },
+        { work(rt, alloc, board, plan, gate, left, MOST_STEPS) },
         || -> Result<(Seat, Journal), AllocError>
             requires { IsBoardOf plan.now board.now × SitsAt plan.now board.now right
                 × IsFresh right × (end_of right ≡ first_of right + 1)
                 × (first_of right < length plan.now.scripts) }
             ensures { IfOk result (λ r. HasFrom plan.entry.now board.entry.now
                 (first_of right) (end_of right) r.0) }
-        { work(rt, alloc, board, plan, gate, right) },
+        { work(rt, alloc, board, plan, gate, right, MOST_STEPS) },
     );
     let (Ok((one, first)), Ok((other, second))) = (one, other) else {
         return Err(AllocError);
@@ -67,12 +67,21 @@ pub(crate) fn journals_of<G: Gate + Sync, R: Threads + Abort + Sync>(
     Ok((rows, vec![in alloc; first, second]?))
 }
 
+/// The plan's two sessions fill so many rows.
+fn check_rows<R: Threads + Abort + Sync>(
+    rt: &R,
+    alloc: Global,
+    plan: &Plan,
+    rows: usize,
+) -> Result<(), AllocError> {
+    assert!(rt; plan.scripts().len() == 2);
+    let left = journals_of(rt, alloc, plan, &Open)?;
+    assert!(rt; left.0 == rows);
+    Ok(())
+}
+
 #[test]
 fn two_seats(rt: HostRuntime) -> Result<(), AllocError> {
-    let alloc = rt.alloc();
-    let plan = plan_of(&rt, alloc, &FILES)?;
-    assert!(rt; plan.scripts().len() == 2);
-    let (rows, _) = journals_of(&rt, alloc, &plan, &Open)?;
-    assert!(rt; rows == 2);
-    Ok(())
+    let plan = plan_of(&rt, rt.alloc(), &FILES)?;
+    check_rows(&rt, rt.alloc(), &plan, 2)
 }

@@ -1,104 +1,123 @@
 //! Runs of whole plans, each session on a thread of its own.
-use crate::gates::{Holds, Moment};
+use crate::gates::Moment;
 use crate::histories::replays;
-use crate::outcomes::{ran, tries_of};
+use crate::outcomes::{Run, check_runs, ran};
 use crate::plans::plan_of;
-use crate::worked::{
-    BUSY, BUSY_HISTORY, COMMON_PATH, FILES, HISTORY_A, HISTORY_B, LOST_TRY, LOST_TRY_HISTORY, busy,
-    held_until, lost_try,
-};
+use crate::worked::{COMMON_PATH, FILES, LOST_TRY};
 use redo_board::Open;
-use redo_session::{Outcome, RunFault};
+use redo_journal::Plan;
+use redo_session::RunFault;
+use std::alloc::Global;
 use std::process::Abort;
 use std::sync::Wait;
 use std::thread::Threads;
 
-/// Under the gate a run of these files has this history, and each hold is met.
-fn has_history<R: Threads + Wait + Abort + AllocGlobal + Sync>(
-    rt: &R,
-    files: &[&str],
-    gate: &Holds,
-    want: &str,
-) -> Result<Outcome, RunFault> {
-    let alloc = rt.alloc();
-    let plan = plan_of(rt, alloc, files)?;
-    let (outcome, history) = ran(rt, alloc, &plan, gate)?;
-    assert!(rt; gate.are_met());
-    assert!(rt; history.as_slice() == want.as_bytes(), "{history:?}");
-    Ok(outcome)
-}
-
 /// A session that is held until the other one's command is done comes second.
-#[test]
-fn gate_a(rt: HostRuntime) -> Result<(), RunFault> {
-    has_history(&rt, &FILES, &held_until(rt.alloc(), 0, 1)?, HISTORY_A)?;
-    Ok(())
-}
+const GATE_A: Run = Run {
+    files: &FILES,
+    pairs: &[(Moment::Before(0, 0), Moment::After(1, 0))],
+    history: "history 2\n2 file b 1 => ok\n1 file a 1 => ok\n",
+    tries: &[2, 1],
+    told: [1, 1, 1],
+    places: &[],
+};
 
-#[test]
-fn gate_b(rt: HostRuntime) -> Result<(), RunFault> {
-    has_history(&rt, &FILES, &held_until(rt.alloc(), 1, 0)?, HISTORY_B)?;
-    Ok(())
-}
+const GATE_B: Run = Run {
+    files: &FILES,
+    pairs: &[(Moment::Before(1, 0), Moment::After(0, 0))],
+    history: "history 2\n1 file a 1 => ok\n2 file b 1 => ok\n",
+    tries: &[1, 2],
+    told: [1, 1, 1],
+    places: &[],
+};
 
-#[test]
-fn lost_try_changes_the_reply(rt: HostRuntime) -> Result<(), RunFault> {
-    let gate = lost_try(rt.alloc())?;
-    let outcome = has_history(&rt, &LOST_TRY, &gate, LOST_TRY_HISTORY)?;
-    assert!(rt; tries_of(&outcome.journals, 0) == 6 && tries_of(&outcome.journals, 1) == 5);
-    assert!(rt; gate.ready_calls() == 6);
-    Ok(())
-}
-
-#[test]
-fn busy_across_a_release(rt: HostRuntime) -> Result<(), RunFault> {
-    has_history(&rt, &BUSY, &busy(rt.alloc())?, BUSY_HISTORY)?;
-    Ok(())
-}
+/// Three sessions that want one lock: the second is told busy by the first one's grant, and by the
+/// third's. Each command is held until the one before it in the history is done.
+const BUSY_ACROSS_A_RELEASE: Run = Run {
+    files: &[
+        "lock t\nunlock t\n",
+        "lock t\nlock t\n",
+        "lock t\ntargets\n",
+    ],
+    pairs: &[
+        (Moment::Before(1, 0), Moment::After(0, 0)),
+        (Moment::Before(0, 1), Moment::After(1, 0)),
+        (Moment::Before(2, 0), Moment::After(0, 1)),
+        (Moment::Before(1, 1), Moment::After(2, 0)),
+        (Moment::Before(2, 1), Moment::After(1, 1)),
+    ],
+    history: "history 7\n\
+        1 lock t => granted 1\n\
+        2 lock t => busy 1\n\
+        1 unlock t => ok\n\
+        3 lock t => granted 2\n\
+        2 lock t => busy 2\n\
+        3 targets => targets\n\
+        3 unlock t => ok\n",
+    tries: &[0, 0, 1],
+    told: [0b11, 0, 0b11],
+    places: &[],
+};
 
 /// The second session finds the lock held, and gets it after the release.
-#[test]
-fn merging(rt: HostRuntime) -> Result<(), RunFault> {
-    let pairs = [
+const MERGING: Run = Run {
+    files: &["lock t\nunlock t\n", "lock t\nlock t\n"],
+    pairs: &[
         (Moment::Before(1, 0), Moment::After(0, 0)),
         (Moment::Before(0, 1), Moment::After(1, 0)),
         (Moment::Before(1, 1), Moment::After(0, 1)),
-    ];
-    let gate = Holds::new(rt.alloc(), &pairs)?;
-    let want = "history 5\n\
+    ],
+    history: "history 5\n\
         1 lock t => granted 1\n\
         2 lock t => busy 1\n\
         1 unlock t => ok\n\
         2 lock t => granted 2\n\
-        2 unlock t => ok\n";
-    let files = ["lock t\nunlock t\n", "lock t\nlock t\n"];
-    has_history(&rt, &files, &gate, want)?;
-    Ok(())
-}
+        2 unlock t => ok\n",
+    tries: &[0, 0],
+    told: [0b11, 0, 0b11],
+    places: &[],
+};
 
-/// Sessions without a command.
-#[test]
-fn empty_input(rt: HostRuntime) -> Result<(), RunFault> {
-    let gate = Holds::new(rt.alloc(), &[])?;
-    has_history(&rt, &[""], &gate, "history 0\n")?;
-    has_history(&rt, &["", ""], &gate, "history 0\n")?;
-    let files = ["", "file a 1\n", ""];
-    has_history(&rt, &files, &gate, "history 1\n2 file a 1 => ok\n")?;
-    Ok(())
-}
+/// A session without a command.
+const EMPTY: Run = Run {
+    files: &[""],
+    pairs: &[],
+    history: "history 0\n",
+    tries: &[0],
+    told: [0, 0, 0],
+    places: &[],
+};
+
+const BOTH_EMPTY: Run = Run {
+    files: &["", ""],
+    pairs: &[],
+    history: "history 0\n",
+    tries: &[0, 0],
+    told: [0, 0, 0],
+    places: &[],
+};
+
+/// A session between two without a command.
+const BETWEEN_EMPTY: Run = Run {
+    files: &["", "file a 1\n", ""],
+    pairs: &[],
+    history: "history 1\n2 file a 1 => ok\n",
+    tries: &[0, 1, 0],
+    told: [0, 0, 0],
+    places: &[],
+};
 
 /// Sessions that share no name, whose commands take turns. Nothing orders their locks, so that in
 /// the history all of the first come first.
-#[test]
-fn common_path_beside_own_lock(rt: HostRuntime) -> Result<(), RunFault> {
-    let pairs = [
+const BESIDE_OWN_LOCK: Run = Run {
+    files: &[COMMON_PATH, "lock T\nlock T\n"],
+    pairs: &[
         (Moment::Before(1, 0), Moment::After(0, 1)),
         (Moment::Before(0, 2), Moment::After(1, 0)),
         (Moment::Before(1, 1), Moment::After(0, 5)),
         (Moment::Before(0, 6), Moment::After(1, 1)),
-    ];
-    let gate = Holds::new(rt.alloc(), &pairs)?;
-    let want = "history 12\n\
+    ],
+    history: "history 12\n\
         1 file a.c 10 => ok\n\
         1 lock a.o => granted 1\n\
         1 start a.o => ok\n\
@@ -110,21 +129,46 @@ fn common_path_beside_own_lock(rt: HostRuntime) -> Result<(), RunFault> {
         1 sources => sources a.c\n\
         2 lock T => granted 1\n\
         2 lock T => busy 1\n\
-        2 unlock T => ok\n";
-    has_history(&rt, &[COMMON_PATH, "lock T\nlock T\n"], &gate, want)?;
-    Ok(())
+        2 unlock T => ok\n",
+    tries: &[7, 0],
+    told: [0b1_1111_1111, 0b1_1101_1101, 0b1_1111_1111],
+    places: &[],
+};
+
+const RUNS: [Run; 9] = [
+    GATE_A,
+    GATE_B,
+    LOST_TRY,
+    BUSY_ACROSS_A_RELEASE,
+    MERGING,
+    EMPTY,
+    BOTH_EMPTY,
+    BETWEEN_EMPTY,
+    BESIDE_OWN_LOCK,
+];
+
+#[test]
+fn runs_under_gates(rt: HostRuntime) -> Result<(), RunFault> {
+    check_runs(&rt, rt.alloc(), &RUNS)
 }
 
 /// The file of each of many sessions: all build one target.
 const BUILD: &str = "file a 1\nlock t\nstart t\nifchange t a\ndone t 1\nunlock t\nood\n";
 
-/// As many sessions as a plan has at most. What they leave replays as the same.
+/// What the 64 sessions leave replays as the same.
+fn check_most<R: Threads + Wait + Abort + Sync>(
+    rt: &R,
+    alloc: Global,
+    plan: &Plan,
+) -> Result<(), RunFault> {
+    let left = ran(rt, alloc, plan, &Open)?;
+    assert!(rt; left.0.journals.len() == 64);
+    Ok(replays(rt, alloc, &left.1, 448)?)
+}
+
+/// As many sessions as a plan has at most.
 #[test]
 fn most_sessions(rt: HostRuntime) -> Result<(), RunFault> {
-    let alloc = rt.alloc();
-    let plan = plan_of(&rt, alloc, &[BUILD; 64])?;
-    let (outcome, history) = ran(&rt, alloc, &plan, &Open)?;
-    assert!(rt; outcome.journals.len() == 64);
-    replays(&rt, alloc, &history, 448)?;
-    Ok(())
+    let plan = plan_of(&rt, rt.alloc(), &[BUILD; 64])?;
+    check_most(&rt, rt.alloc(), &plan)
 }
