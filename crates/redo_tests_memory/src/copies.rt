@@ -1,12 +1,13 @@
 //! Commands and replies: read, copied, and written.
+ghost use Rattle.std.specs.List.{AllByRecursion};
 ghost use Rattle.std.specs.Prelude.{length};
 ghost use Rattle.redo_model.specs.Renaming.{IsBelow, IsReplyBelow};
 ghost use Rattle.redo_terms.specs.Meaning.{command_of, reply_of};
 
 use crate::told::again;
 use redo_command::{
-    Command, Kind, ReadFault, Reply, ReplyFault, command_text, line_text, read_command, read_reply,
-    read_script, reply_text,
+    Command, Item, Kind, ReadFault, Reply, ReplyFault, Script, command_text, line_text,
+    read_command, read_reply, read_script, reply_text,
 };
 use redo_names::Names;
 use std::alloc::{AllocError, Global};
@@ -45,16 +46,37 @@ const REPLIES: &str = "ok\ngranted 1\nbusy 4294967295\nstale a.c b.c\n\
     sources a.c b.c\nrefused self\nrefused exists z\n";
 
 /// Whether the names are the first of these.
-fn are_first(names: &Names, texts: &[&str]) -> bool {
-    for number in 0..names.len() {
-        let Some(text) = texts.get(number as usize) else {
-            return false;
-        };
-        if names.text(number) != text.as_bytes() {
+fn are_first(names: &Names) -> bool {
+    let count = names.len();
+    if count > 8 {
+        return false;
+    }
+    for number in 0..count {
+        if names.text(number) != NAMES[number as usize].as_bytes() {
             return false;
         }
     }
     true
+}
+
+/// Whether the names are these.
+fn are_all(names: &Names) -> bool {
+    names.len() == 8 && are_first(names)
+}
+
+/// The command has this text.
+fn check_command_text(
+    rt: &impl Abort,
+    alloc: Global,
+    command: &Command,
+    names: &Names,
+    want: &str,
+) -> Result<(), AllocError>
+    requires { IsBelow (length names.now) (command_of command.now) }
+{
+    let text = again!(rt, alloc, AllocError, command_text(alloc, command, names));
+    assert!(rt; text.as_slice() == want.as_bytes());
+    Ok(())
 }
 
 /// A copy of the command has this text.
@@ -68,8 +90,21 @@ fn check_command(
     requires { IsBelow (length names.now) (command_of command.now) }
 {
     let copy = again!(rt, alloc, AllocError, command.copy(alloc));
-    let text = again!(rt, alloc, AllocError, command_text(alloc, &copy, names));
-    assert_eq!(rt; text.as_slice(), want.as_bytes());
+    check_command_text(rt, alloc, &copy, names, want)
+}
+
+/// The reply has this text.
+fn check_reply_text(
+    rt: &impl Abort,
+    alloc: Global,
+    reply: &Reply,
+    names: &Names,
+    want: &str,
+) -> Result<(), AllocError>
+    requires { IsReplyBelow (length names.now) (reply_of reply.now) }
+{
+    let text = again!(rt, alloc, AllocError, reply_text(alloc, reply, names));
+    assert!(rt; text.as_slice() == want.as_bytes());
     Ok(())
 }
 
@@ -84,9 +119,7 @@ fn check_reply(
     requires { IsReplyBelow (length names.now) (reply_of reply.now) }
 {
     let copy = again!(rt, alloc, AllocError, reply.copy(alloc));
-    let text = again!(rt, alloc, AllocError, reply_text(alloc, &copy, names));
-    assert_eq!(rt; text.as_slice(), want.as_bytes());
-    Ok(())
+    check_reply_text(rt, alloc, &copy, names, want)
 }
 
 /// The line is read as a command that has this text.
@@ -102,18 +135,23 @@ fn check_command_line(
         alloc,
         ReadFault::Memory,
         read_command(alloc, text, names),
-        are_first(names, &NAMES)
+        are_first(names)
     );
     Ok(check_command(rt, alloc, &command, names, line)?)
+}
+
+fn check_commands(rt: &impl Abort, alloc: Global, names: &mut Names) -> Result<(), Fail> {
+    for line in COMMANDS.lines() {
+        check_command_line(rt, alloc, names, line)?;
+    }
+    Ok(())
 }
 
 #[test]
 fn commands(rt: HostRuntime) -> Result<(), Fail> {
     let mut names = Names::new(rt.alloc());
-    for line in COMMANDS.lines() {
-        check_command_line(&rt, rt.alloc(), &mut names, line)?;
-    }
-    assert!(&rt; names.len() == 8 && are_first(&names, &NAMES));
+    check_commands(&rt, rt.alloc(), &mut names)?;
+    assert!(&rt; are_all(&names));
     Ok(())
 }
 
@@ -130,68 +168,126 @@ fn check_reply_line(
         alloc,
         ReplyFault::Memory,
         read_reply(alloc, text, names),
-        are_first(names, &NAMES)
+        are_first(names)
     );
     Ok(check_reply(rt, alloc, &reply, names, line)?)
+}
+
+fn check_replies(rt: &impl Abort, alloc: Global, names: &mut Names) -> Result<(), Fail> {
+    for line in REPLIES.lines() {
+        check_reply_line(rt, alloc, names, line)?;
+    }
+    Ok(())
 }
 
 #[test]
 fn replies(rt: HostRuntime) -> Result<(), Fail> {
     let mut names = Names::new(rt.alloc());
-    for line in REPLIES.lines() {
-        check_reply_line(&rt, rt.alloc(), &mut names, line)?;
+    check_replies(&rt, rt.alloc(), &mut names)?;
+    assert!(&rt; are_all(&names));
+    Ok(())
+}
+
+/// Whether the lines are one of each form.
+fn are_forms(items: &[Item]) -> bool {
+    if items.len() != KINDS.len() {
+        return false;
     }
-    assert!(&rt; names.len() == 8 && are_first(&names, &NAMES));
+    for at in 0..KINDS.len() {
+        if items[at].command.kind() != KINDS[at] {
+            return false;
+        }
+    }
+    true
+}
+
+fn check_forms(rt: &impl Abort, alloc: Global, names: &mut Names) -> Result<(), ReadFault> {
+    let text = COMMANDS.as_bytes();
+    let script = again!(
+        rt,
+        alloc,
+        ReadFault::Memory,
+        read_script(alloc, text, names),
+        are_first(names)
+    );
+    assert!(rt; are_forms(script.items()));
     Ok(())
 }
 
 #[test]
 fn scripts(rt: HostRuntime) -> Result<(), Fail> {
-    let alloc = rt.alloc();
-    let mut names = Names::new(alloc);
-    let text = COMMANDS.as_bytes();
-    let script = again!(
-        &rt,
-        alloc,
-        ReadFault::Memory,
-        read_script(alloc, text, &mut names),
-        are_first(&names, &NAMES)
-    );
-    let kinds = script.items().iter().map(|item| item.command.kind());
-    assert!(&rt; kinds.eq(KINDS));
-    assert!(&rt; names.len() == 8 && are_first(&names, &NAMES));
+    let mut names = Names::new(rt.alloc());
+    check_forms(&rt, rt.alloc(), &mut names)?;
+    assert!(&rt; are_all(&names));
     Ok(())
 }
 
 /// Guarded lines of session files.
 const GUARDED: &str = "? file a.c 10\n? ifchange a.o a.c b.c lib\n? stamp a.o 616263\n? ood\n";
 
-/// The text of the one line of a session file is that file.
-fn check_line(rt: &impl Abort, alloc: Global, text: &[u8]) -> Result<(), Fail> {
-    let mut names = Names::new(alloc);
+/// The line has this text.
+fn check_item(
+    rt: &impl Abort,
+    alloc: Global,
+    item: &Item,
+    names: &Names,
+    text: &[u8],
+) -> Result<(), AllocError>
+    requires { IsBelow (length names.now) (command_of item.now.command) }
+{
+    assert!(rt; item.guarded == text.starts_with(b"? ".as_slice()));
+    let told = again!(rt, alloc, AllocError, line_text(alloc, item, names));
+    assert!(rt; told.as_slice() == text);
+    Ok(())
+}
+
+/// The one line has this text.
+fn check_one(
+    rt: &impl Abort,
+    alloc: Global,
+    script: &Script,
+    names: &Names,
+    text: &[u8],
+) -> Result<(), AllocError>
+    requires { AllByRecursion (λ item. IsBelow (length names.now) (command_of item.command))
+        script.now }
+{
+    let [item] = script.items() else {
+        panic!(rt; "not one line");
+    };
+    check_item(rt, alloc, item, names, text)
+}
+
+fn check_read(
+    rt: &impl Abort,
+    alloc: Global,
+    names: &mut Names,
+    text: &[u8],
+) -> Result<(), ReadFault> {
     let script = again!(
         rt,
         alloc,
         ReadFault::Memory,
-        read_script(alloc, text, &mut names)
+        read_script(alloc, text, names)
     );
-    let [item] = script.items() else {
-        panic!(rt; "not one line");
-    };
-    assert!(rt; item.guarded == text.starts_with(b"? ".as_slice()));
-    let told = again!(rt, alloc, AllocError, line_text(alloc, item, &names));
-    assert_eq!(rt; told.as_slice(), text);
+    Ok(check_one(rt, alloc, &script, names, text)?)
+}
+
+/// The text of the one line of a session file is that file.
+fn check_line(rt: &impl Abort, alloc: Global, text: &[u8]) -> Result<(), ReadFault> {
+    let mut names = Names::new(alloc);
+    check_read(rt, alloc, &mut names, text)
+}
+
+fn check_lines(rt: &impl Abort, alloc: Global, lines: &str) -> Result<(), ReadFault> {
+    for line in lines.lines() {
+        check_line(rt, alloc, line.as_bytes())?;
+    }
     Ok(())
 }
 
 #[test]
 fn lines(rt: HostRuntime) -> Result<(), Fail> {
-    let alloc = rt.alloc();
-    for line in COMMANDS.lines() {
-        check_line(&rt, alloc, line.as_bytes())?;
-    }
-    for line in GUARDED.lines() {
-        check_line(&rt, alloc, line.as_bytes())?;
-    }
-    Ok(())
+    check_lines(&rt, rt.alloc(), COMMANDS)?;
+    Ok(check_lines(&rt, rt.alloc(), GUARDED)?)
 }

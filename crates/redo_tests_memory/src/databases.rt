@@ -14,47 +14,108 @@ use std::alloc::{AllocError, Global};
 use std::process::Abort;
 use std::test::Fail;
 
-/// The order of refusals; a ring of two targets; and a file that appears. Each has two names.
-const HISTORIES: [&str; 3] = [
-    "1 start T => refused not-locked\n1 lock T => granted 1\n2 start T => refused not-locked\n\
-    1 start T => ok\n1 start T => refused building\n1 unlock T => refused building\n\
-    2 unlock T => refused not-locked\n1 ifchange T T => refused self\n1 file x 1 => ok\n\
-    1 ifcreate T x T => refused self\n2 done T 5 => refused not-building\n2 lock T => busy 1\n\
-    1 done T 5 => ok\n1 ifchange T T => refused not-building\n1 unlock T => ok\n\
-    1 unlock T => refused not-locked\n2 lock T => granted 2\n",
-    "1 lock a => granted 1\n1 lock b => granted 1\n1 start a => ok\n\
-    1 stamp a 616263 => stamped a9993e364706816aba3e25717850c26c9cd0d89d\n1 done a 1 => ok\n\
-    1 start b => ok\n1 stamp b - => stamped da39a3ee5e6b4b0d3255bfef95601890afd80709\n\
-    1 ifchange b a => ok\n1 done b 1 => ok\n1 start a => ok\n1 ifchange a b => stale b\n\
-    1 stamp a 616263 => stamped a9993e364706816aba3e25717850c26c9cd0d89d\n1 done a 2 => ok\n\
-    1 ood => ood\n1 start a => ok\n1 failed a => ok\n1 ood => ood a b\n1 start a => ok\n\
-    1 ifchange a b => stale b\n\
-    1 stamp a 616263 => stamped a9993e364706816aba3e25717850c26c9cd0d89d\n1 done a 3 => ok\n\
-    1 ood => ood\n1 targets => targets a b\n",
-    "1 lock T => granted 1\n1 start T => ok\n1 ifcreate T y => ok\n1 done T 5 => ok\n1 ood => ood\n\
-    1 file y 1 => ok\n1 ood => ood T\n1 sources => sources y\n1 gone y => ok\n1 ood => ood\n",
+/// What a session asks, and what it is answered.
+type Line = (u8, &'static str, &'static str);
+
+/// The order of refusals.
+const REFUSALS: &[Line] = &[
+    (0, "start T", "refused not-locked"),
+    (0, "lock T", "granted 1"),
+    (1, "start T", "refused not-locked"),
+    (0, "start T", "ok"),
+    (0, "start T", "refused building"),
+    (0, "unlock T", "refused building"),
+    (1, "unlock T", "refused not-locked"),
+    (0, "ifchange T T", "refused self"),
+    (0, "file x 1", "ok"),
+    (0, "ifcreate T x T", "refused self"),
+    (1, "done T 5", "refused not-building"),
+    (1, "lock T", "busy 1"),
+    (0, "done T 5", "ok"),
+    (0, "ifchange T T", "refused not-building"),
+    (0, "unlock T", "ok"),
+    (0, "unlock T", "refused not-locked"),
+    (1, "lock T", "granted 2"),
 ];
 
-const NAMES: [[&str; 2]; 3] = [["T", "x"], ["a", "b"], ["T", "y"]];
+/// A ring of two targets.
+const RING: &[Line] = &[
+    (0, "lock a", "granted 1"),
+    (0, "lock b", "granted 1"),
+    (0, "start a", "ok"),
+    (
+        0,
+        "stamp a 616263",
+        "stamped a9993e364706816aba3e25717850c26c9cd0d89d",
+    ),
+    (0, "done a 1", "ok"),
+    (0, "start b", "ok"),
+    (
+        0,
+        "stamp b -",
+        "stamped da39a3ee5e6b4b0d3255bfef95601890afd80709",
+    ),
+    (0, "ifchange b a", "ok"),
+    (0, "done b 1", "ok"),
+    (0, "start a", "ok"),
+    (0, "ifchange a b", "stale b"),
+    (
+        0,
+        "stamp a 616263",
+        "stamped a9993e364706816aba3e25717850c26c9cd0d89d",
+    ),
+    (0, "done a 2", "ok"),
+    (0, "ood", "ood"),
+    (0, "start a", "ok"),
+    (0, "failed a", "ok"),
+    (0, "ood", "ood a b"),
+    (0, "start a", "ok"),
+    (0, "ifchange a b", "stale b"),
+    (
+        0,
+        "stamp a 616263",
+        "stamped a9993e364706816aba3e25717850c26c9cd0d89d",
+    ),
+    (0, "done a 3", "ok"),
+    (0, "ood", "ood"),
+    (0, "targets", "targets a b"),
+];
 
-/// The two names.
-fn two_names(rt: &impl Abort, alloc: Global, texts: [&str; 2]) -> Result<Names, Fail>
-    ensures { IfOk result (λ names. length names ≡ 2) }
-{
-    let mut names = Names::new(alloc);
+/// A file that appears.
+const APPEARANCE: &[Line] = &[
+    (0, "lock T", "granted 1"),
+    (0, "start T", "ok"),
+    (0, "ifcreate T y", "ok"),
+    (0, "done T 5", "ok"),
+    (0, "ood", "ood"),
+    (0, "file y 1", "ok"),
+    (0, "ood", "ood T"),
+    (0, "sources", "sources y"),
+    (0, "gone y", "ok"),
+    (0, "ood", "ood"),
+];
+
+fn add_names(
+    rt: &impl Abort,
+    alloc: Global,
+    names: &mut Names,
+    texts: [&str; 2],
+) -> Result<(), NamesFault> {
     for text in texts {
         assert!(rt; is_name(text.as_bytes()));
         again!(rt, alloc, NamesFault::Memory, names.add(text.as_bytes()));
     }
-    assert_eq!(rt; names.len(), 2);
-    Ok(names)
+    Ok(())
 }
 
-/// The parts of a line of a history: whether it is the second session's, its command and its reply.
-fn parts_of(line: &str) -> Option<(bool, &str, &str)> {
-    let (asked, reply) = line.split_once(" => ")?;
-    let (session, command) = asked.split_once(' ')?;
-    Some((session == "2", command, reply))
+/// The two names.
+fn two_names(rt: &impl Abort, alloc: Global, texts: [&str; 2]) -> Result<Names, NamesFault>
+    ensures { IfOk result (λ names. length names ≡ 2) }
+{
+    let mut names = Names::new(alloc);
+    add_names(rt, alloc, &mut names, texts)?;
+    assert!(rt; names.len() == 2);
+    Ok(names)
 }
 
 /// The command of a line of known names, whose numbers are below two.
@@ -85,66 +146,120 @@ fn check_text(
     reply: &Reply,
     names: &Names,
     want: &str,
-) -> Result<(), Fail>
+) -> Result<(), AllocError>
     requires { IsReplyBelow (length names.now) (reply_of reply.now) }
 {
     let text = again!(rt, alloc, AllocError, reply_text(alloc, reply, names));
-    assert_eq!(rt; text.as_slice(), want.as_bytes());
+    assert!(rt; text.as_slice() == want.as_bytes());
     Ok(())
 }
 
 /// The database of two names.
 #[derive(Drop)]
-struct Asked {
+struct Database {
     redo: Redo,
-    names: Names,
     ghost count: { tables_count redo ≡ 2 },
 }
 
-impl Asked {
-    /// A line of a history: what the session asks is answered so.
-    fn check_line(&mut self, rt: &impl Abort, alloc: Global, line: &str) -> Result<(), Fail> {
-        let (is_second, text, want) = parts_of(line).ok_or("a line")?;
-        let command = command_of_line(rt, alloc, &mut self.names, text)?;
+impl Database {
+    fn new(rt: &impl Abort, alloc: Global, names: &Names) -> Result<Database, AllocError>
+        requires { length names.now ≡ 2 }
+    {
+        let redo = again!(rt, alloc, AllocError, Redo::new(alloc, names));
+        Ok(Database { redo })
+    }
+
+    fn ask(
+        &mut self,
+        rt: &impl Abort,
+        alloc: Global,
+        session: u8,
+        command: &Command,
+    ) -> Result<Reply, AllocError>
+        requires { IsBelow 2 (command_of command.now) }
+        ensures { IfOk result (λ reply. IsReplyBelow 2 (reply_of reply)) }
+    {
+        assert!(rt; self.redo.calls() < 100);
+        self.redo.call(alloc, session, command)
+    }
+
+    /// What the session is answered.
+    fn reply(
+        &mut self,
+        rt: &impl Abort,
+        alloc: Global,
+        session: u8,
+        command: &Command,
+    ) -> Result<Reply, AllocError>
+        requires { IsBelow 2 (command_of command.now) }
+        ensures { IfOk result (λ reply. IsReplyBelow 2 (reply_of reply)) }
+    {
         let calls = self.redo.calls();
-        assert!(rt; calls < 100);
-        let session = u8::from(is_second);
         let reply = again!(
             rt,
             alloc,
             AllocError,
-            self.redo.call(alloc, session, &command),
+            self.ask(rt, alloc, session, command),
             self.redo.calls() == calls
         );
-        check_text(rt, alloc, &reply, &self.names, want)
+        Ok(reply)
     }
 
-    fn check_lines(&mut self, rt: &impl Abort, alloc: Global, lines: &str) -> Result<(), Fail> {
-        for line in lines.lines() {
-            self.check_line(rt, alloc, line)?;
+    /// A line of a history: what the session asks is answered so.
+    fn check_line(
+        &mut self,
+        rt: &impl Abort,
+        alloc: Global,
+        names: &mut Names,
+        line: Line,
+    ) -> Result<(), Fail> {
+        let (session, text, want) = line;
+        let command = command_of_line(rt, alloc, names, text)?;
+        let reply = self.reply(rt, alloc, session, &command)?;
+        check_text(rt, alloc, &reply, names, want)?;
+        Ok(())
+    }
+
+    fn check_lines(
+        &mut self,
+        rt: &impl Abort,
+        alloc: Global,
+        names: &mut Names,
+        lines: &[Line],
+    ) -> Result<(), Fail> {
+        for line in lines {
+            self.check_line(rt, alloc, names, *line)?;
         }
-        assert_eq!(rt; self.redo.calls() as usize, lines.lines().count());
+        assert!(rt; self.redo.calls() as usize == lines.len());
         Ok(())
     }
 }
 
-fn redo_of(rt: &impl Abort, alloc: Global, names: &Names) -> Result<Redo, Fail>
-    requires { length names.now ≡ 2 }
-    ensures { IfOk result (λ redo. tables_count redo ≡ 2) }
+fn check_over(rt: &impl Abort, alloc: Global, names: &mut Names, lines: &[Line]) -> Result<(), Fail>
+    requires { length names.old ≡ 2 }
 {
-    Ok(again!(rt, alloc, AllocError, Redo::new(alloc, names)))
+    let mut database = Database::new(rt, alloc, names)?;
+    database.check_lines(rt, alloc, names, lines)
 }
 
-fn check_lines(rt: &impl Abort, alloc: Global, texts: [&str; 2], lines: &str) -> Result<(), Fail> {
-    let names = two_names(rt, alloc, texts)?;
-    let redo = redo_of(rt, alloc, &names)?;
-    Asked { redo, names }.check_lines(rt, alloc, lines)
+fn check_database(
+    rt: &impl Abort,
+    alloc: Global,
+    texts: [&str; 2],
+    lines: &[Line],
+) -> Result<(), Fail> {
+    let mut names = two_names(rt, alloc, texts)?;
+    check_over(rt, alloc, &mut names, lines)
 }
 
 #[test]
 fn databases(rt: HostRuntime) -> Result<(), Fail> {
-    for (texts, lines) in NAMES.into_iter().zip(HISTORIES) {
-        check_lines(&rt, rt.alloc(), texts, lines)?;
+    for (texts, lines) in [
+        (["T", "x"], REFUSALS),
+        (["a", "b"], RING),
+        (["T", "y"], APPEARANCE),
+    ] {
+        check_database(&rt, rt.alloc(), texts, lines)?;
     }
     Ok(())
 }
@@ -159,14 +274,24 @@ fn is_lock(command: &Command) -> bool
 #[derive(Drop)]
 struct Stored {
     store: Store,
-    names: Names,
-    is_reserved: bool,
     ghost count: { count_of store ≡ 2 },
 }
 
 impl Stored {
+    fn new(rt: &impl Abort, alloc: Global, names: &Names) -> Result<Stored, AllocError>
+        requires { length names.now ≡ 2 }
+    {
+        let store = again!(rt, alloc, AllocError, Store::new(alloc, names));
+        Ok(Stored { store })
+    }
+
     /// Room for the command is made, and nothing else is done.
-    fn reserve(&mut self, rt: &impl Abort, alloc: Global, command: &Command) -> Result<(), Fail>
+    fn reserve(
+        &mut self,
+        rt: &impl Abort,
+        alloc: Global,
+        command: &Command,
+    ) -> Result<(), AllocError>
         requires numbers { IsBelow 2 (command_of command.now) }
         requires no_lock { asked_lock (command_of command.now) ≡ None }
     {
@@ -188,23 +313,24 @@ impl Stored {
         rt: &impl Abort,
         alloc: Global,
         command: &Command,
+        names: &Names,
         want: &str,
-    ) -> Result<(), Fail>
+    ) -> Result<(), AllocError>
+        requires names { length names.now ≡ 2 }
         requires numbers { IsBelow 2 (command_of command.now) }
         requires no_lock { asked_lock (command_of command.now) ≡ None }
     {
-        assert!(rt; self.names.len() == 2);
         let reply = again!(
             rt,
             alloc,
             AllocError,
             self.store.reply(alloc, 0, command, true)
         );
-        check_text(rt, alloc, &reply, &self.names, want)
+        check_text(rt, alloc, &reply, names, want)
     }
 
     /// The command's change is made.
-    fn apply(&mut self, rt: &impl Abort, alloc: Global, command: &Command) -> Result<(), Fail>
+    fn apply(&mut self, rt: &impl Abort, alloc: Global, command: &Command) -> Result<(), AllocError>
         requires numbers { IsBelow 2 (command_of command.now) }
         requires no_lock { asked_lock (command_of command.now) ≡ None }
     {
@@ -220,56 +346,89 @@ impl Stored {
         Ok(())
     }
 
-    /// A line of a history of one session, which holds the target. Room is made first, or with the change.
-    fn check_line(&mut self, rt: &impl Abort, alloc: Global, line: &str) -> Result<(), Fail> {
-        let (_, text, want) = parts_of(line).ok_or("a line")?;
-        let command = command_of_line(rt, alloc, &mut self.names, text)?;
-        if is_lock(&command) {
-            return Ok(());
+    /// A command of the session that holds the target is answered so, and its change is made. Room is made first, or
+    /// with the change.
+    fn check_command(
+        &mut self,
+        rt: &impl Abort,
+        alloc: Global,
+        command: &Command,
+        names: &Names,
+        want: &str,
+        is_reserved: bool,
+    ) -> Result<(), AllocError>
+        requires names { length names.now ≡ 2 }
+        requires numbers { IsBelow 2 (command_of command.now) }
+        requires no_lock { asked_lock (command_of command.now) ≡ None }
+    {
+        if is_reserved {
+            self.reserve(rt, alloc, command)?;
         }
-        if self.is_reserved {
-            self.reserve(rt, alloc, &command)?;
-        }
-        self.check_reply(rt, alloc, &command, want)?;
-        self.apply(rt, alloc, &command)
+        self.check_reply(rt, alloc, command, names, want)?;
+        self.apply(rt, alloc, command)
     }
 
-    fn check_lines(&mut self, rt: &impl Abort, alloc: Global, lines: &str) -> Result<(), Fail> {
-        for line in lines.lines() {
-            self.check_line(rt, alloc, line)?;
+    /// A line of a history of one session, which holds the target.
+    fn check_line(
+        &mut self,
+        rt: &impl Abort,
+        alloc: Global,
+        names: &mut Names,
+        line: Line,
+        is_reserved: bool,
+    ) -> Result<(), Fail> {
+        let (_, text, want) = line;
+        let command = command_of_line(rt, alloc, names, text)?;
+        if !is_lock(&command) {
+            self.check_command(rt, alloc, &command, names, want, is_reserved)?;
+        }
+        Ok(())
+    }
+
+    fn check_lines(
+        &mut self,
+        rt: &impl Abort,
+        alloc: Global,
+        names: &mut Names,
+        lines: &[Line],
+        is_reserved: bool,
+    ) -> Result<(), Fail> {
+        for line in lines {
+            self.check_line(rt, alloc, names, *line, is_reserved)?;
         }
         Ok(())
     }
 }
 
-fn store_of(rt: &impl Abort, alloc: Global, names: &Names) -> Result<Store, Fail>
-    requires { length names.now ≡ 2 }
-    ensures { IfOk result (λ store. count_of store ≡ 2) }
+fn check_stored_over(
+    rt: &impl Abort,
+    alloc: Global,
+    names: &mut Names,
+    lines: &[Line],
+    is_reserved: bool,
+) -> Result<(), Fail>
+    requires { length names.old ≡ 2 }
 {
-    Ok(again!(rt, alloc, AllocError, Store::new(alloc, names)))
+    let mut stored = Stored::new(rt, alloc, names)?;
+    stored.check_lines(rt, alloc, names, lines, is_reserved)
 }
 
 fn check_stored(
     rt: &impl Abort,
     alloc: Global,
-    number: usize,
+    texts: [&str; 2],
+    lines: &[Line],
     is_reserved: bool,
 ) -> Result<(), Fail> {
-    assert!(rt; number < 3);
-    let names = two_names(rt, alloc, NAMES[number])?;
-    let mut stored = Stored {
-        store: store_of(rt, alloc, &names)?,
-        names,
-        is_reserved,
-    };
-    stored.check_lines(rt, alloc, HISTORIES[number])
+    let mut names = two_names(rt, alloc, texts)?;
+    check_stored_over(rt, alloc, &mut names, lines, is_reserved)
 }
 
 #[test]
 fn stores(rt: HostRuntime) -> Result<(), Fail> {
     for is_reserved in [false, true] {
-        check_stored(&rt, rt.alloc(), 1, is_reserved)?;
-        check_stored(&rt, rt.alloc(), 2, is_reserved)?;
+        check_stored(&rt, rt.alloc(), ["a", "b"], RING, is_reserved)?;
+        check_stored(&rt, rt.alloc(), ["T", "y"], APPEARANCE, is_reserved)?;
     }
     Ok(())
 }

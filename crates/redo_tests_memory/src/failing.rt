@@ -50,58 +50,85 @@ const HISTORY: &[u8] = b"history 1\n1 ood => ood\n";
 
 const VERDICT: &[u8] = b"same 1\n";
 
+/// So many faults are tried where so many calls are made: those at each, and at two calls that no device comes to.
+fn count_of_faults(calls: usize) -> usize {
+    calls.saturating_add(2).saturating_mul(4)
+}
+
+/// What a replay over these devices came to.
+#[derive(Drop)]
+struct Replayed {
+    fault: Option<ReplayFault>,
+    input_faulted: bool,
+    output_faulted: bool,
+    writer: FaultyWriter,
+}
+
+fn replay_with(alloc: Global, reader: Watched<FaultyReader<'_>>, writer: FaultyWriter) -> Replayed {
+    let mut input = reader;
+    let mut writer = writer;
+    let mut out = Watched::new(&mut writer);
+    let fault = replay_text(alloc, &mut input, &mut out).err();
+    let output_faulted = out.faulted();
+    Replayed {
+        fault,
+        input_faulted: input.faulted(),
+        output_faulted,
+        writer,
+    }
+}
+
 /// A replay that reads at most so many bytes at once, and makes so many reads.
 fn replay_read(rt: &impl Abort, alloc: Global, most: usize, reads: usize, fault: Fault) {
-    let mut input = reader(HISTORY, most, fault);
-    let mut writer = writer(alloc, 1, NEVER);
-    let mut out = Watched::new(&mut writer);
-    let answer = replay_text(alloc, &mut input, &mut out);
+    let done = replay_with(alloc, reader(HISTORY, most, fault), writer(alloc, 1, NEVER));
     let fails = fault.at < reads;
-    assert!(rt; input.faulted() == fails && !out.faulted());
-    assert!(rt; matches!(&answer, Err(ReplayFault::Device)) == fails && answer.is_err() == fails);
+    assert!(rt; done.input_faulted == fails && !done.output_faulted);
+    assert!(rt; matches!(done.fault, Some(ReplayFault::Device)) == fails);
+    assert!(rt; done.fault.is_some() == fails);
     let want = if fails { b"".as_slice() } else { VERDICT };
-    assert_eq!(rt; writer.taken.as_slice(), want);
+    assert!(rt; done.writer.taken.as_slice() == want);
 }
 
 /// A replay that writes at most so many bytes at once, and makes so many writes.
 fn replay_written(rt: &impl Abort, alloc: Global, most: usize, writes: usize, fault: Fault) {
-    let mut input = reader(HISTORY, 1, NEVER);
-    let mut writer = writer(alloc, most, fault);
-    let mut out = Watched::new(&mut writer);
-    let answer = replay_text(alloc, &mut input, &mut out);
+    let done = replay_with(alloc, reader(HISTORY, 1, NEVER), writer(alloc, most, fault));
     let fails = fault.at < writes;
-    assert!(rt; out.faulted() == fails && !input.faulted());
-    assert!(rt; matches!(&answer, Err(ReplayFault::Write)) == fails && answer.is_err() == fails);
-    let count = fault
-        .at
-        .min(VERDICT.len())
-        .saturating_mul(most)
-        .min(VERDICT.len());
-    assert_eq!(rt; writer.taken.as_slice(), &VERDICT[..count]);
+    assert!(rt; done.output_faulted == fails && !done.input_faulted);
+    assert!(rt; matches!(done.fault, Some(ReplayFault::Write)) == fails);
+    assert!(rt; done.fault.is_some() == fails);
+    assert!(rt; done.writer.taken.as_slice() == front(VERDICT, fault.at, most));
+}
+
+/// What so many writes of so many bytes take of a text.
+fn front(text: &[u8], writes: usize, most: usize) -> &[u8] {
+    let count = writes.min(text.len()).saturating_mul(most).min(text.len());
+    &text[..count]
+}
+
+fn replay_reads(rt: &impl Abort, alloc: Global, most: usize, reads: usize) {
+    for number in 0..count_of_faults(reads) {
+        replay_read(rt, alloc, most, reads, fault(number));
+    }
+}
+
+fn replay_writes(rt: &impl Abort, alloc: Global, most: usize, writes: usize) {
+    for number in 0..count_of_faults(writes) {
+        replay_written(rt, alloc, most, writes, fault(number));
+    }
 }
 
 /// A byte at a time there are as many reads as bytes, and one that finds the end; else there are two.
 #[test]
 fn replays_of_failing_readers(rt: HostRuntime) {
-    let bytes = HISTORY.len();
-    for number in 0..4 * bytes + 12 {
-        replay_read(&rt, rt.alloc(), 1, bytes + 1, fault(number));
-    }
-    for number in 0..16 {
-        replay_read(&rt, rt.alloc(), ALL, 2, fault(number));
-    }
+    replay_reads(&rt, rt.alloc(), 1, HISTORY.len() + 1);
+    replay_reads(&rt, rt.alloc(), ALL, 2);
 }
 
 /// What went out is what the writes before the fault took.
 #[test]
 fn replays_to_failing_writers(rt: HostRuntime) {
-    let bytes = VERDICT.len();
-    for number in 0..4 * bytes + 8 {
-        replay_written(&rt, rt.alloc(), 1, bytes, fault(number));
-    }
-    for number in 0..12 {
-        replay_written(&rt, rt.alloc(), ALL, 1, fault(number));
-    }
+    replay_writes(&rt, rt.alloc(), 1, VERDICT.len());
+    replay_writes(&rt, rt.alloc(), ALL, 1);
 }
 
 /// A session file, and the run text of it beside an empty one, before which or after which it stands.
@@ -113,78 +140,115 @@ const FIRST_TEXT: &[u8] = b"history 2\n1 file a 1 => ok\n1 ood => ood\n\
 const SECOND_TEXT: &[u8] = b"history 2\n2 file a 1 => ok\n2 ood => ood\n\
     session 1 0\nsession 2 2\nfile a 1 => ok\nood => ood\n";
 
-/// A run of two files. The first or the second, whose reader is faulty, is read so many bytes at once, in so many
-/// reads; the other is empty.
-fn run_read<R: Threads + Wait + Abort + Sync>(
+/// What a run over these devices came to.
+#[derive(Drop)]
+struct Ran {
+    fault: Option<TextFault>,
+    /// Whether the first file failed, the second and the output.
+    faulted: [bool; 3],
+    writer: FaultyWriter,
+}
+
+fn run_with<R: Threads + Wait + Sync>(
+    rt: &R,
+    alloc: Global,
+    first: Watched<FaultyReader<'_>>,
+    second: Watched<FaultyReader<'_>>,
+    writer: FaultyWriter,
+) -> Ran {
+    let mut files = [first, second];
+    let mut writer = writer;
+    let mut out = Watched::new(&mut writer);
+    let fault = run_texts(rt, alloc, &mut files, &mut out).err();
+    let output_faulted = out.faulted();
+    Ran {
+        fault,
+        faulted: [files[0].faulted(), files[1].faulted(), output_faulted],
+        writer,
+    }
+}
+
+/// A run of two files. The first or the second, whose reader is faulty, is read so many bytes at once; the other is
+/// empty.
+fn run_over<R: Threads + Wait + Sync>(
+    rt: &R,
+    alloc: Global,
+    file: usize,
+    most: usize,
+    fault: Fault,
+) -> Ran {
+    let faulty = reader(FILE, most, fault);
+    let other = reader(b"", 1, NEVER);
+    let writer = writer(alloc, ALL, NEVER);
+    if file == 0 {
+        run_with(rt, alloc, faulty, other, writer)
+    } else {
+        run_with(rt, alloc, other, faulty, writer)
+    }
+}
+
+fn is_device(fault: &Option<TextFault>, file: usize) -> bool {
+    matches!(fault, Some(TextFault::Device { file: at }) if *at == file)
+}
+
+/// The run fails by the reader of this file, or not at all.
+fn check_read(rt: &impl Abort, done: &Ran, file: usize, fails: bool) {
+    let (faulted, right) = if file == 0 {
+        ([fails, false, false], FIRST_TEXT)
+    } else {
+        ([false, fails, false], SECOND_TEXT)
+    };
+    assert!(rt; done.faulted == faulted);
+    assert!(rt; done.fault.is_some() == fails && is_device(&done.fault, file) == fails);
+    let want = if fails { b"".as_slice() } else { right };
+    assert!(rt; done.writer.taken.as_slice() == want);
+}
+
+/// Runs of two files, of which this one is read in so many reads.
+fn run_reads<R: Threads + Wait + Abort + Sync>(
     rt: &R,
     alloc: Global,
     file: usize,
     most: usize,
     reads: usize,
-    fault: Fault,
 ) {
-    let faulty = reader(FILE, most, fault);
-    let other = reader(b"", 1, NEVER);
-    let mut files = if file == 0 {
-        [faulty, other]
-    } else {
-        [other, faulty]
-    };
-    let mut writer = writer(alloc, ALL, NEVER);
-    let mut out = Watched::new(&mut writer);
-    let answer = run_texts(rt, alloc, &mut files, &mut out);
-    let fails = fault.at < reads;
-    let is_first = file == 0;
-    assert!(rt; files[0].faulted() == (fails && is_first));
-    assert!(rt; files[1].faulted() == (fails && !is_first));
-    assert!(rt; !out.faulted() && answer.is_err() == fails);
-    assert!(rt; !fails || matches!(&answer, Err(TextFault::Device { file: at }) if *at == file));
-    let right = if is_first { FIRST_TEXT } else { SECOND_TEXT };
-    let want = if fails { b"".as_slice() } else { right };
-    assert_eq!(rt; writer.taken.as_slice(), want);
+    for number in 0..count_of_faults(reads) {
+        let fault = fault(number);
+        let done = run_over(rt, alloc, file, most, fault);
+        check_read(rt, &done, file, fault.at < reads);
+    }
 }
 
-/// A run of two files that writes at most so many bytes at once, and makes so many writes.
-fn run_written<R: Threads + Wait + Abort + Sync>(
-    rt: &R,
-    alloc: Global,
-    most: usize,
-    writes: usize,
-    fault: Fault,
-) {
-    let mut files = [reader(FILE, 1, NEVER), reader(b"", 1, NEVER)];
-    let mut writer = writer(alloc, most, fault);
-    let mut out = Watched::new(&mut writer);
-    let answer = run_texts(rt, alloc, &mut files, &mut out);
-    let fails = fault.at < writes;
-    assert!(rt; out.faulted() == fails && answer.is_err() == fails);
-    assert!(rt; !files[0].faulted() && !files[1].faulted());
-    assert!(rt; !fails || matches!(&answer, Err(TextFault::Write)));
-    let bytes = FIRST_TEXT.len();
-    let count = fault.at.min(bytes).saturating_mul(most).min(bytes);
-    assert_eq!(rt; writer.taken.as_slice(), &FIRST_TEXT[..count]);
+/// The run fails by its writer, or not at all.
+fn check_written(rt: &impl Abort, done: &Ran, most: usize, writes: usize, at: usize) {
+    let fails = at < writes;
+    assert!(rt; done.faulted == [false, false, fails]);
+    assert!(rt; done.fault.is_some() == fails);
+    assert!(rt; matches!(&done.fault, Some(TextFault::Write)) == fails);
+    assert!(rt; done.writer.taken.as_slice() == front(FIRST_TEXT, at, most));
+}
+
+/// Runs of two files that write at most so many bytes at once, and make so many writes.
+fn run_writes<R: Threads + Wait + Abort + Sync>(rt: &R, alloc: Global, most: usize, writes: usize) {
+    for number in 0..count_of_faults(writes) {
+        let fault = fault(number);
+        let first = reader(FILE, 1, NEVER);
+        let second = reader(b"", 1, NEVER);
+        let done = run_with(rt, alloc, first, second, writer(alloc, most, fault));
+        check_written(rt, &done, most, writes, fault.at);
+    }
 }
 
 #[test]
 fn runs_of_failing_readers(rt: HostRuntime) {
-    let bytes = FILE.len();
-    for number in 0..4 * bytes + 12 {
-        run_read(&rt, rt.alloc(), 0, 1, bytes + 1, fault(number));
-        run_read(&rt, rt.alloc(), 1, 1, bytes + 1, fault(number));
-    }
-    for number in 0..16 {
-        run_read(&rt, rt.alloc(), 0, ALL, 2, fault(number));
-        run_read(&rt, rt.alloc(), 1, ALL, 2, fault(number));
+    for file in [0, 1] {
+        run_reads(&rt, rt.alloc(), file, 1, FILE.len() + 1);
+        run_reads(&rt, rt.alloc(), file, ALL, 2);
     }
 }
 
 #[test]
 fn runs_to_failing_writers(rt: HostRuntime) {
-    let bytes = FIRST_TEXT.len();
-    for number in 0..4 * bytes + 8 {
-        run_written(&rt, rt.alloc(), 1, bytes, fault(number));
-    }
-    for number in 0..12 {
-        run_written(&rt, rt.alloc(), ALL, 1, fault(number));
-    }
+    run_writes(&rt, rt.alloc(), 1, FIRST_TEXT.len());
+    run_writes(&rt, rt.alloc(), ALL, 1);
 }

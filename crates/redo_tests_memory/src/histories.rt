@@ -1,9 +1,14 @@
 //! Histories that are read, replayed and written.
+ghost use Rattle.std.specs.Prelude.{length};
+ghost use Rattle.redo_replay.specs.Inside.Verdicts.{IsVerdictBelow};
+
+use crate::devices::FaultyWriter;
 use crate::failing::{ALL, NEVER, writer};
 use crate::told::again;
 use redo_command::{LineFault, Watched};
+use redo_names::Names;
 use redo_replay::{
-    History, HistoryFault, ReplayFault, history_text, read_history, replay, replay_text,
+    History, HistoryFault, ReplayFault, Verdict, history_text, read_history, replay, replay_text,
     verdict_text,
 };
 use std::alloc::{AllocError, Global};
@@ -29,21 +34,39 @@ fn read(alloc: Global, text: &str) -> Result<Result<History, HistoryFault>, Allo
     }
 }
 
-/// The verdict on the history is written so.
-fn check_said(rt: &impl Abort, alloc: Global, history: &History, want: &str) -> Result<(), Fail> {
-    let verdict = again!(rt, alloc, AllocError, replay(alloc, history));
-    let said = again!(
-        rt,
-        alloc,
-        AllocError,
-        verdict_text(alloc, &verdict, history.names())
-    );
-    assert_eq!(rt; said.as_slice(), want.as_bytes());
+/// The verdict is written so.
+fn check_text(
+    rt: &impl Abort,
+    alloc: Global,
+    verdict: &Verdict,
+    names: &Names,
+    want: &str,
+) -> Result<(), AllocError>
+    requires { IsVerdictBelow (length names.now) verdict.now }
+{
+    let text = again!(rt, alloc, AllocError, verdict_text(alloc, verdict, names));
+    assert!(rt; text.as_slice() == want.as_bytes());
     Ok(())
 }
 
+/// The verdict on the history is written so.
+fn check_said(
+    rt: &impl Abort,
+    alloc: Global,
+    history: &History,
+    want: &str,
+) -> Result<(), AllocError> {
+    let verdict = again!(rt, alloc, AllocError, replay(alloc, history));
+    check_text(rt, alloc, &verdict, history.names(), want)
+}
+
 /// The history is written as it was read.
-fn check_told(rt: &impl Abort, alloc: Global, history: &History, text: &str) -> Result<(), Fail> {
+fn check_told(
+    rt: &impl Abort,
+    alloc: Global,
+    history: &History,
+    text: &str,
+) -> Result<(), AllocError> {
     let told = again!(
         rt,
         alloc,
@@ -54,6 +77,17 @@ fn check_told(rt: &impl Abort, alloc: Global, history: &History, text: &str) -> 
     Ok(())
 }
 
+fn check_history(
+    rt: &impl Abort,
+    alloc: Global,
+    history: &History,
+    text: &str,
+    want: &str,
+) -> Result<(), AllocError> {
+    check_said(rt, alloc, history, want)?;
+    check_told(rt, alloc, history, text)
+}
+
 /// The verdict on the text is written so, and the text as it was read.
 pub(crate) fn check_verdict(
     rt: &impl Abort,
@@ -61,28 +95,43 @@ pub(crate) fn check_verdict(
     text: &str,
     want: &str,
 ) -> Result<(), Fail> {
-    let history = again!(rt, alloc, AllocError, read(alloc, text))?;
-    check_said(rt, alloc, &history, want)?;
-    check_told(rt, alloc, &history, text)
+    let input = text.as_bytes();
+    let history = again!(rt, alloc, HistoryFault::Memory, read_history(alloc, input));
+    Ok(check_history(rt, alloc, &history, text, want)?)
+}
+
+/// The verdict of the replay is written so. The writer has room.
+fn check_written(
+    rt: &impl Abort,
+    alloc: Global,
+    text: &str,
+    want: &str,
+    writer: &mut FaultyWriter,
+) -> Result<(), ReplayFault> {
+    again!(
+        rt,
+        alloc,
+        ReplayFault::Memory,
+        replayed(alloc, text, writer),
+        writer.taken.is_empty()
+    );
+    assert!(rt; writer.taken.as_slice() == want.as_bytes());
+    Ok(())
 }
 
 fn check_replay(rt: &impl Abort, alloc: Global, text: &str, want: &str) -> Result<(), Fail> {
     let mut writer = writer(alloc, ALL, NEVER);
     again!(rt, alloc, AllocError, writer.taken.reserve(100));
-    let input = text.as_bytes();
-    again!(
-        rt,
-        alloc,
-        ReplayFault::Memory,
-        replay_text(
-            alloc,
-            &mut Watched::new(input),
-            &mut Watched::new(&mut writer)
-        ),
-        writer.taken.is_empty()
-    );
-    assert_eq!(rt; writer.taken.as_slice(), want.as_bytes());
-    Ok(())
+    Ok(check_written(rt, alloc, text, want, &mut writer)?)
+}
+
+/// A replay of the text.
+fn replayed(alloc: Global, text: &str, writer: &mut FaultyWriter) -> Result<(), ReplayFault> {
+    let mut input = Watched::new(text.as_bytes());
+    match replay_text(alloc, &mut input, &mut Watched::new(writer)) {
+        Ok(_) => Ok(()),
+        Err(fault) => Err(fault),
+    }
 }
 
 #[test]
@@ -98,9 +147,20 @@ fn histories(rt: HostRuntime) -> Result<(), Fail> {
     Ok(())
 }
 
+/// The text is refused for this fault.
+fn check_fault(
+    rt: &impl Abort,
+    alloc: Global,
+    text: &str,
+    want: HistoryFault,
+) -> Result<(), AllocError> {
+    let answer = again!(rt, alloc, AllocError, read(alloc, text));
+    assert!(rt; matches!(&answer, Err(fault) if *fault == want));
+    Ok(())
+}
+
 #[test]
-fn faults(rt: HostRuntime) -> Result<(), Fail> {
-    let alloc = rt.alloc();
+fn faults(rt: HostRuntime) -> Result<(), AllocError> {
     for (text, want) in [
         ("", HistoryFault::BadHeader),
         (
@@ -114,8 +174,7 @@ fn faults(rt: HostRuntime) -> Result<(), Fail> {
             HistoryFault::BadLine(1, LineFault::WrongWords),
         ),
     ] {
-        let answer = again!(&rt, alloc, AllocError, read(alloc, text));
-        assert_eq!(&rt; answer.err(), Some(want));
+        check_fault(&rt, rt.alloc(), text, want)?;
     }
     Ok(())
 }

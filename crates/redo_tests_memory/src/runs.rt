@@ -1,13 +1,17 @@
 //! Runs of one file, of two and of eight.
+ghost use Rattle.std.specs.Prelude.{◌≡◌, [], IfOk};
+ghost use Rattle.redo_replay.specs.Recorded.{AreLinesBelow};
+ghost use Rattle.redo_session.specs.Inside.Files.{AreScriptsBelow};
+
 use crate::devices::FaultyWriter;
 use crate::failing::{ALL, NEVER, writer};
 use crate::histories::{HISTORY, check_verdict};
 use crate::told::again;
 use redo_board::Open;
-use redo_command::Watched;
+use redo_command::{Script, Watched};
 use redo_journal::Plan;
 use redo_names::Names;
-use redo_session::{RunFault, TextFault, read_files, run, run_text, run_texts};
+use redo_session::{Outcome, RunFault, TextFault, read_files, run, run_text, run_texts};
 use std::alloc::{AllocError, Global};
 use std::process::Abort;
 use std::sync::Wait;
@@ -24,8 +28,9 @@ const PART: &str = "session 1 9\nfile a.c 10 => ok\nlock a.o => granted 1\nstart
 
 /// The text of this file's run.
 fn is_right(text: &[u8]) -> bool {
-    let (history, part) = text.split_at(text.len().min(HISTORY.len()));
-    history == HISTORY.as_bytes() && part == PART.as_bytes()
+    text.len() == HISTORY.len() + PART.len()
+        && text.starts_with(HISTORY.as_bytes())
+        && text.ends_with(PART.as_bytes())
 }
 
 fn readers<'a>(alloc: Global, files: &[&'a str]) -> Result<Vec<Watched<&'a [u8]>>, AllocError> {
@@ -36,15 +41,33 @@ fn readers<'a>(alloc: Global, files: &[&'a str]) -> Result<Vec<Watched<&'a [u8]>
     Ok(readers)
 }
 
-/// The plan of these files.
-fn planned(rt: &impl Abort, alloc: Global, files: &[&str]) -> Result<Plan, AllocError> {
-    let mut names = Names::new(alloc);
+fn scripts_of(alloc: Global, files: &[&str], names: &mut Names) -> Result<Vec<Script>, TextFault>
+    requires { names.old ≡ [] }
+    ensures { IfOk result (λ scripts. AreScriptsBelow names.new scripts.items) }
+{
     let mut readers = readers(alloc, files)?;
-    match read_files(alloc, &mut readers, &mut names) {
-        Ok(scripts) => Ok(Plan::new(scripts, names).expect(rt, "a plan")),
-        Err(TextFault::Memory) => Err(AllocError),
-        Err(fault) => panic!(rt; "{fault}"),
-    }
+    read_files(alloc, &mut readers, names)
+}
+
+/// The plan of these files.
+fn planned(rt: &impl Abort, alloc: Global, files: &[&str]) -> Result<Plan, TextFault> {
+    let mut names = Names::new(alloc);
+    let scripts = scripts_of(alloc, files, &mut names)?;
+    Ok(Plan::new(scripts, names).expect(rt, "a plan"))
+}
+
+/// The run's text is right.
+fn check_outcome(
+    rt: &impl Abort,
+    alloc: Global,
+    plan: &Plan,
+    outcome: &Outcome,
+) -> Result<(), AllocError>
+    requires { AreLinesBelow plan.now.names outcome.now.history.items }
+{
+    let text = again!(rt, alloc, AllocError, run_text(alloc, plan, outcome));
+    assert!(rt; is_right(&text));
+    Ok(())
 }
 
 /// The plan is run, and the run's text is right.
@@ -54,15 +77,14 @@ fn check_run<R: Threads + Wait + Abort + Sync>(
     plan: &Plan,
 ) -> Result<(), Fail> {
     let outcome = again!(rt, alloc, RunFault::Memory, run(rt, alloc, plan, &Open));
-    let text = again!(rt, alloc, AllocError, run_text(alloc, plan, &outcome));
-    assert!(rt; is_right(&text));
-    Ok(())
+    Ok(check_outcome(rt, alloc, plan, &outcome)?)
 }
 
 #[test]
 fn one_run(rt: HostRuntime) -> Result<(), Fail> {
     let alloc = rt.alloc();
-    let plan = again!(&rt, alloc, AllocError, planned(&rt, alloc, &[FILE]));
+    let files = [FILE];
+    let plan = again!(&rt, alloc, TextFault::Memory, planned(&rt, alloc, &files));
     check_run(&rt, alloc, &plan)
 }
 
@@ -73,13 +95,28 @@ fn written<R: Threads + Wait + Sync>(
     files: &[&str],
     writer: &mut FaultyWriter,
 ) -> Result<(), TextFault> {
-    let Ok(mut readers) = readers(alloc, files) else {
-        return Err(TextFault::Memory);
-    };
+    let mut readers = readers(alloc, files)?;
     run_texts(rt, alloc, &mut readers, &mut Watched::new(writer))
 }
 
 /// The run text of these files, of which nothing is written where memory is refused.
+fn write_run<R: Threads + Wait + Abort + Sync>(
+    rt: &R,
+    alloc: Global,
+    files: &[&str],
+    writer: &mut FaultyWriter,
+) -> Result<(), TextFault> {
+    again!(
+        rt,
+        alloc,
+        TextFault::Memory,
+        written(rt, alloc, files, writer),
+        writer.taken.is_empty()
+    );
+    Ok(())
+}
+
+/// The run text of these files.
 fn run_of<R: Threads + Wait + Abort + Sync>(
     rt: &R,
     alloc: Global,
@@ -87,13 +124,7 @@ fn run_of<R: Threads + Wait + Abort + Sync>(
 ) -> Result<FaultyWriter, Fail> {
     let mut writer = writer(alloc, ALL, NEVER);
     again!(rt, alloc, AllocError, writer.taken.reserve(9_999));
-    again!(
-        rt,
-        alloc,
-        TextFault::Memory,
-        written(rt, alloc, files, &mut writer),
-        writer.taken.is_empty()
-    );
+    write_run(rt, alloc, files, &mut writer)?;
     Ok(writer)
 }
 

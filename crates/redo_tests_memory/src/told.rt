@@ -13,13 +13,31 @@ pub(crate) fn tell(rt: &impl Abort, alloc: Global) {
 
 /// The value of a call. Where it is told of a refusal, these conditions hold, and the next try gives the value.
 macro_rules! again {
-    ($rt:expr, $alloc:expr, $memory:pat, $call:expr $(, $stands:expr)*) => {
+    ($rt:expr, $alloc:expr, AllocError, $call:expr) => {
+        match $call {
+            Ok(value) => value,
+            Err(_) => {
+                $crate::told::tell($rt, $alloc);
+                $call?
+            }
+        }
+    };
+    ($rt:expr, $alloc:expr, AllocError, $call:expr, $stands:expr) => {
+        match $call {
+            Ok(value) => value,
+            Err(_) => {
+                assert!($rt; $stands);
+                $crate::told::tell($rt, $alloc);
+                $call?
+            }
+        }
+    };
+    ($rt:expr, $alloc:expr, $memory:pat, $call:expr $(, $stands:expr)?) => {
         match $call {
             Ok(value) => value,
             Err(fault) => {
-                assert!($rt; matches!(fault, $memory));
+                assert!($rt; matches!(fault, $memory) $(&& $stands)?);
                 $crate::told::tell($rt, $alloc);
-                $(assert!($rt; $stands);)*
                 $call?
             }
         }

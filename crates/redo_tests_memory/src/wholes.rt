@@ -4,10 +4,9 @@ use crate::told::again;
 use redo_command::{Watched, WholeFault, read_whole};
 use std::alloc::{AllocError, Global};
 use std::process::Abort;
-use std::test::Fail;
 
 /// So many bytes that the room for them grows.
-const BYTES: [u8; 70_000] = [b'x'; 70_000];
+static BYTES: [u8; 70_000] = [b'x'; 70_000];
 
 /// What a read of the bytes answers; the read of this number fails.
 fn read(
@@ -32,40 +31,52 @@ fn read(
     }
 }
 
-/// The same, asked once more where it is told of a refusal.
-fn answer(
+/// What a read answers.
+#[derive(Clone, Copy)]
+enum Want {
+    Whole,
+    TooLong,
+    Device,
+}
+
+fn is_right(answer: &Result<Vec<u8>, WholeFault>, bytes: &[u8], want: Want) -> bool {
+    match answer {
+        Ok(whole) => matches!(want, Want::Whole) && whole.as_slice() == bytes,
+        Err(WholeFault::TooLong) => matches!(want, Want::TooLong),
+        Err(WholeFault::Device) => matches!(want, Want::Device),
+        Err(WholeFault::Memory) => false,
+    }
+}
+
+/// The read has this answer. It is asked once more where it is told of a refusal.
+fn check_read(
     rt: &impl Abort,
     alloc: Global,
     bytes: &[u8],
     limit: usize,
     fails_at: usize,
-) -> Result<Result<Vec<u8>, WholeFault>, Fail> {
-    Ok(again!(rt, alloc, AllocError, read(alloc, bytes, limit, fails_at)))
-}
-
-#[test]
-fn wholes(rt: HostRuntime) -> Result<(), Fail> {
-    for bytes in [b"abcd".as_slice(), b"", &BYTES] {
-        let answer = answer(&rt, rt.alloc(), bytes, bytes.len(), 99)?;
-        assert!(&rt; matches!(&answer, Ok(whole) if whole.as_slice() == bytes));
-    }
+    want: Want,
+) -> Result<(), AllocError> {
+    let answer = again!(rt, alloc, AllocError, read(alloc, bytes, limit, fails_at));
+    assert!(rt; is_right(&answer, bytes, want));
     Ok(())
 }
 
 #[test]
-fn too_long(rt: HostRuntime) -> Result<(), Fail> {
-    for bytes in [b"abcde".as_slice(), &BYTES] {
-        let answer = answer(&rt, rt.alloc(), bytes, bytes.len() - 1, 99)?;
-        assert!(&rt; matches!(&answer, Err(WholeFault::TooLong)));
-    }
-    Ok(())
-}
-
-#[test]
-fn failing_reads(rt: HostRuntime) -> Result<(), Fail> {
-    for fails_at in [0, 1, 7, 8] {
-        let answer = answer(&rt, rt.alloc(), &BYTES, 70_000, fails_at)?;
-        assert!(&rt; matches!(&answer, Err(WholeFault::Device)));
+fn wholes(rt: HostRuntime) -> Result<(), AllocError> {
+    let long = BYTES.as_slice();
+    for (bytes, limit, fails_at, want) in [
+        (b"abcd".as_slice(), 4, 99, Want::Whole),
+        (b"", 0, 99, Want::Whole),
+        (long, 70_000, 99, Want::Whole),
+        (b"abcde", 4, 99, Want::TooLong),
+        (long, 69_999, 99, Want::TooLong),
+        (long, 70_000, 0, Want::Device),
+        (long, 70_000, 1, Want::Device),
+        (long, 70_000, 7, Want::Device),
+        (long, 70_000, 8, Want::Device),
+    ] {
+        check_read(&rt, rt.alloc(), bytes, limit, fails_at, want)?;
     }
     Ok(())
 }
