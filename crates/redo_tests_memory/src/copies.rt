@@ -144,14 +144,7 @@ fn check_commands(rt: &impl Abort, alloc: Global, names: &mut Names) -> Result<(
     for line in COMMANDS.lines() {
         check_command_line(rt, alloc, names, line)?;
     }
-    Ok(())
-}
-
-#[test]
-fn commands(rt: HostRuntime) -> Result<(), Fail> {
-    let mut names = Names::new(rt.alloc());
-    check_commands(&rt, rt.alloc(), &mut names)?;
-    assert!(&rt; are_all(&names));
+    assert!(rt; are_all(names));
     Ok(())
 }
 
@@ -177,14 +170,7 @@ fn check_replies(rt: &impl Abort, alloc: Global, names: &mut Names) -> Result<()
     for line in REPLIES.lines() {
         check_reply_line(rt, alloc, names, line)?;
     }
-    Ok(())
-}
-
-#[test]
-fn replies(rt: HostRuntime) -> Result<(), Fail> {
-    let mut names = Names::new(rt.alloc());
-    check_replies(&rt, rt.alloc(), &mut names)?;
-    assert!(&rt; are_all(&names));
+    assert!(rt; are_all(names));
     Ok(())
 }
 
@@ -201,7 +187,7 @@ fn are_forms(items: &[Item]) -> bool {
     true
 }
 
-fn check_forms(rt: &impl Abort, alloc: Global, names: &mut Names) -> Result<(), ReadFault> {
+fn check_forms(rt: &impl Abort, alloc: Global, names: &mut Names) -> Result<(), Fail> {
     let text = COMMANDS.as_bytes();
     let script = again!(
         rt,
@@ -210,15 +196,7 @@ fn check_forms(rt: &impl Abort, alloc: Global, names: &mut Names) -> Result<(), 
         read_script(alloc, text, names),
         are_first(names)
     );
-    assert!(rt; are_forms(script.items()));
-    Ok(())
-}
-
-#[test]
-fn scripts(rt: HostRuntime) -> Result<(), Fail> {
-    let mut names = Names::new(rt.alloc());
-    check_forms(&rt, rt.alloc(), &mut names)?;
-    assert!(&rt; are_all(&names));
+    assert!(rt; are_forms(script.items()) && are_all(names));
     Ok(())
 }
 
@@ -235,9 +213,9 @@ fn check_item(
 ) -> Result<(), AllocError>
     requires { IsBelow (length names.now) (command_of item.now.command) }
 {
-    assert!(rt; item.guarded == text.starts_with(b"? ".as_slice()));
     let told = again!(rt, alloc, AllocError, line_text(alloc, item, names));
-    assert!(rt; told.as_slice() == text);
+    let is_guarded = text.starts_with(b"? ".as_slice());
+    assert!(rt; item.guarded == is_guarded && told.as_slice() == text);
     Ok(())
 }
 
@@ -248,40 +226,65 @@ fn check_one(
     script: &Script,
     names: &Names,
     text: &[u8],
-) -> Result<(), AllocError>
+) -> Result<(), Fail>
     requires { AllByRecursion (λ item. IsBelow (length names.now) (command_of item.command))
         script.now }
 {
     let [item] = script.items() else {
         panic!(rt; "not one line");
     };
-    check_item(rt, alloc, item, names, text)
+    Ok(check_item(rt, alloc, item, names, text)?)
 }
 
-fn check_read(
-    rt: &impl Abort,
-    alloc: Global,
-    names: &mut Names,
-    text: &[u8],
-) -> Result<(), ReadFault> {
+/// The text of the one line of a session file is that file.
+fn check_line(rt: &impl Abort, alloc: Global, names: &mut Names, line: &str) -> Result<(), Fail> {
+    let text = line.as_bytes();
     let script = again!(
         rt,
         alloc,
         ReadFault::Memory,
         read_script(alloc, text, names)
     );
-    Ok(check_one(rt, alloc, &script, names, text)?)
+    check_one(rt, alloc, &script, names, text)
 }
 
-/// The text of the one line of a session file is that file.
-fn check_line(rt: &impl Abort, alloc: Global, text: &[u8]) -> Result<(), ReadFault> {
+/// What is read and written over names of which there is none before.
+#[derive(Clone, Copy)]
+enum Part {
+    Commands,
+    Replies,
+    Forms,
+    Line(&'static str),
+}
+
+fn check(rt: &impl Abort, alloc: Global, part: Part) -> Result<(), Fail> {
     let mut names = Names::new(alloc);
-    check_read(rt, alloc, &mut names, text)
+    match part {
+        Part::Commands => check_commands(rt, alloc, &mut names),
+        Part::Replies => check_replies(rt, alloc, &mut names),
+        Part::Forms => check_forms(rt, alloc, &mut names),
+        Part::Line(line) => check_line(rt, alloc, &mut names, line),
+    }
 }
 
-fn check_lines(rt: &impl Abort, alloc: Global, lines: &str) -> Result<(), ReadFault> {
+#[test]
+fn commands(rt: HostRuntime) -> Result<(), Fail> {
+    check(&rt, rt.alloc(), Part::Commands)
+}
+
+#[test]
+fn replies(rt: HostRuntime) -> Result<(), Fail> {
+    check(&rt, rt.alloc(), Part::Replies)
+}
+
+#[test]
+fn scripts(rt: HostRuntime) -> Result<(), Fail> {
+    check(&rt, rt.alloc(), Part::Forms)
+}
+
+fn check_lines(rt: &impl Abort, alloc: Global, lines: &'static str) -> Result<(), Fail> {
     for line in lines.lines() {
-        check_line(rt, alloc, line.as_bytes())?;
+        check(rt, alloc, Part::Line(line))?;
     }
     Ok(())
 }
@@ -289,5 +292,5 @@ fn check_lines(rt: &impl Abort, alloc: Global, lines: &str) -> Result<(), ReadFa
 #[test]
 fn lines(rt: HostRuntime) -> Result<(), Fail> {
     check_lines(&rt, rt.alloc(), COMMANDS)?;
-    Ok(check_lines(&rt, rt.alloc(), GUARDED)?)
+    check_lines(&rt, rt.alloc(), GUARDED)
 }

@@ -1,5 +1,5 @@
 //! The database for one thread.
-ghost use Rattle.std.specs.Prelude.{◌≡◌, false, None, length, IfOk};
+ghost use Rattle.std.specs.Prelude.{◌≡◌, false, None, length, IfOk, OnOk};
 ghost use Rattle.redo_model.specs.Command.{asked_lock};
 ghost use Rattle.redo_model.specs.Renaming.{IsBelow, IsReplyBelow};
 ghost use Rattle.redo_terms.specs.Meaning.{command_of, reply_of};
@@ -95,27 +95,21 @@ const APPEARANCE: &[Line] = &[
     (0, "ood", "ood"),
 ];
 
+/// The two names are added, to none.
 fn add_names(
     rt: &impl Abort,
     alloc: Global,
     names: &mut Names,
     texts: [&str; 2],
-) -> Result<(), NamesFault> {
+) -> Result<(), NamesFault>
+    ensures { OnOk result (length names.new ≡ 2) }
+{
     for text in texts {
         assert!(rt; is_name(text.as_bytes()));
         again!(rt, alloc, NamesFault::Memory, names.add(text.as_bytes()));
     }
-    Ok(())
-}
-
-/// The two names.
-fn two_names(rt: &impl Abort, alloc: Global, texts: [&str; 2]) -> Result<Names, NamesFault>
-    ensures { IfOk result (λ names. length names ≡ 2) }
-{
-    let mut names = Names::new(alloc);
-    add_names(rt, alloc, &mut names, texts)?;
     assert!(rt; names.len() == 2);
-    Ok(names)
+    Ok(())
 }
 
 /// The command of a line of known names, whose numbers are below two.
@@ -235,33 +229,16 @@ impl Database {
     }
 }
 
-fn check_over(rt: &impl Abort, alloc: Global, names: &mut Names, lines: &[Line]) -> Result<(), Fail>
+fn check_database(
+    rt: &impl Abort,
+    alloc: Global,
+    names: &mut Names,
+    lines: &[Line],
+) -> Result<(), Fail>
     requires { length names.old ≡ 2 }
 {
     let mut database = Database::new(rt, alloc, names)?;
     database.check_lines(rt, alloc, names, lines)
-}
-
-fn check_database(
-    rt: &impl Abort,
-    alloc: Global,
-    texts: [&str; 2],
-    lines: &[Line],
-) -> Result<(), Fail> {
-    let mut names = two_names(rt, alloc, texts)?;
-    check_over(rt, alloc, &mut names, lines)
-}
-
-#[test]
-fn databases(rt: HostRuntime) -> Result<(), Fail> {
-    for (texts, lines) in [
-        (["T", "x"], REFUSALS),
-        (["a", "b"], RING),
-        (["T", "y"], APPEARANCE),
-    ] {
-        check_database(&rt, rt.alloc(), texts, lines)?;
-    }
-    Ok(())
 }
 
 fn is_lock(command: &Command) -> bool
@@ -400,7 +377,7 @@ impl Stored {
     }
 }
 
-fn check_stored_over(
+fn check_store(
     rt: &impl Abort,
     alloc: Global,
     names: &mut Names,
@@ -413,22 +390,60 @@ fn check_stored_over(
     stored.check_lines(rt, alloc, names, lines, is_reserved)
 }
 
-fn check_stored(
+/// What does the commands.
+#[derive(Clone, Copy)]
+enum By {
+    Database,
+    Store,
+    /// A store in which room is made first.
+    ReservedStore,
+}
+
+fn check_with(
+    rt: &impl Abort,
+    alloc: Global,
+    names: &mut Names,
+    texts: [&str; 2],
+    lines: &[Line],
+    by: By,
+) -> Result<(), Fail> {
+    add_names(rt, alloc, names, texts)?;
+    match by {
+        By::Database => check_database(rt, alloc, names, lines),
+        By::Store => check_store(rt, alloc, names, lines, false),
+        By::ReservedStore => check_store(rt, alloc, names, lines, true),
+    }
+}
+
+/// A history over these two names.
+fn check(
     rt: &impl Abort,
     alloc: Global,
     texts: [&str; 2],
     lines: &[Line],
-    is_reserved: bool,
+    by: By,
 ) -> Result<(), Fail> {
-    let mut names = two_names(rt, alloc, texts)?;
-    check_stored_over(rt, alloc, &mut names, lines, is_reserved)
+    let mut names = Names::new(alloc);
+    check_with(rt, alloc, &mut names, texts, lines, by)
+}
+
+#[test]
+fn databases(rt: HostRuntime) -> Result<(), Fail> {
+    for (texts, lines) in [
+        (["T", "x"], REFUSALS),
+        (["a", "b"], RING),
+        (["T", "y"], APPEARANCE),
+    ] {
+        check(&rt, rt.alloc(), texts, lines, By::Database)?;
+    }
+    Ok(())
 }
 
 #[test]
 fn stores(rt: HostRuntime) -> Result<(), Fail> {
-    for is_reserved in [false, true] {
-        check_stored(&rt, rt.alloc(), ["a", "b"], RING, is_reserved)?;
-        check_stored(&rt, rt.alloc(), ["T", "y"], APPEARANCE, is_reserved)?;
+    for by in [By::Store, By::ReservedStore] {
+        check(&rt, rt.alloc(), ["a", "b"], RING, by)?;
+        check(&rt, rt.alloc(), ["T", "y"], APPEARANCE, by)?;
     }
     Ok(())
 }

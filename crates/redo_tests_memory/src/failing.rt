@@ -78,25 +78,38 @@ fn replay_with(alloc: Global, reader: Watched<FaultyReader<'_>>, writer: FaultyW
     }
 }
 
+/// Whether the replay failed by its reader, or not at all.
+fn is_replay_read(done: &Replayed, fails: bool) -> bool {
+    let is_device = matches!(done.fault, Some(ReplayFault::Device));
+    let want = if fails { b"".as_slice() } else { VERDICT };
+    done.input_faulted == fails
+        && !done.output_faulted
+        && is_device == fails
+        && done.fault.is_some() == fails
+        && done.writer.taken.as_slice() == want
+}
+
+/// Whether the replay failed by its writer, or not at all.
+fn is_replay_written(done: &Replayed, fails: bool, want: &[u8]) -> bool {
+    let is_write = matches!(done.fault, Some(ReplayFault::Write));
+    done.output_faulted == fails
+        && !done.input_faulted
+        && is_write == fails
+        && done.fault.is_some() == fails
+        && done.writer.taken.as_slice() == want
+}
+
 /// A replay that reads at most so many bytes at once, and makes so many reads.
 fn replay_read(rt: &impl Abort, alloc: Global, most: usize, reads: usize, fault: Fault) {
     let done = replay_with(alloc, reader(HISTORY, most, fault), writer(alloc, 1, NEVER));
-    let fails = fault.at < reads;
-    assert!(rt; done.input_faulted == fails && !done.output_faulted);
-    assert!(rt; matches!(done.fault, Some(ReplayFault::Device)) == fails);
-    assert!(rt; done.fault.is_some() == fails);
-    let want = if fails { b"".as_slice() } else { VERDICT };
-    assert!(rt; done.writer.taken.as_slice() == want);
+    assert!(rt; is_replay_read(&done, fault.at < reads));
 }
 
 /// A replay that writes at most so many bytes at once, and makes so many writes.
 fn replay_written(rt: &impl Abort, alloc: Global, most: usize, writes: usize, fault: Fault) {
     let done = replay_with(alloc, reader(HISTORY, 1, NEVER), writer(alloc, most, fault));
-    let fails = fault.at < writes;
-    assert!(rt; done.output_faulted == fails && !done.input_faulted);
-    assert!(rt; matches!(done.fault, Some(ReplayFault::Write)) == fails);
-    assert!(rt; done.fault.is_some() == fails);
-    assert!(rt; done.writer.taken.as_slice() == front(VERDICT, fault.at, most));
+    let want = front(VERDICT, fault.at, most);
+    assert!(rt; is_replay_written(&done, fault.at < writes, want));
 }
 
 /// What so many writes of so many bytes take of a text.
@@ -144,8 +157,9 @@ const SECOND_TEXT: &[u8] = b"history 2\n2 file a 1 => ok\n2 ood => ood\n\
 #[derive(Drop)]
 struct Ran {
     fault: Option<TextFault>,
-    /// Whether the first file failed, the second and the output.
-    faulted: [bool; 3],
+    first_faulted: bool,
+    second_faulted: bool,
+    output_faulted: bool,
     writer: FaultyWriter,
 }
 
@@ -163,7 +177,9 @@ fn run_with<R: Threads + Wait + Sync>(
     let output_faulted = out.faulted();
     Ran {
         fault,
-        faulted: [files[0].faulted(), files[1].faulted(), output_faulted],
+        first_faulted: files[0].faulted(),
+        second_faulted: files[1].faulted(),
+        output_faulted,
         writer,
     }
 }
@@ -191,17 +207,17 @@ fn is_device(fault: &Option<TextFault>, file: usize) -> bool {
     matches!(fault, Some(TextFault::Device { file: at }) if *at == file)
 }
 
-/// The run fails by the reader of this file, or not at all.
-fn check_read(rt: &impl Abort, done: &Ran, file: usize, fails: bool) {
-    let (faulted, right) = if file == 0 {
-        ([fails, false, false], FIRST_TEXT)
-    } else {
-        ([false, fails, false], SECOND_TEXT)
-    };
-    assert!(rt; done.faulted == faulted);
-    assert!(rt; done.fault.is_some() == fails && is_device(&done.fault, file) == fails);
+/// Whether the run failed by the reader of this file, or not at all.
+fn is_run_read(done: &Ran, file: usize, fails: bool) -> bool {
+    let is_first = file == 0;
+    let right = if is_first { FIRST_TEXT } else { SECOND_TEXT };
     let want = if fails { b"".as_slice() } else { right };
-    assert!(rt; done.writer.taken.as_slice() == want);
+    done.first_faulted == (fails && is_first)
+        && done.second_faulted == (fails && !is_first)
+        && !done.output_faulted
+        && done.fault.is_some() == fails
+        && is_device(&done.fault, file) == fails
+        && done.writer.taken.as_slice() == want
 }
 
 /// Runs of two files, of which this one is read in so many reads.
@@ -215,17 +231,19 @@ fn run_reads<R: Threads + Wait + Abort + Sync>(
     for number in 0..count_of_faults(reads) {
         let fault = fault(number);
         let done = run_over(rt, alloc, file, most, fault);
-        check_read(rt, &done, file, fault.at < reads);
+        assert!(rt; is_run_read(&done, file, fault.at < reads));
     }
 }
 
-/// The run fails by its writer, or not at all.
-fn check_written(rt: &impl Abort, done: &Ran, most: usize, writes: usize, at: usize) {
-    let fails = at < writes;
-    assert!(rt; done.faulted == [false, false, fails]);
-    assert!(rt; done.fault.is_some() == fails);
-    assert!(rt; matches!(&done.fault, Some(TextFault::Write)) == fails);
-    assert!(rt; done.writer.taken.as_slice() == front(FIRST_TEXT, at, most));
+/// Whether the run failed by its writer, or not at all.
+fn is_run_written(done: &Ran, fails: bool, want: &[u8]) -> bool {
+    let is_write = matches!(&done.fault, Some(TextFault::Write));
+    done.output_faulted == fails
+        && done.fault.is_some() == fails
+        && !done.first_faulted
+        && !done.second_faulted
+        && is_write == fails
+        && done.writer.taken.as_slice() == want
 }
 
 /// Runs of two files that write at most so many bytes at once, and make so many writes.
@@ -235,7 +253,8 @@ fn run_writes<R: Threads + Wait + Abort + Sync>(rt: &R, alloc: Global, most: usi
         let first = reader(FILE, 1, NEVER);
         let second = reader(b"", 1, NEVER);
         let done = run_with(rt, alloc, first, second, writer(alloc, most, fault));
-        check_written(rt, &done, most, writes, fault.at);
+        let want = front(FIRST_TEXT, fault.at, most);
+        assert!(rt; is_run_written(&done, fault.at < writes, want));
     }
 }
 

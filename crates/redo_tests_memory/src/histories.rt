@@ -35,7 +35,7 @@ fn read(alloc: Global, text: &str) -> Result<Result<History, HistoryFault>, Allo
 }
 
 /// The verdict is written so.
-fn check_text(
+fn check_verdict(
     rt: &impl Abort,
     alloc: Global,
     verdict: &Verdict,
@@ -57,7 +57,7 @@ fn check_said(
     want: &str,
 ) -> Result<(), AllocError> {
     let verdict = again!(rt, alloc, AllocError, replay(alloc, history));
-    check_text(rt, alloc, &verdict, history.names(), want)
+    check_verdict(rt, alloc, &verdict, history.names(), want)
 }
 
 /// The history is written as it was read.
@@ -88,16 +88,33 @@ fn check_history(
     check_told(rt, alloc, history, text)
 }
 
-/// The verdict on the text is written so, and the text as it was read.
-pub(crate) fn check_verdict(
+/// The text is read as a history with this verdict, or has this fault.
+fn check_answer(
+    rt: &impl Abort,
+    alloc: Global,
+    answer: &Result<History, HistoryFault>,
+    text: &str,
+    want: Result<&str, HistoryFault>,
+) -> Result<(), AllocError> {
+    match (answer, want) {
+        (Ok(history), Ok(verdict)) => check_history(rt, alloc, history, text, verdict),
+        (Err(fault), Err(wanted)) => {
+            assert!(rt; *fault == wanted);
+            Ok(())
+        }
+        _ => panic!(rt; "another answer"),
+    }
+}
+
+/// The verdict on the text is written so, and the text as it was read; or the text has this fault.
+pub(crate) fn check_text(
     rt: &impl Abort,
     alloc: Global,
     text: &str,
-    want: &str,
-) -> Result<(), Fail> {
-    let input = text.as_bytes();
-    let history = again!(rt, alloc, HistoryFault::Memory, read_history(alloc, input));
-    Ok(check_history(rt, alloc, &history, text, want)?)
+    want: Result<&str, HistoryFault>,
+) -> Result<(), AllocError> {
+    let answer = again!(rt, alloc, AllocError, read(alloc, text));
+    check_answer(rt, alloc, &answer, text, want)
 }
 
 /// The verdict of the replay is written so. The writer has room.
@@ -141,21 +158,9 @@ fn histories(rt: HostRuntime) -> Result<(), Fail> {
         (WRONG_REPLY, "differs 2 granted 1\n"),
         (WRONG_LIST, "differs 3 targets\n"),
     ] {
-        check_verdict(&rt, rt.alloc(), text, want)?;
+        check_text(&rt, rt.alloc(), text, Ok(want))?;
         check_replay(&rt, rt.alloc(), text, want)?;
     }
-    Ok(())
-}
-
-/// The text is refused for this fault.
-fn check_fault(
-    rt: &impl Abort,
-    alloc: Global,
-    text: &str,
-    want: HistoryFault,
-) -> Result<(), AllocError> {
-    let answer = again!(rt, alloc, AllocError, read(alloc, text));
-    assert!(rt; matches!(&answer, Err(fault) if *fault == want));
     Ok(())
 }
 
@@ -174,7 +179,7 @@ fn faults(rt: HostRuntime) -> Result<(), AllocError> {
             HistoryFault::BadLine(1, LineFault::WrongWords),
         ),
     ] {
-        check_fault(&rt, rt.alloc(), text, want)?;
+        check_text(&rt, rt.alloc(), text, Err(want))?;
     }
     Ok(())
 }

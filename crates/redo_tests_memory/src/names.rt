@@ -3,7 +3,6 @@ use crate::told::again;
 use redo_names::{Names, NamesFault, is_name};
 use std::alloc::Global;
 use std::process::Abort;
-use std::test::Fail;
 
 /// So many names of three bytes.
 const COUNT: u8 = 100;
@@ -40,23 +39,25 @@ fn check_added(
 }
 
 /// Each name has its number later.
-fn check_numbers(rt: &impl Abort, names: &Names) {
+fn are_numbered(names: &Names) -> bool {
     for number in 0..COUNT {
-        assert!(rt; names.number_of(&text_of(number)) == Some(u32::from(number)));
+        if names.number_of(&text_of(number)) != Some(u32::from(number)) {
+            return false;
+        }
     }
+    true
 }
 
-fn check_all_added(rt: &impl Abort, alloc: Global, names: &mut Names) -> Result<(), NamesFault> {
+fn check_all(rt: &impl Abort, alloc: Global, names: &mut Names) -> Result<(), NamesFault> {
     for number in 0..COUNT {
         check_added(rt, alloc, names, number)?;
     }
+    assert!(rt; are_numbered(names));
     Ok(())
 }
 
 #[test]
-fn names(rt: HostRuntime) -> Result<(), Fail> {
+fn names(rt: HostRuntime) -> Result<(), NamesFault> {
     let mut names = Names::new(rt.alloc());
-    check_all_added(&rt, rt.alloc(), &mut names)?;
-    check_numbers(&rt, &names);
-    Ok(())
+    check_all(&rt, rt.alloc(), &mut names)
 }

@@ -5,7 +5,7 @@ ghost use Rattle.redo_session.specs.Inside.Files.{AreScriptsBelow};
 
 use crate::devices::FaultyWriter;
 use crate::failing::{ALL, NEVER, writer};
-use crate::histories::{HISTORY, check_verdict};
+use crate::histories::{HISTORY, check_text};
 use crate::told::again;
 use redo_board::Open;
 use redo_command::{Script, Watched};
@@ -116,23 +116,41 @@ fn write_run<R: Threads + Wait + Abort + Sync>(
     Ok(())
 }
 
-/// The run text of these files.
-fn run_of<R: Threads + Wait + Abort + Sync>(
+/// What a run text is to be.
+#[derive(Clone, Copy)]
+enum Want {
+    /// That of the one file.
+    Right,
+    This(&'static str),
+    /// One whose history has this verdict.
+    Verdict(&'static str),
+}
+
+fn check_text_of_run(rt: &impl Abort, alloc: Global, text: &[u8], want: Want) -> Result<(), Fail> {
+    match want {
+        Want::Right => assert!(rt; is_right(text)),
+        Want::This(wanted) => assert!(rt; text == wanted.as_bytes()),
+        Want::Verdict(verdict) => check_text(rt, alloc, str::from_utf8(text)?, Ok(verdict))?,
+    }
+    Ok(())
+}
+
+/// A run of these files has such a text.
+fn check_files<R: Threads + Wait + Abort + Sync>(
     rt: &R,
     alloc: Global,
     files: &[&str],
-) -> Result<FaultyWriter, Fail> {
+    want: Want,
+) -> Result<(), Fail> {
     let mut writer = writer(alloc, ALL, NEVER);
     again!(rt, alloc, AllocError, writer.taken.reserve(9_999));
     write_run(rt, alloc, files, &mut writer)?;
-    Ok(writer)
+    check_text_of_run(rt, alloc, &writer.taken, want)
 }
 
 #[test]
 fn run_of_one(rt: HostRuntime) -> Result<(), Fail> {
-    let writer = run_of(&rt, rt.alloc(), &[FILE])?;
-    assert!(&rt; is_right(&writer.taken));
-    Ok(())
+    check_files(&rt, rt.alloc(), &[FILE], Want::Right)
 }
 
 /// A session that breaks off in a build, and its run text.
@@ -144,19 +162,15 @@ const BROKEN_OFF_TEXT: &str = "history 5\n1 lock T => granted 1\n1 start T => ok
 
 #[test]
 fn run_that_breaks_off(rt: HostRuntime) -> Result<(), Fail> {
-    let writer = run_of(&rt, rt.alloc(), &[BROKEN_OFF])?;
-    assert!(&rt; writer.taken.as_slice() == BROKEN_OFF_TEXT.as_bytes());
-    Ok(())
+    check_files(&rt, rt.alloc(), &[BROKEN_OFF], Want::This(BROKEN_OFF_TEXT))
 }
 
 #[test]
 fn run_of_two(rt: HostRuntime) -> Result<(), Fail> {
-    let writer = run_of(&rt, rt.alloc(), &[FILE; 2])?;
-    check_verdict(&rt, rt.alloc(), str::from_utf8(&writer.taken)?, "same 18\n")
+    check_files(&rt, rt.alloc(), &[FILE; 2], Want::Verdict("same 18\n"))
 }
 
 #[test]
 fn run_of_eight(rt: HostRuntime) -> Result<(), Fail> {
-    let writer = run_of(&rt, rt.alloc(), &[FILE; 8])?;
-    check_verdict(&rt, rt.alloc(), str::from_utf8(&writer.taken)?, "same 72\n")
+    check_files(&rt, rt.alloc(), &[FILE; 8], Want::Verdict("same 72\n"))
 }

@@ -5,10 +5,10 @@ use std::process::Abort;
 /// How many bytes are asked for where it is said that a call was told of a refusal.
 const MARK: usize = 54_321;
 
-/// Says that a call was told of a refusal.
-pub(crate) fn tell(rt: &impl Abort, alloc: Global) {
+/// Says that a call was told of a refusal, and demands what has to hold then.
+pub(crate) fn tell(rt: &impl Abort, alloc: Global, stands: bool) {
     let mark: Result<Vec<u8>, _> = Vec::with_capacity(alloc, MARK);
-    assert!(rt; mark.is_ok());
+    assert!(rt; stands && mark.is_ok());
 }
 
 /// The value of a call. Where it is told of a refusal, these conditions hold, and the next try gives the value.
@@ -17,7 +17,7 @@ macro_rules! again {
         match $call {
             Ok(value) => value,
             Err(_) => {
-                $crate::told::tell($rt, $alloc);
+                $crate::told::tell($rt, $alloc, true);
                 $call?
             }
         }
@@ -26,8 +26,7 @@ macro_rules! again {
         match $call {
             Ok(value) => value,
             Err(_) => {
-                assert!($rt; $stands);
-                $crate::told::tell($rt, $alloc);
+                $crate::told::tell($rt, $alloc, $stands);
                 $call?
             }
         }
@@ -36,8 +35,8 @@ macro_rules! again {
         match $call {
             Ok(value) => value,
             Err(fault) => {
-                assert!($rt; matches!(fault, $memory) $(&& $stands)?);
-                $crate::told::tell($rt, $alloc);
+                let is_told = matches!(fault, $memory) $(&& $stands)?;
+                $crate::told::tell($rt, $alloc, is_told);
                 $call?
             }
         }
