@@ -1,11 +1,11 @@
 //! A case: what merge answers is what the search finds.
 use crate::orders::first_order;
-use crate::told::{Told, are_lines, journals_of};
+use crate::told::{Told, Wanted, are_lines, are_wanted, journals_of};
 use redo_command::Line;
-use redo_journal::{Plan, are_journals};
+use redo_journal::{Journal, Plan, are_journals};
 use redo_replay::merge;
+use std::alloc::{AllocError, Global};
 use std::process::Abort;
-use std::test::Fail;
 
 /// How many cases had an order, and how many had none.
 #[derive(Drop)]
@@ -28,8 +28,24 @@ impl Tally {
     }
 }
 
+/// The history that the journals are merged to, if there is one.
+fn merged(
+    rt: &impl Abort,
+    alloc: Global,
+    plan: &Plan,
+    journals: &[Journal],
+) -> Result<Option<Vec<Line>>, AllocError> {
+    assert!(rt; are_journals(alloc, plan, journals)?);
+    merge(alloc, plan, journals)
+}
+
 /// Whether the lines are in this order, or neither is there.
-fn agree(plan: &Plan, told: &[Vec<Told>], order: Option<&[u8]>, lines: Option<&[Line]>) -> bool {
+fn agree(
+    plan: &Plan,
+    told: &[Vec<Told>],
+    order: &Option<Vec<u8>>,
+    lines: &Option<Vec<Line>>,
+) -> bool {
     match (order, lines) {
         (Some(order), Some(lines)) => are_lines(plan, told, order, lines),
         (None, None) => true,
@@ -37,20 +53,62 @@ fn agree(plan: &Plan, told: &[Vec<Told>], order: Option<&[u8]>, lines: Option<&[
     }
 }
 
+/// Whether the journals of what was told are merged as it is in this order, if there is one.
+fn agrees(
+    rt: &impl Abort,
+    alloc: Global,
+    plan: &Plan,
+    told: &[Vec<Told>],
+    order: &Option<Vec<u8>>,
+) -> Result<bool, AllocError> {
+    let journals = journals_of(alloc, told)?;
+    let lines = merged(rt, alloc, plan, &journals)?;
+    Ok(agree(plan, told, order, &lines))
+}
+
 /// Merges the journals of what was told. Answers the first order, if there is one.
-pub(crate) fn check<R: Abort + AllocGlobal>(
-    rt: &R,
+pub(crate) fn check(
+    rt: &impl Abort,
+    alloc: Global,
     plan: &Plan,
     told: &[Vec<Told>],
     tally: &mut Tally,
-) -> Result<Option<Vec<u8>>, Fail> {
-    let alloc = rt.alloc();
-    let journals = journals_of(alloc, told)?;
-    assert!(rt; are_journals(alloc, plan, &journals)?);
-    let lines = merge(alloc, plan, &journals)?;
-    let order = first_order(alloc, plan, told)?;
-    let is_right = agree(plan, told, order.as_deref(), lines.as_deref());
-    assert!(rt; is_right);
+) -> Result<Option<Vec<u8>>, AllocError> {
+    let order = first_order(rt, alloc, plan, told)?;
+    assert!(rt; agrees(rt, alloc, plan, told, &order)?);
     tally.count(order.is_some());
     Ok(order)
+}
+
+/// Whether the lines are these, where there are any.
+fn are_these(lines: &Option<Vec<Line>>, want: &[Wanted]) -> bool {
+    match lines {
+        Some(lines) => are_wanted(lines, want),
+        None => false,
+    }
+}
+
+/// The journals are merged to these lines.
+pub(crate) fn check_merged(
+    rt: &impl Abort,
+    alloc: Global,
+    plan: &Plan,
+    journals: &[Journal],
+    want: &[Wanted],
+) -> Result<(), AllocError> {
+    let lines = merged(rt, alloc, plan, journals)?;
+    assert!(rt; are_these(&lines, want));
+    Ok(())
+}
+
+/// The journals have no joint order.
+pub(crate) fn check_unmerged(
+    rt: &impl Abort,
+    alloc: Global,
+    plan: &Plan,
+    journals: &[Journal],
+) -> Result<(), AllocError> {
+    let lines = merged(rt, alloc, plan, journals)?;
+    assert!(rt; lines.is_none());
+    Ok(())
 }

@@ -1,11 +1,11 @@
 //! Journals of sessions that let go at their end.
+use crate::cases::{check_merged, check_unmerged};
 use crate::plans::plan_of;
-use crate::told::{Answer, reply_of};
-use redo_command::{Command, Kind, Line, Reply};
-use redo_journal::{Entry, Journal, Place, are_journals};
-use redo_replay::merge;
+use crate::told::{Answer, Wanted, reply_of};
+use redo_command::{Command, Kind};
+use redo_journal::{Entry, Journal, Place, Plan, are_journals};
 use std::alloc::{AllocError, Global};
-use std::test::Fail;
+use std::process::Abort;
 
 /// A closing command, of the name with this number.
 #[derive(Clone, Copy)]
@@ -189,9 +189,13 @@ type Made = (u32, Option<Closing>, Answer, Place);
 
 fn entry_of(made: Made) -> Entry {
     let (line, closing, answer, place) = made;
+    let closing = match closing {
+        Some(closing) => Some(command_of(closing)),
+        None => None,
+    };
     Entry {
         line,
-        closing: closing.map(command_of),
+        closing,
         reply: reply_of(answer),
         place,
     }
@@ -210,62 +214,128 @@ fn journal_of(alloc: Global, session: u8, made: &[Made]) -> Result<Journal, Allo
     })
 }
 
-/// The one journal that tells this. Places are not looked at.
+/// What is done by lines that were answered so. Places are not looked at.
+fn made_of(alloc: Global, told: &[(u32, Answer)]) -> Result<Vec<Made>, AllocError> {
+    let mut made = Vec::new(alloc);
+    for (line, answer) in told {
+        made.push((*line, None, *answer, Place::Row(0)))?;
+    }
+    Ok(made)
+}
+
+/// The one journal that tells this.
 fn journals_of(
     alloc: Global,
     told: &[(u32, Answer)],
     closings: &[(u32, Closing)],
 ) -> Result<Vec<Journal>, AllocError> {
-    let mut made = Vec::new(alloc);
-    for (line, answer) in told {
-        made.push((*line, None, *answer, Place::Row(0)))?;
-    }
+    let mut made = made_of(alloc, told)?;
     for (line, closing) in closings {
         made.push((*line, Some(*closing), Answer::Okay, Place::Row(0)))?;
     }
-    Ok(vec![in alloc; journal_of(alloc, 0, &made)?]?)
+    let journal = journal_of(alloc, 0, &made)?;
+    Ok(vec![in alloc; journal]?)
+}
+
+/// Whether the session may close so.
+fn may_close(
+    alloc: Global,
+    plan: &Plan,
+    told: &[(u32, Answer)],
+    closings: &[(u32, Closing)],
+) -> Result<bool, AllocError> {
+    let journals = journals_of(alloc, told, closings)?;
+    are_journals(alloc, plan, &journals)
+}
+
+/// The session may close in each of these ways, or in none, as it is wanted.
+fn check_closings(
+    rt: &impl Abort,
+    alloc: Global,
+    plan: &Plan,
+    case: &Case,
+    closings: &[Closings],
+    want: bool,
+) -> Result<(), AllocError> {
+    for one in closings {
+        assert!(rt;
+            may_close(alloc, plan, case.told, one)? == want,
+            "{}",
+            case.text
+        );
+    }
+    Ok(())
+}
+
+/// The plan's session may close as the case says.
+fn check_planned(
+    rt: &impl Abort,
+    alloc: Global,
+    plan: &Plan,
+    case: &Case,
+) -> Result<(), AllocError> {
+    check_closings(rt, alloc, plan, case, case.may, true)?;
+    check_closings(rt, alloc, plan, case, case.may_not, false)
+}
+
+fn check_case(rt: &impl Abort, alloc: Global, case: &Case) -> Result<(), AllocError> {
+    let plan = plan_of(rt, alloc, &[case.text])?;
+    check_planned(rt, alloc, &plan, case)
 }
 
 /// After the lines comes what lets go of the least target that is held, and nothing else.
 #[test]
-fn journals_with_closing_commands(rt: HostRuntime) -> Result<(), Fail> {
-    let alloc = rt.alloc();
+fn journals_with_closing_commands(rt: HostRuntime) -> Result<(), AllocError> {
     for case in &CASES {
-        let plan = plan_of(alloc, &[case.text])?;
-        for closings in case.may {
-            let journals = journals_of(alloc, case.told, closings)?;
-            assert!(rt; are_journals(alloc, &plan, &journals)?, "{}", case.text);
+        check_case(&rt, rt.alloc(), case)?;
+    }
+    Ok(())
+}
+
+/// The entry at this place says that its command is this closing one, or none.
+fn mark(journals: &mut [Journal], at: usize, closing: Option<Command>) {
+    if let Some(journal) = journals.get_mut(0) {
+        if let Some(entry) = journal.entries.get_mut(at) {
+            entry.closing = closing;
         }
-        for closings in case.may_not {
-            let journals = journals_of(alloc, case.told, closings)?;
-            assert!(rt; !are_journals(alloc, &plan, &journals)?, "{}", case.text);
-        }
+    }
+}
+
+/// What a session closes by that has locked again.
+const UNLOCKS: Closings = &[(3, Closing::Unlock(0))];
+
+/// The journals of that session, but for the mark of the entry at this place.
+fn marked(alloc: Global, at: usize) -> Result<Vec<Journal>, AllocError> {
+    let mut journals = journals_of(alloc, HAS_LOCKED_AGAIN.told, UNLOCKS)?;
+    if at < 3 {
+        mark(&mut journals, at, Some(Command::Unlock(0)));
+    } else {
+        mark(&mut journals, at, None);
+    }
+    Ok(journals)
+}
+
+/// Without the mark they aren't journals.
+fn check_mark(rt: &impl Abort, alloc: Global, plan: &Plan, at: usize) -> Result<(), AllocError> {
+    assert!(rt; may_close(alloc, plan, HAS_LOCKED_AGAIN.told, UNLOCKS)?);
+    let journals = marked(alloc, at)?;
+    assert!(rt; !are_journals(alloc, plan, &journals)?, "{at}");
+    Ok(())
+}
+
+/// Without any of the marks.
+fn check_marks(rt: &impl Abort, alloc: Global, plan: &Plan) -> Result<(), AllocError> {
+    for at in 0..4 {
+        check_mark(rt, alloc, plan, at)?;
     }
     Ok(())
 }
 
 /// An entry says that its command is a closing one exactly where no line has its number.
 #[test]
-fn marks_of_closing_commands(rt: HostRuntime) -> Result<(), Fail> {
-    let alloc = rt.alloc();
-    let plan = plan_of(alloc, &[HAS_LOCKED_AGAIN.text])?;
-    let closings = [(3, Closing::Unlock(0))];
-    for at in 0..4 {
-        let mut journals = journals_of(alloc, HAS_LOCKED_AGAIN.told, &closings)?;
-        assert!(rt; are_journals(alloc, &plan, &journals)?);
-        let entry = journals
-            .get_mut(0)
-            .and_then(|journal| journal.entries.get_mut(at));
-        if let Some(entry) = entry {
-            entry.closing = if at < 3 {
-                Some(Command::Unlock(0))
-            } else {
-                None
-            };
-        }
-        assert!(rt; !are_journals(alloc, &plan, &journals)?, "{at}");
-    }
-    Ok(())
+fn marks_of_closing_commands(rt: HostRuntime) -> Result<(), AllocError> {
+    let plan = plan_of(&rt, rt.alloc(), &[HAS_LOCKED_AGAIN.text])?;
+    check_marks(&rt, rt.alloc(), &plan)
 }
 
 /// The first session breaks off in a build, and the second has the target after it.
@@ -303,44 +373,40 @@ const SECOND: [Made; 2] = [
     ),
 ];
 
-/// Whether the line is of this session and kind, about this target, and has this reply.
-fn is(line: &Line, session: u8, kind: Kind, target: u32, reply: Reply) -> bool {
-    line.session == session
-        && line.command.kind() == kind
-        && line.command.target() == Some(target)
-        && line.reply.is_same(&reply)
+/// The lines of their history.
+const MERGED: [Wanted; 8] = [
+    (0, Kind::Lock, 0, Answer::Granted(1)),
+    (0, Kind::Lock, 1, Answer::Granted(1)),
+    (0, Kind::Start, 0, Answer::Okay),
+    (0, Kind::Failed, 0, Answer::Okay),
+    (0, Kind::Unlock, 0, Answer::Okay),
+    (0, Kind::Unlock, 1, Answer::Okay),
+    (1, Kind::Lock, 0, Answer::Granted(2)),
+    (1, Kind::Unlock, 0, Answer::Okay),
+];
+
+/// The journals of both, where the first does so much.
+fn two_sessions(alloc: Global, first: &[Made]) -> Result<Vec<Journal>, AllocError> {
+    let first = journal_of(alloc, 0, first)?;
+    let second = journal_of(alloc, 1, &SECOND)?;
+    Ok(vec![in alloc; first, second]?)
 }
 
-/// Whether the lines are `1 lock T => granted 1`, `1 lock a => granted 1`, `1 start T => ok`,
-/// `1 failed T => ok`, `1 unlock T => ok`, `1 unlock a => ok`, `2 lock T => granted 2` and
-/// `2 unlock T => ok`; sessions are counted from 0 in values.
-fn are_the_eight(lines: &[Line]) -> bool {
-    let [first, second, third, fourth, fifth, sixth, seventh, eighth] = lines else {
-        return false;
-    };
-    is(first, 0, Kind::Lock, 0, Reply::Granted(1))
-        && is(second, 0, Kind::Lock, 1, Reply::Granted(1))
-        && is(third, 0, Kind::Start, 0, Reply::Okay)
-        && is(fourth, 0, Kind::Failed, 0, Reply::Okay)
-        && is(fifth, 0, Kind::Unlock, 0, Reply::Okay)
-        && is(sixth, 0, Kind::Unlock, 1, Reply::Okay)
-        && is(seventh, 1, Kind::Lock, 0, Reply::Granted(2))
-        && is(eighth, 1, Kind::Unlock, 0, Reply::Okay)
+/// Closing commands are merged as others are.
+fn check_whole(rt: &impl Abort, alloc: Global, plan: &Plan) -> Result<(), AllocError> {
+    let journals = two_sessions(alloc, &FIRST)?;
+    check_merged(rt, alloc, plan, &journals, &MERGED)
 }
 
-/// Closing commands are merged as others are. Where the first session was left before it let go of
-/// `T`, the second can't have it.
+/// Where the first session was left before it let go of `T`, the second can't have it.
+fn check_left(rt: &impl Abort, alloc: Global, plan: &Plan) -> Result<(), AllocError> {
+    let journals = two_sessions(alloc, &FIRST[..4])?;
+    check_unmerged(rt, alloc, plan, &journals)
+}
+
 #[test]
-fn merging_with_closing_commands(rt: HostRuntime) -> Result<(), Fail> {
-    let alloc = rt.alloc();
-    let plan = plan_of(alloc, &TEXTS)?;
-    let other = journal_of(alloc, 1, &SECOND)?;
-    let mut journals = [journal_of(alloc, 0, &FIRST)?, other];
-    assert!(rt; are_journals(alloc, &plan, &journals)?);
-    let lines = merge(alloc, &plan, &journals)?.ok_or("an order")?;
-    assert!(rt; are_the_eight(&lines));
-    journals[0].entries.truncate(4);
-    assert!(rt; are_journals(alloc, &plan, &journals)?);
-    assert!(rt; merge(alloc, &plan, &journals)?.is_none());
-    Ok(())
+fn merging_with_closing_commands(rt: HostRuntime) -> Result<(), AllocError> {
+    let plan = plan_of(&rt, rt.alloc(), &TEXTS)?;
+    check_whole(&rt, rt.alloc(), &plan)?;
+    check_left(&rt, rt.alloc(), &plan)
 }

@@ -7,7 +7,7 @@ use crate::told::{Answer, Told};
 use redo_command::Command;
 use redo_journal::{Place, Plan};
 use std::alloc::{AllocError, Global};
-use std::test::Fail;
+use std::process::Abort;
 
 /// A plan, an order of its sessions' lines, and what each session was told.
 #[derive(Drop)]
@@ -25,33 +25,39 @@ fn most_lines(sessions: usize, session: usize) -> usize
 }
 
 /// A session file of so many lines.
-fn text_of(alloc: Global, random: &mut Random, lines: usize) -> Result<String, Fail> {
+fn text_of(alloc: Global, random: &mut Random, lines: usize) -> Result<String, AllocError> {
     let mut text = String::new(alloc);
     for _ in 0..lines {
         let word = match random.below(8) {
-            0..=2 => "lock",
-            3..=5 => "unlock",
-            _ => "start",
+            0..=2 => "lock ",
+            3..=5 => "unlock ",
+            _ => "start ",
         };
-        let name = if random.below(4) == 0 { "b" } else { "a" };
-        writeln!(text, "{word} {name}")?;
+        text.push_str(word)?;
+        text.push_str(if random.below(4) == 0 { "b\n" } else { "a\n" })?;
     }
     Ok(text)
 }
 
-/// A plan of one to four sessions.
-fn drawn_plan(alloc: Global, random: &mut Random) -> Result<Plan, Fail> {
+/// The files of one to four sessions.
+fn texts_of(alloc: Global, random: &mut Random) -> Result<Vec<String>, AllocError> {
     let sessions = random.below(4) + 1;
     let mut texts = Vec::new(alloc);
     for session in 0..sessions {
         let lines = random.below(most_lines(sessions, session)) + 1;
         texts.push(text_of(alloc, random, lines)?)?;
     }
+    Ok(texts)
+}
+
+/// A plan of one to four sessions.
+fn drawn_plan(rt: &impl Abort, alloc: Global, random: &mut Random) -> Result<Plan, AllocError> {
+    let texts = texts_of(alloc, random)?;
     let mut files: Vec<&str> = Vec::new(alloc);
     for text in &texts {
         files.push(text.as_str())?;
     }
-    plan_of(alloc, &files)
+    plan_of(rt, alloc, &files)
 }
 
 /// The claims on a target: how often it was granted, and who holds it.
@@ -104,7 +110,7 @@ impl Simple {
 
     fn unlocked(&mut self, session: u8, target: u32) -> Option<Told> {
         let held = self.held.get_mut(target as usize)?;
-        if held.holder != Some(session) {
+        if !matches!(held.holder, Some(holder) if holder == session) {
             return Some(self.row(Answer::NotLocked));
         }
         held.holder = None;
@@ -124,22 +130,39 @@ impl Simple {
 }
 
 /// What a session is told next, which it is told.
-fn tell(plan: &Plan, simple: &mut Simple, told: &mut [Vec<Told>], session: u8) -> Result<(), Fail> {
-    let own = told.get_mut(session as usize).ok_or("a session")?;
-    let command = command_at(plan, session as usize, own.len()).ok_or("a command")?;
-    own.push(simple.told(session, command).ok_or("a target")?)?;
+fn tell(
+    rt: &impl Abort,
+    plan: &Plan,
+    simple: &mut Simple,
+    told: &mut [Vec<Told>],
+    session: u8,
+) -> Result<(), AllocError> {
+    let own = told.get_mut(session as usize).expect(rt, "a session");
+    let command = command_at(plan, session as usize, own.len()).expect(rt, "a command");
+    own.push(simple.told(session, command).expect(rt, "a target"))?;
     Ok(())
 }
 
-/// What the sessions are told in this order.
-fn told_in(alloc: Global, plan: &Plan, order: &[u8]) -> Result<Vec<Vec<Told>>, Fail> {
+/// So many sessions that were told nothing.
+fn untold(alloc: Global, sessions: usize) -> Result<Vec<Vec<Told>>, AllocError> {
     let mut told = Vec::new(alloc);
-    for _ in plan.scripts() {
+    for _ in 0..sessions {
         told.push(Vec::new(alloc))?;
     }
+    Ok(told)
+}
+
+/// What the sessions are told in this order.
+fn told_in(
+    rt: &impl Abort,
+    alloc: Global,
+    plan: &Plan,
+    order: &[u8],
+) -> Result<Vec<Vec<Told>>, AllocError> {
+    let mut told = untold(alloc, plan.scripts().len())?;
     let mut simple = Simple::new(alloc, plan.names().len() as usize)?;
     for session in order {
-        tell(plan, &mut simple, &mut told, *session)?;
+        tell(rt, plan, &mut simple, &mut told, *session)?;
     }
     Ok(told)
 }
@@ -163,10 +186,14 @@ fn shuffle(random: &mut Random, order: &mut [u8]) {
 }
 
 /// A plan, and what its sessions were told.
-pub(crate) fn draw(alloc: Global, random: &mut Random) -> Result<Drawn, Fail> {
-    let plan = drawn_plan(alloc, random)?;
+pub(crate) fn draw(
+    rt: &impl Abort,
+    alloc: Global,
+    random: &mut Random,
+) -> Result<Drawn, AllocError> {
+    let plan = drawn_plan(rt, alloc, random)?;
     let mut order = turns_of(alloc, &plan)?;
     shuffle(random, &mut order);
-    let told = told_in(alloc, &plan, &order)?;
+    let told = told_in(rt, alloc, &plan, &order)?;
     Ok(Drawn { plan, order, told })
 }

@@ -1,12 +1,14 @@
 //! Cases that are drawn, against the search over all orders.
+ghost use Rattle.std.specs.Prelude.{◌<◌, length};
+
 use crate::cases::{Tally, check};
 use crate::changed::{exchange, with_change, with_fronts};
 use crate::drawn::{Drawn, draw};
 use crate::random::Random;
 use crate::rules::{Standing, is_placed};
 use crate::told::{copied, count_of};
+use std::alloc::{AllocError, Global};
 use std::process::Abort;
-use std::test::Fail;
 
 /// How many histories are drawn.
 const HISTORIES: u32 = 2000;
@@ -14,78 +16,177 @@ const HISTORIES: u32 = 2000;
 /// How many changes of each history's journals are drawn.
 const CHANGES: u32 = 12;
 
+/// The line at this place and the one before it, which are of one session, exchange what was told.
+fn check_exchanged(
+    rt: &impl Abort,
+    alloc: Global,
+    drawn: &Drawn,
+    at: usize,
+    tally: &mut Tally,
+) -> Result<(), AllocError>
+    requires { at < length drawn.now.order.items }
+{
+    let session = drawn.order[at];
+    let number = count_of(&drawn.order[..at], session);
+    let own = session as usize;
+    let mut told = copied(alloc, &drawn.told)?;
+    exchange(&mut told, (own, number.wrapping_sub(1)), (own, number));
+    check(rt, alloc, &drawn.plan, &told, tally)?;
+    Ok(())
+}
+
+/// Whether the lines in this order are a placed history.
+fn is_order(alloc: Global, drawn: &Drawn, order: &[u8]) -> Result<bool, AllocError> {
+    let names = drawn.plan.names().len() as usize;
+    let mut standing = Standing::new(alloc, drawn.told.len(), names)?;
+    Ok(is_placed(&drawn.told, order, &mut standing))
+}
+
+/// The order with the line at this place moved one place forward is one more order of the same
+/// lines, if it is one: it doesn't come before the first.
+fn check_swapped(
+    rt: &impl Abort,
+    alloc: Global,
+    drawn: &Drawn,
+    first: &[u8],
+    at: usize,
+) -> Result<(), AllocError>
+    requires { at < length drawn.now.order.items }
+{
+    let mut order = Vec::from_slice(alloc, &drawn.order)?;
+    order.swap(at.saturating_sub(1), at);
+    assert!(rt; !is_order(alloc, drawn, &order)? || first <= order.as_slice());
+    Ok(())
+}
+
 /// The history with the line at this place moved one place forward: of another session it is one
 /// more order of the same lines, and else what was told changes.
-fn check_moved<R: Abort + AllocGlobal>(
-    rt: &R,
+fn check_moved(
+    rt: &impl Abort,
+    alloc: Global,
     drawn: &Drawn,
     first: &[u8],
     at: usize,
     tally: &mut Tally,
-) -> Result<(), Fail> {
-    let alloc = rt.alloc();
-    let mut order = Vec::from_slice(alloc, &drawn.order)?;
-    let before = at.saturating_sub(1);
-    let (Some(one), Some(two)) = (order.get(before).copied(), order.get(at).copied()) else {
-        return Ok(());
-    };
-    if one == two {
-        let mut told = copied(alloc, &drawn.told)?;
-        let first = (one as usize, count_of(&order[..before], one));
-        let second = (one as usize, count_of(&order[..at], one));
-        exchange(&mut told, first, second);
-        check(rt, &drawn.plan, &told, tally)?;
+) -> Result<(), AllocError>
+    requires { at < length drawn.now.order.items }
+{
+    if drawn.order[at.saturating_sub(1)] == drawn.order[at] {
+        check_exchanged(rt, alloc, drawn, at, tally)
     } else {
-        order.swap(before, at);
-        let names = drawn.plan.names().len() as usize;
-        let mut standing = Standing::new(alloc, drawn.told.len(), names)?;
-        let is_order = is_placed(&drawn.told, &order, &mut standing);
-        assert!(rt; !is_order || first <= order.as_slice());
+        check_swapped(rt, alloc, drawn, first, at)
+    }
+}
+
+/// The history with each line moved one place forward.
+fn check_moves(
+    rt: &impl Abort,
+    alloc: Global,
+    drawn: &Drawn,
+    first: &[u8],
+    tally: &mut Tally,
+) -> Result<(), AllocError> {
+    assert!(rt; first <= drawn.order.as_slice());
+    for at in 1..drawn.order.len() {
+        check_moved(rt, alloc, drawn, first, at, tally)?;
     }
     Ok(())
 }
 
-/// A history's journals, and what they become by changes.
-fn check_drawn<R: Abort + AllocGlobal>(
-    rt: &R,
+/// A history's journals with a change that is drawn.
+fn check_change(
+    rt: &impl Abort,
+    alloc: Global,
     random: &mut Random,
+    drawn: &Drawn,
     tally: &mut Tally,
-) -> Result<(), Fail> {
-    let drawn = draw(rt.alloc(), random)?;
-    let first = check(rt, &drawn.plan, &drawn.told, tally)?.ok_or("an order")?;
-    assert!(rt; first <= drawn.order);
-    for at in 1..drawn.order.len() {
-        check_moved(rt, &drawn, &first, at, tally)?;
-    }
+) -> Result<(), AllocError> {
+    let told = with_change(alloc, random, &drawn.told)?;
+    check(rt, alloc, &drawn.plan, &told, tally)?;
+    Ok(())
+}
+
+/// A history's journals with some changes, one at a time.
+fn check_changes(
+    rt: &impl Abort,
+    alloc: Global,
+    random: &mut Random,
+    drawn: &Drawn,
+    tally: &mut Tally,
+) -> Result<(), AllocError> {
     for _ in 0..CHANGES {
-        let told = with_change(rt.alloc(), random, &drawn.told)?;
-        check(rt, &drawn.plan, &told, tally)?;
+        check_change(rt, alloc, random, drawn, tally)?;
     }
     Ok(())
+}
+
+/// A history's journals, and what they become where a line is moved.
+fn check_history(
+    rt: &impl Abort,
+    alloc: Global,
+    drawn: &Drawn,
+    tally: &mut Tally,
+) -> Result<(), AllocError> {
+    let first = check(rt, alloc, &drawn.plan, &drawn.told, tally)?.expect(rt, "an order");
+    check_moves(rt, alloc, drawn, &first, tally)
+}
+
+/// A history that is drawn, moved and changed.
+fn check_drawn(
+    rt: &impl Abort,
+    alloc: Global,
+    random: &mut Random,
+    tally: &mut Tally,
+) -> Result<(), AllocError> {
+    let drawn = draw(rt, alloc, random)?;
+    check_history(rt, alloc, &drawn, tally)?;
+    check_changes(rt, alloc, random, &drawn, tally)
 }
 
 #[test]
-fn every_order(rt: HostRuntime) -> Result<(), Fail> {
+fn every_order(rt: HostRuntime) -> Result<(), AllocError> {
     let mut random = Random::new(12);
     let mut tally = Tally::new();
     for _ in 0..HISTORIES {
-        check_drawn(&rt, &mut random, &mut tally)?;
+        check_drawn(&rt, rt.alloc(), &mut random, &mut tally)?;
     }
     assert!(rt; tally.some >= 5000 && tally.none >= 5000);
     assert!(rt; tally.some.wrapping_add(tally.none) >= 20000);
     Ok(())
 }
 
+/// Whether the history's order is the first that its parts merge to.
+fn is_found(
+    rt: &impl Abort,
+    alloc: Global,
+    drawn: &Drawn,
+    tally: &mut Tally,
+) -> Result<bool, AllocError> {
+    match check(rt, alloc, &drawn.plan, &drawn.told, tally)? {
+        Some(first) => Ok(first.as_slice() == drawn.order.as_slice()),
+        None => Ok(false),
+    }
+}
+
+/// The same of a history that is drawn.
+fn is_first(
+    rt: &impl Abort,
+    alloc: Global,
+    random: &mut Random,
+    tally: &mut Tally,
+) -> Result<bool, AllocError> {
+    let drawn = draw(rt, alloc, random)?;
+    is_found(rt, alloc, &drawn, tally)
+}
+
 /// A history whose order is the first is what its parts merge to.
 #[test]
-fn first_order(rt: HostRuntime) -> Result<(), Fail> {
+fn first_order(rt: HostRuntime) -> Result<(), AllocError> {
     let mut random = Random::new(2026);
     let mut tally = Tally::new();
     let mut firsts: u32 = 0;
     for _ in 0..HISTORIES {
-        let drawn = draw(rt.alloc(), &mut random)?;
-        let first = check(&rt, &drawn.plan, &drawn.told, &mut tally)?;
-        if first.as_deref() == Some(drawn.order.as_slice()) {
+        if is_first(&rt, rt.alloc(), &mut random, &mut tally)? {
             firsts = firsts.wrapping_add(1);
         }
     }
@@ -93,18 +194,40 @@ fn first_order(rt: HostRuntime) -> Result<(), Fail> {
     Ok(())
 }
 
+/// A history's journals, cut short in a way that is drawn.
+fn check_front(
+    rt: &impl Abort,
+    alloc: Global,
+    random: &mut Random,
+    drawn: &Drawn,
+    tally: &mut Tally,
+) -> Result<(), AllocError> {
+    let told = with_fronts(alloc, random, &drawn.told)?;
+    check(rt, alloc, &drawn.plan, &told, tally)?;
+    Ok(())
+}
+
+/// The journals of a history that is drawn, cut short in three ways.
+fn check_fronts(
+    rt: &impl Abort,
+    alloc: Global,
+    random: &mut Random,
+    tally: &mut Tally,
+) -> Result<(), AllocError> {
+    let drawn = draw(rt, alloc, random)?;
+    for _ in 0..3 {
+        check_front(rt, alloc, random, &drawn, tally)?;
+    }
+    Ok(())
+}
+
 /// Journals that are cut short.
 #[test]
-fn whole_journals(rt: HostRuntime) -> Result<(), Fail> {
-    let alloc = rt.alloc();
+fn whole_journals(rt: HostRuntime) -> Result<(), AllocError> {
     let mut random = Random::new(42);
     let mut tally = Tally::new();
     for _ in 0..HISTORIES {
-        let drawn = draw(alloc, &mut random)?;
-        for _ in 0..3 {
-            let told = with_fronts(alloc, &mut random, &drawn.told)?;
-            check(&rt, &drawn.plan, &told, &mut tally)?;
-        }
+        check_fronts(&rt, rt.alloc(), &mut random, &mut tally)?;
     }
     assert!(rt; tally.some >= 500 && tally.none >= 500);
     Ok(())

@@ -1,11 +1,11 @@
 //! Journals of scripts with guarded lines.
+use crate::cases::check_merged;
 use crate::plans::plan_of;
-use crate::told::{Answer, Told, journals_of};
-use redo_command::{Kind, Line, Reply};
-use redo_journal::{Journal, Place, are_journals};
-use redo_replay::merge;
+use crate::told::{Answer, Told, Wanted, journal_of};
+use redo_command::Kind;
+use redo_journal::{Entry, Journal, Place, Plan, are_journals};
 use std::alloc::{AllocError, Global};
-use std::test::Fail;
+use std::process::Abort;
 
 /// The second session finds the target locked, and has it later.
 const TEXTS: [&str; 2] = [
@@ -41,19 +41,22 @@ const SECOND: [Told; 3] = [
     },
 ];
 
-/// The journals, where the second session's first entries, and no others, are of these lines.
-fn journals_at(alloc: Global, lines: &[u32]) -> Result<Vec<Journal>, AllocError> {
-    let mut told = Vec::new(alloc);
-    told.push(Vec::from_slice(alloc, &FIRST)?)?;
-    told.push(Vec::from_slice(alloc, &SECOND)?)?;
-    let mut journals = journals_of(alloc, &told)?;
-    if let Some(journal) = journals.get_mut(1) {
-        journal.entries.truncate(lines.len());
-        for (entry, line) in journal.entries.iter_mut().zip(lines) {
-            entry.line = *line;
+/// The first entries are of these lines.
+fn set_lines(entries: &mut [Entry], lines: &[u32]) {
+    for at in 0..lines.len() {
+        if let Some(entry) = entries.get_mut(at) {
+            entry.line = lines[at];
         }
     }
-    Ok(journals)
+}
+
+/// The journals, where the second session's first entries, and no others, are of these lines.
+fn journals_at(alloc: Global, lines: &[u32]) -> Result<Vec<Journal>, AllocError> {
+    let first = journal_of(alloc, 0, &FIRST)?;
+    let mut second = journal_of(alloc, 1, &SECOND)?;
+    second.entries.truncate(lines.len());
+    set_lines(&mut second.entries, lines);
+    Ok(vec![in alloc; first, second]?)
 }
 
 /// The lines that are journals of these scripts, as far as they go, and such as are none.
@@ -72,45 +75,44 @@ const LINES: [(&[u32], bool); 12] = [
     (&[0, 2, 4], false),
 ];
 
-/// An entry is of the first line after the one before it that is let through.
-#[test]
-fn journals_with_guards(rt: HostRuntime) -> Result<(), Fail> {
-    let alloc = rt.alloc();
-    let plan = plan_of(alloc, &TEXTS)?;
+/// Whether there are journals of these lines.
+fn are_at(alloc: Global, plan: &Plan, lines: &[u32]) -> Result<bool, AllocError> {
+    let journals = journals_at(alloc, lines)?;
+    are_journals(alloc, plan, &journals)
+}
+
+/// There are journals of such lines alone.
+fn check_lines(rt: &impl Abort, alloc: Global, plan: &Plan) -> Result<(), AllocError> {
     for (lines, want) in LINES {
-        assert!(rt;
-            are_journals(alloc, &plan, &journals_at(alloc, lines)?)? == want,
-            "{lines:?}"
-        );
+        assert!(rt; are_at(alloc, plan, lines)? == want, "{lines:?}");
     }
     Ok(())
 }
 
-/// Whether the line is a lock or an unlock of this session, and has this reply.
-fn is(line: &Line, session: u8, kind: Kind, reply: Reply) -> bool {
-    line.session == session && line.command.kind() == kind && line.reply.is_same(&reply)
+/// An entry is of the first line after the one before it that is let through.
+#[test]
+fn journals_with_guards(rt: HostRuntime) -> Result<(), AllocError> {
+    let plan = plan_of(&rt, rt.alloc(), &TEXTS)?;
+    check_lines(&rt, rt.alloc(), &plan)
 }
 
-/// Whether the lines are `1 lock t => granted 1`, `2 lock t => busy 1`, `1 unlock t => ok`,
-/// `2 lock t => granted 2` and `2 unlock t => ok`; sessions are counted from 0 in values.
-fn are_the_five(lines: &[Line]) -> bool {
-    let [first, second, third, fourth, fifth] = lines else {
-        return false;
-    };
-    is(first, 0, Kind::Lock, Reply::Granted(1))
-        && is(second, 1, Kind::Lock, Reply::Busy(1))
-        && is(third, 0, Kind::Unlock, Reply::Okay)
-        && is(fourth, 1, Kind::Lock, Reply::Granted(2))
-        && is(fifth, 1, Kind::Unlock, Reply::Okay)
+/// The lines of their history.
+const MERGED: [Wanted; 5] = [
+    (0, Kind::Lock, 0, Answer::Granted(1)),
+    (1, Kind::Lock, 0, Answer::Busy(1)),
+    (0, Kind::Unlock, 0, Answer::Okay),
+    (1, Kind::Lock, 0, Answer::Granted(2)),
+    (1, Kind::Unlock, 0, Answer::Okay),
+];
+
+/// The journals are merged to them.
+fn check_history(rt: &impl Abort, alloc: Global, plan: &Plan) -> Result<(), AllocError> {
+    let journals = journals_at(alloc, &[0, 2, 3])?;
+    check_merged(rt, alloc, plan, &journals, &MERGED)
 }
 
 #[test]
-fn merging_with_guards(rt: HostRuntime) -> Result<(), Fail> {
-    let alloc = rt.alloc();
-    let plan = plan_of(alloc, &TEXTS)?;
-    let journals = journals_at(alloc, &[0, 2, 3])?;
-    assert!(rt; are_journals(alloc, &plan, &journals)?);
-    let lines = merge(alloc, &plan, &journals)?.ok_or("an order")?;
-    assert!(rt; are_the_five(&lines));
-    Ok(())
+fn merging_with_guards(rt: HostRuntime) -> Result<(), AllocError> {
+    let plan = plan_of(&rt, rt.alloc(), &TEXTS)?;
+    check_history(&rt, rt.alloc(), &plan)
 }

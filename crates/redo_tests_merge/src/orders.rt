@@ -5,7 +5,7 @@ use crate::rules::{Standing, all_fit, is_placed};
 use crate::told::Told;
 use redo_journal::Plan;
 use std::alloc::{AllocError, Global};
-use std::test::Fail;
+use std::process::Abort;
 
 /// More orders than any case here has.
 const MOST_ORDERS: u32 = 1_000_000;
@@ -13,10 +13,12 @@ const MOST_ORDERS: u32 = 1_000_000;
 /// The first order: each session's lines after those of the sessions before it.
 pub(crate) fn sorted_order(alloc: Global, told: &[Vec<Told>]) -> Result<Vec<u8>, AllocError> {
     let mut order = Vec::new(alloc);
-    for (session, own) in (0..=u8::MAX).zip(told) {
-        for _ in own {
+    let mut session: u8 = 0;
+    for own in told {
+        for _ in 0..own.len() {
             order.push(session)?;
         }
+        session = session.wrapping_add(1);
     }
     Ok(order)
 }
@@ -59,22 +61,38 @@ pub(crate) fn advance(order: &mut [u8]) -> bool {
     true
 }
 
+/// Goes on to the first order in which the lines are a placed history, if there is one.
+fn finds(
+    rt: &impl Abort,
+    plan: &Plan,
+    told: &[Vec<Told>],
+    order: &mut [u8],
+    standing: &mut Standing,
+) -> bool {
+    let fit = all_fit(plan, told);
+    for _ in 0..MOST_ORDERS {
+        if is_placed(told, order, standing) && fit {
+            return true;
+        }
+        if !advance(order) {
+            return false;
+        }
+    }
+    panic!(rt; "too many orders")
+}
+
 /// Of all orders in which the lines are a placed history the first in dictionary order.
 pub(crate) fn first_order(
+    rt: &impl Abort,
     alloc: Global,
     plan: &Plan,
     told: &[Vec<Told>],
-) -> Result<Option<Vec<u8>>, Fail> {
+) -> Result<Option<Vec<u8>>, AllocError> {
     let mut order = sorted_order(alloc, told)?;
     let mut standing = Standing::new(alloc, told.len(), plan.names().len() as usize)?;
-    let fit = all_fit(plan, told);
-    for _ in 0..MOST_ORDERS {
-        if is_placed(told, &order, &mut standing) && fit {
-            return Ok(Some(order));
-        }
-        if !advance(&mut order) {
-            return Ok(None);
-        }
+    if finds(rt, plan, told, &mut order, &mut standing) {
+        Ok(Some(order))
+    } else {
+        Ok(None)
     }
-    None.ok_or("too many orders")?
 }

@@ -1,28 +1,24 @@
 //! Plans of texts.
 use redo_command::{Command, Watched};
-use redo_journal::{Plan, PlanFault};
+use redo_journal::Plan;
 use redo_names::Names;
 use redo_session::{TextFault, read_files};
-use std::alloc::Global;
-use std::test::Fail;
+use std::alloc::{AllocError, Global};
+use std::process::Abort;
 
-/// The plan of these session files.
-pub(crate) fn read_plan(
-    alloc: Global,
-    texts: &[&str],
-) -> Result<Result<Plan, PlanFault>, TextFault> {
-    let mut names = Names::new(alloc);
-    let mut files = Vec::new(alloc);
-    for text in texts {
-        files.push(Watched::new(text.as_bytes()))?;
+/// The plan of sessions that have these files.
+pub(crate) fn plan_of(rt: &impl Abort, alloc: Global, files: &[&str]) -> Result<Plan, AllocError> {
+    let mut readers = Vec::new(alloc);
+    for file in files {
+        readers.push(Watched::new(file.as_bytes()))?;
     }
-    let scripts = read_files(alloc, &mut files, &mut names)?;
-    Ok(Plan::new(scripts, names))
-}
-
-/// The plan of session files that have one.
-pub(crate) fn plan_of(alloc: Global, texts: &[&str]) -> Result<Plan, Fail> {
-    Ok(read_plan(alloc, texts)??)
+    let mut names = Names::new(alloc);
+    let scripts = match read_files(alloc, &mut readers, &mut names) {
+        Ok(scripts) => scripts,
+        Err(TextFault::Memory) => return Err(AllocError),
+        Err(_) => panic!(rt; "a faulty file"),
+    };
+    Ok(Plan::new(scripts, names).expect(rt, "a plan"))
 }
 
 /// The session's command of this number.

@@ -21,7 +21,7 @@ const FREE: Claim = Claim {
 impl Claim {
     /// The next grant, if nobody holds the target.
     fn grant(&mut self, grant: u32) -> bool {
-        let is_next = !self.is_held && self.grants.checked_add(1) == Some(grant);
+        let is_next = !self.is_held && grant > 0 && self.grants == grant.wrapping_sub(1);
         self.is_held = true;
         self.grants = grant;
         is_next
@@ -106,12 +106,16 @@ fn fits(command: &Command, told: Told) -> bool {
     match told.place {
         Place::Row(_) => match command {
             Command::Lock(_) => !matches!(told.answer, Answer::Granted(_) | Answer::Busy(_)),
-            Command::Unlock(_) => told.answer != Answer::Okay,
+            Command::Unlock(_) => !matches!(told.answer, Answer::Okay),
             _ => true,
         },
-        Place::Granted(t, g) => is_lock(command, t) && told.answer == Answer::Granted(g),
-        Place::Busy(t, g) => is_lock(command, t) && told.answer == Answer::Busy(g),
-        Place::Released(t, _) => is_unlock(command, t) && told.answer == Answer::Okay,
+        Place::Granted(t, g) => {
+            is_lock(command, t) && matches!(told.answer, Answer::Granted(grant) if grant == g)
+        }
+        Place::Busy(t, g) => {
+            is_lock(command, t) && matches!(told.answer, Answer::Busy(grant) if grant == g)
+        }
+        Place::Released(t, _) => is_unlock(command, t) && matches!(told.answer, Answer::Okay),
     }
 }
 

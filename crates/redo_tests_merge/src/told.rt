@@ -1,11 +1,11 @@
 //! Journals, as the tests make them.
 use crate::plans::command_at;
-use redo_command::{Command, Line, Refusal, Reply};
+use redo_command::{Command, Kind, Line, Refusal, Reply};
 use redo_journal::{Entry, Journal, Place, Plan};
 use std::alloc::{AllocError, Global};
 
 /// The replies in these tests.
-#[derive(Clone, Copy, PartialEq, Eq)]
+#[derive(Clone, Copy)]
 pub(crate) enum Answer {
     Okay,
     Granted(u32),
@@ -30,16 +30,23 @@ pub(crate) fn reply_of(answer: Answer) -> Reply {
     }
 }
 
+/// The entry of the line with this number.
+fn entry_of(line: u32, told: Told) -> Entry {
+    Entry {
+        line,
+        closing: None,
+        reply: reply_of(told.answer),
+        place: told.place,
+    }
+}
+
 /// The journal of a session that was told this.
-fn journal_of(alloc: Global, session: u8, told: &[Told]) -> Result<Journal, AllocError> {
+pub(crate) fn journal_of(alloc: Global, session: u8, told: &[Told]) -> Result<Journal, AllocError> {
     let mut entries = Vec::new(alloc);
-    for (line, one) in (0..=u32::MAX).zip(told) {
-        entries.push(Entry {
-            line,
-            closing: None,
-            reply: reply_of(one.answer),
-            place: one.place,
-        })?;
+    let mut line: u32 = 0;
+    for one in told {
+        entries.push(entry_of(line, *one))?;
+        line = line.wrapping_add(1);
     }
     Ok(Journal {
         session,
@@ -51,8 +58,10 @@ fn journal_of(alloc: Global, session: u8, told: &[Told]) -> Result<Journal, Allo
 /// The journals of sessions that were told this.
 pub(crate) fn journals_of(alloc: Global, told: &[Vec<Told>]) -> Result<Vec<Journal>, AllocError> {
     let mut journals = Vec::new(alloc);
-    for (session, own) in (0..=u8::MAX).zip(told) {
+    let mut session: u8 = 0;
+    for own in told {
         journals.push(journal_of(alloc, session, own)?)?;
+        session = session.wrapping_add(1);
     }
     Ok(journals)
 }
@@ -66,9 +75,42 @@ pub(crate) fn copied(alloc: Global, told: &[Vec<Told>]) -> Result<Vec<Vec<Told>>
     Ok(copies)
 }
 
+/// Whether the command has this target.
+fn is_about(command: &Command, target: u32) -> bool {
+    matches!(command.target(), Some(name) if name == target)
+}
+
 /// Whether two commands are the same lock, unlock or start.
 fn is_same(one: &Command, two: &Command) -> bool {
-    one.kind() == two.kind() && one.target() == two.target()
+    match two.target() {
+        Some(target) => one.kind() == two.kind() && is_about(one, target),
+        None => false,
+    }
+}
+
+/// A line by its session, its command's kind and target, and its reply. Sessions are counted from 0.
+pub(crate) type Wanted = (u8, Kind, u32, Answer);
+
+/// Whether the line is this one.
+fn is_wanted(line: &Line, want: Wanted) -> bool {
+    let (session, kind, target, answer) = want;
+    line.session == session
+        && line.command.kind() == kind
+        && is_about(&line.command, target)
+        && line.reply.is_same(&reply_of(answer))
+}
+
+/// Whether the lines are these.
+pub(crate) fn are_wanted(lines: &[Line], want: &[Wanted]) -> bool {
+    if lines.len() != want.len() {
+        return false;
+    }
+    for at in 0..want.len() {
+        if !is_wanted(&lines[at], want[at]) {
+            return false;
+        }
+    }
+    true
 }
 
 /// Whether the line is the one of this session that has this number.
@@ -79,6 +121,17 @@ fn is_line(plan: &Plan, session: u8, number: usize, told: Told, line: &Line) -> 
                 && is_same(&line.command, command)
                 && line.reply.is_same(&reply_of(told.answer))
         }
+        None => false,
+    }
+}
+
+/// Whether the line is what was told the session at this number.
+fn is_told(plan: &Plan, told: &[Vec<Told>], session: u8, number: usize, line: &Line) -> bool {
+    match told.get(session as usize) {
+        Some(own) => match own.get(number) {
+            Some(one) => is_line(plan, session, number, *one, line),
+            None => false,
+        },
         None => false,
     }
 }
@@ -96,17 +149,14 @@ pub(crate) fn count_of(order: &[u8], session: u8) -> usize {
 
 /// Whether the lines are what was told, in this order of the sessions.
 pub(crate) fn are_lines(plan: &Plan, told: &[Vec<Told>], order: &[u8], lines: &[Line]) -> bool {
-    for (at, session) in order.iter().enumerate() {
-        let number = count_of(&order[..at], *session);
-        let (Some(own), Some(line)) = (told.get(*session as usize), lines.get(at)) else {
-            return false;
-        };
-        let Some(one) = own.get(number) else {
-            return false;
-        };
-        if !is_line(plan, *session, number, *one, line) {
+    if lines.len() != order.len() {
+        return false;
+    }
+    for at in 0..order.len() {
+        let number = count_of(&order[..at], order[at]);
+        if !is_told(plan, told, order[at], number, &lines[at]) {
             return false;
         }
     }
-    lines.len() == order.len()
+    true
 }
