@@ -35,6 +35,7 @@ pub mod RowsOfBothKinds
 pub mod Scripts
 pub mod StepsByName
 pub mod Texts
+pub mod Unchanging
 pub mod Unique
 pub mod UpToDate
 pub mod VerdictsByName

@@ -5,6 +5,7 @@ pub mod Reply
 pub mod OutOfDate
 pub mod Step
 pub mod History
+pub mod Changes
 pub mod Placed
 pub mod Closing
 pub mod Journals

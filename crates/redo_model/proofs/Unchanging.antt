@@ -1,0 +1,136 @@
+-- What changes nothing can be left out of a history.
+use Rattle.std.proofs.Common.{◌≡◌, ℕ, Bool, true, false, cond, not, List, [], ◌∷◌, ◌++◌, Option, Some, None, refl, sym, ap, ◌∙◌, subst, append_assoc, inl, inr}
+use Rattle.std.specs.Prelude.{MatchOption, is_some, bytes_eq}
+use Rattle.std.specs.Cmp.Lexicographic.{bytes_decides}
+use Rattle.std.proofs.lemmas.Bool.{cases_Bool, false≢true}
+use Rattle.std.proofs.Math.Path.{fun_ext}
+use Rattle.redo_model.specs.Names.{Text, Naming, put}
+use Rattle.redo_model.specs.Inside.Names.{IsNaming}
+use Rattle.redo_model.specs.State.{State, Records, Cell}
+use Rattle.redo_model.specs.Command.{Command, File, Gone, Lock, IfChange, Ood, Targets, Sources}
+use Rattle.redo_model.specs.Reply.{Refusal, Reply, Refused, lets_through}
+use Rattle.redo_model.specs.Step.{Tells, Replies, Answers, after, verdict_of, holds_target, stale_reply, lock_reply, locks_granted}
+use Rattle.redo_model.specs.History.{Line, LegalFrom, left_by}
+use Rattle.redo_model.specs.Changes.{is_stamp_of, changes, changing_from}
+use Rattle.redo_model.proofs.Held.{to_put}
+use Rattle.redo_model.proofs.Refused.{refused_same}
+
+own_stamp : (o : Option Text) (stamp : Text) → not (is_stamp_of o stamp) ≡ false → o ≡ Some stamp
+own_stamp None stamp e = absurd (cc)
+own_stamp (Some own) stamp e = elim (cases_Bool (bytes_eq own stamp)) [
+  | inl is ↦ ap Some ((bytes_decides own stamp).0 is)
+  | inr is ↦ absurd (cc)
+]
+
+no_stamp : (o : Option Text) → is_some o ≡ false → o ≡ None
+no_stamp None e = refl
+no_stamp (Some own) e = absurd (cc)
+
+stale_through : {N : Type 0} (names : List N) → lets_through (stale_reply names) ≡ true
+stale_through [] = refl
+stale_through (n ∷ names) = refl
+
+module _ {N : Type 0} (naming : Naming N) where
+  -- what is told of an accepted command lets a guarded line through
+  tells_through : (r : Records N) (command : Command N) (reply : Reply N)
+      → Tells naming r command reply → lets_through reply ≡ true
+  tells_through r (Lock t) reply told = absurd told
+  tells_through r (IfChange t ns) reply (names, listed, is) =
+      ap lets_through is ∙ stale_through names
+  tells_through r Ood reply (names, listed, is) = ap lets_through is
+  tells_through r Targets reply (names, listed, is) = ap lets_through is
+  tells_through r Sources reply (names, listed, is) = ap lets_through is
+  tells_through r command reply told = ap lets_through told
+
+  stopped_refused : (v : Option (Refusal N)) (r : Records N) (command : Command N)
+      (reply : Reply N)
+      → MatchOption v (Tells naming r command reply) (λ refusal. reply ≡ Refused refusal)
+      → lets_through reply ≡ false → (refusal : Refusal N) × (reply ≡ Refused refusal)
+  stopped_refused None r command reply told e =
+      absurd (false≢true (sym e ∙ tells_through r command reply told))
+  stopped_refused (Some refusal) r command reply told e = (refusal, told)
+
+  stopped : (st : State N) (s : ℕ) (command : Command N) (reply : Reply N)
+      → Replies naming st.records s (holds_target st.locks s command) command reply
+      → Answers naming st s command reply → lets_through reply ≡ false
+      → after naming st s command ≡ st
+  stopped st s command reply replies told e =
+      let (refusal, is) =
+      stopped_refused (verdict_of naming st.records s (holds_target st.locks s command) command)
+      st.records command reply replies e in
+      refused_same naming st s command refusal (subst (Answers naming st s command) is told)
+
+  lock_stopped : (o : Option ℕ) (st : State N) (s : ℕ) (t : N) (reply : Reply N)
+      → reply ≡ lock_reply o (st.locks.grants t) → lets_through reply ≡ false
+      → locks_granted naming o st.locks s t ≡ st.locks
+  lock_stopped None st s t reply is e = absurd (false≢true (sym e ∙ ap lets_through is))
+  lock_stopped (Some holder) st s t reply is e = refl
+
+  pub changing_from-append : (st : State N) (lines more : List (Line N))
+      → changing_from naming st (lines ++ more)
+      ≡ changing_from naming st lines ++ changing_from naming (left_by naming st lines) more
+  changing_from-append st [] more = refl
+  changing_from-append st (line ∷ lines) more =
+      let first = cond (changes st.records line.command line.reply) (line ∷ []) [] in
+      let next = after naming st line.session line.command in
+      ap (λ rest. first ++ rest) (changing_from-append next lines more)
+      ∙ sym (append_assoc first (changing_from naming next lines)
+      (changing_from naming (left_by naming next lines) more))
+
+module _ {N : Type 0} {naming : Naming N} (law : IsNaming naming) where
+  -- a name that gets the file that it has
+  same_file : (st : State N) (n : N) (file : Option Text) → (st.records.cell n).file ≡ file
+      → put naming n (record (st.records.cell n) { file = file }) st.records.cell
+      ≡ st.records.cell
+  same_file st n file is =
+      let there : st.records.cell n ≡ record (st.records.cell n) { file = file } =
+      λ i. record (st.records.cell n) { file = is i } in
+      fun_ext (λ m. to_put law (λ (c : Cell). c ≡ st.records.cell m) n m
+      (record (st.records.cell n) { file = file }) st.records.cell
+      (λ d. sym there ∙ ap st.records.cell d) (λ d. refl))
+
+  -- a command that changes nothing leaves the state as it was
+  pub unchanging_same : (st : State N) (s : ℕ) (command : Command N) (reply : Reply N)
+      → Answers naming st s command reply → changes st.records command reply ≡ false
+      → after naming st s command ≡ st
+  unchanging_same st s (File n stamp) reply told e =
+      let cells = same_file st n (Some stamp) (own_stamp (st.records.cell n).file stamp e) in
+      λ i. record { records = record st.records { cell = cells i }; locks = st.locks }
+  unchanging_same st s (Gone n) reply told e =
+      let cells = same_file st n None (no_stamp (st.records.cell n).file e) in
+      λ i. record { records = record st.records { cell = cells i }; locks = st.locks }
+  unchanging_same st s (Lock t) reply told e =
+      let locks = lock_stopped naming (st.locks.holder t) st s t reply told e in
+      λ i. record { records = st.records; locks = locks i }
+  unchanging_same st s Ood reply told e = refl
+  unchanging_same st s Targets reply told e = refl
+  unchanging_same st s Sources reply told e = refl
+  unchanging_same st s command reply told e = stopped naming st s command reply told told e
+
+  changing_first : (b : Bool) (st : State N) (line : Line N) (rest : List (Line N))
+      → changes st.records line.command line.reply ≡ b
+      → Answers naming st line.session line.command line.reply
+      → LegalFrom naming (after naming st line.session line.command) rest
+      → LegalFrom naming st (cond b (line ∷ []) [] ++ rest)
+      × (left_by naming st (cond b (line ∷ []) [] ++ rest)
+      ≡ left_by naming (after naming st line.session line.command) rest)
+  changing_first true st line rest is told legal = ((told, legal), refl)
+  changing_first false st line rest is told legal =
+      let same : after naming st line.session line.command ≡ st =
+      unchanging_same st line.session line.command line.reply told is in (
+        subst (λ next. LegalFrom naming next rest) same legal,
+        ap (λ next. left_by naming next rest) (sym same),
+      )
+
+  -- a legal history without what changes nothing is legal, and leaves the same state
+  pub changing_legal : (st : State N) (lines : List (Line N)) → LegalFrom naming st lines
+      → LegalFrom naming st (changing_from naming st lines)
+      × (left_by naming st (changing_from naming st lines) ≡ left_by naming st lines)
+  changing_legal st [] legal = (tt, refl)
+  changing_legal st (line ∷ lines) legal =
+      let next = after naming st line.session line.command in
+      let rest = changing_legal next lines legal.1 in
+      let first =
+      changing_first (changes st.records line.command line.reply) st line
+      (changing_from naming next lines) refl legal.0 rest.0 in
+      (first.0, first.1 ∙ rest.1)
