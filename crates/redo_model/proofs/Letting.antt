@@ -146,7 +146,7 @@ module _ {N : Type 0} {naming : Naming N} (law : IsNaming naming) where
     | inr asked ↦ asked
   ]
 
-  held_is_in : (own : List (Line N)) (t : N) → holds naming own t ≡ true
+  pub held_is_in : (own : List (Line N)) (t : N) → holds naming own t ≡ true
       → Contains (held_in naming own) t
   held_is_in own t e =
       in_filter (holds naming own) (filter_map (λ (line : Line N). asked_lock line.command) own) t
@@ -171,7 +171,8 @@ module _ {N : Type 0} {naming : Naming N} (law : IsNaming naming) where
   not_building st s t Built is h held n = refl
   not_building st s t states.Failed is h held n = refl
 
-  letting_answers : (b : Bool) (st : State N) (s : ℕ) (t : N) → BuildersHold st
+  -- what lets go of a target that the session holds is accepted
+  pub letting_answers : (b : Bool) (st : State N) (s : ℕ) (t : N) → BuildersHold st
       → is_held_by s (st.locks.holder t) ≡ true
       → is_built_by s (target_state st.records t) ≡ b
       → Answers naming st s (cond b (Failed t) (Unlock t)) Okay

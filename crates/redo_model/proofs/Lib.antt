@@ -11,6 +11,7 @@ pub mod ContentsAndBuilds
 pub mod CreatedRows
 pub mod Cycle
 pub mod Digests
+pub mod Ending
 pub mod FailedMark
 pub mod FewTargets
 pub mod Held

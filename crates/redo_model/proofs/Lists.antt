@@ -7,12 +7,12 @@ use Rattle.redo_model.specs.Inside.Names.{IsNaming}
 use Rattle.redo_model.proofs.Members.{contains_first, contains_later, contains_cases, contains_none}
 
 module _ {N : Type 0} {naming : Naming N} (law : IsNaming naming) where
-  first_before : (x : N) (xs : List N) → Ascending naming (x ∷ xs) → (n : N) → Contains xs n
+  pub first_before : (x : N) (xs : List N) → Ascending naming (x ∷ xs) → (n : N) → Contains xs n
       → naming.order x n ≡ Less
   first_before x xs up n (k, below, is) =
       subst (λ m. naming.order x m ≡ Less) is (up 0 (suc k) n (omega arith) (omega arith))
 
-  rest_ascending : (x : N) (xs : List N) → Ascending naming (x ∷ xs) → Ascending naming xs
+  pub rest_ascending : (x : N) (xs : List N) → Ascending naming (x ∷ xs) → Ascending naming xs
   rest_ascending x xs up i j d before below = up (suc i) (suc j) d (omega arith) (omega arith)
 
   same_first : (x y : N) (xs ys : List N) → Ascending naming (x ∷ xs) → Ascending naming (y ∷ ys)

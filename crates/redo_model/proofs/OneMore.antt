@@ -20,6 +20,12 @@ module _ {N : Type 0} (naming : Naming N) where
   legal_more st (first ∷ lines) line h a =
       (h.0, legal_more (after naming st first.session first.command) lines line h.1 a)
 
+  pub legal_both : (st : State N) (lines more : List (Line N)) → LegalFrom naming st lines
+      → LegalFrom naming (left_by naming st lines) more → LegalFrom naming st (lines ++ more)
+  legal_both st [] more h g = g
+  legal_both st (line ∷ lines) more h g =
+      (h.0, legal_both (after naming st line.session line.command) lines more h.1 g)
+
   pub legal_front : (st : State N) (lines : List (Line N)) (line : Line N)
       → LegalFrom naming st (lines ++ line ∷ []) → LegalFrom naming st lines
       × Answers naming (left_by naming st lines) line.session line.command line.reply

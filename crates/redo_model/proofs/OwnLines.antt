@@ -1,5 +1,5 @@
 -- What a session holds and builds is told by its own lines.
-use Rattle.std.proofs.Common.{◌≡◌, ℕ, Bool, true, false, cond, not, List, [], ◌∷◌, Option, Some, None, refl, sym, ap, ◌∙◌, subst, eqb, inl, inr}
+use Rattle.std.proofs.Common.{◌≡◌, ℕ, Bool, true, false, cond, not, List, [], ◌∷◌, ◌++◌, Option, Some, None, refl, sym, ap, ◌∙◌, subst, eqb, inl, inr}
 use Rattle.std.specs.Prelude.{MatchOption}
 use Rattle.std.proofs.lemmas.Bool.{cases_Bool, eqb-true, eq-eqb}
 use Rattle.redo_model.specs.Names.{Naming, put}
@@ -29,7 +29,7 @@ same_both true h = refl
 same_both false h = refl
 
 -- what isn't building isn't built by anybody
-not_built : (a : TargetState) (s : ℕ) → is_building a ≡ false → is_built_by s a ≡ false
+pub not_built : (a : TargetState) (s : ℕ) → is_building a ≡ false → is_built_by s a ≡ false
 not_built Idle s e = refl
 not_built (Building b) s e = absurd (cc)
 not_built Built s e = refl
@@ -45,6 +45,23 @@ built_by_other (Building b) c s e n = elim (cases_Bool (eqb b c)) [
 ]
 built_by_other Built c s e n = refl
 built_by_other states.Failed c s e n = refl
+
+module _ {N : Type 0} (naming : Naming N) where
+  -- what a session holds after one line more
+  pub holds_more : (t : N) (h : Bool) (own : List (Line N)) (line : Line N)
+      → holds_after naming t h (own ++ line ∷ [])
+      ≡ holds_then naming line.command line.reply t (holds_after naming t h own)
+  holds_more t h [] line = refl
+  holds_more t h (first ∷ own) line =
+      holds_more t (holds_then naming first.command first.reply t h) own line
+
+  -- and what it builds
+  pub builds_more : (t : N) (b : Bool) (own : List (Line N)) (line : Line N)
+      → builds_after naming t b (own ++ line ∷ [])
+      ≡ builds_then naming line.command line.reply t (builds_after naming t b own)
+  builds_more t b [] line = refl
+  builds_more t b (first ∷ own) line =
+      builds_more t (builds_then naming first.command first.reply t b) own line
 
 module _ {N : Type 0} {naming : Naming N} (law : IsNaming naming) where
   lock_own : (o : Option ℕ) (st : State N) (s : ℕ) (u t : N) (reply : Reply N)

@@ -12,10 +12,10 @@ use Rattle.redo_model.specs.Command.{Command, Item, Unlock, Start, Done, Failed,
 use Rattle.redo_model.specs.Reply.{Reply, Okay}
 use Rattle.redo_model.specs.History.{Line}
 use Rattle.redo_model.specs.Placed.{PlacedLine, line_of}
-use Rattle.redo_model.specs.Closing.{is_okay, holds_then, holds_after, holds, builds_then, builds_after, builds, held_in}
+use Rattle.redo_model.specs.Closing.{is_okay, holds_then, holds, builds_then, builds_after, builds, held_in}
 use Rattle.redo_model.proofs.Letting.{lock_true, unlock_true, asked_first, asked_later, closing_held, held_is_asked}
 use Rattle.redo_model.proofs.Members.{contains_cases, contains_none}
-use Rattle.redo_model.proofs.OwnLines.{same_both}
+use Rattle.redo_model.proofs.OwnLines.{same_both, holds_more, builds_more}
 use Rattle.redo_model.proofs.Parts.{IsClosed}
 
 -- a test that passes less keeps less
@@ -83,20 +83,6 @@ module _ {N : Type 0} (naming : Naming N) where
   -- the names that the session started and builds
   abbrev pub building_in : List (Line N) → List N
   building_in own = filter (builds naming own) (started_by own)
-
-  holds_more : (t : N) (h : Bool) (own : List (Line N)) (line : Line N)
-      → holds_after naming t h (own ++ line ∷ [])
-      ≡ holds_then naming line.command line.reply t (holds_after naming t h own)
-  holds_more t h [] line = refl
-  holds_more t h (first ∷ own) line =
-      holds_more t (holds_then naming first.command first.reply t h) own line
-
-  builds_more : (t : N) (b : Bool) (own : List (Line N)) (line : Line N)
-      → builds_after naming t b (own ++ line ∷ [])
-      ≡ builds_then naming line.command line.reply t (builds_after naming t b own)
-  builds_more t b [] line = refl
-  builds_more t b (first ∷ own) line =
-      builds_more t (builds_then naming first.command first.reply t b) own line
 
 module _ {N : Type 0} {naming : Naming N} (law : IsNaming naming) where
   then_builds : (command : Command N) (reply : Reply N) (t : N) (building : Bool)

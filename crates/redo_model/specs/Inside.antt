@@ -1,5 +1,6 @@
 pub mod Names
 pub mod State
+pub mod Ending
 pub mod OutOfDate
 pub mod Placed
 pub mod Journals

@@ -1,9 +1,10 @@
 //! Histories go on line by line, and what is refused leaves no trace in them.
 
-ghost use Rattle.std.specs.Prelude.{◌≡◌, ◌↔◌, ◌∷◌, ◌++◌, List, [], None, Some, false, ℕ};
-ghost use Rattle.redo_model.specs.Closing.{closing_of};
+ghost use Rattle.std.specs.Prelude.{◌≡◌, ◌≢◌, ◌↔◌, ◌∷◌, ◌++◌, List, [], None, Some, false, ℕ};
+ghost use Rattle.redo_model.specs.Closing.{ClosesAfter, closing_of};
 ghost use Rattle.redo_model.specs.Command.{Command};
 ghost use Rattle.redo_model.specs.History.{Legal, Line, left_by, part_of};
+ghost use Rattle.redo_model.specs.Inside.Ending.{AreHeld, closing_lines_of, state_without};
 ghost use Rattle.redo_model.specs.Names.{Text, texts};
 ghost use Rattle.redo_model.specs.Reply.{Okay, Refusal, Refused};
 ghost use Rattle.redo_model.specs.State.{Building, State, empty, is_building, target_state};
@@ -48,4 +49,25 @@ pub fn nothing_is_held()
         → ((session : ℕ) → closing_of texts (part_of session lines) ≡ None)
         → (t : Text) → ((left_by texts empty lines).locks.holder t ≡ None)
         × (is_building (target_state (left_by texts empty lines).records t) ≡ false) }
+{}
+
+/// A session ends by letting go of what it holds in the state: these are its closing commands, and a legal history goes
+/// on with them.
+pub fn closing_by_state()
+    ensures { (before : List (Line Text)) (session : ℕ) (targets : List Text) → Legal texts before
+        → AreHeld texts session (left_by texts empty before) targets
+        → ClosesAfter texts (part_of session before)
+        (closing_lines_of session (left_by texts empty before) targets)
+        × Legal texts (before ++ closing_lines_of session (left_by texts empty before) targets) }
+{}
+
+/// What they leave is the state without the session: it holds nothing, its builds have failed, and all else is as before.
+pub fn closing_leaves_the_rest()
+    ensures left { (before : List (Line Text)) (session : ℕ) (targets : List Text)
+        → AreHeld texts session (left_by texts empty before) targets
+        → left_by texts empty
+        (before ++ closing_lines_of session (left_by texts empty before) targets)
+        ≡ state_without session (left_by texts empty before) }
+    ensures nothing_held { (state : State Text) (session : ℕ) (t : Text)
+        → (state_without session state).locks.holder t ≢ Some session }
 {}

@@ -1,0 +1,42 @@
+-- What a session that ends does, and what is left of the state, both told by the state before.
+use Rattle.std.specs.Prelude.{◌≡◌, ℕ, cond, List, [], ◌∷◌, ◌++◌, flat_map, Option, Some, None}
+use Rattle.redo_model.specs.Names.{Naming, IsListed}
+use Rattle.redo_model.specs.State.{Cell, State, is_building, target_state}
+use Rattle.redo_model.specs.State as states
+use Rattle.redo_model.specs.Command.{Command, Unlock, Failed}
+use Rattle.redo_model.specs.Reply.{Okay}
+use Rattle.redo_model.specs.Step.{is_built_by, is_held_by}
+use Rattle.redo_model.specs.History.{Line}
+
+-- these are the targets that the session holds, in order
+abbrev pub AreHeld : {N : Type 0} → Naming N → ℕ → State N → List N → Type 0
+AreHeld naming s st ts = IsListed naming (λ t. st.locks.holder t ≡ Some s) ts
+
+abbrev pub okay_line : {N : Type 0} → ℕ → Command N → Line N
+okay_line s command = record { session = s; command = command; reply = Okay }
+
+-- a cell without the session: its build has failed
+abbrev pub cell_without : ℕ → Cell → Cell
+cell_without s c = cond (is_built_by s c.state) (record c { state = states.Failed }) c
+
+-- a lock's holder without the session: the lock is free
+abbrev pub holder_without : ℕ → Option ℕ → Option ℕ
+holder_without s holder = cond (is_held_by s holder) None holder
+
+module _ {N : Type 0} (s : ℕ) (st : State N) where
+  -- what lets go of a target that the session holds
+  abbrev pub letting_lines : N → List (Line N)
+  letting_lines t =
+      cond (is_building (target_state st.records t)) (okay_line s (Failed t) ∷ []) []
+      ++ okay_line s (Unlock t) ∷ []
+
+  -- what lets go of these targets, one after the other
+  abbrev pub closing_lines_of : List N → List (Line N)
+  closing_lines_of ts = flat_map letting_lines ts
+
+  -- the state when the session has let go of all, and nothing else has changed
+  abbrev pub state_without : State N
+  state_without = record {
+    records = record st.records { cell = λ t. cell_without s (st.records.cell t) };
+    locks = record st.locks { holder = λ t. holder_without s (st.locks.holder t) };
+  }
