@@ -9,7 +9,7 @@ const ARROW: &[u8] = b" => ";
 
 /// What stands before the first such byte, and what stands after it.
 #[inline]
-pub(crate) fn cut_at(text: &[u8], byte: u8) -> Option<(&[u8], &[u8])>
+pub fn cut_at(text: &[u8], byte: u8) -> Option<(&[u8], &[u8])>
     ensures { MatchOption result (¬ (Contains text.now byte))
         (λ parts. IsCutAt byte text.now parts.0.now parts.1.now) }
 {
@@ -19,7 +19,7 @@ pub(crate) fn cut_at(text: &[u8], byte: u8) -> Option<(&[u8], &[u8])>
 
 /// What stands before the first space, and what stands after it. All of it stands before, where
 /// there is none.
-pub(crate) fn cut_at_space(line: &[u8]) -> (&[u8], &[u8])
+pub fn cut_at_space(line: &[u8]) -> (&[u8], &[u8])
     ensures { IsCutAtSpace line.now result.0.now result.1.now }
 {
     match cut_at(line, b' ') {
@@ -42,7 +42,7 @@ fn after_arrow(rest: &[u8], at: usize) -> Option<&[u8]>
 }
 
 /// What stands before the first arrow, and what stands after it.
-pub(crate) fn cut_at_arrow(rest: &[u8]) -> Option<(&[u8], &[u8])>
+pub fn cut_at_arrow(rest: &[u8]) -> Option<(&[u8], &[u8])>
     ensures { MatchOption result (HasNoArrow rest.now)
         (λ parts. IsCutAtArrow rest.now parts.0.now parts.1.now) }
 {

@@ -34,7 +34,13 @@ pub fn put_answer(
     Ok(())
 }
 
-fn put_line(alloc: Global, text: &mut Vec<u8>, line: &Line, names: &Names) -> Result<(), AllocError>
+/// Writes a line of a history, with an LF after it.
+pub fn put_line(
+    alloc: Global,
+    text: &mut Vec<u8>,
+    line: &Line,
+    names: &Names,
+) -> Result<(), AllocError>
     requires { IsLineBelow (length names.now) (line_of line.now) }
     ensures { OnOk result (text.new.items
         ≡ text.old.items ++ line_text_of (line_at names.now line.now)) }

@@ -24,7 +24,7 @@ use std::alloc::Global;
 const SHORTEST_LINE: usize = 12;
 
 /// The session, counted from 0, whose number a word is.
-fn session_of(word: &[u8]) -> Option<u8>
+pub fn session_of(word: &[u8]) -> Option<u8>
     ensures { MatchOption result ((session : ℕ) → ¬ (IsSessionWord word.now session))
         (IsSessionWord word.now) }
 {

@@ -6,6 +6,8 @@ mod devices;
 #[cfg(test)]
 mod finish;
 #[cfg(test)]
+mod lines;
+#[cfg(test)]
 mod names;
 #[cfg(test)]
 mod texts;

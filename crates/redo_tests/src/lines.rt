@@ -1,0 +1,56 @@
+//! Lines of histories, written and cut.
+use redo_command::{Line, Reply, read_command};
+use redo_names::Names;
+use redo_replay::{cut_at, cut_at_arrow, cut_at_space, put_line, session_of};
+use std::test::Fail;
+
+#[test]
+fn written(rt: HostRuntime) -> Result<(), Fail> {
+    let alloc = rt.alloc();
+    let mut names = Names::new(alloc);
+    let line = Line {
+        session: 11,
+        command: read_command(alloc, b"lock a", &mut names)?,
+        reply: Reply::Granted(3),
+    };
+    let mut text = Vec::new(alloc);
+    text.push(b'>')?;
+    put_line(alloc, &mut text, &line, &names)?;
+    assert!(rt; text.as_slice() == b">12 lock a => granted 3\n".as_slice());
+    Ok(())
+}
+
+#[test]
+fn cut(rt: HostRuntime) -> Result<(), Fail> {
+    let log = b"12 lock a => granted 3\n1 o".as_slice();
+    let Some((line, torn)) = cut_at(log, b'\n') else {
+        panic!(rt; "no line");
+    };
+    assert!(rt; torn == b"1 o".as_slice());
+    assert!(rt; cut_at(torn, b'\n').is_none());
+    let (word, rest) = cut_at_space(line);
+    assert!(rt; session_of(word) == Some(11));
+    assert!(rt; rest == b"lock a => granted 3".as_slice());
+    let Some((command, reply)) = cut_at_arrow(rest) else {
+        panic!(rt; "no arrow");
+    };
+    assert!(rt; command == b"lock a".as_slice());
+    assert!(rt; reply == b"granted 3".as_slice());
+    assert!(rt; cut_at_arrow(b"lock a =>").is_none());
+    assert!(rt; cut_at_space(word) == (word, b"".as_slice()));
+    Ok(())
+}
+
+#[test]
+fn sessions(rt: HostRuntime) -> Result<(), Fail> {
+    for (word, want) in [
+        ("1", Some(0)),
+        ("64", Some(63)),
+        ("0", None),
+        ("65", None),
+        ("01", None),
+    ] {
+        assert!(rt; session_of(word.as_bytes()) == want, "{word}");
+    }
+    Ok(())
+}
