@@ -1,8 +1,7 @@
 -- The lines that tell why the program failed.
 use Rattle.std.specs.Prelude.{ℕ, List, ◌++◌, Option, Some, None, Result, Ok, Err, slice_get, codes, decimal, string_bytes, String}
 use Rattle.std.specs.declared.alloc.Global.{Global}
-use Rattle.redo_text.specs.declared.fault.LineFault.{LineFault}
-use Rattle.redo_text.specs.declared.fault.LineFault.TheVariants.{LineTooLong, BadByte, UnknownCommand, WrongWords, BadName, BadStamp, BadHex, TooManyLines, TooManyNames}
+use Rattle.redo_text.specs.Faults.{fault_word_of}
 use Rattle.redo_command.specs.declared.fault.TextFault.{TextFault}
 use Rattle.redo_command.specs.declared.fault.TextFault.TheVariants as texts
 use Rattle.redo_replay.specs.declared.fault.HistoryFault.{HistoryFault}
@@ -13,18 +12,6 @@ use Rattle.redo_replay.specs.declared.verdict.Verdict.{Verdict}
 use Rattle.redo_replay.specs.declared.verdict.Verdict.TheVariants.{Same, Differs}
 use Rattle.redo_job.specs.declared.fault.Fault.{Fault}
 use Rattle.redo_job.specs.declared.fault.Fault.TheVariants.{Memory, Usage, CannotOpen, Text, Replay}
-
--- the word for a line's fault
-abbrev pub word_of : LineFault → List ℕ
-word_of LineTooLong = codes "line-too-long"
-word_of BadByte = codes "bad-byte"
-word_of UnknownCommand = codes "unknown-command"
-word_of WrongWords = codes "wrong-words"
-word_of BadName = codes "bad-name"
-word_of BadStamp = codes "bad-stamp"
-word_of BadHex = codes "bad-hex"
-word_of TooManyLines = codes "too-many-lines"
-word_of TooManyNames = codes "too-many-names"
 
 -- "-" stands for standard input
 abbrev pub name_or_dash : Option (String Global) → List ℕ
@@ -54,7 +41,7 @@ said_of_line files file line word = said_of_file files file (in_line line word)
 -- the line for a run's fault
 abbrev pub text_line : List (String Global) → TextFault → List ℕ
 text_line files texts.Memory = said (codes "memory")
-text_line files (texts.Read file line fault) = said_of_line files file line (word_of fault)
+text_line files (texts.Read file line fault) = said_of_line files file line (fault_word_of fault)
 text_line files texts.TooManySessions = said (codes "too many sessions")
 text_line files texts.NoSession = said (codes "no session")
 text_line files texts.Write = said (codes "write")
@@ -67,7 +54,7 @@ history_line files histories.Memory = said (codes "memory")
 history_line files histories.BadHeader = said_of_file files 0 (codes "bad header")
 history_line files histories.Cut = said_of_file files 0 (codes "cut")
 history_line files (histories.BadSession line) = said_of_line files 0 line (codes "bad-session")
-history_line files (histories.BadLine line fault) = said_of_line files 0 line (word_of fault)
+history_line files (histories.BadLine line fault) = said_of_line files 0 line (fault_word_of fault)
 history_line files (histories.BadReply line) = said_of_line files 0 line (codes "bad-reply")
 
 -- the line for a replay's fault

@@ -2,33 +2,17 @@ ghost use Rattle.std.specs.Prelude.{◌≡◌, IfErr, IfSome, OnOk, OnErr, false
 ghost use Rattle.std.specs.List.{flat_map};
 ghost use Rattle.redo_whole.specs.Watched.{is_faulted};
 ghost use Rattle.redo_replay.specs.Devices.{Writes, WritesNothing};
-ghost use Rattle.redo_job.specs.Lines.{word_of, file_name, text_line, history_line, replay_line, fault_line, said, said_of, in_line, status_of};
+ghost use Rattle.redo_job.specs.Lines.{file_name, text_line, history_line, replay_line, fault_line, said, said_of, in_line, status_of};
 
 use crate::fault::Fault;
 use arrayvec::ArrayVec;
 use itoa::Buffer;
-use redo_command::{LineFault, TextFault, Watched, WriteFault, write_whole};
+use redo_command::{TextFault, Watched, WriteFault, fault_word, write_whole};
 use redo_replay::{HistoryFault, ReplayFault, Verdict};
 use std::io::Write;
 
 /// A line of at most this many bytes is written at once: a name of 4,096 has room in it.
 const LINE_ROOM: usize = 4352;
-
-fn word(fault: LineFault) -> &'static str
-    ensures { result.now ≡ word_of fault }
-{
-    match fault {
-        LineFault::LineTooLong => "line-too-long",
-        LineFault::BadByte => "bad-byte",
-        LineFault::UnknownCommand => "unknown-command",
-        LineFault::WrongWords => "wrong-words",
-        LineFault::BadName => "bad-name",
-        LineFault::BadStamp => "bad-stamp",
-        LineFault::BadHex => "bad-hex",
-        LineFault::TooManyLines => "too-many-lines",
-        LineFault::TooManyNames => "too-many-names",
-    }
-}
 
 fn name(files: &[String], file: usize) -> &str
     ensures { result.now ≡ file_name files.now file }
@@ -114,7 +98,7 @@ fn tell_text<W: Write>(
     match fault {
         TextFault::Memory => say(err, "memory"),
         TextFault::Read { file, line, fault } => {
-            say_line(err, name(files, *file), *line, word(*fault))
+            say_line(err, name(files, *file), *line, fault_word(*fault))
         }
         TextFault::TooManySessions => say(err, "too many sessions"),
         TextFault::NoSession => say(err, "no session"),
@@ -139,7 +123,7 @@ fn tell_history<W: Write>(
         HistoryFault::BadHeader => say_of_file(err, name, "bad header"),
         HistoryFault::Cut => say_of_file(err, name, "cut"),
         HistoryFault::BadSession(line) => say_line(err, name, line, "bad-session"),
-        HistoryFault::BadLine(line, fault) => say_line(err, name, line, word(fault)),
+        HistoryFault::BadLine(line, fault) => say_line(err, name, line, fault_word(fault)),
         HistoryFault::BadReply(line) => say_line(err, name, line, "bad-reply"),
     }
 }

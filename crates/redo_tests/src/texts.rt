@@ -1,5 +1,7 @@
 //! Texts of commands and replies.
-use redo_command::{Command, LineFault, ReadFault, Reply, command_text, read_command, reply_text};
+use redo_command::{
+    Command, LineFault, ReadFault, Reply, command_text, fault_word, read_command, reply_text,
+};
 use redo_names::Names;
 use std::test::Fail;
 
@@ -12,6 +14,12 @@ fn texts(rt: HostRuntime) -> Result<(), Fail> {
     assert!(rt; text.as_slice() == b"ifchange d b a.o b d".as_slice());
     let text = reply_text(alloc, &Reply::Busy(4294967295), &names)?;
     assert!(rt; text.as_slice() == b"busy 4294967295".as_slice());
+    Ok(())
+}
+
+#[test]
+fn fault_words(rt: HostRuntime) -> Result<(), Fail> {
+    assert!(rt; fault_word(LineFault::BadHex) == "bad-hex");
     Ok(())
 }
 

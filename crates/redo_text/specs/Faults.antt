@@ -1,10 +1,23 @@
 -- Why a line is not read as a command, and a text not as a session file.
-use Rattle.std.specs.Prelude.{◌≡◌, ℕ, ◌+◌, List, ◌∷◌, ◌++◌, length, Some}
+use Rattle.std.specs.Prelude.{◌≡◌, ℕ, ◌+◌, List, ◌∷◌, ◌++◌, length, Some, codes}
 use Rattle.redo_model.specs.Names.{Text}
 use Rattle.redo_model.specs.Command.{Item}
 use Rattle.redo_text.specs.declared.fault.LineFault.{LineFault}
+use Rattle.redo_text.specs.declared.fault.LineFault.TheVariants.{LineTooLong, BadByte, UnknownCommand, WrongWords, BadName, BadStamp, BadHex, TooManyLines, TooManyNames}
 use Rattle.redo_text.specs.Grammar.{lines_of, AreScriptLines}
 use Rattle.redo_text.specs.Questions.{file_line_fault}
+
+-- the word for a line's fault
+abbrev pub fault_word_of : LineFault → Text
+fault_word_of LineTooLong = codes "line-too-long"
+fault_word_of BadByte = codes "bad-byte"
+fault_word_of UnknownCommand = codes "unknown-command"
+fault_word_of WrongWords = codes "wrong-words"
+fault_word_of BadName = codes "bad-name"
+fault_word_of BadStamp = codes "bad-stamp"
+fault_word_of BadHex = codes "bad-hex"
+fault_word_of TooManyLines = codes "too-many-lines"
+fault_word_of TooManyNames = codes "too-many-names"
 
 -- the lines before it are those of items, and with these before it the line has this fault
 pub record FailsAfter (names : List Text) (before : List Text) (line : Text)

@@ -1,4 +1,5 @@
 ghost use Rattle.std.specs.Prelude.{◌≡◌, ◌↔◌};
+ghost use Rattle.redo_text.specs.Faults.{fault_word_of};
 
 use std::alloc::{AllocError, AllocFailed};
 use thiserror::Error;
@@ -24,6 +25,23 @@ pub enum LineFault {
     TooManyLines = 9,
     #[error("too many names")]
     TooManyNames = 10,
+}
+
+/// The word that tells a line's fault.
+pub fn fault_word(fault: LineFault) -> &'static str
+    ensures { result.now ≡ fault_word_of fault }
+{
+    match fault {
+        LineFault::LineTooLong => "line-too-long",
+        LineFault::BadByte => "bad-byte",
+        LineFault::UnknownCommand => "unknown-command",
+        LineFault::WrongWords => "wrong-words",
+        LineFault::BadName => "bad-name",
+        LineFault::BadStamp => "bad-stamp",
+        LineFault::BadHex => "bad-hex",
+        LineFault::TooManyLines => "too-many-lines",
+        LineFault::TooManyNames => "too-many-names",
+    }
 }
 
 /// Why a text could not be read. Lines are counted from 1.

@@ -18,7 +18,7 @@ mod session_file;
 mod text;
 mod words;
 
-pub use fault::{LineFault, ReadFault, ReplyFault};
+pub use fault::{LineFault, ReadFault, ReplyFault, fault_word};
 pub use laws::{
     command_reads_back, fault_or_command, fault_or_script, line_reads_back, no_read_fault,
     one_command_a_line, one_reply_a_text, one_script, reply_reads_back,
