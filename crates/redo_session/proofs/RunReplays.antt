@@ -14,10 +14,10 @@ use Rattle.redo_replay.specs.HistoryTexts.{IsHistory, AreNamesOf}
 use Rattle.redo_session.specs.Runs.{IsRun, RunsAs}
 use Rattle.redo_session.proofs.Accepted.{AreAccepted-length}
 use Rattle.redo_session.proofs.Asked.{IsAsked, AreAsked, all_asked, few_names, all_names_known}
-use Rattle.redo_session.proofs.DistinctNames.{few_known}
-use Rattle.redo_session.proofs.Grants.{few_at_first}
-use Rattle.redo_session.proofs.KnownFiles.{files_known_at_first}
-use Rattle.redo_session.proofs.LinesFit.{IsLineSaid, lines_fit}
+use Rattle.redo_replay.proofs.DistinctNames.{few_known}
+use Rattle.redo_replay.proofs.Grants.{few_at_first}
+use Rattle.redo_replay.proofs.KnownFiles.{files_known_at_first}
+use Rattle.redo_replay.proofs.LinesFit.{IsLineSaid, lines_fit}
 use Rattle.redo_session.proofs.RunLines.{lines_asked, few_lines}
 
 -- the text is a history of legal lines

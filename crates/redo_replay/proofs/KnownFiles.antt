@@ -10,7 +10,7 @@ use Rattle.redo_model.specs.Command.{Command, File, Gone, Lock, Unlock, Start, I
 use Rattle.redo_model.specs.Reply.{Refusal}
 use Rattle.redo_model.specs.OutOfDate.{HasFile}
 use Rattle.redo_model.specs.Step.{effect_of, unless_refused, verdict_of, holds_target, after}
-use Rattle.redo_session.proofs.KnownNames.{IsKnown, AreKnown}
+use Rattle.redo_replay.proofs.KnownNames.{IsKnown, AreKnown}
 
 -- each name that has a file is one of these
 abbrev pub AreFilesKnown : List Text → Records Text → Type 0

@@ -7,10 +7,10 @@ use Rattle.redo_model.specs.Command.{Command, File, Gone, Lock, Unlock, Start, I
 use Rattle.redo_model.specs.Reply.{Refusal, NotLocked, Building, NotBuilding, Itself, Exists, Reply, Okay, Refused}
 use Rattle.redo_model.specs.Step.{Tells, Replies, Answers, verdict_of, refusal_or, refusal_of_existing, stale_reply, lock_reply, holds_target, is_among, is_built_by}
 use Rattle.redo_text.specs.Replies.{HasReplyForm, AreAllNames, names_in_reply}
-use Rattle.redo_session.proofs.KnownNames.{IsKnown, AreKnown, known_are_names, all_members, member_of_all}
-use Rattle.redo_session.proofs.KnownFiles.{AreFilesKnown}
-use Rattle.redo_session.proofs.Grants.{AreFewGrants}
-use Rattle.redo_session.proofs.Digests.{sha1_is_digest}
+use Rattle.redo_replay.proofs.KnownNames.{IsKnown, AreKnown, known_are_names, all_members, member_of_all}
+use Rattle.redo_replay.proofs.KnownFiles.{AreFilesKnown}
+use Rattle.redo_replay.proofs.Grants.{AreFewGrants}
+use Rattle.redo_replay.proofs.Digests.{sha1_is_digest}
 
 -- the reply has its form, and its names are among these
 abbrev pub IsFitting : List Text → Reply Text → Type 0

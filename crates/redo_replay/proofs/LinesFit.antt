@@ -11,11 +11,11 @@ use Rattle.redo_text.specs.Replies.{AreAllNames, names_in_reply}
 use Rattle.redo_text.proofs.ScriptParts.{with_names-append}
 use Rattle.redo_replay.specs.HistoryTexts.{names_in_line}
 use Rattle.redo_replay.specs.Inside.HistoryTexts.{HasLineForm}
-use Rattle.redo_session.proofs.CommandsSaid.{IsSaid, form_has_names}
-use Rattle.redo_session.proofs.Grants.{AreFewGrants, few_after}
-use Rattle.redo_session.proofs.KnownFiles.{AreFilesKnown, files_known_after}
-use Rattle.redo_session.proofs.KnownNames.{AreKnown, known-with_names, added_are_known, with_names-known, each-with_names}
-use Rattle.redo_session.proofs.RepliesFit.{IsFitting, reply_fits}
+use Rattle.redo_replay.proofs.CommandsSaid.{IsSaid, form_has_names}
+use Rattle.redo_replay.proofs.Grants.{AreFewGrants, few_after}
+use Rattle.redo_replay.proofs.KnownFiles.{AreFilesKnown, files_known_after}
+use Rattle.redo_replay.proofs.KnownNames.{AreKnown, known-with_names, added_are_known, with_names-known, each-with_names}
+use Rattle.redo_replay.proofs.RepliesFit.{IsFitting, reply_fits}
 
 -- the state after some lines: each of the names is one, each name that has a file is among them,
 -- and locks were granted at most this often

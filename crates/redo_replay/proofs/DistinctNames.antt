@@ -12,7 +12,7 @@ use Rattle.redo_names.specs.Names.{has, with_name}
 use Rattle.redo_names.proofs.NameLists.{AreNames-none}
 use Rattle.redo_model.specs.Names.{Text}
 use Rattle.redo_text.specs.Grammar.{with_names}
-use Rattle.redo_session.proofs.KnownNames.{IsKnown, AreKnown}
+use Rattle.redo_replay.proofs.KnownNames.{IsKnown, AreKnown}
 
 either : (b c : Bool) → (b || c) ≡ true → (b ≡ true) ⊎ (c ≡ true)
 either true c e = inl refl
