@@ -8,12 +8,9 @@ use Rattle.hex.proofs.HexLemmas.{decode_of-ok, length-encode_with}
 use Rattle.redo_model.specs.Names.{Text}
 use Rattle.redo_model.specs.Command.{Command, Item, commands_in, File, Gone, Lock, Unlock, Start, IfChange, IfCreate, Always, Stamp, Done, Failed, Ood, Targets, Sources, names_in}
 use Rattle.redo_text.specs.Texts.{after_space, spaced, content_word, command_text_of}
-use Rattle.redo_text.specs.Grammar.{HasForm, IsShort, IsContentWord, IsSpelled, IsCommandLine, AreItemLines}
+use Rattle.redo_text.specs.Grammar.{HasForm, IsContentWord, IsSpelled, IsCommandLine, AreItemLines}
 use Rattle.redo_text.specs.Replies.{AreAllNames}
-
--- the command has its form, and its text is short
-abbrev pub IsSaid : Command Text → Type 0
-IsSaid command = HasForm command × IsShort (command_text_of command)
+use Rattle.redo_replay.specs.Inside.HistoryTexts.{IsSaid}
 
 -- a content's spellings are all as long
 length-content_word : (word content : Text) → IsContentWord word content
@@ -61,7 +58,7 @@ length-spelled line Ood e = ap length e
 length-spelled line Targets e = ap length e
 length-spelled line Sources e = ap length e
 
-command_said : (line : Text) (command : Command Text) → IsCommandLine line command → IsSaid command
+pub command_said : (line : Text) (command : Command Text) → IsCommandLine line command → IsSaid command
 command_said line command (form, short, spelled) =
     (form, let same = length-spelled line command spelled in omega (arith, short))
 

@@ -1,4 +1,5 @@
 pub mod CommandsSaid
+pub mod CutLogs
 pub mod CutOnce
 pub mod Digests
 pub mod DistinctNames

@@ -1,19 +1,19 @@
 -- Legal lines: each has a history line's form, and the replies add no names.
-use Rattle.std.proofs.Common.{◌≡◌, ℕ, ◌+◌, ◌<◌, ◌≤◌, List, [], ◌∷◌, ◌++◌, length, map, refl, sym, ap, ◌∙◌, arith}
+use Rattle.std.proofs.Common.{◌≡◌, ℕ, ◌+◌, ◌<◌, ◌≤◌, ◌^◌, List, [], ◌∷◌, ◌++◌, length, map, refl, sym, ap, ◌∙◌, arith}
 use Rattle.std.specs.List.{AllByRecursion, flat_map}
 use Rattle.redo_model.specs.Names.{Text, texts}
-use Rattle.redo_model.specs.State.{State}
+use Rattle.redo_model.specs.State.{State, empty}
 use Rattle.redo_model.specs.Command.{names_in}
 use Rattle.redo_model.specs.Step.{holds_target, verdict_of, after}
-use Rattle.redo_model.specs.History.{Line, LegalFrom}
+use Rattle.redo_model.specs.History.{Line, LegalFrom, Legal}
 use Rattle.redo_text.specs.Grammar.{with_names}
 use Rattle.redo_text.specs.Replies.{AreAllNames, names_in_reply}
 use Rattle.redo_text.proofs.ScriptParts.{with_names-append}
 use Rattle.redo_replay.specs.HistoryTexts.{names_in_line}
-use Rattle.redo_replay.specs.Inside.HistoryTexts.{HasLineForm}
-use Rattle.redo_replay.proofs.CommandsSaid.{IsSaid, form_has_names}
-use Rattle.redo_replay.proofs.Grants.{AreFewGrants, few_after}
-use Rattle.redo_replay.proofs.KnownFiles.{AreFilesKnown, files_known_after}
+use Rattle.redo_replay.specs.Inside.HistoryTexts.{HasLineForm, IsLineSaid}
+use Rattle.redo_replay.proofs.CommandsSaid.{form_has_names}
+use Rattle.redo_replay.proofs.Grants.{AreFewGrants, few_after, few_at_first}
+use Rattle.redo_replay.proofs.KnownFiles.{AreFilesKnown, files_known_after, files_known_at_first}
 use Rattle.redo_replay.proofs.KnownNames.{AreKnown, known-with_names, added_are_known, with_names-known, each-with_names}
 use Rattle.redo_replay.proofs.RepliesFit.{IsFitting, reply_fits}
 
@@ -23,11 +23,6 @@ pub record IsReached (names : List Text) (count : ℕ) (st : State Text) : Type 
   pub each : AreAllNames names
   pub files : AreFilesKnown names st.records
   pub grants : AreFewGrants count st.locks
-
--- a session of a run says a command that a script may have
-pub record IsLineSaid (line : Line Text) : Type 0 where
-  pub session : line.session < 64
-  pub said : IsSaid line.command
 
 more_known : (names ts : List Text) (st : State Text) → AreFilesKnown names st.records
     → AreFilesKnown (with_names names ts) st.records
@@ -97,3 +92,11 @@ lines_fit names count st (line ∷ lines) reached said room legal =
           (flat_map names_in_line lines)
           (flat_map names_in (map (λ (l : Line Text). l.command) lines)) fits.1 rest.same_names;
     }
+
+-- from the start, where nothing is known
+pub legal_lines_fit : (lines : List (Line Text)) → Legal texts lines
+    → AllByRecursion IsLineSaid lines → length lines < 2 ^ 32 → AreFitting [] lines
+legal_lines_fit lines legal said few =
+    lines_fit [] 0 empty lines
+    (record { each = tt; files = files_known_at_first []; grants = few_at_first }) said
+    (omega arith) legal

@@ -5,6 +5,7 @@ mod cuts;
 mod fault;
 mod history;
 mod laws;
+mod logs;
 mod merging;
 mod printed;
 mod read;
@@ -15,7 +16,11 @@ mod verdict;
 pub use cuts::{cut_at, cut_at_arrow, cut_at_space};
 pub use fault::{HistoryFault, ReplayFault};
 pub use history::{History, MOST_LINES};
-pub use laws::{history_reads_back, no_fault, one_history, one_verdict, same_where_legal};
+pub use laws::{
+    history_reads_back, legal_history_reads_back, legal_lines_fit, no_fault, one_history,
+    one_verdict, same_where_legal,
+};
+pub use logs::{cut_lines, one_cut};
 pub use merging::merge;
 pub use printed::{history_text, put_answer, put_line, put_number};
 pub use read::{read_history, session_of};

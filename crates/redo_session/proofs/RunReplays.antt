@@ -1,23 +1,20 @@
 -- The run text of files is a history, and its lines are legal.
-use Rattle.std.proofs.Common.{◌<◌, ◌≤◌, get_or, List, [], ◌∷◌, ◌++◌, Some, length, map, sym, subst, arith}
+use Rattle.std.proofs.Common.{◌<◌, ◌≤◌, get_or, List, [], ◌∷◌, ◌++◌, Some, length, map, refl, sym, subst, arith}
 use Rattle.std.specs.List.{AllByRecursion, flat_map}
 use Rattle.redo_model.specs.Names.{Text, texts}
-use Rattle.redo_model.specs.State.{empty}
 use Rattle.redo_model.specs.Command.{Item, names_in}
 use Rattle.redo_model.specs.History.{Line, part_of, Legal}
-use Rattle.redo_text.specs.Grammar.{with_names}
+use Rattle.redo_text.specs.Grammar.{with_names, AddsNames}
 use Rattle.redo_replay.specs.Histories.{history_text_of}
 use Rattle.redo_session.specs.RunTexts.{session_text_of, sessions_below}
-use Rattle.redo_replay.proofs.HistoryReadsBack.{history_reads_back}
+use Rattle.redo_replay.proofs.HistoryReadsBack.{legal_history_reads_back}
 use Rattle.redo_replay.proofs.Replayed.{all_map}
-use Rattle.redo_replay.specs.HistoryTexts.{IsHistory, AreNamesOf}
+use Rattle.redo_replay.specs.HistoryTexts.{IsHistory}
+use Rattle.redo_replay.specs.Inside.HistoryTexts.{IsLineSaid}
 use Rattle.redo_session.specs.Runs.{IsRun, RunsAs}
 use Rattle.redo_session.proofs.Accepted.{AreAccepted-length}
 use Rattle.redo_session.proofs.Asked.{IsAsked, AreAsked, all_asked, few_names, all_names_known}
 use Rattle.redo_replay.proofs.DistinctNames.{few_known}
-use Rattle.redo_replay.proofs.Grants.{few_at_first}
-use Rattle.redo_replay.proofs.KnownFiles.{files_known_at_first}
-use Rattle.redo_replay.proofs.LinesFit.{IsLineSaid, lines_fit}
 use Rattle.redo_session.proofs.RunLines.{lines_asked, few_lines}
 
 -- the text is a history of legal lines
@@ -41,18 +38,16 @@ module _ (names : List Text) (scripts : List (List (Item Text))) (few : length s
   run_is_history rest =
       let each = lines_asked names scripts asked lines run in
       let many = few_lines names scripts asked lines run in
-      let fit =
-      lines_fit [] 0 empty lines
-      (record { each = tt; files = files_known_at_first []; grants = few_at_first })
-      (lines_said lines run.sessions each) (omega arith) run.legal in
+      let said = lines_said lines run.sessions each in
       let commands = map (λ (line : Line Text). line.command) lines in
       let known =
       all_names_known names commands
       (all_map (λ (line : Line Text). line.command) (IsAsked names) lines each) in
       let less = few_known names (flat_map names_in commands) known in
       let met = with_names [] (flat_map names_in commands) in
-      let named : AreNamesOf lines met = (sym fit.same_names, omega arith) in
-      (met, lines, history_reads_back lines met rest fit.forms (omega arith) named, run.legal)
+      let named : AddsNames [] commands met = (refl, omega arith) in
+      let is = legal_history_reads_back lines met rest run.legal said (omega arith) named in
+      (met, lines, is, run.legal)
 
 pub run_replays : (files : List Text) (text : Text) → RunsAs (map Some files) text → Replays text
 run_replays files text (scripts, (some, few, (names, are)), (lines, run, is)) =
