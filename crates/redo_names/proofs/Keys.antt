@@ -1,10 +1,10 @@
 -- Names as the keys of a set of byte vectors.
-use Rattle.std.proofs.Common.{◌≡◌, ℕ, Bool, true, false, cond, ◌||◌, List, [], ◌∷◌, ◌++◌, map, length, Option, Some, slice_get, refl, sym, ap, ◌∙◌, inl, inr, if◌then◌else◌, ◌⊎◌}
+use Rattle.std.proofs.Common.{◌≡◌, ℕ, Bool, true, false, cond, ◌||◌, List, [], ◌∷◌, ◌++◌, map, length, take, Option, Some, slice_get, refl, sym, ap, ◌∙◌, inl, inr, if◌then◌else◌, ◌⊎◌}
 use Rattle.std.specs.Prelude.{bytes_eq, find}
 use Rattle.std.specs.Global.{Vec}
 use Rattle.std.specs.Option.{option_map}
 use Rattle.std.specs.List.{list_any}
-use Rattle.std.proofs.lemmas.List.{length-map, map-append}
+use Rattle.std.proofs.lemmas.List.{length-map, map-append, take-map}
 use Rattle.std.proofs.lemmas.Option.{slice_get-map}
 use Rattle.std.proofs.lemmas.Slice.Eq.{bytes_eq-Decides}
 use Rattle.redo_names.specs.Names.{has}
@@ -59,3 +59,9 @@ texts-insert keys key text same new =
     ap (λ (there : Bool). texts (cond there keys (keys ++ key ∷ []))) absent
     ∙ map-append (λ (k : Vec ℕ). k.items) keys (key ∷ [])
     ∙ ap (λ (t : List ℕ). texts keys ++ t ∷ []) same
+
+-- the first of the keys are those of the first names
+pub texts-take : (keys kept : List (Vec ℕ)) (names : List (List ℕ)) (n : ℕ) → texts keys ≡ names
+    → kept ≡ take n keys → texts kept ≡ take n names
+texts-take keys kept names n view is =
+    ap texts is ∙ sym (take-map (λ (key : Vec ℕ). key.items) n keys) ∙ ap (take n) view

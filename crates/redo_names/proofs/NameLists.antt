@@ -1,7 +1,9 @@
 -- Lists of names that grow.
-use Rattle.std.proofs.Common.{◌≡◌, ℕ, ◌<◌, Bool, true, false, cond, List, [], ◌∷◌, ◌++◌, length, Some, slice_get, refl, sym, ap, ◌∙◌, arith, length-append, append-nil, append_assoc}
-use Rattle.std.specs.List.{IsDistinct}
+use Rattle.std.proofs.Common.{◌≡◌, ℕ, zero, suc, ◌<◌, Bool, true, false, cond, List, [], ◌∷◌, ◌++◌, length, take, Some, slice_get, refl, sym, ap, ◌∙◌, arith, length-append, append-nil, append_assoc}
+use Rattle.std.specs.Prelude.{bytes_eq}
+use Rattle.std.specs.List.{AllByRecursion, IsDistinct}
 use Rattle.std.proofs.lemmas.Cmp.{nat_list_eq_equiv}
+use Rattle.std.proofs.lemmas.List.{length-take}
 use Rattle.std.proofs.lemmas.Map.Keys.{IsDistinct-push}
 use Rattle.redo_names.specs.Names.{is_name, has, with_name, AreAllNames}
 use Rattle.redo_names.specs.Inside.Names.{Extends, AreNames}
@@ -42,4 +44,28 @@ AreNames-push names text are is new room = record {
   few = omega (arith, length-append names (text ∷ []));
   distinct = IsDistinct-push nat_list_eq_equiv names text are.distinct new;
   each = each-push names text are.each is;
+}
+
+each-take : {X : Type 0} (P : X → Type 0) (n : ℕ) (xs : List X) → AllByRecursion P xs
+    → AllByRecursion P (take n xs)
+each-take P zero xs each = tt
+each-take P (suc n) [] each = tt
+each-take P (suc n) (x ∷ xs) each = (each.0, each-take P n xs each.1)
+
+distinct-take : (n : ℕ) (names : List (List ℕ)) → IsDistinct bytes_eq names
+    → IsDistinct bytes_eq (take n names)
+unfolding IsDistinct
+distinct-take zero names distinct = tt
+distinct-take (suc n) [] distinct = tt
+distinct-take (suc n) (text ∷ names) distinct = (
+  each-take (λ y. bytes_eq text y ≡ false) n names distinct.0,
+  distinct-take n names distinct.1,
+)
+
+-- the first of some names are names
+pub AreNames-take : (names : List (List ℕ)) (n : ℕ) → AreNames names → AreNames (take n names)
+AreNames-take names n are = record {
+  few = omega (arith, length-take n names, are.few);
+  distinct = distinct-take n names are.distinct;
+  each = each-take (λ text. is_name text ≡ true) n names are.each;
 }

@@ -1,4 +1,4 @@
-ghost use Rattle.std.specs.Prelude.{◌≡◌, ◌<◌, ◌↔◌, List, ℕ, [], map, length, is_some, IfSome, IfOk, OnOk, OnErr, IsOk, IsErrOf, slice_get, true, false};
+ghost use Rattle.std.specs.Prelude.{◌≡◌, ◌<◌, ◌≤◌, ◌↔◌, List, ℕ, [], map, length, take, is_some, IfSome, IfOk, OnOk, OnErr, IsOk, IsErrOf, slice_get, true, false};
 ghost use Rattle.std.specs.Cmp.Lexicographic.{slice_cmp};
 ghost use Rattle.std.specs.Ordering.{nat_cmp};
 ghost use Rattle.redo_names.specs.declared.names.NamesFault.TheVariants.{Memory};
@@ -128,5 +128,13 @@ impl Names {
         let name = Vec::from_slice(alloc, text)?;
         self.texts.insert(name)?;
         Ok(number as u32)
+    }
+
+    /// Forgets all names but the first `count`. Takes no memory.
+    pub fn keep_first(&mut self, count: u32)
+        requires { count ≤ length self.old }
+        ensures { self.new ≡ take count self.old }
+    {
+        self.texts.truncate(count as usize);
     }
 }
