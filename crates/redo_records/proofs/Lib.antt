@@ -1,1 +1,2 @@
+pub mod MorePlaces
 pub mod Refusals

@@ -5,12 +5,14 @@
 mod cell;
 mod digest;
 mod laws;
+mod lists;
 mod mark;
 mod records;
 mod state;
 
 pub use digest::digest_of;
 pub use laws::verdict_by_kind;
+pub use lists::extended;
 pub use mark::Mark;
 pub use records::Records;
 pub use state::State;

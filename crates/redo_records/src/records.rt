@@ -1,4 +1,4 @@
-ghost use Rattle.std.specs.Prelude.{◌≡◌, ℕ, ◌+◌, ◌^◌, ◌<◌, ◌↔◌, IsTrue, IsFalse, List, length, replicate, option_map, IfOk};
+ghost use Rattle.std.specs.Prelude.{◌≡◌, ℕ, ◌+◌, ◌^◌, ◌<◌, ◌≤◌, ◌↔◌, IsTrue, IsFalse, List, length, replicate, option_map, IfOk};
 ghost use Rattle.redo_model.specs.State as states;
 ghost use Rattle.redo_model.specs.State.{idle, mark_in, is_building};
 ghost use Rattle.redo_terms.specs.Meaning.{refusal_of};
@@ -7,6 +7,7 @@ ghost use Rattle.redo_records.specs.Cells.{cell_at, with_cell_at, IsBuiltAndEdit
 ghost use Rattle.redo_records.specs.Refusals.{refusal_by_target};
 
 use crate::cell::Cell;
+use crate::lists::extended;
 use crate::mark::Mark;
 use crate::state::State;
 use redo_terms::{FileStamp, Kind, Refusal};
@@ -29,11 +30,22 @@ impl Model for Records {
 }
 
 impl Records {
-    /// The records of which nothing was said. No other call takes memory.
+    /// The records of which nothing was said. But for `grown`, no other call takes memory.
     pub fn new(alloc: Global, names: u32) -> Result<Records, AllocError>
         ensures { IfOk result (λ records. records ≡ replicate names idle) }
     {
         let cells = vec![in alloc; Cell::idle(); names as usize]?;
+        Ok(Records { cells })
+    }
+
+    /// The same records with more names, of which nothing was said.
+    pub fn grown(&self, alloc: Global, names: u32) -> Result<Records, AllocError>
+        requires { length self.now ≤ names }
+        ensures count { IfOk result (λ records. length records ≡ names) }
+        ensures same { IfOk result
+            (λ records. (n : ℕ) → cell_at records n ≡ cell_at self.now n) }
+    {
+        let cells = extended(alloc, &self.cells, names as usize, Cell::idle())?;
         Ok(Records { cells })
     }
 
