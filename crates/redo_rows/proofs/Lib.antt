@@ -1,6 +1,7 @@
 pub mod Begun
 pub mod Changed
 pub mod Forgetting
+pub mod Growing
 pub mod Inverses
 pub mod Keeping
 pub mod Listed

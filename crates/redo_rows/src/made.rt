@@ -1,4 +1,4 @@
-ghost use Rattle.std.specs.Prelude.{◌≡◌, length, replicate, IfOk};
+ghost use Rattle.std.specs.Prelude.{◌≡◌, ◌+◌, ◌≤◌, length, replicate, vec_capacity, IfOk, OnOk};
 ghost use Rattle.redo_rows.specs.Rows.{bare};
 ghost use Rattle.redo_rows.specs.Kept.{AreEmpty};
 
@@ -27,4 +27,26 @@ pub(crate) fn empty_lists(alloc: Global, count: usize) -> Result<Vec<Numbers>, A
         lists.push(Numbers::new(alloc))?;
     }
     Ok(lists)
+}
+
+/// Room for that many more of each.
+pub(crate) fn reserve_each(
+    targets: &mut Vec<Target>,
+    needed: &mut Vec<Numbers>,
+    awaited: &mut Vec<Numbers>,
+    more: usize,
+) -> Result<(), AllocError>
+    ensures targets { targets.new.items ≡ targets.old.items }
+    ensures needed { needed.new.items ≡ needed.old.items }
+    ensures awaited { awaited.new.items ≡ awaited.old.items }
+
+    ensures room { OnOk result (length targets.new.items + more ≤ vec_capacity targets.new) }
+    ensures needed_room { OnOk result
+        (length needed.new.items + more ≤ vec_capacity needed.new) }
+    ensures awaited_room { OnOk result
+        (length awaited.new.items + more ≤ vec_capacity awaited.new) }
+{
+    targets.reserve(more)?;
+    needed.reserve(more)?;
+    awaited.reserve(more)
 }

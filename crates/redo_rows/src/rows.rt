@@ -1,4 +1,4 @@
-ghost use Rattle.std.specs.Prelude.{◌≡◌, ◌⊎◌, ◌↔◌, ℕ, ◌<◌, ◌==◌, ◌&&◌, not, false, IsTrue, length, Contains, ◌||◌, option_map, IfOk, OnOk, OnErr};
+ghost use Rattle.std.specs.Prelude.{◌≡◌, ◌⊎◌, ◌↔◌, ℕ, ◌<◌, ◌≤◌, ◌==◌, ◌&&◌, not, false, IsTrue, length, Contains, ◌||◌, option_map, IfOk, OnOk, OnErr};
 ghost use Rattle.redo_model.specs.Names.{IsListed};
 ghost use Rattle.redo_model.specs.OutOfDate.{SomeAppeared, SomeChanged};
 ghost use Rattle.redo_model.specs.State.{no_rows};
@@ -10,12 +10,12 @@ use crate::news::is_any_news;
 use crate::numbers::Numbers;
 use crate::target::Target;
 use crate::{inverse, made};
-use redo_records::{Mark, Records};
+use redo_records::{Mark, Records, extended};
 use std::alloc::{AllocError, Global};
 use std::marker::Model;
 
 /// The rows of each target, and their inverses. Targets and names are numbers below the number of names it was made
-/// for. Only `new` and `reserve` take memory.
+/// for. Only `new`, `grow` and `reserve` take memory.
 #[derive(Drop)]
 pub struct DepRows {
     targets: Vec<Target>,
@@ -54,6 +54,28 @@ impl DepRows {
             awaited: made::empty_lists(alloc, count)?,
             seated: vec![in alloc; 0; count]?,
         })
+    }
+
+    /// More names, without rows and room. All memory that this takes is asked for before anything changes.
+    pub fn grow(&mut self, names: u32) -> Result<(), AllocError>
+        requires { rows_count self.old ≤ names }
+        ensures count { OnOk result (rows_count self.new ≡ names) }
+        ensures rows { rows_of self.new ≡ rows_of self.old }
+        ensures room { (t n : ℕ) → room_of self.new t n ≡ room_of self.old t n }
+        ensures err { OnErr result (self.new ≡ self.old) }
+    {
+        let alloc = *self.targets.allocator();
+        let more = names as usize - self.targets.len();
+        let mut targets = made::bare_targets(alloc, more)?;
+        let mut needed = made::empty_lists(alloc, more)?;
+        let mut awaited = made::empty_lists(alloc, more)?;
+        let seated = extended(alloc, &self.seated, names as usize, 0)?;
+        made::reserve_each(&mut self.targets, &mut self.needed, &mut self.awaited, more)?;
+        let _targets = self.targets.append(&mut targets);
+        let _needed = self.needed.append(&mut needed);
+        let _awaited = self.awaited.append(&mut awaited);
+        self.seated = seated;
+        Ok(())
     }
 
     /// Makes room for rows of `t` on these names, and changes no row. Room that was there stays, also where memory
