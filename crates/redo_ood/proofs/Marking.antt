@@ -1,8 +1,7 @@
 -- Marks that are set and taken away, and what stays true of the queue.
 use Rattle.std.proofs.Common.{◌≡◌, ◌⊎◌, ◌↔◌, ◌∙◌, ℕ, ◌<◌, ◌≤◌, ◌+◌, ◌^◌, Bool, true, false, cond, not, IsTrue, List, [], ◌∷◌, ◌++◌, length, get_or, set, take, refl, sym, ap, subst, inl, inr, arith, length-append, append_assoc}
-use Rattle.std.proofs.Math.ListN.{replicate, length-replicate}
 use Rattle.std.proofs.lemmas.Bool.{cases_Bool, cases_eq, cases_lt, false≢true}
-use Rattle.std.proofs.lemmas.List.{append-nil, length-set, get_or-set_same, get_or-set_other, get_or_past, get_or-replicate, take_all, take_more, take-append-le}
+use Rattle.std.proofs.lemmas.List.{append-nil, length-set, get_or-set_same, get_or-set_other, get_or_past, take_all, take_more, take-append-le}
 use Rattle.std.proofs.lemmas.List.Sums.{sum_by-set, count_by-le-length}
 use Rattle.std.proofs.lemmas.List.Quantifiers.{all_pairs_push}
 use Rattle.std.proofs.lemmas.List.Elements.{Contains-get_or, Contains-push, Contains-push_cases, Contains-append_left, All-from_recursion}
@@ -274,10 +273,3 @@ pub below_at : (n m : ℕ) (ts : List ℕ) (k d : ℕ) → AllBelow n ts → k <
 below_at n m ts k d all in' same =
     let below : get_or ts k d < n = All-from_recursion (λ t. t < n) ts all k d in' in
     omega arith
-
--- a list of one value
-pub same_everywhere : {X : Type 0} (n k : ℕ) (x : X) → get_or (replicate n x) k x ≡ x
-same_everywhere n k x = elim (cases_lt k n) [
-  | inl h ↦ get_or-replicate n k x x h
-  | inr h ↦ get_or_past (replicate n x) k x (omega (arith, length-replicate n x))
-]

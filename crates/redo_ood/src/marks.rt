@@ -5,6 +5,7 @@ ghost use Rattle.std.specs.Prelude.{◌≡◌, ◌↔◌, ◌<◌, ◌≤◌, �
 ghost use Rattle.redo_model.specs.Renaming.{AllBelow};
 ghost use Rattle.redo_ood.specs.Marks.{Marked, IsSet, IsQueued, IsQueue, Enters, Unmarks, size_of};
 
+use redo_records::extended;
 use std::alloc::{AllocError, Global};
 use std::marker::Model;
 
@@ -41,12 +42,24 @@ fn unmark_each(marks: &mut Vec<bool>, names: &[u32])
 }
 
 impl Marks {
-    /// No name is marked. No other call takes memory.
+    /// No name is marked. But for `grown`, no other call takes memory.
     pub fn new(alloc: Global, names: u32) -> Result<Marks, AllocError>
         ensures { IfOk result (λ marks.
             marks ≡ record { marks = replicate names false; queue = [] }) }
     {
         let marks = vec![in alloc; false; names as usize]?;
+        let queue = Vec::with_capacity(alloc, names as usize)?;
+        Ok(Marks { marks, queue })
+    }
+
+    /// The same marks with more names, none of which is marked, and an empty queue.
+    pub fn grown(&self, alloc: Global, names: u32) -> Result<Marks, AllocError>
+        requires { size_of self.now ≤ names }
+        ensures sized { IfOk result (λ marks. size_of marks ≡ names) }
+        ensures same { IfOk result (λ marks. (t : ℕ)
+            → slice_index_or marks.marks t false ≡ slice_index_or self.now.marks t false) }
+    {
+        let marks = extended(alloc, &self.marks, names as usize, false)?;
         let queue = Vec::with_capacity(alloc, names as usize)?;
         Ok(Marks { marks, queue })
     }

@@ -1,4 +1,4 @@
-ghost use Rattle.std.specs.Prelude.{◌≡◌, ◌<◌, ℕ, IsTrue, length, IfOk, OnOk, OnErr, ◌++◌, ◌∷◌, [], if◌then◌else◌};
+ghost use Rattle.std.specs.Prelude.{◌≡◌, ◌<◌, ◌≤◌, ℕ, IsTrue, length, IfOk, OnOk, OnErr, ◌++◌, ◌∷◌, [], if◌then◌else◌};
 ghost use Rattle.redo_model.specs.Names.{IsListed};
 ghost use Rattle.redo_model.specs.Inside.OutOfDate.{InRegion};
 ghost use Rattle.redo_model.specs.Renaming.{AllBelow};
@@ -54,6 +54,22 @@ impl Ood {
         ensures right { IfOk result (λ ood. IsRight ood empty.records) }
     {
         let out = Marks::new(alloc, names)?;
+        let region = Marks::new(alloc, names)?;
+        let outdated = Marks::new(alloc, names)?;
+        Ok(Ood {
+            out,
+            region,
+            outdated,
+        })
+    }
+
+    /// The same memo with more names, none of which is out of date.
+    pub fn grown(&self, alloc: Global, names: u32) -> Result<Ood, AllocError>
+        requires { memo_count self.now ≤ names }
+        ensures count { IfOk result (λ ood. memo_count ood ≡ names) }
+        ensures same { IfOk result (λ ood. (t : ℕ) → is_out ood t ≡ is_out self.now t) }
+    {
+        let out = self.out.grown(alloc, names)?;
         let region = Marks::new(alloc, names)?;
         let outdated = Marks::new(alloc, names)?;
         Ok(Ood {
