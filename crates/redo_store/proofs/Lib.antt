@@ -8,3 +8,5 @@ pub mod Refreshing
 pub mod Rooms
 pub mod Refusals
 pub mod Obeyed
+pub mod Counting
+pub mod Slots

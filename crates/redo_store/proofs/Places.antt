@@ -16,7 +16,7 @@ use Rattle.redo_model.proofs.Texts.{texts_are_names}
 use Rattle.redo_names.specs.Names.{text_at}
 use Rattle.redo_store.specs.Orders.{AreSorted, place, by_place}
 
-below_by_numbers : (m n : ℕ) → m < n → nat_cmp m n ≡ Less
+pub below_by_numbers : (m n : ℕ) → m < n → nat_cmp m n ≡ Less
 below_by_numbers m n h = grind (arith, nat_tests)
 
 module _ {names : List (List ℕ)} {sorted : List ℕ} (are : AreSorted names sorted) where

@@ -11,7 +11,7 @@ use Rattle.redo_model.specs.Names.{put}
 use Rattle.redo_model.specs.Inside.OutOfDate.{DifferAt}
 use Rattle.redo_model.specs.State.{Cell, Mark, empty, idle, no_rows}
 use Rattle.redo_model.proofs.Members.{contains_first}
-use Rattle.redo_ood.proofs.Marking.{same_everywhere}
+use Rattle.redo_records.proofs.MorePlaces.{same_everywhere}
 use Rattle.redo_ood.specs.Memo.{IsRight, WasRight, memo_count}
 use Rattle.redo_records.specs.Cells.{cell_at, with_cell_at}
 use Rattle.redo_rows.specs.Rows.{TargetRows, by_number, rows_of, with_always, without_rows, rows_count, with_rows}

@@ -15,6 +15,8 @@ use redo_terms::{Command, Reply};
 use std::alloc::{AllocError, Global};
 use std::marker::Model;
 
+mod slots;
+
 /// The database with its locks, for one thread. Names are numbers below the number of names it was made for.
 #[derive(Drop)]
 pub struct Redo {

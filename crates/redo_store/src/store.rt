@@ -22,6 +22,7 @@ mod changes;
 mod lists;
 mod refusals;
 mod room;
+mod slots;
 mod stale;
 
 /// The database without its locks, for one thread. Names are numbers below the number of names it was made for.

@@ -1,0 +1,16 @@
+use Rattle.std.proofs.Common.{rules, ◌≡◌, ◌∙◌, ℕ, List, get_or, ap, arith}
+use Rattle.redo_records.proofs.MorePlaces.{same_everywhere}
+use Rattle.redo_store.proofs.redo.Redo.blank.Goals as goal
+
+pub invariant_of-result : goal.invariant_of-result
+invariant_of-result c = record {
+  holder_for_each = search rules;
+  grants_for_each = search rules;
+  few_grants = λ n.
+      let grants = c.in_ok-grants.grants.items in
+      let none : get_or grants n 0 ≡ 0 =
+      ap (λ (gs : List ℕ). get_or gs n 0) (c.in_ok-grants.ensures.items_if_clones_equal (λ y e. e))
+      ∙ same_everywhere c.args.slots n 0 in
+      omega (arith, none);
+  few_applied = search rules;
+}

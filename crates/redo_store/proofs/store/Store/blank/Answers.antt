@@ -1,0 +1,37 @@
+use Rattle.std.proofs.Common.{◌≡◌, ◌∙◌, ap, length, sym, subst, arith}
+use Rattle.std.proofs.Math.ListN.{length-replicate}
+use Rattle.redo_model.specs.State.{idle}
+use Rattle.redo_ood.specs.Memo.{IsRight}
+use Rattle.redo_store.specs.Stored.{Stored}
+use Rattle.redo_store.proofs.Counting.{IsStored-by_number, none_built, ordered_by_number, ranked_by_number}
+use Rattle.redo_store.proofs.Refreshing.{empty_records}
+use Rattle.redo_store.proofs.store.Store.blank.Goals as goal
+
+pub invariant_of-result : goal.invariant_of-result
+invariant_of-result c =
+    let slots = c.args.slots in
+    let cells = c.in_ok-records.records in
+    let rows = c.in_ok-rows.rows in
+    let sorted = c.in_ok-sorted.sorted.items in
+    let stored : Stored = record { cells = cells; rows = rows; sorted = sorted; applied = 0 } in
+    let count : length cells ≡ slots =
+    ap length c.in_ok-records.ensures ∙ length-replicate slots idle in
+    let first = empty_records slots cells rows c.in_ok-records.ensures c.in_ok-rows.ensures.rows in
+    record {
+      stored = IsStored-by_number stored slots c.in_ok-sorted.ensures count
+          c.in_ok-rows.ensures.count (none_built slots cells c.in_ok-records.ensures)
+          (omega arith);
+      ranked = ranked_by_number slots sorted c.in_ok-ranks.ranks.items c.in_ok-sorted.ensures
+          c.in_ok-ranks.ensures;
+      memo_for_each = c.in_ok-memo.ensures.count ∙ sym count;
+      memo_right = subst (IsRight c.in_ok-memo.memo) (sym first) c.in_ok-memo.ensures.right;
+    }
+
+pub returns-clause-empty : goal.returns-clause-empty
+returns-clause-empty c =
+    empty_records c.args.slots c.in_ok-records.records c.in_ok-rows.rows c.in_ok-records.ensures
+    c.in_ok-rows.ensures.rows
+
+pub returns-clause-order : goal.returns-clause-order
+returns-clause-order c =
+    ordered_by_number c.args.slots c.in_ok-sorted.sorted.items c.in_ok-sorted.ensures
