@@ -18,6 +18,7 @@ pub mod Held
 pub mod HistoriesByName
 pub mod Lists
 pub mod JournalRoom
+pub mod LetThrough
 pub mod Letting
 pub mod Members
 pub mod NamesWithoutAFile
