@@ -75,14 +75,12 @@ set_is_put xs i x d below k = elim (cases_eq i k) [
       ∙ ap (λ (b : Bool). cond b x (get_or xs k d)) (sym (ne_eqb i k ne))
 ]
 
--- a free lock is granted: o is the holder that was read, and g the grants
-pub granted : (t : Tables) (s n g : ℕ) (o : Option ℕ) → n < length t.holders → n < length t.grants
-    → o ≡ get_or t.holders n o → o ≡ None → g ≡ get_or t.grants n g
+-- a free lock is granted: g is the grants that were read
+pub granted : (t : Tables) (s n g : ℕ) → n < length t.holders → n < length t.grants
+    → get_or t.holders n None ≡ None → g ≡ get_or t.grants n g
     → state_of (record t { holders = set t.holders n (Some s); grants = set t.grants n (g + 1) })
     ≡ after (tables_naming t) (state_of t) s (commands.Lock n)
-granted t s n g o has_holder has_grants read free count =
-    let none : get_or t.holders n None ≡ None =
-    get_or_default t.holders n None o has_holder ∙ sym read ∙ free in
+granted t s n g has_holder has_grants none count =
     let so_far : g ≡ get_or t.grants n 0 = count ∙ get_or_default t.grants n g 0 has_grants in
     let holders : (λ (k : ℕ). get_or (set t.holders n (Some s)) k None)
     ≡ put (tables_naming t) n (Some s) (λ k. get_or t.holders k None) =

@@ -8,5 +8,6 @@ pub mod Refreshing
 pub mod Rooms
 pub mod Refusals
 pub mod Obeyed
+pub mod Holding
 pub mod Counting
 pub mod Slots

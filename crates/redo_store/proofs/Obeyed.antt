@@ -1,5 +1,5 @@
 -- What a command that is no lock leaves of the locks.
-use Rattle.std.proofs.Common.{◌≡◌, ◌==◌, ℕ, zero, suc, Bool, cond, List, [], ◌∷◌, Option, Some, None, get_or, refl, sym, ap, ◌∙◌, subst, inl, inr, arith}
+use Rattle.std.proofs.Common.{◌≡◌, ◌==◌, ℕ, zero, suc, Bool, true, cond, List, [], ◌∷◌, Option, Some, None, get_or, refl, sym, ap, ◌∙◌, subst, inl, inr}
 use Rattle.std.specs.Prelude.{MatchOption}
 use Rattle.std.proofs.Math.ListN.{set}
 use Rattle.std.proofs.Math.Path.{fun_ext}
@@ -8,9 +8,13 @@ use Rattle.std.proofs.lemmas.List.{get_or-set_other}
 use Rattle.redo_model.specs.Names.{Naming}
 use Rattle.redo_model.specs.State.{Locks}
 use Rattle.redo_model.specs.Command.{Command, File, Gone, Lock, Unlock, Start, IfChange, IfCreate, Always, Stamp, Done, Failed, Ood, Targets, Sources, asked_lock}
-use Rattle.redo_model.specs.Reply.{Refusal, Reply, Okay, Refused}
-use Rattle.redo_model.specs.Step.{Replies, records_after, after, verdict_of, holds_target, locks_after, locks_freed, unless_refused}
+use Rattle.redo_model.specs.Reply.{Refusal, Reply, Okay, Refused, lets_through}
+use Rattle.redo_model.specs.Step.{Answers, Replies, records_after, after, verdict_of, holds_target, locks_after, locks_freed, unless_refused}
+use Rattle.redo_model.proofs.LetThrough.{accepted_through, told_without_lock}
+use Rattle.redo_store.specs.Changes.{HasEffect}
+use Rattle.redo_store.specs.Stored.{Stored, records_of}
 use Rattle.redo_store.specs.Tables.{Tables, tables_records, locks_of, state_of, tables_naming, freed_by}
+use Rattle.redo_store.proofs.Rooms.{changed_accepted}
 
 -- the locks without that of the target, if there is one
 abbrev pub freed : Naming ℕ → Locks ℕ → Option ℕ → Locks ℕ
@@ -94,6 +98,18 @@ freed_at t n =
     fun_ext (none_is_put t.holders n) in
     λ i. record { holder = holders i; grants = (locks_of t).grants }
 
--- only a lock asks for a lock
-pub lock_asked : (command : Command ℕ) (t : ℕ) → asked_lock command ≡ Some t → command ≡ Lock t
-lock_asked command t h = grind arith
+-- a command that is no lock, and isn't refused, was applied, and its target's lock freed
+pub obeyed_accepted : (t : Tables) (to : Stored) (s : ℕ) (new : Tables) (command : Command ℕ)
+    (reply : Reply ℕ) → asked_lock command ≡ None
+    → Answers (tables_naming t) (state_of t) s command reply → lets_through reply ≡ true
+    → HasEffect t.store to s command → tables_records new ≡ records_of to
+    → locks_of new ≡ freed (tables_naming t) (locks_of t) (freed_by command reply)
+    → state_of new ≡ after (tables_naming t) (state_of t) s command
+obeyed_accepted t to s new command reply none told through changed records locks =
+    let holds : Bool = holds_target (locks_of t) s command in
+    let replies : Replies (tables_naming t) (tables_records t) s holds command reply =
+    told_without_lock (tables_naming t) (state_of t) s command reply none told in
+    let accepted : verdict_of (tables_naming t) (tables_records t) s holds command ≡ None =
+    accepted_through (tables_naming t) (tables_records t) s holds command reply replies through in
+    obeyed t s holds new command reply none refl replies
+    (records ∙ changed_accepted t.store to s holds command accepted changed) locks

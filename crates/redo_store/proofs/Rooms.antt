@@ -1,5 +1,5 @@
 -- Room, and what it leaves of the store.
-use Rattle.std.proofs.Common.{◌≡◌, ℕ, ◌+◌, Bool, true, false, List, None, Result, Ok, Err, refl, sym, ap, ◌∙◌}
+use Rattle.std.proofs.Common.{◌≡◌, ℕ, Bool, true, false, List, None, Result, Ok, Err, refl, sym, ap, ◌∙◌}
 use Rattle.std.specs.Prelude.{IsTrue, Contains, OnErr}
 use Rattle.std.specs.List.{list_all}
 use Rattle.std.proofs.lemmas.List.Elements.{All-weaker, All-contains_itself}
@@ -8,8 +8,9 @@ use Rattle.redo_model.specs.Command.{Command, File, Gone, Lock, Unlock, Start, I
 use Rattle.redo_model.specs.Names.{Naming, numbers}
 use Rattle.redo_model.specs.State.{Records}
 use Rattle.redo_model.specs.Step.{verdict_of, effect_of, records_after, unless_refused}
+use Rattle.redo_store.specs.Changes.{HasEffect}
 use Rattle.redo_store.specs.Orders.{by_place}
-use Rattle.redo_store.specs.Stored.{Stored, records_of, naming_of, applied_of, IsSameButRoom}
+use Rattle.redo_store.specs.Stored.{Stored, records_of, naming_of, IsSameButRoom}
 use Rattle.redo_store.specs.Tables.{Tables, IsAsBefore, locks_of}
 
 -- a test that holds for each of the names
@@ -20,7 +21,7 @@ all_of_them test ns each =
     (All-weaker (Contains ns) (λ n. test n ≡ true) each ns (All-contains_itself ns))
 
 -- what is accepted is accepted from one that holds its target
-accepted_of_holder : (naming : Naming ℕ) (r : Records ℕ) (s : ℕ) (holds : Bool)
+pub accepted_of_holder : (naming : Naming ℕ) (r : Records ℕ) (s : ℕ) (holds : Bool)
     (command : Command ℕ) → verdict_of naming r s holds command ≡ None
     → verdict_of naming r s true command ≡ None
 accepted_of_holder naming r s true command none = none
@@ -39,32 +40,36 @@ accepted_of_holder naming r s false Ood none = none
 accepted_of_holder naming r s false Targets none = none
 accepted_of_holder naming r s false Sources none = none
 
--- a command was counted after its room was made
-module _ (old made counted : Stored) (same : IsSameButRoom old made)
-    (is_counted : counted ≡ record made { applied = applied_of made + 1 }) (s : ℕ) (holds : Bool)
+-- what an accepted command made of the records is what it leaves
+pub changed_accepted : (old new : Stored) (s : ℕ) (holds : Bool) (command : Command ℕ)
+    → verdict_of (naming_of old) (records_of old) s holds command ≡ None
+    → HasEffect old new s command
+    → records_of new ≡ records_after (naming_of old) (records_of old) s holds command
+changed_accepted old new s holds command accepted changed =
+    changed
+    ∙ ap (λ verdict. unless_refused verdict (records_of old)
+    (effect_of (naming_of old) (records_of old) s command)) (sym accepted)
+
+-- a command is applied after its room was made
+module _ (old made : Stored) (same : IsSameButRoom old made) (s : ℕ) (holds : Bool)
     (command : Command ℕ)
     (accepted : verdict_of (naming_of old) (records_of old) s holds command ≡ None) where
-  same_naming : naming_of counted ≡ naming_of old
-  same_naming = ap naming_of is_counted ∙ ap (λ (ns : List ℕ). numbers (by_place ns)) same.sorted
+  same_naming : naming_of made ≡ naming_of old
+  same_naming = ap (λ (ns : List ℕ). numbers (by_place ns)) same.sorted
 
-  same_records : records_of counted ≡ records_of old
-  same_records = ap records_of is_counted ∙ same.records
-
-  pub still_accepted : verdict_of (naming_of counted) (records_of counted) s true command ≡ None
+  pub still_accepted : verdict_of (naming_of made) (records_of made) s true command ≡ None
   still_accepted =
-      ap (λ (n : Naming ℕ). verdict_of n (records_of counted) s true command) same_naming
-      ∙ ap (λ (r : Records ℕ). verdict_of (naming_of old) r s true command) same_records
+      ap (λ (n : Naming ℕ). verdict_of n (records_of made) s true command) same_naming
+      ∙ ap (λ (r : Records ℕ). verdict_of (naming_of old) r s true command) same.records
       ∙ accepted_of_holder (naming_of old) (records_of old) s holds command accepted
 
-  pub changed_after_room : (new : Stored)
-      → records_of new ≡ effect_of (naming_of counted) (records_of counted) s command
+  pub changed_after_room : (new : Stored) → HasEffect made new s command
       → records_of new ≡ records_after (naming_of old) (records_of old) s holds command
   changed_after_room new changed =
-      changed
-      ∙ ap (λ (n : Naming ℕ). effect_of n (records_of counted) s command) same_naming
-      ∙ ap (λ (r : Records ℕ). effect_of (naming_of old) r s command) same_records
-      ∙ ap (λ verdict. unless_refused verdict (records_of old)
-      (effect_of (naming_of old) (records_of old) s command)) (sym accepted)
+      changed_accepted old new s holds command accepted
+      (changed
+      ∙ ap (λ (n : Naming ℕ). effect_of n (records_of made) s command) same_naming
+      ∙ ap (λ (r : Records ℕ). effect_of (naming_of old) r s command) same.records)
 
 -- an error comes with P, if P holds in any case
 pub on_err_from : {X E P : Type 0} (r : Result X E) → P → OnErr r P

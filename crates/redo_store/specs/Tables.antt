@@ -50,9 +50,10 @@ pub record AreTables (tables : Tables) : Type 0 where
   pub few_grants : (n : ℕ) → slice_index tables.grants n ≤ tables.calls
   pub few_applied : tables.store.applied ≤ tables.calls
 
--- no count of grants has come to the calls
-pub record HasGrantsLeft (tables : Tables) : Type 0 where
+-- neither a count of grants nor that of the commands applied has come to the calls
+pub record HasCallsLeft (tables : Tables) : Type 0 where
   pub grants : (n : ℕ) → slice_index tables.grants n < tables.calls
+  pub applied : tables.store.applied < tables.calls
   pub calls : tables.calls < 2 ^ 32
 
 -- the target that a command with this reply sets free

@@ -19,7 +19,7 @@ use std::alloc::{AllocError, Global};
 use std::marker::Model;
 
 mod changes;
-mod lists;
+pub(crate) mod lists;
 mod refusals;
 mod room;
 mod slots;
@@ -124,11 +124,26 @@ impl Store {
             Some(_) => self.count_applied(),
             None => {
                 self.make_room(command)?;
-                self.count_applied();
-                self.change(s, command);
+                self.apply_accepted(s, command);
             }
         }
         Ok(())
+    }
+
+    /// Makes the change of a session's command that is accepted, and for which there is room. Takes no memory.
+    pub(crate) fn apply_accepted(&mut self, s: u8, command: &Command)
+        requires numbers { IsBelow (count_of self.old) (command_of command.now) }
+        requires applied { applied_of self.old + 1 < 2 ^ 32 }
+        requires accepted { verdict_of (naming_of self.old) (records_of self.old) s true
+            (command_of command.now) ≡ None }
+        requires room { has_room_for self.old (command_of command.now) ≡ true }
+        ensures after { HasEffect self.old self.new s (command_of command.now) }
+        ensures applied { applied_of self.new ≡ applied_of self.old + 1 }
+        ensures count { count_of self.new ≡ count_of self.old }
+        ensures order { order_of self.new ≡ order_of self.old }
+    {
+        self.count_applied();
+        self.change(s, command);
     }
 
     /// How many commands were applied.

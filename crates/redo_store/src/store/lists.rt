@@ -1,6 +1,7 @@
 ghost use Rattle.std.specs.Prelude.{◌≡◌, ◌<◌, ◌↔◌, ◌++◌, ◌∷◌, [], ℕ, IsTrue, IsNone, IfOk, OnOk, if◌then◌else◌};
 ghost use Rattle.redo_model.specs.Command as commands;
-ghost use Rattle.redo_model.specs.State.{Idle, has_file, target_state};
+ghost use Rattle.redo_model.specs.State.{Idle, has_file, is_building, target_state};
+ghost use Rattle.redo_model.specs.Changes.{is_stamp_of};
 ghost use Rattle.redo_model.specs.OutOfDate.{HasFile, IsTarget, OutOfDate, IsSource, HasChangeRow, HasCreatedRow, HasRow};
 ghost use Rattle.redo_model.specs.Step.{Tells, stale_reply};
 ghost use Rattle.redo_model.specs.Renaming.{AllBelow, IsReplyBelow};
@@ -9,10 +10,10 @@ ghost use Rattle.redo_store.specs.Stored.{IsStored, records_of, naming_of, count
 
 use crate::store::Store;
 use redo_records::State;
-use redo_terms::Reply;
+use redo_terms::{FileStamp, Reply};
 use std::alloc::{AllocError, Global};
 
-pub(super) fn push_if(names: &mut Vec<u32>, n: u32, is_due: bool) -> Result<(), AllocError>
+pub(crate) fn push_if(names: &mut Vec<u32>, n: u32, is_due: bool) -> Result<(), AllocError>
     ensures { OnOk result (names.new.items ≡ names.old.items ++ (if is_due then n ∷ [] else [])) }
 {
     if is_due {
@@ -170,11 +171,29 @@ impl Store {
         matches!(self.records.state(n), State::Idle)
     }
 
-    pub(super) fn has_file(&self, n: u32) -> bool
+    pub(crate) fn has_file(&self, n: u32) -> bool
         requires { n < count_of self.now }
         ensures { result ≡ has_file (records_of self.now) n }
     {
         self.records.file(n).is_some()
+    }
+
+    /// Whether its file has this stamp.
+    pub(crate) fn has_stamp(&self, n: u32, stamp: FileStamp) -> bool
+        requires { n < count_of self.now }
+        ensures { result ≡ is_stamp_of ((records_of self.now).cell n).file stamp }
+    {
+        match self.records.file(n) {
+            Some(own) => own.bytes() == stamp.bytes(),
+            None => false,
+        }
+    }
+
+    pub(crate) fn is_building(&self, t: u32) -> bool
+        requires { t < count_of self.now }
+        ensures { result ≡ is_building (target_state (records_of self.now) t) }
+    {
+        matches!(self.records.state(t), State::Building(_))
     }
 
     /// Whether it is an out-of-date target.
@@ -183,6 +202,13 @@ impl Store {
         ensures { IsTrue result ↔ OutOfDate (records_of self.now) n }
     {
         self.memo.is(n)
+    }
+
+    /// How many names there are.
+    pub(crate) fn count(&self) -> u32
+        ensures { result ≡ count_of self.now }
+    {
+        self.records.count() as u32
     }
 
     /// The numbers of all names, in order.

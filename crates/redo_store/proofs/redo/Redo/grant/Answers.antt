@@ -1,15 +1,18 @@
-use Rattle.std.proofs.Common.{◌<◌, length, sym, subst, arith}
-use Rattle.redo_store.specs.Tables.{Tables, tables_count}
+use Rattle.std.proofs.Common.{◌≡◌, ◌<◌, None, length, get_or, sym, subst, arith}
+use Rattle.redo_store.specs.Tables.{Tables, tables_count, locks_of}
 use Rattle.redo_store.specs.Kept.{tables_of}
 use Rattle.redo_store.proofs.Kept.{granted}
-use Rattle.redo_store.proofs.redo.Redo.lock.Goals as goal
+use Rattle.redo_store.proofs.redo.Redo.grant.Goals as goal
 
-pub returns-in-None-clause-after : goal.returns-in-None-clause-after
-returns-in-None-clause-after c =
+pub returns-clause-after : goal.returns-clause-after
+returns-clause-after c =
     let t : Tables = tables_of c.self.inside in
     let below : c.args.t < tables_count t =
     subst (λ (u : Tables). c.args.t < tables_count u) (sym c.self.view_is) c.requires.number in
     let held : c.args.t < length t.holders = omega (arith, c.self.invariant.holder_for_each) in
     let counted : c.args.t < length t.grants = omega (arith, c.self.invariant.grants_for_each) in
-    rw (← c.self.view_is) (granted t c.args.session c.args.t c.index-granted.result.now
-    c.index.result.now held counted c.index.ensures c.in-None.is c.index-granted.ensures)
+    let free : get_or t.holders c.args.t None ≡ None =
+    subst (λ (u : Tables). (locks_of u).holder c.args.t ≡ None) (sym c.self.view_is)
+    c.requires.free in
+    rw (← c.self.view_is) (granted t c.args.session c.args.t c.index_mut-2.result.now
+    held counted free c.index_mut-2.ensures.value)

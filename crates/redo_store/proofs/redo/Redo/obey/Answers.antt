@@ -1,35 +1,46 @@
-use Rattle.std.proofs.Common.{◌≡◌, ◌∙◌, ap, subst}
-use Rattle.redo_model.specs.Step.{Replies}
+use Rattle.std.proofs.Common.{◌≡◌, ◌∙◌, refl, ap, subst, sym}
+use Rattle.redo_model.specs.Step.{Answers, after}
+use Rattle.redo_model.proofs.LetThrough.{free_through}
 use Rattle.redo_terms.specs.Meaning.{command_of, reply_of}
-use Rattle.redo_store.specs.Tables.{Tables, tables_records, locks_of, tables_naming, freed_by}
-use Rattle.redo_store.proofs.Obeyed.{freed, freed_at, obeyed}
+use Rattle.redo_store.specs.Kept.{tables_of}
+use Rattle.redo_store.specs.Tables.{Tables, state_of, tables_records, locks_of, tables_naming}
+use Rattle.redo_store.proofs.Obeyed.{freed, freed_at, obeyed_accepted}
 use Rattle.redo_store.proofs.redo.Redo.obey.Goals as goal
-use Rattle.redo_store.proofs.redo.Redo.obey.Goals.{in-Some, in_default}
 
-pub returns-clause-after : goal.returns-clause-after
-returns-clause-after c =
+pub grant-requires-clause-free : goal.grant-requires-clause-free
+grant-requires-clause-free c =
     let old : Tables = c.args.self.now in
-    let mid : Tables = c.apply.new.self in
-    let new : Tables = c.match-freed_by.self in
-    let reply = reply_of c.in_ok-reply.reply in
+    free_through (tables_naming old) (state_of old) c.args.session (command_of c.args.command.now)
+    (reply_of c.args.reply.now) c.in-Some.t (sym c.in-Some.ensures) c.requires.answers
+    c.requires.accepted
+
+pub returns-in-Some-freed_by-clause-after : goal.returns-in-Some-freed_by-clause-after
+returns-in-Some-freed_by-clause-after c =
+    let t : Tables = tables_of c.self.inside in
+    let mid : Tables = record t { store = c.apply_accepted.new.self } in
     let command = command_of c.args.command.now in
-    let replies : Replies (tables_naming old)
-    (tables_records old) c.args.session c.holds_target-holds.result command reply =
-    subst (λ (t : Tables). Replies (tables_naming t) (tables_records t) c.args.session
-    c.holds_target-holds.result command reply) c.self.view_is c.in_ok-reply.ensures.replies in
-    let same_records : tables_records new ≡ tables_records mid = elim c.match-freed_by.branch [
-      | in-Some w ↦ ap tables_records (w.self-is ∙ w.free.ensures)
-      | in_default w ↦ ap tables_records w.self-is
-    ] in
-    let locks : locks_of new ≡ freed (tables_naming old) (locks_of mid) (freed_by command reply) =
-    elim c.match-freed_by.branch [
-      | in-Some w ↦ ap locks_of (w.self-is ∙ w.free.ensures) ∙ freed_at mid w.in-Some.t
-          ∙ ap (freed (tables_naming old) (locks_of mid)) w.in-Some.ensures
-      | in_default w ↦
-          ap locks_of w.self-is ∙ ap (freed (tables_naming old) (locks_of mid)) w.in_default.ensures
-    ] in
-    obeyed old c.args.session c.holds_target-holds.result new command reply c.requires.no_lock
-    c.holds_target-holds.ensures replies
-    (same_records ∙ c.in_ok-apply.ensures.records)
-    (locks
-    ∙ ap (λ l. freed (tables_naming old) l (freed_by command reply)) c.in_ok-apply.ensures.locks)
+    let reply = reply_of c.args.reply.now in
+    subst (λ (u : Tables). state_of c.free.new.self
+    ≡ after (tables_naming u) (state_of u) c.args.session command) c.self.view_is
+    (obeyed_accepted t c.apply_accepted.new.self c.args.session c.free.new.self command reply
+    (sym c.in-None.ensures)
+    (subst (λ (u : Tables). Answers (tables_naming u) (state_of u) c.args.session command reply)
+    (sym c.self.view_is) c.requires.answers)
+    c.requires.accepted c.apply_accepted.ensures.after (ap tables_records c.free.ensures)
+    (ap locks_of c.free.ensures ∙ freed_at mid c.in-Some-freed_by.t
+    ∙ ap (freed (tables_naming t) (locks_of t)) c.in-Some-freed_by.ensures))
+
+pub returns-in_default-clause-after : goal.returns-in_default-clause-after
+returns-in_default-clause-after c =
+    let t : Tables = tables_of c.self.inside in
+    let mid : Tables = record t { store = c.apply_accepted.new.self } in
+    let command = command_of c.args.command.now in
+    let reply = reply_of c.args.reply.now in
+    subst (λ (u : Tables). state_of mid
+    ≡ after (tables_naming u) (state_of u) c.args.session command) c.self.view_is
+    (obeyed_accepted t c.apply_accepted.new.self c.args.session mid command reply
+    (sym c.in-None.ensures)
+    (subst (λ (u : Tables). Answers (tables_naming u) (state_of u) c.args.session command reply)
+    (sym c.self.view_is) c.requires.answers)
+    c.requires.accepted c.apply_accepted.ensures.after refl
+    (ap (freed (tables_naming t) (locks_of t)) c.in_default.ensures))

@@ -1,0 +1,16 @@
+use Rattle.std.proofs.Common.{◌≡◌, true, None, sym, subst}
+use Rattle.redo_model.specs.Step.{verdict_of}
+use Rattle.redo_terms.specs.Meaning.{command_of}
+use Rattle.redo_store.specs.Changes.{HasEffect}
+use Rattle.redo_store.specs.Stored.{Stored, naming_of, records_of}
+use Rattle.redo_store.proofs.store.Store.apply_accepted.Goals as goal
+
+pub change-requires-clause-accepted : goal.change-requires-clause-accepted
+change-requires-clause-accepted c =
+    subst (λ (t : Stored). verdict_of (naming_of t) (records_of t) c.args.s true
+    (command_of c.args.command.now) ≡ None) (sym c.count_applied.ensures.after) c.requires.accepted
+
+pub returns-clause-after : goal.returns-clause-after
+returns-clause-after c =
+    subst (λ (t : Stored). HasEffect t c.change.new.self c.args.s (command_of c.args.command.now))
+    c.count_applied.ensures.after c.change.ensures.after
