@@ -1,20 +1,21 @@
 -- What a command that is no lock leaves of the locks.
-use Rattle.std.proofs.Common.{◌≡◌, ◌==◌, ℕ, zero, suc, Bool, true, cond, List, [], ◌∷◌, Option, Some, None, get_or, refl, sym, ap, ◌∙◌, subst, inl, inr}
+use Rattle.std.proofs.Common.{◌≡◌, ◌==◌, ℕ, zero, suc, ◌+◌, Bool, true, false, cond, List, [], ◌∷◌, Option, Some, None, get_or, refl, sym, ap, ◌∙◌, subst, inl, inr}
 use Rattle.std.specs.Prelude.{MatchOption}
 use Rattle.std.proofs.Math.ListN.{set}
 use Rattle.std.proofs.Math.Path.{fun_ext}
 use Rattle.std.proofs.lemmas.Bool.{cases_eq, eq-eqb, ne_eqb}
 use Rattle.std.proofs.lemmas.List.{get_or-set_other}
-use Rattle.redo_model.specs.Names.{Naming}
-use Rattle.redo_model.specs.State.{Locks}
+use Rattle.std.specs.declared.cmp.Ordering.{Ordering}
+use Rattle.redo_model.specs.Names.{Naming, numbers}
+use Rattle.redo_model.specs.State.{Locks, State}
 use Rattle.redo_model.specs.Command.{Command, File, Gone, Lock, Unlock, Start, IfChange, IfCreate, Always, Stamp, Done, Failed, Ood, Targets, Sources, asked_lock}
 use Rattle.redo_model.specs.Reply.{Refusal, Reply, Okay, Refused, lets_through}
 use Rattle.redo_model.specs.Step.{Answers, Replies, records_after, after, verdict_of, holds_target, locks_after, locks_freed, unless_refused}
-use Rattle.redo_model.proofs.LetThrough.{accepted_through, told_without_lock}
+use Rattle.redo_model.proofs.LetThrough.{accepted_through, stopped_same, told_without_lock}
 use Rattle.redo_store.specs.Changes.{HasEffect}
 use Rattle.redo_store.specs.Stored.{Stored, records_of}
-use Rattle.redo_store.specs.Tables.{Tables, tables_records, locks_of, state_of, tables_naming, freed_by}
-use Rattle.redo_store.proofs.Rooms.{changed_accepted}
+use Rattle.redo_store.specs.Tables.{Tables, tables_records, locks_of, state_of, tables_naming, calls_of, freed_by, IsAsBefore}
+use Rattle.redo_store.proofs.Rooms.{accepted_of_holder, changed_accepted}
 
 -- the locks without that of the target, if there is one
 abbrev pub freed : Naming ℕ → Locks ℕ → Option ℕ → Locks ℕ
@@ -98,6 +99,17 @@ freed_at t n =
     fun_ext (none_is_put t.holders n) in
     λ i. record { holder = holders i; grants = (locks_of t).grants }
 
+-- a command that is no lock is accepted where it isn't refused
+pub accepted_told : (t : Tables) (s : ℕ) (command : Command ℕ) (reply : Reply ℕ)
+    → asked_lock command ≡ None → Answers (tables_naming t) (state_of t) s command reply
+    → lets_through reply ≡ true
+    → verdict_of (tables_naming t) (tables_records t) s true command ≡ None
+accepted_told t s command reply none told through =
+    let holds : Bool = holds_target (locks_of t) s command in
+    accepted_of_holder (tables_naming t) (tables_records t) s holds command
+    (accepted_through (tables_naming t) (tables_records t) s holds command reply
+    (told_without_lock (tables_naming t) (state_of t) s command reply none told) through)
+
 -- a command that is no lock, and isn't refused, was applied, and its target's lock freed
 pub obeyed_accepted : (t : Tables) (to : Stored) (s : ℕ) (new : Tables) (command : Command ℕ)
     (reply : Reply ℕ) → asked_lock command ≡ None
@@ -113,3 +125,20 @@ obeyed_accepted t to s new command reply none told through changed records locks
     accepted_through (tables_naming t) (tables_records t) s holds command reply replies through in
     obeyed t s holds new command reply none refl replies
     (records ∙ changed_accepted t.store to s holds command accepted changed) locks
+
+-- a call that isn't let through leaves the state
+pub stopped_call : (old counted : Tables) (s : ℕ) (command : Command ℕ) (reply : Reply ℕ)
+    → Answers (tables_naming old) (state_of old) s command reply → lets_through reply ≡ false
+    → counted ≡ record old { calls = calls_of old + 1 }
+    → state_of counted ≡ after (tables_naming old) (state_of old) s command
+stopped_call old counted s command reply told stopped is =
+    ap state_of is ∙ sym (stopped_same (tables_naming old) (state_of old) s command reply told stopped)
+
+-- a call after room was made
+pub called_in : (old made new : Tables) (s : ℕ) (command : Command ℕ) → IsAsBefore old made
+    → state_of new ≡ after (tables_naming made) (state_of made) s command
+    → state_of new ≡ after (tables_naming old) (state_of old) s command
+called_in old made new s command same called =
+    called
+    ∙ ap (λ (order : ℕ → ℕ → Ordering). after (numbers order) (state_of made) s command) same.order
+    ∙ ap (λ (st : State ℕ). after (tables_naming old) st s command) same.state

@@ -4,7 +4,7 @@ use Rattle.redo_model.proofs.LetThrough.{free_through}
 use Rattle.redo_terms.specs.Meaning.{command_of, reply_of}
 use Rattle.redo_store.specs.Kept.{tables_of}
 use Rattle.redo_store.specs.Tables.{Tables, state_of, tables_records, locks_of, tables_naming}
-use Rattle.redo_store.proofs.Obeyed.{freed, freed_at, obeyed_accepted}
+use Rattle.redo_store.proofs.Obeyed.{accepted_told, freed, freed_at, obeyed_accepted}
 use Rattle.redo_store.proofs.redo.Redo.obey.Goals as goal
 
 pub grant-requires-clause-free : goal.grant-requires-clause-free
@@ -12,6 +12,15 @@ grant-requires-clause-free c =
     let old : Tables = c.args.self.now in
     free_through (tables_naming old) (state_of old) c.args.session (command_of c.args.command.now)
     (reply_of c.args.reply.now) c.in-Some.t (sym c.in-Some.ensures) c.requires.answers
+    c.requires.accepted
+
+pub apply_accepted-requires-clause-accepted : goal.apply_accepted-requires-clause-accepted
+apply_accepted-requires-clause-accepted c =
+    let command = command_of c.args.command.now in
+    let reply = reply_of c.args.reply.now in
+    accepted_told (tables_of c.self.inside) c.args.session command reply (sym c.in-None.ensures)
+    (subst (λ (u : Tables). Answers (tables_naming u) (state_of u) c.args.session command reply)
+    (sym c.self.view_is) c.requires.answers)
     c.requires.accepted
 
 pub returns-in-Some-freed_by-clause-after : goal.returns-in-Some-freed_by-clause-after
