@@ -152,13 +152,13 @@ module _ (targets : List TargetRows) (k : ℕ) where
       → IsKept grown (needed ++ more_needed) (awaited ++ more_awaited) more_seated
   kept_grown needed more_needed awaited more_awaited seated more_seated small need_sized need_none
       await_sized await_none seat_sized seat_same h = record {
-    small = omega (arith, length-grown);
-    below = λ t n on.
-        let was : n < length targets = h.below t n (subst (λ b. IsTrue b) (room_grown t n) on) in
-        omega (arith, length-grown);
-    needs = inverse_grown h.below has_change (λ n. refl) needed more_needed need_sized need_none
-        h.needs;
-    awaits = inverse_grown h.below has_created (λ n. refl) awaited more_awaited await_sized
-        await_none h.awaits;
-    counts = counts_grown h.below seated more_seated seat_sized seat_same h.counts;
-  }
+        small = omega (arith, length-grown);
+        below = λ t n on.
+            let was : n < length targets = h.below t n (subst (λ b. IsTrue b) (room_grown t n) on) in
+            omega (arith, length-grown);
+        needs = inverse_grown h.below has_change (λ n. refl) needed more_needed need_sized need_none
+            h.needs;
+        awaits = inverse_grown h.below has_created (λ n. refl) awaited more_awaited await_sized
+            await_none h.awaits;
+        counts = counts_grown h.below seated more_seated seat_sized seat_same h.counts;
+      }
