@@ -1,4 +1,4 @@
-ghost use Rattle.std.specs.Prelude.{◌≡◌, ◌||◌, ◌≤◌, ◌<◌, [], false, length, take, is_none, is_err, IfSome, MatchOption};
+ghost use Rattle.std.specs.Prelude.{◌≡◌, ◌||◌, ◌≤◌, ◌<◌, [], false, length, take, is_none, is_err, IfNone, IfSome, MatchOption};
 ghost use Rattle.std.specs.Io.KnownBytes.{Consumes, Appends, Keeps, IsAtEnd};
 ghost use Rattle.redo_whole.specs.Watched.{is_faulted as fault_of, inner_of};
 
@@ -35,13 +35,15 @@ impl<T> Watched<T> {
 }
 
 impl<R: Read> Watched<R> {
-    /// How many bytes one read gave, where it did not fail.
-    pub(crate) fn read(&mut self, buf: &mut [u8]) -> Option<usize>
+    /// How many bytes one read gave, where it did not fail: 0 at the end, or where the buffer is empty.
+    pub fn read(&mut self, buf: &mut [u8]) -> Option<usize>
         ensures within { IfSome result (λ n. n ≤ length buf.new) }
         ensures given { IfSome result (λ n. Consumes (R.remaining (inner_of self.old))
             (R.remaining (inner_of self.new)) (take n buf.new)) }
         ensures end { IfSome result
             (λ n. n ≡ 0 → 0 < length buf.new → IsAtEnd (R.remaining (inner_of self.new))) }
+        ensures failed { IfNone result (Keeps (R.remaining (inner_of self.old))
+            (R.remaining (inner_of self.new))) }
         ensures flag { fault_of self.new ≡ (fault_of self.old || is_none result) }
     {
         let given = self.inner.read(buf).ok();
