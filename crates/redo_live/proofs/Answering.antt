@@ -1,0 +1,112 @@
+-- What a command that was read is answered, over the names of its numbers.
+use Rattle.std.proofs.Common.{◌≡◌, ◌≢◌, ℕ, ◌≤◌, List, [], ◌∷◌, refl, sym, ap, ◌∙◌, subst, length, arith}
+use Rattle.std.specs.Cmp.Lexicographic.{slice_cmp, nat_list_cmp_total, bytes_decides}
+use Rattle.std.specs.Cmp.{tied_itself}
+use Rattle.std.specs.Ordering.{nat_cmp, is_eq}
+use Rattle.std.specs.declared.cmp.Ordering.{Ordering}
+use Rattle.std.specs.declared.cmp.Ordering.TheVariants.{Less, Equal}
+use Rattle.std.proofs.lemmas.Cmp.{nat_cmp_total, on_total}
+use Rattle.std.proofs.lemmas.Map.Text.{is_eq-slice_cmp}
+use Rattle.redo_names.specs.Names.{text_at}
+use Rattle.redo_names.specs.Inside.Names.{AreNames, Extends}
+use Rattle.redo_model.specs.Names.{Text, texts, numbers}
+use Rattle.redo_model.specs.State.{State}
+use Rattle.redo_model.specs.Command.{Command, names_in}
+use Rattle.redo_model.specs.Reply.{Reply}
+use Rattle.redo_model.specs.Step.{Answers, after}
+use Rattle.redo_model.specs.Renaming.{AllBelow, IsBelow, IsReplyBelow, named_command, named_reply}
+use Rattle.redo_model.specs.Inside.Renaming.{IsRenaming, OrdersAlike, named_state, numbering}
+use Rattle.redo_model.proofs.Texts.{texts_are_names}
+use Rattle.redo_model.proofs.Naming.{numbering_is_renaming}
+use Rattle.redo_model.proofs.RepliesByName.{one_number}
+use Rattle.redo_model.proofs.AnswersByName.{answers_by_name}
+use Rattle.redo_model.proofs.StepsByName.{after_by_name}
+use Rattle.redo_terms.specs.Meaning.{by_text}
+use Rattle.redo_store.specs.Orders.{by_place, place}
+use Rattle.redo_store.specs.Tables.{Tables, tables_order, state_of}
+use Rattle.redo_live.specs.Inside.Ordered.{IsSortedReply}
+use Rattle.redo_live.specs.Inside.Within.{IsStateWithin}
+use Rattle.redo_live.proofs.Within.{IsStateWithin-after, IsReplyBelow-answers}
+use Rattle.redo_live.proofs.MoreNames.{named_state-Extends, IsStateWithin-Extends}
+use Rattle.redo_live.proofs.Reordered.{AreOrders, answers_again}
+
+all_below_more : (a b : ℕ) (ns : List ℕ) → a ≤ b → AllBelow a ns → AllBelow b ns
+all_below_more a b [] few below = tt
+all_below_more a b (n ∷ ns) few below = (omega (arith, below.0), all_below_more a b ns few below.1)
+
+pub below_more : (a b : ℕ) (command : Command ℕ) → a ≤ b → IsBelow a command → IsBelow b command
+below_more a b command few below = all_below_more a b (names_in command) few below
+
+place_is_strict : (sorted : List ℕ) (n : ℕ) → by_place sorted n n ≢ Less
+unfolding by_place
+place_is_strict sorted n e = let f = tied_itself nat_cmp_total (place sorted n) in cc
+
+same_texts : (a b : Text) → slice_cmp nat_cmp a b ≡ Equal → a ≡ b
+same_texts a b e = (bytes_decides a b).0 (sym (is_eq-slice_cmp a b) ∙ ap is_eq e)
+
+pub renaming : (names : List Text) → AreNames names → IsRenaming (numbering names)
+renaming names are = numbering_is_renaming names are.distinct
+
+module _ (names : List Text) (are : AreNames names) where
+  pub orders : (order : ℕ → ℕ → Ordering) → ((n : ℕ) → order n n ≢ Less)
+      → AreOrders (length names) order (by_text names).order
+  orders order strict = record {
+    strict = strict;
+    total = on_total (text_at names) nat_list_cmp_total;
+    apart = λ m n a b e. one_number (renaming names are) m n a b
+        (same_texts (text_at names m) (text_at names n) e);
+  }
+
+  pub alike : OrdersAlike (numbering names) texts (by_text names).order
+  alike = record { alike = λ k m a b. refl }
+
+  module _ (tables : Tables) (within : IsStateWithin (length names) (state_of tables)) (session : ℕ)
+      (command : Command ℕ) (below : IsBelow (length names) command) (reply now : Reply ℕ)
+      (answers : Answers (numbers (tables_order tables)) (state_of tables) session command reply)
+      (sorted : IsSortedReply (by_text names).order reply now)
+    where
+      by_texts : Answers (numbers (by_text names).order) (state_of tables) session command now
+      by_texts =
+          answers_again (length names) (tables_order tables) (by_text names).order
+          (orders (tables_order tables) (place_is_strict tables.store.sorted)) (state_of tables) session command reply now within.records below
+          answers sorted
+
+      pub now_below : IsReplyBelow (length names) now
+      now_below =
+          IsReplyBelow-answers (length names) (by_text names).order (state_of tables) session command
+          now within below by_texts
+
+      pub now_answers : Answers texts (named_state (numbering names) (state_of tables)) session
+          (named_command (text_at names) command) (named_reply (text_at names) now)
+      now_answers =
+          (answers_by_name (renaming names are) texts texts_are_names (by_text names).order alike
+          (state_of tables) within.records session command now below now_below).0 by_texts
+
+module _ (old new : List Text) (old_are : AreNames old) (new_are : AreNames new)
+    (grows : Extends old new) (st : State ℕ) (within : IsStateWithin (length old) st)
+  where
+    pub state_kept : named_state (numbering new) st ≡ named_state (numbering old) st
+    state_kept =
+        named_state-Extends old new grows (renaming old old_are) (renaming new new_are) st within
+
+    pub within_kept : IsStateWithin (length new) st
+    within_kept =
+        IsStateWithin-Extends old new grows (renaming old old_are) (renaming new new_are) st within
+
+    module _ (next : State ℕ) (order : ℕ → ℕ → Ordering) (session : ℕ) (command : Command ℕ)
+        (below : IsBelow (length new) command)
+        (steps : next ≡ after (numbers order) st session command)
+      where
+        pub next_within : IsStateWithin (length new) next
+        next_within =
+            subst (IsStateWithin (length new)) (sym steps)
+            (IsStateWithin-after (length new) order st session command within_kept below)
+
+        pub next_is : named_state (numbering new) next
+            ≡ after texts (named_state (numbering old) st) session
+            (named_command (text_at new) command)
+        next_is =
+            ap (named_state (numbering new)) steps
+            ∙ after_by_name (renaming new new_are) texts texts_are_names order st session command below
+            ∙ ap (λ (at : State Text). after texts at session (named_command (text_at new) command))
+            state_kept

@@ -1,0 +1,10 @@
+pub mod Within
+pub mod MoreNames
+pub mod Reordered
+pub mod Answering
+pub mod Keeping
+pub mod Changing
+pub mod Obeying
+pub mod Lines
+pub mod Closing
+pub mod Ending

@@ -1,0 +1,142 @@
+-- A session's command is answered by the line that was told.
+use Rattle.std.proofs.Common.{◌≡◌, ◌+◌, ◌<◌, ℕ, Bool, cond, List, [], ◌∷◌, ◌++◌, sym, ap, ◌∙◌, subst, length}
+use Rattle.redo_names.specs.Names.{text_at}
+use Rattle.redo_names.specs.Inside.Names.{AreNames}
+use Rattle.redo_model.specs.Names.{Text, texts}
+use Rattle.redo_model.specs.State.{State}
+use Rattle.redo_model.specs.Command.{Command}
+use Rattle.redo_model.specs.Step.{Answers, after}
+use Rattle.redo_model.specs.Changes.{changes}
+use Rattle.redo_model.specs.Renaming.{IsBelow, named_command, named_reply}
+use Rattle.redo_model.specs.Inside.Renaming.{named_state, numbering}
+use Rattle.redo_model.proofs.StepsByName.{after_by_name}
+use Rattle.redo_model.proofs.Texts.{texts_are_names}
+use Rattle.redo_terms.specs.Meaning.{command_of, reply_of, line_at, by_text}
+use Rattle.redo_text.specs.Grammar.{IsCommandLine, AddsNames}
+use Rattle.redo_store.specs.Tables.{Tables, state_of, tables_records, tables_naming, tables_order, calls_of}
+use Rattle.redo_live.specs.Inside.Answered.{logged_text}
+use Rattle.redo_live.specs.Inside.LiveState.{LiveState, state_in, calls_in}
+use Rattle.redo_live.specs.Inside.Kept.{IsKept}
+use Rattle.redo_live.specs.Inside.Told.{IsTold, IsObeyed, AnswersText}
+use Rattle.redo_live.specs.declared.told.Told.{Told}
+use Rattle.redo_live.proofs.Answering.{renaming, now_answers}
+use Rattle.redo_live.proofs.Changing.{changes_by_name}
+use Rattle.redo_live.proofs.Keeping.{IsKept-after}
+
+module _ (names : List Text) (are : AreNames names) (tables : Tables)
+    (kept : IsKept names (state_of tables) (calls_of tables)) (session : ℕ) (command : Command ℕ)
+    (below : IsBelow (length names) command) (told : Told)
+    (is : IsTold (record { names = names; tables = tables }) session command told)
+  where
+    asked_below : IsBelow (length names) (command_of told.line.command)
+    asked_below = subst (IsBelow (length names)) (sym is.command_is) below
+
+    told_answers : Answers texts (named_state (numbering names) (state_of tables)) session
+        (named_command (text_at names) command)
+        (named_reply (text_at names) (reply_of told.line.reply))
+    told_answers =
+        now_answers names are tables kept.within session command below (reply_of told.reply)
+        (reply_of told.line.reply) is.answers is.sorted
+
+    told_changes : changes (named_state (numbering names) (state_of tables)).records
+        (line_at names told.line).command (line_at names told.line).reply
+        ≡ changes (tables_records tables) (command_of told.line.command) (reply_of told.reply)
+    told_changes =
+        changes_by_name (by_text names).order names are (tables_records tables)
+        (reply_of told.reply) (reply_of told.line.reply) is.sorted
+        (command_of told.line.command) asked_below
+
+    module _ (next : Tables)
+        (steps : state_of next
+        ≡ after (tables_naming tables) (state_of tables) session (command_of told.line.command))
+        (counted : calls_of next ≡ calls_of tables + 1)
+      where
+        same_step : state_of next ≡ after (tables_naming tables) (state_of tables) session command
+        same_step =
+            steps ∙ ap (after (tables_naming tables) (state_of tables) session) is.command_is
+
+        pub kept_after : calls_of tables < 4294836223
+            → IsKept names (state_of next) (calls_of next)
+        kept_after left =
+            subst (λ (st : State ℕ). IsKept names st (calls_of next)) (sym same_step)
+            (subst (IsKept names (after (tables_naming tables) (state_of tables) session command))
+            (sym counted)
+            (IsKept-after names are (tables_order tables) (state_of tables) session command
+            (named_reply (text_at names) (reply_of told.line.reply)) (calls_of tables) left below
+            kept told_answers))
+
+        pub obeyed : (old : LiveState) (said said_after logged logged_after : Text) (b : Bool)
+            → names ≡ old.names → state_of tables ≡ state_of old.tables
+            → calls_of tables ≡ calls_in old
+            → b ≡ changes (tables_records tables) (command_of told.line.command)
+            (reply_of told.reply)
+            → said_after ≡ said ++ told.text.items
+            → logged_after ≡ logged ++ cond b told.text.items []
+            → IsObeyed old (record { names = names; tables = next }) session command said said_after
+            logged logged_after
+        obeyed old said said_after logged logged_after b old_names old_state old_calls changing
+            says logs =
+            let here = named_state (numbering names) (state_of tables) in
+            let line = line_at names told.line in
+            let before : here ≡ state_in old =
+            ap (named_state (numbering names)) old_state
+            ∙ ap (λ (ns : List Text). named_state (numbering ns) (state_of old.tables)) old_names in
+            let is_changing : b ≡ changes (state_in old).records line.command line.reply =
+            changing ∙ sym told_changes
+            ∙ ap (λ (st : State Text). changes st.records line.command line.reply) before in
+            let logged_is : cond b told.text.items [] ≡ logged_text (state_in old) line =
+            ap (λ (w : Bool). cond w told.text.items []) is_changing
+            ∙ ap (λ (t : Text). cond (changes (state_in old).records line.command line.reply) t [])
+            is.text_is in
+            record {
+              line = line;
+              session_is = is.session_is;
+              command_is = ap (named_command (text_at names)) is.command_is
+                  ∙ ap (λ (ns : List Text). named_command (text_at ns) command) old_names;
+              answers = subst (λ (st : State Text). Answers texts st session line.command line.reply)
+                  before
+                  (subst (λ (asked : Command ℕ). Answers texts here session
+                  (named_command (text_at names) asked) line.reply) (sym is.command_is)
+                  told_answers);
+              after_is = ap (named_state (numbering names)) steps
+                  ∙ after_by_name (renaming names are) texts texts_are_names (tables_order tables)
+                  (state_of tables) session (command_of told.line.command) asked_below
+                  ∙ ap (λ (st : State Text). after texts st session line.command) before;
+              told = record {
+                says = says ∙ ap (λ (t : Text). said ++ t) is.text_is;
+                logs = logs ∙ ap (λ (t : Text). logged ++ t) logged_is;
+                calls = counted ∙ ap (λ (n : ℕ). n + 1) old_calls;
+              };
+            }
+
+-- and the text that was read, where the names before are a front of these
+pub answered : (old mid new : LiveState) (session : ℕ) (text : Text) (command : Command ℕ)
+    (said said_after logged logged_after : Text) → state_in mid ≡ state_in old
+    → calls_in mid ≡ calls_in old → new.names ≡ mid.names
+    → IsCommandLine text (named_command (text_at mid.names) command)
+    → AddsNames old.names (named_command (text_at mid.names) command ∷ []) mid.names
+    → IsObeyed mid new session command said said_after logged logged_after
+    → AnswersText old new session text said said_after logged logged_after
+answered old mid new session text command said said_after logged logged_after same calls names
+    is_line adds obeys =
+    let line = obeys.line in
+    record {
+      line = line;
+      is = record {
+        session_is = obeys.session_is;
+        said = subst (IsCommandLine text) (sym obeys.command_is) is_line;
+        named = subst (λ (ns : List Text). AddsNames old.names (line.command ∷ []) ns) (sym names)
+            (subst (λ (asked : Command Text). AddsNames old.names (asked ∷ []) mid.names)
+            (sym obeys.command_is) adds);
+        answers = subst (λ (st : State Text). Answers texts st session line.command line.reply) same
+            obeys.answers;
+        after_is = obeys.after_is
+            ∙ ap (λ (st : State Text). after texts st session line.command) same;
+      };
+      told = record {
+        says = obeys.told.says;
+        logs = obeys.told.logs
+            ∙ ap (λ (st : State Text). logged ++ logged_text st line) same;
+        calls = obeys.told.calls ∙ ap (λ (n : ℕ). n + 1) calls;
+      };
+    }

@@ -1,0 +1,121 @@
+use Rattle.std.proofs.Common.{◌≡◌, ◌+◌, ◌^◌, ◌<◌, ◌++◌, List, length, map, sym, ap, ◌∙◌, subst}
+use Rattle.std.specs.List.{AllByRecursion, flat_map}
+use Rattle.redo_model.specs.Names.{Text}
+use Rattle.redo_model.specs.History.{LegalFrom, left_by}
+use Rattle.redo_model.specs.Renaming.{IsBelow}
+use Rattle.redo_terms.specs.Meaning.{command_of, line_of, line_at}
+use Rattle.redo_terms.specs.declared.reply.Line.{Line}
+use Rattle.redo_store.specs.Tables.{state_of, tables_count, tables_naming, calls_of}
+use Rattle.redo_replay.specs.Histories.{line_text_of}
+use Rattle.redo_replay.specs.Recorded.{AreLinesBelow}
+use Rattle.redo_live.specs.Inside.Ended.{end_text}
+use Rattle.redo_live.specs.Inside.ClosingLines.{AreClosing, TakesNoRoom}
+use Rattle.redo_live.specs.Inside.Kept.{live_of}
+use Rattle.redo_live.specs.Inside.LiveState.{LiveState}
+use Rattle.redo_live.specs.Inside.Told.{EndsSession}
+use Rattle.redo_live.proofs.Ending.{close_below, close_calls, close_legal, close_room, ends, kept_end, told_below}
+use Rattle.redo_live.proofs.live.Live.end.Goals as goal
+
+pub lines_text-requires : goal.lines_text-requires
+lines_text-requires c =
+    let lines = c.in_ok-lines.lines.items in
+    let closing : AreClosing (live_of c.self.inside) c.args.session (map line_of lines) =
+    subst (λ (l : LiveState). AreClosing l c.args.session (map line_of lines))
+    (sym c.self.view_is) c.in_ok-lines.ensures in
+    subst (AreLinesBelow c.self.inside.names) (sym c.deref.ensures.value)
+    (told_below c.self.inside.names c.len.ensures.names c.self.inside.redo
+    c.self.invariant.state c.args.session lines closing)
+
+pub close-requires-clause-below : goal.close-requires-clause-below
+close-requires-clause-below c =
+    let lines = c.in_ok-lines.lines.items in
+    let closing : AreClosing (live_of c.self.inside) c.args.session (map line_of lines) =
+    subst (λ (l : LiveState). AreClosing l c.args.session (map line_of lines))
+    (sym c.self.view_is) c.in_ok-lines.ensures in
+    subst (λ (ls : List Line). AllByRecursion
+    (λ line. IsBelow (tables_count c.self.inside.redo) (command_of line.command)) ls)
+    (sym c.deref-5.ensures.value)
+    (close_below c.self.inside.names c.len.ensures.names c.self.inside.redo
+    c.self.invariant.state c.args.session lines closing)
+
+pub close-requires-clause-room : goal.close-requires-clause-room
+close-requires-clause-room c =
+    let lines = c.in_ok-lines.lines.items in
+    let closing : AreClosing (live_of c.self.inside) c.args.session (map line_of lines) =
+    subst (λ (l : LiveState). AreClosing l c.args.session (map line_of lines))
+    (sym c.self.view_is) c.in_ok-lines.ensures in
+    subst (λ (ls : List Line). AllByRecursion (λ line. TakesNoRoom (command_of line.command)) ls)
+    (sym c.deref-5.ensures.value)
+    (close_room c.self.inside.names c.len.ensures.names c.self.inside.redo
+    c.self.invariant.state c.args.session lines closing)
+
+pub close-requires-clause-calls : goal.close-requires-clause-calls
+close-requires-clause-calls c =
+    let lines = c.in_ok-lines.lines.items in
+    let closing : AreClosing (live_of c.self.inside) c.args.session (map line_of lines) =
+    subst (λ (l : LiveState). AreClosing l c.args.session (map line_of lines))
+    (sym c.self.view_is) c.in_ok-lines.ensures in
+    subst (λ (ls : List Line). calls_of c.self.inside.redo + length ls < 2 ^ 32)
+    (sym c.deref-5.ensures.value)
+    (close_calls c.self.inside.names c.len.ensures.names c.self.inside.redo
+    c.self.invariant.state c.args.session lines closing)
+
+pub close-requires-clause-legal : goal.close-requires-clause-legal
+close-requires-clause-legal c =
+    let lines = c.in_ok-lines.lines.items in
+    let closing : AreClosing (live_of c.self.inside) c.args.session (map line_of lines) =
+    subst (λ (l : LiveState). AreClosing l c.args.session (map line_of lines))
+    (sym c.self.view_is) c.in_ok-lines.ensures in
+    subst (λ (ls : List Line). LegalFrom (tables_naming c.self.inside.redo)
+    (state_of c.self.inside.redo) (map line_of ls)) (sym c.deref-5.ensures.value)
+    (close_legal c.self.inside.names c.len.ensures.names c.self.inside.redo
+    c.self.invariant.state c.args.session lines closing)
+
+pub invariant_of-self : goal.invariant_of-self
+invariant_of-self c =
+    let lines = c.in_ok-lines.lines.items in
+    let tables = c.self.inside.redo in
+    let closing : AreClosing (live_of c.self.inside) c.args.session (map line_of lines) =
+    subst (λ (l : LiveState). AreClosing l c.args.session (map line_of lines))
+    (sym c.self.view_is) c.in_ok-lines.ensures in
+    record {
+      state = kept_end c.self.inside.names c.len.ensures.names tables c.self.invariant.state
+          c.args.session lines closing c.close.new.redo
+          (c.close.ensures.left
+          ∙ ap (λ (ls : List Line). left_by (tables_naming tables) (state_of tables)
+          (map line_of ls)) c.deref-5.ensures.value)
+          (c.close.ensures.calls
+          ∙ ap (λ (ls : List Line). calls_of tables + length ls) c.deref-5.ensures.value);
+      slots = c.self.invariant.slots ∙ sym c.close.ensures.count;
+    }
+
+pub returns-clause-ended : goal.returns-clause-ended
+returns-clause-ended c =
+    let lines = c.in_ok-lines.lines.items in
+    let names = c.self.inside.names in
+    let tables = c.self.inside.redo in
+    let next : LiveState = record { names = names; tables = c.close.new.redo } in
+    let said = c.args.said.now.items in
+    let logged = c.args.logged.now.items in
+    let closing : AreClosing (live_of c.self.inside) c.args.session (map line_of lines) =
+    subst (λ (l : LiveState). AreClosing l c.args.session (map line_of lines))
+    (sym c.self.view_is) c.in_ok-lines.ensures in
+    let kept : c.in_ok-kept.kept.items ≡ flat_map line_text_of (map (line_at names) lines) =
+    c.in_ok-kept.ensures
+    ∙ ap (λ (ls : List Line). flat_map line_text_of (map (line_at names) ls))
+    c.deref.ensures.value in
+    subst (λ (l : LiveState). EndsSession l next c.args.session said c.tell.new.said.items logged
+    c.tell.new.logged.items) c.self.view_is
+    (ends names c.len.ensures.names tables c.self.invariant.state c.args.session lines closing
+    c.close.new.redo
+    (c.close.ensures.left
+    ∙ ap (λ (ls : List Line). left_by (tables_naming tables) (state_of tables) (map line_of ls))
+    c.deref-5.ensures.value)
+    (c.close.ensures.calls
+    ∙ ap (λ (ls : List Line). calls_of tables + length ls) c.deref-5.ensures.value)
+    said c.tell.new.said.items logged c.tell.new.logged.items
+    (c.in_ok-tell.ensures.said
+    ∙ ap (λ (t : Text). said ++ t) (c.deref-3.ensures.value ∙ c.in_ok-text.ensures
+    ∙ ap (λ (t : Text). t ++ end_text c.args.session) (c.deref-2.ensures.value ∙ kept)))
+    (c.in_ok-tell.ensures.logged
+    ∙ ap (λ (t : Text). logged ++ t) (c.deref-4.ensures.value ∙ kept)))

@@ -1,0 +1,23 @@
+use Rattle.std.proofs.Common.{ℕ, sym, ap, ◌∙◌, subst}
+use Rattle.redo_model.specs.State.{State, empty}
+use Rattle.redo_model.specs.Inside.Renaming.{named_state, numbering}
+use Rattle.redo_model.proofs.HistoriesByName.{empty_by_name}
+use Rattle.redo_store.specs.Tables.{calls_of}
+use Rattle.redo_live.specs.Inside.Kept.{IsKept}
+use Rattle.redo_live.proofs.Keeping.{IsKept-empty}
+use Rattle.redo_live.proofs.live.Live.new.Goals as goal
+
+pub invariant_of-result : goal.invariant_of-result
+invariant_of-result c =
+    let names = c.new.result in
+    record {
+      state = subst (λ (st : State ℕ). IsKept names st (calls_of c.in_ok-redo.redo))
+          (sym c.in_ok-redo.ensures.empty)
+          (subst (IsKept names empty) (sym c.in_ok-redo.ensures.calls) (IsKept-empty names));
+      slots = sym c.in_ok-redo.ensures.count;
+    }
+
+pub returns-clause-state : goal.returns-clause-state
+returns-clause-state c =
+    ap (named_state (numbering c.new.result)) c.in_ok-redo.ensures.empty
+    ∙ empty_by_name (numbering c.new.result)

@@ -1,0 +1,63 @@
+use Rattle.std.proofs.Common.{◌≡◌, ◌∙◌, ℕ, ◌<◌, ◌++◌, [], cond, List, length, sym, ap, subst}
+use Rattle.redo_names.specs.Inside.Names.{AreNames}
+use Rattle.redo_model.specs.Names.{Text}
+use Rattle.redo_model.specs.Renaming.{IsBelow}
+use Rattle.redo_terms.specs.Meaning.{command_of}
+use Rattle.redo_store.specs.Tables.{state_of, calls_of}
+use Rattle.redo_live.specs.Inside.LiveState.{LiveState, calls_in}
+use Rattle.redo_live.specs.Inside.Kept.{live_of}
+use Rattle.redo_live.specs.Inside.Told.{IsTold}
+use Rattle.redo_live.proofs.Obeying.{kept_after, obeyed}
+use Rattle.redo_live.proofs.live.Live.obey.Goals as goal
+
+pub invariant_of-self : goal.invariant_of-self
+invariant_of-self c =
+    let names = c.self.inside.names in
+    let tables = c.self.inside.redo in
+    let command = command_of c.args.command in
+    let old_names : names ≡ c.args.self.now.names =
+    ap (λ (l : LiveState). l.names) c.self.view_is ∙ c.make_room.ensures.names in
+    let old_calls : calls_of tables ≡ calls_in c.args.self.now =
+    ap calls_in c.self.view_is ∙ c.make_room.ensures.known.calls in
+    let are : AreNames names = subst AreNames (sym old_names) c.requires.names in
+    let below : IsBelow (length names) command =
+    subst (λ (ns : List Text). IsBelow (length ns) command) (sym old_names) c.requires.below in
+    let is : IsTold (live_of c.self.inside) c.args.session command c.in_ok-told.told =
+    subst (λ (l : LiveState). IsTold l c.args.session command c.in_ok-told.told)
+    (sym c.self.view_is) c.in_ok-told.ensures in
+    record {
+      state = kept_after names are tables c.self.invariant.state c.args.session command below
+          c.in_ok-told.told is c.change.new.self c.change.ensures.after c.change.ensures.calls
+          (subst (λ (n : ℕ). n < 4294836223) (sym old_calls) c.requires.calls);
+      slots = c.self.invariant.slots ∙ sym c.change.ensures.count;
+    }
+
+pub returns-clause-obeyed : goal.returns-clause-obeyed
+returns-clause-obeyed c =
+    let names = c.self.inside.names in
+    let tables = c.self.inside.redo in
+    let command = command_of c.args.command in
+    let told = c.in_ok-told.told in
+    let said = c.args.said.now.items in
+    let logged = c.args.logged.now.items in
+    let old_names : names ≡ c.args.self.now.names =
+    ap (λ (l : LiveState). l.names) c.self.view_is ∙ c.make_room.ensures.names in
+    let old_state : state_of tables ≡ state_of c.args.self.now.tables =
+    ap (λ (l : LiveState). state_of l.tables) c.self.view_is ∙ c.make_room.ensures.known.state in
+    let old_calls : calls_of tables ≡ calls_in c.args.self.now =
+    ap calls_in c.self.view_is ∙ c.make_room.ensures.known.calls in
+    let are : AreNames names = subst AreNames (sym old_names) c.requires.names in
+    let below : IsBelow (length names) command =
+    subst (λ (ns : List Text). IsBelow (length ns) command) (sym old_names) c.requires.below in
+    let is : IsTold (live_of c.self.inside) c.args.session command told =
+    subst (λ (l : LiveState). IsTold l c.args.session command told)
+    (sym c.self.view_is) c.in_ok-told.ensures in
+    let changes = c.changes-changes.result in
+    obeyed names are tables c.self.invariant.state c.args.session command below told is
+    c.change.new.self c.change.ensures.after c.change.ensures.calls c.args.self.now said
+    c.tell.new.said.items logged c.tell.new.logged.items changes old_names old_state old_calls
+    c.changes-changes.ensures
+    (c.in_ok-tell.ensures.said ∙ ap (λ (t : Text). said ++ t) c.deref.ensures.value)
+    (c.in_ok-tell.ensures.logged
+    ∙ ap (λ (t : Text). logged ++ t) (c.text_if.ensures
+    ∙ ap (λ (t : Text). cond changes t []) c.deref-2.ensures.value))

@@ -1,0 +1,36 @@
+-- What the fields of the database show, and what they keep.
+use Rattle.std.specs.Prelude.{◌≡◌, ℕ, ◌+◌, ◌*◌, ◌^◌, ◌<◌, List, IsSome, Contains, length, nat_eq}
+use Rattle.std.specs.List.{IsDistinct}
+use Rattle.redo_model.specs.Names.{Text, texts}
+use Rattle.redo_model.specs.State.{State, Locks, empty}
+use Rattle.redo_model.specs.History.{Line, Legal, left_by}
+use Rattle.redo_model.specs.Inside.Renaming.{named_state, numbering}
+use Rattle.redo_store.specs.Tables.{state_of, tables_count, calls_of}
+use Rattle.redo_live.specs.Inside.LiveState.{LiveState}
+use Rattle.redo_live.specs.Inside.Within.{IsStateWithin}
+use Rattle.redo_live.specs.declared.live.Live.TheInside.{Inside}
+
+abbrev pub live_of : Inside → LiveState
+live_of inside = record { names = inside.names; tables = inside.redo }
+
+-- a legal history leaves the state
+pub record IsReached (st : State Text) : Type 0 where
+  pub lines : List (Line Text)
+  pub legal : Legal texts lines
+  pub left : st ≡ left_by texts empty lines
+
+-- somebody holds each of these
+abbrev pub AreTaken : Locks ℕ → List ℕ → Type 0
+AreTaken locks ts = (t : ℕ) → Contains ts t → IsSome (locks.holder t)
+
+-- of a state over these names, after so many calls: nothing is known of other numbers, a legal
+-- history leaves it, and there are two more calls for each target that is held
+pub record IsKept (names : List Text) (st : State ℕ) (calls : ℕ) : Type 0 where
+  pub within : IsStateWithin (length names) st
+  pub reached : IsReached (named_state (numbering names) st)
+  pub closing : (ts : List ℕ) → IsDistinct nat_eq ts → AreTaken st.locks ts
+      → calls + 2 * length ts < 2 ^ 32
+
+pub record KeepsLive (inside : Inside) : Type 0 where
+  pub state : IsKept inside.names (state_of inside.redo) (calls_of inside.redo)
+  pub slots : inside.slots ≡ tables_count inside.redo

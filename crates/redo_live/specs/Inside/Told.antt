@@ -1,0 +1,83 @@
+-- What the calls of the database tell each other.
+use Rattle.std.specs.Prelude.{◌≡◌, ℕ, ◌+◌, ◌≤◌, List, ◌++◌, Some, length, ⊤}
+use Rattle.std.specs.List.{flat_map}
+use Rattle.redo_names.specs.Names.{text_at}
+use Rattle.redo_model.specs.Names.{Text, texts}
+use Rattle.redo_model.specs.Command.{Command}
+use Rattle.redo_model.specs.History.{Line}
+use Rattle.redo_model.specs.Renaming.{named_command}
+use Rattle.redo_model.specs.Step.{Answers, after}
+use Rattle.redo_terms.specs.Meaning.{command_of, reply_of, line_at, by_text}
+use Rattle.redo_text.specs.Questions.{line_fault}
+use Rattle.redo_text.specs.declared.fault.ReadFault.{ReadFault}
+use Rattle.redo_text.specs.declared.fault.ReadFault.TheVariants as read
+use Rattle.redo_store.specs.Tables.{tables_naming, state_of}
+use Rattle.redo_replay.specs.Histories.{line_text_of}
+use Rattle.redo_live.specs.Inside.Answered.{IsAnswered, logged_text}
+use Rattle.redo_live.specs.Inside.Ended.{IsEnded, end_text}
+use Rattle.redo_live.specs.Inside.LiveState.{LiveState, state_in, calls_in}
+use Rattle.redo_live.specs.Inside.Ordered.{IsSortedReply}
+use Rattle.redo_live.specs.declared.fault.Unanswered.{Unanswered}
+use Rattle.redo_live.specs.declared.fault.Unanswered.TheVariants.{Memory, Worn, Fault}
+use Rattle.redo_live.specs.declared.told.Told.{Told}
+
+-- why a text that can't be read isn't answered
+abbrev pub unread : ReadFault → Unanswered
+unread read.Memory = Memory
+unread (read.Line number fault) = Fault fault
+
+-- the cause: the line's fault, or that fewer calls are left than closing may take
+abbrev pub IsCause : LiveState → Text → Unanswered → Type 0
+IsCause live text Memory = ⊤
+IsCause live text Worn = 4294836223 ≤ calls_in live
+IsCause live text (Fault fault) = line_fault live.names text ≡ Some fault
+
+-- the line has the database's reply to the session's command, with its names in the order of their
+-- texts, and this is its text
+pub record IsTold (live : LiveState) (session : ℕ) (command : Command ℕ) (told : Told) : Type 0 where
+  pub session_is : told.line.session ≡ session
+  pub command_is : command_of told.line.command ≡ command
+  pub answers : Answers (tables_naming live.tables) (state_of live.tables) session command
+      (reply_of told.reply)
+  pub sorted : IsSortedReply (by_text live.names).order (reply_of told.reply)
+      (reply_of told.line.reply)
+  pub text_is : told.text.items ≡ line_text_of (line_at live.names told.line)
+
+-- the line went behind what was said, and behind the log where it changes something
+pub record TellsLine (old new : LiveState) (line : Line Text) (said said_after logged logged_after
+    : Text) : Type 0 where
+  pub says : said_after ≡ said ++ line_text_of line
+  pub logs : logged_after ≡ logged ++ logged_text (state_in old) line
+  pub calls : calls_in new ≡ calls_in old + 1
+
+-- the session's command, over the names that its numbers stand for, was answered by a line
+pub record IsObeyed (old new : LiveState) (session : ℕ) (command : Command ℕ)
+    (said said_after logged logged_after : Text) : Type 0 where
+  pub line : Line Text
+  pub session_is : line.session ≡ session
+  pub command_is : line.command ≡ named_command (text_at old.names) command
+  pub answers : Answers texts (state_in old) session line.command line.reply
+  pub after_is : state_in new ≡ after texts (state_in old) session line.command
+  pub told : TellsLine old new line said said_after logged logged_after
+
+-- the text was answered by a line
+pub record AnswersText (old new : LiveState) (session : ℕ) (text : Text)
+    (said said_after logged logged_after : Text) : Type 0 where
+  pub line : Line Text
+  pub is : IsAnswered (state_in old) (state_in new) old.names new.names session text line
+  pub told : TellsLine old new line said said_after logged logged_after
+
+-- nothing was said or logged
+pub record TellsNothing (said said_after logged logged_after : Text) : Type 0 where
+  pub says : said_after ≡ said
+  pub logs : logged_after ≡ logged
+
+-- the session ended by these lines, which were said and logged, and then its end was said
+pub record EndsSession (old new : LiveState) (session : ℕ)
+    (said said_after logged logged_after : Text) : Type 0 where
+  pub lines : List (Line Text)
+  pub is : IsEnded (state_in old) (state_in new) session lines
+  pub names : new.names ≡ old.names
+  pub calls : calls_in new ≡ calls_in old + length lines
+  pub says : said_after ≡ said ++ (flat_map line_text_of lines ++ end_text session)
+  pub logs : logged_after ≡ logged ++ flat_map line_text_of lines

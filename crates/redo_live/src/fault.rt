@@ -1,0 +1,41 @@
+use redo_text::{LineFault, ReadFault};
+use std::alloc::AllocError;
+use thiserror::Error;
+
+/// Why a command was not answered.
+#[derive(Clone, Copy, Debug, PartialEq, Eq, Error)]
+pub enum Unanswered {
+    #[error("out of memory")]
+    Memory,
+    /// So many commands were answered that the calls that are left are kept for closing.
+    #[error("worn")]
+    Worn,
+    /// The text is no command, or its names don't fit.
+    #[error("{0}")]
+    Fault(LineFault),
+}
+
+impl From<AllocError> for Unanswered {
+    ghost use Rattle.std.specs.Prelude.{◌≡◌};
+    ghost use Rattle.redo_live.specs.declared.fault.Unanswered.TheVariants.{Memory};
+
+    ghost from_gives = { λ _ why. why ≡ Memory };
+
+    fn from(_: AllocError) -> Unanswered {
+        Unanswered::Memory
+    }
+}
+
+impl From<ReadFault> for Unanswered {
+    ghost use Rattle.std.specs.Prelude.{◌≡◌};
+    ghost use Rattle.redo_live.specs.Inside.Told.{unread};
+
+    ghost from_gives = { λ fault why. why ≡ unread fault };
+
+    fn from(fault: ReadFault) -> Unanswered {
+        match fault {
+            ReadFault::Memory => Unanswered::Memory,
+            ReadFault::Line { line: _, fault } => Unanswered::Fault(fault),
+        }
+    }
+}

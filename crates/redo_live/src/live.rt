@@ -1,0 +1,203 @@
+ghost use Rattle.std.specs.Prelude.{◌≡◌, ◌≤◌, ◌<◌, ◌+◌, ◌^◌, [], None, length, IfOk, IfErr, OnOk, OnErr, true};
+ghost use Rattle.redo_names.specs.Inside.Names.{Extends, AreNames};
+ghost use Rattle.redo_model.specs.State.{empty};
+ghost use Rattle.redo_model.specs.Renaming.{IsBelow};
+ghost use Rattle.redo_terms.specs.Meaning.{command_of};
+ghost use Rattle.redo_text.specs.Questions.{line_fault};
+ghost use Rattle.redo_store.specs.Stored.{has_room_for};
+ghost use Rattle.redo_store.specs.Tables.{tables_count};
+
+use crate::fault::Unanswered;
+use crate::ordering::ordered;
+use crate::told::{Told, line_text, tell, text_if};
+use redo_names::{MOST_NAMES, Names};
+use redo_store::Redo;
+use redo_terms::{Command, Line};
+use redo_text::read_command;
+use std::alloc::{AllocError, Global};
+use std::marker::Model;
+
+mod ending;
+
+/// How many numbers there are for names at first.
+const FIRST_SLOTS: u32 = 64;
+
+/// After so many calls no command is answered any more: closing takes two for each target that is held, of which there
+/// are at most as many as names.
+const MOST_CALLS: u32 = u32::MAX - 131_072;
+
+/// A database over names that come as they are spoken of.
+#[derive(Drop)]
+pub struct Live {
+    names: Names,
+    redo: Redo,
+    slots: u32,
+}
+
+impl Model for Live {
+    ghost use Rattle.redo_live.specs.Inside.LiveState.{LiveState};
+
+    ghost Value = { LiveState };
+
+    ghost use Rattle.redo_live.specs.Inside.Kept.{live_of, KeepsLive};
+
+    ghost view = { live_of };
+
+    ghost invariant = { KeepsLive };
+}
+
+impl Live {
+    ghost use Rattle.redo_live.specs.Inside.LiveState.{state_in, calls_in, IsAsKnown, IsSameDatabase};
+    ghost use Rattle.redo_live.specs.Inside.Told.{IsCause, IsTold, IsObeyed, AnswersText, TellsNothing};
+
+    /// The empty database.
+    pub fn new(alloc: Global) -> Result<Live, AllocError>
+        ensures names { IfOk result (λ live. live.names ≡ []) }
+        ensures state { IfOk result (λ live. state_in live ≡ empty) }
+        ensures calls { IfOk result (λ live. calls_in live ≡ 0) }
+    {
+        let redo = Redo::blank(alloc, FIRST_SLOTS)?;
+        Ok(Live {
+            names: Names::new(alloc),
+            redo,
+            slots: FIRST_SLOTS,
+        })
+    }
+
+    /// Answers a session's command: its line of the history goes behind `said`, and behind `logged` where it changes
+    /// something.
+    pub fn answer(
+        &mut self,
+        alloc: Global,
+        session: u8,
+        text: &[u8],
+        said: &mut Vec<u8>,
+        logged: &mut Vec<u8>,
+    ) -> Result<(), Unanswered>
+        ensures answered { OnOk result (AnswersText self.old self.new session text.now
+            said.old.items said.new.items logged.old.items logged.new.items) }
+
+        // A fault is that of the line, and a line that is answered has none.
+        ensures cause { IfErr result (IsCause self.old text.now) }
+        ensures no_fault { OnOk result (line_fault self.old.names text.now ≡ None) }
+
+        ensures known { OnErr result (IsAsKnown self.old self.new) }
+        ensures untold { OnErr result
+            (TellsNothing said.old.items said.new.items logged.old.items logged.new.items) }
+    {
+        if self.redo.calls() >= MOST_CALLS {
+            return Err(Unanswered::Worn);
+        }
+        let count = self.names.len();
+        match self.hear(alloc, session, text, said, logged) {
+            Ok(()) => Ok(()),
+            Err(why) => {
+                self.names.keep_first(count);
+                Err(why)
+            }
+        }
+    }
+
+    /// Answers a session's command; otherwise names of it may stay.
+    fn hear(
+        &mut self,
+        alloc: Global,
+        session: u8,
+        text: &[u8],
+        said: &mut Vec<u8>,
+        logged: &mut Vec<u8>,
+    ) -> Result<(), Unanswered>
+        requires names { AreNames self.old.names }
+        requires calls { calls_in self.old < 4294836223 }
+        ensures answered { OnOk result (AnswersText self.old self.new session text.now
+            said.old.items said.new.items logged.old.items logged.new.items) }
+        ensures cause { IfErr result (IsCause self.old text.now) }
+        ensures kept { Extends self.old.names self.new.names }
+        ensures known { OnErr result (IsSameDatabase self.old self.new) }
+        ensures untold { OnErr result
+            (TellsNothing said.old.items said.new.items logged.old.items logged.new.items) }
+    {
+        let read = read_command(alloc, text, &mut self.names);
+        // This call says that they are names.
+        let _ = self.names.len();
+        let command = read?;
+        self.obey(alloc, session, command, said, logged)?;
+        Ok(())
+    }
+
+    /// Answers a session's command, whose names are known.
+    fn obey(
+        &mut self,
+        alloc: Global,
+        session: u8,
+        command: Command,
+        said: &mut Vec<u8>,
+        logged: &mut Vec<u8>,
+    ) -> Result<(), AllocError>
+        requires below { IsBelow (length self.old.names) (command_of command) }
+        requires names { AreNames self.old.names }
+        requires calls { calls_in self.old < 4294836223 }
+        ensures obeyed { OnOk result (IsObeyed self.old self.new session (command_of command)
+            said.old.items said.new.items logged.old.items logged.new.items) }
+        ensures names { self.new.names ≡ self.old.names }
+        ensures known { OnErr result (IsSameDatabase self.old self.new) }
+        ensures untold { OnErr result
+            (TellsNothing said.old.items said.new.items logged.old.items logged.new.items) }
+    {
+        self.make_room(&command)?;
+        let told = self.told(alloc, session, command)?;
+        let changes = self.redo.changes(&told.line.command, &told.reply);
+        tell(said, &told.text, logged, text_if(changes, &told.text))?;
+        self.redo.change(session, &told.line.command, &told.reply);
+        Ok(())
+    }
+
+    /// Room for the names, and for the change of the command.
+    fn make_room(&mut self, command: &Command) -> Result<(), AllocError>
+        requires below { IsBelow (length self.old.names) (command_of command.now) }
+        requires names { AreNames self.old.names }
+        ensures names { self.new.names ≡ self.old.names }
+        ensures known { IsSameDatabase self.old self.new }
+        ensures count { OnOk result (length self.new.names ≤ tables_count self.new.tables) }
+        ensures room { OnOk result
+            (has_room_for self.new.tables.store (command_of command.now) ≡ true) }
+    {
+        self.grow()?;
+        self.redo.reserve(command)
+    }
+
+    /// A number for each name, and some more.
+    fn grow(&mut self) -> Result<(), AllocError>
+        requires { AreNames self.old.names }
+        ensures names { self.new.names ≡ self.old.names }
+        ensures known { IsSameDatabase self.old self.new }
+        ensures count { OnOk result (length self.new.names ≤ tables_count self.new.tables) }
+    {
+        let count = self.names.len();
+        if count > self.slots {
+            let slots = (2 * self.slots).max(count).min(MOST_NAMES as u32);
+            self.redo.grow(slots)?;
+            self.slots = slots;
+        }
+        Ok(())
+    }
+
+    /// What a session's command is answered, before its change.
+    fn told(&self, alloc: Global, session: u8, command: Command) -> Result<Told, AllocError>
+        requires below { IsBelow (length self.now.names) (command_of command) }
+        requires names { AreNames self.now.names }
+        requires count { length self.now.names ≤ tables_count self.now.tables }
+        requires calls { calls_in self.now + 1 < 2 ^ 32 }
+        ensures { IfOk result (IsTold self.now session (command_of command)) }
+    {
+        let reply = self.redo.reply(alloc, session, &command)?;
+        let copy = reply.copy(alloc)?;
+        let line = Line {
+            session,
+            command,
+            reply: ordered(&self.names, copy),
+        };
+        let text = line_text(alloc, &line, &self.names)?;
+        Ok(Told { line, reply, text })
+    }
+}

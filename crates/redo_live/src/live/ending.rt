@@ -1,0 +1,140 @@
+//! How a session ends.
+ghost use Rattle.std.specs.Prelude.{◌≡◌, ℕ, ◌+◌, ◌^◌, ◌<◌, ◌++◌, [], cond, length, map, IfOk, IfErr, OnOk, OnErr};
+ghost use Rattle.std.specs.List.{AllByRecursion, flat_map};
+ghost use Rattle.redo_model.specs.Command as commands;
+ghost use Rattle.redo_model.specs.History.{LegalFrom, left_by};
+ghost use Rattle.redo_model.specs.Inside.Ending.{okay_line};
+ghost use Rattle.redo_model.specs.Renaming.{IsBelow};
+ghost use Rattle.redo_terms.specs.Meaning.{command_of, line_of, line_at};
+ghost use Rattle.redo_store.specs.Tables.{state_of, tables_count, tables_naming, calls_of};
+ghost use Rattle.redo_replay.specs.Histories.{line_text_of};
+ghost use Rattle.redo_replay.specs.Recorded.{AreLinesBelow};
+ghost use Rattle.redo_live.specs.Inside.Ended.{end_text};
+ghost use Rattle.redo_live.specs.Inside.ClosingLines.{TakesNoRoom, letting};
+
+use crate::fault::Unanswered;
+use crate::live::Live;
+use crate::ordering::sort;
+use crate::told::tell;
+use redo_names::Names;
+use redo_replay::{put_line, put_number};
+use redo_store::Redo;
+use redo_terms::{Command, Line, Reply};
+use std::alloc::{AllocError, Global};
+
+fn okay_line(session: u8, command: Command) -> Line
+    ensures { line_of result ≡ okay_line session (command_of command) }
+{
+    Line {
+        session,
+        command,
+        reply: Reply::Okay,
+    }
+}
+
+/// Appends what lets go of a target, which is being built or not.
+fn push_letting(
+    lines: &mut Vec<Line>,
+    session: u8,
+    t: u32,
+    is_building: bool,
+) -> Result<(), AllocError>
+    ensures { OnOk result (map line_of lines.new.items
+        ≡ map line_of lines.old.items ++ letting session is_building t) }
+{
+    if is_building {
+        lines.push(okay_line(session, Command::Failed(t)))?;
+    }
+    lines.push(okay_line(session, Command::Unlock(t)))?;
+    Ok(())
+}
+
+/// The lines of a history.
+fn lines_text(alloc: Global, lines: &[Line], names: &Names) -> Result<Vec<u8>, AllocError>
+    requires { AreLinesBelow names.now lines.now }
+    ensures { IfOk result
+        (λ text. text.items ≡ flat_map line_text_of (map (line_at names.now) lines.now)) }
+{
+    let mut text = Vec::new(alloc);
+    for line in lines {
+        put_line(alloc, &mut text, line, names)?;
+    }
+    Ok(text)
+}
+
+/// What is said when a session has ended with these lines.
+fn with_end(alloc: Global, session: u8, lines: &[u8]) -> Result<Vec<u8>, AllocError>
+    ensures { IfOk result (λ text. text.items ≡ lines.now ++ end_text session) }
+{
+    let mut text = Vec::from_slice(alloc, lines)?;
+    put_number(alloc, &mut text, session as usize + 1)?;
+    text.extend_from_slice(b" end => ok\n")?;
+    Ok(text)
+}
+
+/// Does the commands of these lines. Takes no memory.
+fn close(redo: &mut Redo, lines: &[Line])
+    requires below { AllByRecursion
+        (λ line. IsBelow (tables_count redo.old) (command_of line.command)) lines.now }
+    requires room { AllByRecursion (λ line. TakesNoRoom (command_of line.command)) lines.now }
+    requires calls { calls_of redo.old + length lines.now < 2 ^ 32 }
+    requires legal { LegalFrom (tables_naming redo.old) (state_of redo.old)
+        (map line_of lines.now) }
+    ensures left { state_of redo.new
+        ≡ left_by (tables_naming redo.old) (state_of redo.old) (map line_of lines.now) }
+    ensures calls { calls_of redo.new ≡ calls_of redo.old + length lines.now }
+    ensures count { tables_count redo.new ≡ tables_count redo.old }
+{
+    for line in lines {
+        redo.change(line.session, &line.command, &line.reply);
+    }
+}
+
+impl Live {
+    ghost use Rattle.redo_live.specs.Inside.LiveState.{IsAsKnown};
+    ghost use Rattle.redo_live.specs.Inside.ClosingLines.{AreClosing};
+    ghost use Rattle.redo_live.specs.Inside.Told.{EndsSession, TellsNothing};
+    ghost use Rattle.redo_live.specs.declared.fault.Unanswered.TheVariants.{Memory};
+
+    /// Lets go of all that a session holds. The lines of these commands go behind `said` and `logged`, and then goes
+    /// `SESSION end => ok` behind `said`.
+    pub fn end(
+        &mut self,
+        alloc: Global,
+        session: u8,
+        said: &mut Vec<u8>,
+        logged: &mut Vec<u8>,
+    ) -> Result<(), Unanswered>
+        ensures ended { OnOk result (EndsSession self.old self.new session
+            said.old.items said.new.items logged.old.items logged.new.items) }
+        ensures memory { IfErr result (λ why. why ≡ Memory) }
+        ensures known { OnErr result (IsAsKnown self.old self.new) }
+        ensures untold { OnErr result
+            (TellsNothing said.old.items said.new.items logged.old.items logged.new.items) }
+    {
+        let lines = self.closing_lines(alloc, session)?;
+        // This call says that they are names.
+        let _ = self.names.len();
+        let kept = lines_text(alloc, &lines, &self.names)?;
+        let text = with_end(alloc, session, &kept)?;
+        tell(said, &text, logged, &kept)?;
+        close(&mut self.redo, &lines);
+        Ok(())
+    }
+
+    /// The lines that let go of all that a session holds, in the order of the texts.
+    fn closing_lines(&self, alloc: Global, session: u8) -> Result<Vec<Line>, AllocError>
+        ensures { IfOk result (λ lines. AreClosing self.now session (map line_of lines.items)) }
+    {
+        // This call says that they are names.
+        let _ = self.names.len();
+        let mut targets = self.redo.held_by(alloc, session)?;
+        sort(&self.names, &mut targets);
+        let mut lines = Vec::new(alloc);
+        for t in &targets {
+            let is_building = self.redo.is_building(*t);
+            push_letting(&mut lines, session, *t, is_building)?;
+        }
+        Ok(lines)
+    }
+}

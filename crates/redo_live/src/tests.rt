@@ -1,0 +1,115 @@
+//! What is said to commands, worked out by hand from the rules.
+use crate::{Live, Unanswered};
+use redo_text::LineFault;
+use std::alloc::Global;
+use std::test::Fail;
+
+/// The lines of a session's commands, of which those with `true` change something.
+const COMMON_PATH: &[(u8, &str, &str, bool)] = &[
+    (0, "file a.c 10", "1 file a.c 10 => ok\n", true),
+    (0, "lock a.o", "1 lock a.o => granted 1\n", true),
+    (1, "lock a.o", "2 lock a.o => busy 1\n", false),
+    (1, "start a.o", "2 start a.o => refused not-locked\n", false),
+    (0, "start a.o", "1 start a.o => ok\n", true),
+    (
+        0,
+        "ifchange a.o z.h a.h a.c",
+        "1 ifchange a.o z.h a.h a.c => stale a.h z.h\n",
+        true,
+    ),
+    (0, "file a.c 10", "1 file a.c 10 => ok\n", false),
+    (0, "gone a.h", "1 gone a.h => ok\n", false),
+    (0, "done a.o 20", "1 done a.o 20 => ok\n", true),
+    (0, "unlock a.o", "1 unlock a.o => ok\n", true),
+    (0, "ood", "1 ood => ood\n", false),
+    (0, "file a.h 1", "1 file a.h 1 => ok\n", true),
+    (0, "sources", "1 sources => sources a.c a.h\n", false),
+    (0, "ood", "1 ood => ood a.o\n", false),
+];
+
+/// Each line is said, and logged where it changes something.
+#[test]
+fn common_path(rt: HostRuntime) -> Result<(), Fail> {
+    let alloc = rt.alloc();
+    let mut live = Live::new(alloc)?;
+    for (session, text, want, is_logged) in COMMON_PATH {
+        let (mut said, mut logged) = (Vec::new(alloc), Vec::new(alloc));
+        live.answer(alloc, *session, text.as_bytes(), &mut said, &mut logged)?;
+        assert!(rt; said.as_slice() == want.as_bytes(), "{text}");
+        let kept = if *is_logged { want.as_bytes() } else { &[] };
+        assert!(rt; logged.as_slice() == kept, "{text}");
+    }
+    Ok(())
+}
+
+/// What is said to a session's command.
+fn told(alloc: Global, live: &mut Live, session: u8, text: &str) -> Result<Vec<u8>, Unanswered> {
+    let (mut said, mut logged) = (Vec::new(alloc), Vec::new(alloc));
+    live.answer(alloc, session, text.as_bytes(), &mut said, &mut logged)?;
+    Ok(said)
+}
+
+/// Names that don't fit are refused, and take no place.
+#[test]
+fn too_many_names(rt: HostRuntime) -> Result<(), Fail> {
+    let alloc = rt.alloc();
+    let mut live = Live::new(alloc)?;
+    let full = Unanswered::Fault(LineFault::TooManyNames);
+    for number in 0..65535 {
+        told(alloc, &mut live, 0, &format!(in alloc; "gone n{number}")?)?;
+    }
+    assert!(rt; matches!(told(alloc, &mut live, 0, "ifchange a b"), Err(why) if why == full));
+    assert!(rt; told(alloc, &mut live, 0, "gone a")?.as_slice() == b"1 gone a => ok\n".as_slice());
+    assert!(rt; matches!(told(alloc, &mut live, 0, "gone b"), Err(why) if why == full));
+    assert!(rt;
+        told(alloc, &mut live, 1, "lock a")?.as_slice() == b"2 lock a => granted 1\n".as_slice()
+    );
+    Ok(())
+}
+
+/// A line that is no command is a fault, and says nothing.
+#[test]
+fn faults(rt: HostRuntime) -> Result<(), Fail> {
+    let alloc = rt.alloc();
+    let mut live = Live::new(alloc)?;
+    for (text, fault) in [
+        ("", LineFault::UnknownCommand),
+        ("lock", LineFault::WrongWords),
+        ("lock -", LineFault::BadName),
+        ("file a -", LineFault::BadStamp),
+    ] {
+        let why = Unanswered::Fault(fault);
+        let (mut said, mut logged) = (Vec::new(alloc), Vec::new(alloc));
+        let answer = live.answer(alloc, 0, text.as_bytes(), &mut said, &mut logged);
+        assert!(rt; answer == Err(why), "{text:?}");
+        assert!(rt; said.is_empty() && logged.is_empty());
+    }
+    Ok(())
+}
+
+/// A session that ends lets go of what it holds, in the order of the texts, and others hold what they held.
+#[test]
+fn end(rt: HostRuntime) -> Result<(), Fail> {
+    let alloc = rt.alloc();
+    let mut live = Live::new(alloc)?;
+    for text in ["lock b", "start b", "lock a"] {
+        told(alloc, &mut live, 0, text)?;
+    }
+    told(alloc, &mut live, 1, "lock c")?;
+    let (mut said, mut logged) = (Vec::new(alloc), Vec::new(alloc));
+    live.end(alloc, 0, &mut said, &mut logged)?;
+    assert!(rt;
+        said.as_slice()
+            == b"1 unlock a => ok\n1 failed b => ok\n1 unlock b => ok\n1 end => ok\n".as_slice()
+    );
+    assert!(rt;
+        logged.as_slice() == b"1 unlock a => ok\n1 failed b => ok\n1 unlock b => ok\n".as_slice()
+    );
+    assert!(rt;
+        told(alloc, &mut live, 1, "lock b")?.as_slice() == b"2 lock b => granted 2\n".as_slice()
+    );
+    assert!(rt;
+        told(alloc, &mut live, 0, "lock c")?.as_slice() == b"1 lock c => busy 1\n".as_slice()
+    );
+    Ok(())
+}

@@ -1,0 +1,56 @@
+ghost use Rattle.std.specs.Prelude.{◌≡◌, ◌++◌, [], length, if◌then◌else◌, IfOk, OnOk, OnErr};
+ghost use Rattle.redo_model.specs.Renaming.{IsLineBelow};
+ghost use Rattle.redo_terms.specs.Meaning.{line_of, line_at};
+ghost use Rattle.redo_replay.specs.Histories.{line_text_of};
+ghost use Rattle.redo_live.specs.Inside.Told.{TellsNothing};
+
+use redo_names::Names;
+use redo_replay::put_line;
+use redo_terms::{Line, Reply};
+use std::alloc::{AllocError, Global};
+
+/// The line that a command is answered, its text, and the reply as the database gave it.
+#[derive(Drop)]
+pub(crate) struct Told {
+    pub line: Line,
+    pub reply: Reply,
+    pub text: Vec<u8>,
+}
+
+/// The text, where there is to be one.
+pub(crate) fn text_if(wanted: bool, text: &[u8]) -> &[u8]
+    ensures { result.now ≡ (if wanted then text.now else []) }
+{
+    if wanted { text } else { &[] }
+}
+
+/// The line of a history, with its LF.
+pub(crate) fn line_text(alloc: Global, line: &Line, names: &Names) -> Result<Vec<u8>, AllocError>
+    requires { IsLineBelow (length names.now) (line_of line.now) }
+    ensures { IfOk result (λ text. text.items ≡ line_text_of (line_at names.now line.now)) }
+{
+    let mut text = Vec::new(alloc);
+    put_line(alloc, &mut text, line, names)?;
+    Ok(text)
+}
+
+/// Appends one text to what is said and another to the log, or neither.
+pub(crate) fn tell(
+    said: &mut Vec<u8>,
+    text: &[u8],
+    logged: &mut Vec<u8>,
+    kept: &[u8],
+) -> Result<(), AllocError>
+    ensures said { OnOk result (said.new.items ≡ said.old.items ++ text.now) }
+    ensures logged { OnOk result (logged.new.items ≡ logged.old.items ++ kept.now) }
+    ensures err { OnErr result
+        (TellsNothing said.old.items said.new.items logged.old.items logged.new.items) }
+{
+    let before = said.len();
+    said.extend_from_slice(text)?;
+    if let Err(refused) = logged.extend_from_slice(kept) {
+        said.truncate(before);
+        return Err(refused);
+    }
+    Ok(())
+}
