@@ -1,0 +1,69 @@
+-- What is kept of a line that goes on.
+use Rattle.std.proofs.Common.{◌≡◌, ◌+◌, ◌-◌, ◌≤◌, [], ◌∷◌, ◌++◌, length, take, refl, sym, ap, ◌∙◌, append_assoc, inl, inr, arith}
+use Rattle.std.proofs.Math.Seq.{take-append-add}
+use Rattle.std.proofs.lemmas.Bool.{cases_lt}
+use Rattle.std.proofs.lemmas.List.{take_all, take-append-le, length-take-le}
+use Rattle.std.proofs.lemmas.List.Elements.{Contains-append_cases}
+use Rattle.redo_model.specs.Names.{Text}
+use Rattle.redo_model.proofs.Members.{contains_none}
+use Rattle.redo_replay.specs.Histories.{ended}
+use Rattle.redo_talk.specs.Logs.{HasNoEnd}
+use Rattle.redo_talk.specs.Inside.KeptLines.{kept_of, IsFrontOf, IsHeardOf}
+
+pub no_end_both : (a b : Text) → HasNoEnd a → HasNoEnd b → HasNoEnd (a ++ b)
+no_end_both a b x y is = elim (Contains-append_cases a b 10 is) [
+  | inl c ↦ x c
+  | inr c ↦ y c
+]
+
+-- behind a front there is room for so much of what comes
+pub kept_behind : (front more : Text) → length front ≤ 8196
+    → front ++ take (8196 - length front) more ≡ kept_of (front ++ more)
+kept_behind front more few =
+    let split : length front + (8196 - length front) ≡ 8196 = omega arith in
+    sym (take-append-add front more (8196 - length front))
+    ∙ ap (λ n. take n (front ++ more)) split
+
+-- of a line of which so much is kept, more is kept only behind a short front
+pub kept_more : (whole more : Text) → kept_of (kept_of whole ++ more) ≡ kept_of (whole ++ more)
+kept_more whole more = elim (cases_lt (length whole) 8196) [
+  | inl short ↦ ap (λ t. kept_of (t ++ more)) (take_all 8196 whole (omega arith))
+  | inr long ↦
+      let full : length (kept_of whole) ≡ 8196 = length-take-le 8196 whole long in
+      take-append-le 8196 (kept_of whole) more (omega (arith, full))
+      ∙ take_all 8196 (kept_of whole) (omega (arith, full))
+      ∙ sym (take-append-le 8196 whole more long)
+]
+
+pub front_of_none : (front : Text) → front ≡ [] → IsFrontOf [] front
+front_of_none front e = record { unended = contains_none 10; kept = e }
+
+pub front_more : (whole more front : Text) → HasNoEnd more → IsFrontOf whole front
+    → IsFrontOf (whole ++ more) (kept_of (front ++ more))
+front_more whole more front free is = record {
+  unended = no_end_both whole more is.unended free;
+  kept = ap (λ t. kept_of (t ++ more)) is.kept ∙ kept_more whole more;
+}
+
+pub none_from_front : (whole : Text) → [] ≡ kept_of whole → whole ≡ []
+none_from_front [] e = refl
+none_from_front (b ∷ bs) e = absurd (omega (arith, ap length e))
+
+-- a line of which nothing is kept has not begun
+pub nothing_begun : (begun front : Text) → IsFrontOf begun front → length front ≡ 0 → begun ≡ []
+nothing_begun begun [] is e = none_from_front begun is.kept
+nothing_begun begun (b ∷ bs) is e = absurd (omega (arith, e))
+
+-- what is kept of a line that ends with this piece
+pub heard_behind : (begun front piece line : Text) → IsFrontOf begun front
+    → line ≡ kept_of (front ++ piece) → IsHeardOf (begun ++ piece) line
+heard_behind begun front piece line is e =
+    inr (e ∙ ap (λ t. kept_of (t ++ piece)) is.kept ∙ kept_more begun piece)
+
+-- a line goes on behind a piece that ends one
+pub next_line : (begun rest piece after : Text) → rest ≡ piece ++ 10 ∷ after
+    → begun ++ rest ≡ ended (begun ++ piece) ++ after
+next_line begun rest piece after e =
+    ap (λ t. begun ++ t) (e ∙ sym (append_assoc piece (10 ∷ []) after))
+    ∙ sym (append_assoc begun (piece ++ 10 ∷ []) after)
+    ∙ ap (λ t. t ++ after) (sym (append_assoc begun piece (10 ∷ [])))

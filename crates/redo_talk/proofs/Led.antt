@@ -1,0 +1,217 @@
+-- Steps from where a history led are rounds after that history.
+use Rattle.std.proofs.Common.{◌≡◌, ◌⊎◌, ℕ, ◌+◌, ◌≤◌, Bool, true, false, cond, List, [], ◌∷◌, ◌++◌, length, refl, sym, ap, ◌∙◌, subst, append-nil, append_assoc, inl, inr}
+use Rattle.std.specs.Prelude.{codes, decimal}
+use Rattle.std.specs.List.{AllByRecursion, flat_map}
+use Rattle.std.specs.Cmp.Lexicographic.{nat_list_cmp_total}
+use Rattle.std.proofs.lemmas.List.Concat.{flat_map-append}
+use Rattle.redo_names.specs.Names.{has}
+use Rattle.redo_model.specs.Names.{Text, texts}
+use Rattle.redo_model.specs.State.{State, empty, is_building, target_state}
+use Rattle.redo_model.specs.Command.{names_in, Failed, Unlock}
+use Rattle.redo_model.specs.Reply.{Okay}
+use Rattle.redo_model.specs.Step.{Answers, after}
+use Rattle.redo_model.specs.History.{Line, Legal, left_by, part_of}
+use Rattle.redo_model.specs.Closing.{ClosesAfter}
+use Rattle.redo_model.specs.Inside.Ending.{AreHeld, okay_line, closing_lines_of}
+use Rattle.redo_model.proofs.Ending.{closes_by_state}
+use Rattle.redo_model.proofs.OneMore.{left_by-append, legal_more}
+use Rattle.redo_model.proofs.Texts.{texts_are_names}
+use Rattle.redo_text.specs.Grammar.{with_names}
+use Rattle.redo_text.proofs.ScriptParts.{with_names-append}
+use Rattle.redo_replay.proofs.KnownNames.{AreKnown, with_names-known}
+use Rattle.redo_live.specs.Lines.{names_after}
+use Rattle.redo_talk.specs.Rounds.{Round, IsRound, IsAnswered, IsEnded, IsFaulty, AreRounds, lines_in, IsFaultWord, Asks, fault_text_of, HasNoSession}
+use Rattle.redo_talk.specs.Inside.Steps.{Known, LeadsTo, Answering, Ending, Refusing, IsStep, AreSteps}
+
+-- the names after more lines
+names_more : (before more : List (Line Text)) → names_after (before ++ more)
+    ≡ with_names (names_after before) (flat_map (λ (l : Line Text). names_in l.command) more)
+names_more before more =
+    let own = λ (l : Line Text). names_in l.command in
+    ap (with_names []) (flat_map-append own before more)
+    ∙ with_names-append [] (flat_map own before) (flat_map own more)
+
+abbrev IsClosing : ℕ → Line Text → Type 0
+IsClosing s line = (line.session ≡ s) × (line.reply ≡ Okay)
+
+abbrev line_names : Line Text → List Text
+line_names line = names_in line.command
+
+-- the lines that let go of a target, and more
+abbrev lets_go : ℕ → Text → Bool → List (Line Text) → List (Line Text)
+lets_go s t building more =
+    (cond building (okay_line s (Failed t) ∷ []) [] ++ okay_line s (Unlock t) ∷ []) ++ more
+
+each_with : (s : ℕ) (t : Text) (more : List (Line Text)) (b : Bool)
+    → AllByRecursion (IsClosing s) more → AllByRecursion (IsClosing s) (lets_go s t b more)
+each_with s t more true rest = ((refl, refl), ((refl, refl), rest))
+each_with s t more false rest = ((refl, refl), rest)
+
+known_with : (names : List Text) (s : ℕ) (t : Text) (more : List (Line Text)) (b : Bool)
+    → has names t ≡ true → AreKnown names (flat_map line_names more)
+    → AreKnown names (flat_map line_names (lets_go s t b more))
+known_with names s t more true known rest = (known, (known, rest))
+known_with names s t more false known rest = (known, rest)
+
+-- each closing line is the session's, and accepted
+closing_each : (s : ℕ) (st : State Text) (ts : List Text)
+    → AllByRecursion (IsClosing s) (closing_lines_of s st ts)
+closing_each s st [] = tt
+closing_each s st (t ∷ ts) =
+    each_with s t (closing_lines_of s st ts) (is_building (target_state st.records t))
+    (closing_each s st ts)
+
+-- it speaks of names that are known
+closing_known : (names : List Text) (s : ℕ) (st : State Text) (ts : List Text) → AreKnown names ts
+    → AreKnown names (flat_map line_names (closing_lines_of s st ts))
+closing_known names s st [] known = tt
+closing_known names s st (t ∷ ts) known =
+    known_with names s t (closing_lines_of s st ts) (is_building (target_state st.records t))
+    known.0 (closing_known names s st ts known.1)
+
+module _ (before : List (Line Text)) (old new : Known) (round : Round) (led : LeadsTo before old)
+  where
+    -- what a step leaves, where its lines are known
+    led_by : (lines : List (Line Text)) → round.lines ≡ lines → LeadsTo (before ++ lines) new
+        → LeadsTo (before ++ round.lines) new
+    led_by lines e is = subst (λ ls. LeadsTo (before ++ ls) new) (sym e) is
+
+    answering_names : (step : Answering old new round)
+        → new.names ≡ names_after (before ++ step.line ∷ [])
+    answering_names step =
+        let own = names_in step.line.command in
+        step.names_are ∙ ap (λ ns. with_names ns own) led.names_are
+        ∙ ap (with_names (names_after before)) (sym (append-nil own))
+        ∙ sym (names_more before (step.line ∷ []))
+
+    answering_answers : (step : Answering old new round)
+        → Answers texts (left_by texts empty before) step.line.session step.line.command
+        step.line.reply
+    answering_answers step =
+        subst (λ st. Answers texts st step.line.session step.line.command step.line.reply)
+        led.state_is step.answers
+
+    answering_round : Answering old new round → IsAnswered before round
+    answering_round step = record {
+      line = step.line;
+      text = step.text;
+      asks = step.asks;
+      says = step.says;
+      few_names = subst (λ ns. length ns ≤ 65536) (answering_names step) step.few_names;
+      answers = answering_answers step;
+      lines_are = step.lines_are;
+      said_is = step.said_is;
+    }
+
+    answering_leads : Answering old new round → LeadsTo (before ++ round.lines) new
+    answering_leads step =
+        let line = step.line in
+        led_by (line ∷ []) step.lines_are (record {
+          legal = legal_more texts empty before line led.legal (answering_answers step);
+          names_are = answering_names step;
+          state_is = step.state_is
+              ∙ ap (λ st. after texts st line.session line.command) led.state_is
+              ∙ sym (left_by-append texts empty before (line ∷ []));
+        })
+
+    refusing_round : Refusing old new round → IsFaulty before round
+    refusing_round step = record { none = step.none; cause = cause step.cause }
+      where
+        cause : (HasNoSession round.heard
+            × (round.said ≡ fault_text_of (codes "0") (codes "bad-session")))
+            ⊎ ((s : ℕ) × (text : Text) × (word : Text) × Asks round.heard s text
+            × IsFaultWord old.names text word
+            × (round.said ≡ fault_text_of (decimal (s + 1)) word))
+            → (HasNoSession round.heard
+            × (round.said ≡ fault_text_of (codes "0") (codes "bad-session")))
+            ⊎ ((s : ℕ) × (text : Text) × (word : Text) × Asks round.heard s text
+            × IsFaultWord (names_after before) text word
+            × (round.said ≡ fault_text_of (decimal (s + 1)) word))
+        cause (inl none) = inl none
+        cause (inr (s, text, word, asks, is, said)) =
+            inr (s, text, word, asks, subst (λ ns. IsFaultWord ns text word) led.names_are is, said)
+
+    refusing_leads : Refusing old new round → LeadsTo (before ++ round.lines) new
+    refusing_leads step =
+        led_by [] step.none (subst (λ ls. LeadsTo ls new) (sym (append-nil before)) (record {
+          legal = led.legal;
+          names_are = step.same_names ∙ led.names_are;
+          state_is = step.same_state ∙ led.state_is;
+        }))
+
+    -- the lines of an end, by what the history before it left
+    closing_is : (step : Ending old new round) → round.lines
+        ≡ closing_lines_of step.session (left_by texts empty before) step.held
+    closing_is step =
+        step.lines_are
+        ∙ ap (λ st. closing_lines_of step.session st step.held) led.state_is
+
+    closing_laws : (step : Ending old new round)
+        → ClosesAfter texts (part_of step.session before)
+        (closing_lines_of step.session (left_by texts empty before) step.held)
+        × Legal texts
+        (before ++ closing_lines_of step.session (left_by texts empty before) step.held)
+    closing_laws step =
+        closes_by_state texts_are_names nat_list_cmp_total step.session before step.held led.legal
+        (subst (λ st. AreHeld texts step.session st step.held) led.state_is step.are_held)
+
+    ending_round : Ending old new round → IsEnded before round
+    ending_round step = record {
+      session = step.session;
+      asks = step.asks;
+      accepted = subst (AllByRecursion (IsClosing step.session)) (sym (closing_is step))
+          (closing_each step.session (left_by texts empty before) step.held);
+      closes = subst (ClosesAfter texts (part_of step.session before)) (sym (closing_is step))
+          (closing_laws step).0;
+      said_is = step.said_is;
+    }
+
+    ending_names : (step : Ending old new round) → names_after (before ++ round.lines) ≡ old.names
+    ending_names step =
+        names_more before round.lines
+        ∙ ap (λ ns. with_names ns (flat_map line_names round.lines)) (sym led.names_are)
+        ∙ with_names-known old.names (flat_map line_names round.lines)
+        (subst (λ ls. AreKnown old.names (flat_map line_names ls)) (sym step.lines_are)
+        (closing_known old.names step.session old.state step.held step.known))
+
+    ending_leads : Ending old new round → LeadsTo (before ++ round.lines) new
+    ending_leads step = record {
+      legal = subst (λ ls. Legal texts (before ++ ls)) (sym (closing_is step))
+          (closing_laws step).1;
+      names_are = step.names_are ∙ sym (ending_names step);
+      state_is = step.state_is ∙ ap (λ st. left_by texts st round.lines) led.state_is
+          ∙ sym (left_by-append texts empty before round.lines);
+    }
+
+    step_is_round : IsStep old new round → IsRound before round
+    step_is_round (inl step) = inl (answering_round step)
+    step_is_round (inr (inl step)) = inr (inl (ending_round step))
+    step_is_round (inr (inr step)) = inr (inr (refusing_round step))
+
+    step_leads : IsStep old new round → LeadsTo (before ++ round.lines) new
+    step_leads (inl step) = answering_leads step
+    step_leads (inr (inl step)) = ending_leads step
+    step_leads (inr (inr step)) = refusing_leads step
+
+-- steps from where a history led are rounds after it, and lead on with their lines
+pub steps_are_rounds : (before : List (Line Text)) (old new : Known) (rounds : List Round)
+    → LeadsTo before old → AreSteps old new rounds → AreRounds before rounds
+steps_are_rounds before old new [] led same = tt
+steps_are_rounds before old new (round ∷ rounds) led (middle, step, steps) = (
+  step_is_round before old middle round led step,
+  steps_are_rounds (before ++ round.lines) middle new rounds
+      (step_leads before old middle round led step) steps,
+)
+
+pub steps_lead : (before : List (Line Text)) (old new : Known) (rounds : List Round)
+    → LeadsTo before old → AreSteps old new rounds → LeadsTo (before ++ lines_in rounds) new
+steps_lead before old new [] led same = subst (λ ls. LeadsTo ls new) (sym (append-nil before))
+    (record {
+      legal = led.legal;
+      names_are = same.0 ∙ led.names_are;
+      state_is = same.1 ∙ led.state_is;
+    })
+steps_lead before old new (round ∷ rounds) led (middle, step, steps) =
+    subst (λ ls. LeadsTo ls new) (append_assoc before round.lines (lines_in rounds))
+    (steps_lead (before ++ round.lines) middle new rounds
+    (step_leads before old middle round led step) steps)

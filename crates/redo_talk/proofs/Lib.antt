@@ -1,0 +1,9 @@
+pub mod Led
+pub mod RoundByRound
+pub mod LongLines
+pub mod Fronts
+pub mod Responding
+pub mod Conversations
+pub mod Asking
+pub mod Steps
+pub mod Outcomes

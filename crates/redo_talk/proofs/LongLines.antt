@@ -1,0 +1,141 @@
+-- What is kept of a line tells the fault of the whole line.
+use Rattle.std.proofs.Common.{◌≡◌, ◌⊎◌, ℕ, ◌+◌, ◌-◌, ◌<◌, ◌≤◌, true, cond, List, ◌++◌, Some, length, take, drop, length-append, append_assoc, sym, ap, ◌∙◌, subst, inl, inr, arith}
+use Rattle.std.specs.Prelude.{codes, decimal}
+use Rattle.std.proofs.Math.Seq.{take-append-add}
+use Rattle.std.proofs.lemmas.Bool.{cases_lt, lt-ltb}
+use Rattle.std.proofs.lemmas.Fmt.{length-decimal-le}
+use Rattle.std.proofs.lemmas.List.{take_all, length-take-le, take-append-drop}
+use Rattle.redo_model.specs.Names.{Text}
+use Rattle.redo_text.specs.Questions.{line_fault, first_yes, is_too_long, text_questions}
+use Rattle.redo_text.specs.declared.fault.LineFault.TheVariants.{LineTooLong}
+use Rattle.redo_talk.specs.Rounds.{Round, Asks, HasNoSession, IsFaultWord, end_word, fault_text_of}
+use Rattle.redo_talk.specs.Inside.Steps.{Known, Refusing, IsStep}
+use Rattle.redo_talk.specs.Inside.KeptLines.{kept_of, IsHeardOf}
+
+abbrev front_of : ℕ → Text
+front_of s = decimal (s + 1) ++ codes " "
+
+front_is_short : (s : ℕ) → s < 64 → length (front_of s) ≤ 3
+front_is_short s few =
+    omega (
+      arith,
+      length-append (decimal (s + 1)) (codes " "),
+      length-decimal-le 2 (s + 1) (omega arith) (omega arith) (omega arith),
+    )
+
+-- what a line asks, what is kept of it asks too, with a front of the text
+asks_in_front : (whole : Text) (s : ℕ) (text : Text) → Asks whole s text
+    → Asks (kept_of whole) s (take (8196 - length (front_of s)) text)
+asks_in_front whole s text (few, parts) =
+    let d = front_of s in
+    let split : 8196 ≡ length d + (8196 - length d) = omega (arith, front_is_short s few) in (
+      few,
+      ap (take 8196) parts ∙ ap (λ n. take n (d ++ text)) split
+          ∙ take-append-add d text (8196 - length d),
+    )
+
+-- and what is kept of it asks, it asks with more
+asks_with_more : (whole : Text) (s : ℕ) (text : Text) → Asks (kept_of whole) s text
+    → Asks whole s (text ++ drop 8196 whole)
+asks_with_more whole s text (few, parts) =
+    let rest = drop 8196 whole in (
+      few,
+      sym (take-append-drop 8196 whole) ∙ ap (λ t. t ++ rest) parts
+          ∙ append_assoc (front_of s) text rest,
+    )
+
+asked_length : (heard : Text) (s : ℕ) (text : Text) → Asks heard s text
+    → length heard ≤ 3 + length text
+asked_length heard s text (few, parts) =
+    omega (arith, ap length parts, length-append (front_of s) text, front_is_short s few)
+
+fault_if_long : (names : List Text) (text : Text) → is_too_long text ≡ true
+    → line_fault names text ≡ Some LineTooLong
+unfolding line_fault
+fault_if_long names text e =
+    ap (λ b. cond b (Some LineTooLong) (first_yes (text_questions names text))) e
+
+long_is : (text : Text) → 8192 < length text → is_too_long text ≡ true
+long_is text long = lt-ltb 8192 (length text) long
+
+fault_when_long : (names : List Text) (text : Text) → 8192 < length text
+    → line_fault names text ≡ Some LineTooLong
+fault_when_long names text long = fault_if_long names text (long_is text long)
+
+fault_of_more : (names : List Text) (text more word : Text) → 8192 < length text
+    → IsFaultWord names text word → IsFaultWord names (text ++ more) word
+fault_of_more names text more word long (inl (fault, other, is, e)) =
+    let longer : 8192 < length (text ++ more) = omega (arith, length-append text more) in
+    inl (
+      fault,
+      (λ same. absurd (omega (arith, ap length same))),
+      fault_when_long names (text ++ more) longer ∙ sym (fault_when_long names text long) ∙ is,
+      e,
+    )
+fault_of_more names text more word long (inr want) = inr want
+
+module _ (old new : Known) (round : Round) (whole : Text) (heard : round.heard ≡ kept_of whole)
+  where
+    module _ (long : length round.heard ≡ 8196) where
+      refusing_whole : Refusing old new round → Refusing old new (record round { heard = whole })
+      refusing_whole step = record {
+        same_names = step.same_names;
+        same_state = step.same_state;
+        none = step.none;
+        cause = cause step.cause;
+      }
+        where
+          cause : (HasNoSession round.heard
+              × (round.said ≡ fault_text_of (codes "0") (codes "bad-session")))
+              ⊎ ((s : ℕ) × (text : Text) × (word : Text) × Asks round.heard s text
+              × IsFaultWord old.names text word
+              × (round.said ≡ fault_text_of (decimal (s + 1)) word))
+              → (HasNoSession whole
+              × (round.said ≡ fault_text_of (codes "0") (codes "bad-session")))
+              ⊎ ((s : ℕ) × (text : Text) × (word : Text) × Asks whole s text
+              × IsFaultWord old.names text word
+              × (round.said ≡ fault_text_of (decimal (s + 1)) word))
+          cause (inl (none, said)) =
+              inl (
+                (λ s text asks. none s (take (8196 - length (front_of s)) text)
+                    (subst (λ h. Asks h s (take (8196 - length (front_of s)) text)) (sym heard)
+                    (asks_in_front whole s text asks))),
+                said,
+              )
+          cause (inr (s, text, word, asks, is, said)) =
+              inr (
+                s,
+                text ++ drop 8196 whole,
+                word,
+                asks_with_more whole s text (subst (λ h. Asks h s text) heard asks),
+                fault_of_more old.names text (drop 8196 whole) word
+                    (omega (arith, asked_length round.heard s text asks, long)) is,
+                said,
+              )
+
+      long_step : IsStep old new round → IsStep old new (record round { heard = whole })
+      long_step (inl step) =
+          absurd (omega (
+            arith,
+            asked_length round.heard step.line.session step.text step.asks,
+            step.says.1,
+            long,
+          ))
+      long_step (inr (inl step)) =
+          absurd (omega (arith, asked_length round.heard step.session end_word step.asks, long))
+      long_step (inr (inr step)) = inr (inr (refusing_whole step))
+
+    -- what is answered to what is kept of a line is the answer to the line
+    step_of_kept : IsStep old new round → IsStep old new (record round { heard = whole })
+    step_of_kept step = elim (cases_lt (length whole) 8196) [
+      | inl short ↦ subst (λ h. IsStep old new (record round { heard = h }))
+          (heard ∙ take_all 8196 whole (omega arith)) step
+      | inr long ↦ long_step (ap length heard ∙ length-take-le 8196 whole long) step
+    ]
+
+pub step_of_whole : (old new : Known) (round : Round) (whole : Text)
+    → IsHeardOf whole round.heard → IsStep old new round
+    → IsStep old new (record round { heard = whole })
+step_of_whole old new round whole (inl same) step =
+    subst (λ h. IsStep old new (record round { heard = h })) same step
+step_of_whole old new round whole (inr kept) step = step_of_kept old new round whole kept step

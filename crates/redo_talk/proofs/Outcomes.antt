@@ -1,0 +1,33 @@
+-- What holds whatever a result is, or of what another fact says of it.
+use Rattle.std.proofs.Common.{◌≡◌}
+use Rattle.std.specs.Prelude.{Result, Ok, Err, OnOk, OnErr, IfErr}
+
+pub on_err : {T E : Type 0} (r : Result T E) (P : Type 0) → P → OnErr r P
+on_err (Ok x) P p = tt
+on_err (Err e) P p = p
+
+pub ok_then : {T E : Type 0} (r : Result T E) (P Q : Type 0) → OnOk r P → (P → Q) → OnOk r Q
+ok_then (Ok x) P Q p f = f p
+ok_then (Err e) P Q p f = tt
+
+pub err_then : {T E : Type 0} (r : Result T E) (P Q : Type 0) → OnErr r P → (P → Q) → OnErr r Q
+err_then (Ok x) P Q p f = tt
+err_then (Err e) P Q p f = f p
+
+pub ok_by_four : {T E : Type 0} (r : Result T E) (P Q R S Z : Type 0) → OnOk r P → OnOk r Q
+    → OnOk r R → OnOk r S → (P → Q → R → S → Z) → OnOk r Z
+ok_by_four (Ok x) P Q R S Z p q t s f = f p q t s
+ok_by_four (Err e) P Q R S Z p q t s f = tt
+
+pub ok_holds : {T E : Type 0} (r : Result T E) (x : T) (P : Type 0) → r ≡ Ok x → OnOk r P → P
+ok_holds (Ok y) x P e p = p
+ok_holds (Err why) x P e p = absurd cc
+
+pub any_err : {T E : Type 0} (r : Result T E) (P : E → Type 0) → ((e : E) → P e) → IfErr r P
+any_err (Ok x) P f = tt
+any_err (Err e) P f = f e
+
+pub if_err_then : {T E : Type 0} (r : Result T E) (P Q : E → Type 0) → IfErr r P
+    → ((e : E) → P e → Q e) → IfErr r Q
+if_err_then (Ok x) P Q p f = tt
+if_err_then (Err e) P Q p f = f e p

@@ -1,0 +1,30 @@
+use Rattle.std.proofs.Common.{◌≡◌, [], ◌++◌, refl, sym, ap, ◌∙◌, subst, append-nil, append_assoc, inl, arith}
+use Rattle.std.specs.Io.KnownBytes.{Appends}
+use Rattle.std.proofs.KnownBytes.{Appends-trans}
+use Rattle.std.proofs.lemmas.Grind.{common_steps}
+use Rattle.redo_whole.specs.Watched.{inner_of}
+use Rattle.redo_talk.proofs.Outcomes.{err_then}
+use Rattle.redo_talk.proofs.unsent.tell_fault.Goals as goal
+
+pub returns-clause-err : goal.returns-clause-err
+returns-clause-err g c =
+    let said = c.args.unsent.now.said.items in
+    let same : c.extend_from_slice.new.self.items ≡ said = grind (arith, common_steps) in
+    err_then c.put.result _ _ c.put.ensures.front (λ (sent, rest, parts, written). record {
+      log_front = c.args.unsent.now.logged.items;
+      log_rest = [];
+      log_parts = sym (append-nil c.args.unsent.now.logged.items);
+      to_log = c.in_ok-send.ensures.logged;
+      said_front = said ++ sent;
+      said_rest = rest;
+      said_parts = ap (λ t. said ++ t)
+          (sym c.fault_line-line.ensures ∙ sym c.deref-2.ensures.0 ∙ parts)
+          ∙ sym (append_assoc said sent rest);
+      to_out = Appends-trans (g.W.Write.contents (inner_of c.args.out.now))
+          (g.W.Write.contents (inner_of c.send.new.out))
+          (g.W.Write.contents (inner_of c.put.new.device)) said sent
+          (subst (Appends (g.W.Write.contents (inner_of c.args.out.now))
+          (g.W.Write.contents (inner_of c.send.new.out))) same c.in_ok-send.ensures.said)
+          written;
+      log_first = inl refl;
+    })

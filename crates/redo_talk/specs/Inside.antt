@@ -1,0 +1,6 @@
+pub mod Steps
+pub mod Moments
+pub mod KeptLines
+pub mod Sending
+pub mod Hearing
+pub mod LeftBy

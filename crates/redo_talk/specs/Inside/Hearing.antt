@@ -1,0 +1,54 @@
+-- How a conversation goes on.
+use Rattle.std.specs.Prelude.{Option, ◌++◌}
+use Rattle.redo_model.specs.Names.{Text}
+use Rattle.redo_live.specs.Inside.LiveState.{LiveState, state_in}
+use Rattle.redo_talk.specs.Inside.KeptLines.{IsFrontOf}
+use Rattle.redo_talk.specs.Inside.Steps.{Known}
+use Rattle.redo_talk.specs.Inside.Moments.{Moment, Waiting, IsTalk, IsBrokenOff}
+use Rattle.redo_talk.specs.declared.unsent.Unsent.{Unsent}
+
+-- what a database knows
+abbrev pub known_of : LiveState → Known
+known_of live = record { names = live.names; state = state_in live }
+
+-- what is known, what the log and the output hold, and what waits to be sent
+pub record Place : Type 0 where
+  pub known : Known
+  pub log : Option Text
+  pub out : Option Text
+  pub waiting : Waiting
+
+abbrev pub place_of : LiveState → Option Text → Option Text → Unsent → Place
+place_of live log out unsent = record {
+  known = known_of live;
+  log = log;
+  out = out;
+  waiting = record { said = unsent.said.items; logged = unsent.logged.items };
+}
+
+-- the moment at that place where these bytes are left to be heard
+abbrev pub moment_at : Place → Option Text → Moment
+moment_at place left =
+    record { known = place.known; left = left; log = place.log; out = place.out }
+
+abbrev pub TalksAt : Moment → Option Text → Place → Text → Type 0
+TalksAt first left place more = IsTalk first (moment_at place left) place.waiting more
+
+-- any conversation that came to the old place goes on to the new one: of the bytes that were heard
+-- and not answered `before` there is `after` left
+abbrev pub GoesOn : Place → Place → Text → Text → Type 0
+GoesOn old new before after =
+    (first : Moment) (left : Option Text) → TalksAt first left old before
+    → TalksAt first left new after
+
+-- or it breaks off
+abbrev pub BreaksOff : Place → Place → Text → Type 0
+BreaksOff old new before =
+    (first : Moment) (left : Option Text) → TalksAt first left old before
+    → IsBrokenOff first (moment_at new left)
+
+-- it goes on, and of a line that has not ended in front of the rest a front is kept
+abbrev pub GoesOnInLine : Place → Place → Text → Text → Text → Type 0
+GoesOnInLine old new before front rest =
+    (first : Moment) (left : Option Text) → TalksAt first left old before
+    → (begun : Text) × IsFrontOf begun front × TalksAt first left new (begun ++ rest)

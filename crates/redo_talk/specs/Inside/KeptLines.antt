@@ -1,0 +1,17 @@
+-- Lines of any length, of which a front is kept.
+use Rattle.std.specs.Prelude.{◌≡◌, ◌⊎◌, take}
+use Rattle.redo_model.specs.Names.{Text}
+use Rattle.redo_talk.specs.Logs.{HasNoEnd}
+
+-- so much of a line is kept as tells its fault
+abbrev pub kept_of : Text → Text
+kept_of line = take 8196 line
+
+-- the line itself, or what is kept of it
+abbrev pub IsHeardOf : Text → Text → Type 0
+IsHeardOf whole line = (line ≡ whole) ⊎ (line ≡ kept_of whole)
+
+-- what is kept of a line that has not ended
+pub record IsFrontOf (whole front : Text) : Type 0 where
+  pub unended : HasNoEnd whole
+  pub kept : front ≡ kept_of whole

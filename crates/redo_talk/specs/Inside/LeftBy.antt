@@ -1,0 +1,13 @@
+-- A database after a history.
+use Rattle.std.specs.Prelude.{◌≡◌, List}
+use Rattle.redo_model.specs.Names.{Text, texts}
+use Rattle.redo_model.specs.State.{empty}
+use Rattle.redo_model.specs.History.{Line, Legal, left_by}
+use Rattle.redo_live.specs.Lines.{names_after}
+use Rattle.redo_live.specs.Inside.LiveState.{LiveState, state_in}
+
+-- the database is as this legal history leaves it, and knows the names of its commands
+pub record IsLeftBy (live : LiveState) (before : List (Line Text)) : Type 0 where
+  pub legal : Legal texts before
+  pub names_are : live.names ≡ names_after before
+  pub state_is : state_in live ≡ left_by texts empty before

@@ -1,0 +1,43 @@
+-- What is written where a write fails, and what becomes of a fault that is told.
+use Rattle.std.specs.Prelude.{◌≡◌, ◌⊎◌, [], ◌++◌, Option, codes}
+use Rattle.std.specs.Io.KnownBytes.{Appends, Keeps}
+use Rattle.redo_model.specs.Names.{Text}
+use Rattle.redo_text.specs.Faults.{fault_word_of}
+use Rattle.redo_live.specs.declared.fault.Unanswered.{Unanswered}
+use Rattle.redo_live.specs.declared.fault.Unanswered.TheVariants.{Memory, Worn, Fault}
+
+-- the word that tells why a session was not answered
+abbrev pub refusal_word_of : Unanswered → Text
+refusal_word_of Memory = codes "memory"
+refusal_word_of Worn = codes "worn"
+refusal_word_of (Fault fault) = fault_word_of fault
+
+-- a front of what is to be logged went to the log and, if that was whole, a front of what is to be
+-- said to the output
+pub record SendsFronts (log log_after out out_after : Option Text) (logged said : Text)
+    : Type 0 where
+  pub log_front : Text
+  pub log_rest : Text
+  pub log_parts : logged ≡ log_front ++ log_rest
+  pub to_log : Appends log log_after log_front
+  pub said_front : Text
+  pub said_rest : Text
+  pub said_parts : said ≡ said_front ++ said_rest
+  pub to_out : Appends out out_after said_front
+  pub log_first : (log_rest ≡ []) ⊎ (said_front ≡ [])
+
+-- the text waits behind what waited
+pub record IsKeptBack (log log_after out out_after : Option Text)
+    (logged logged_after said said_after text : Text) : Type 0 where
+  pub log_same : Keeps log log_after
+  pub out_same : Keeps out out_after
+  pub logged_same : logged_after ≡ logged
+  pub said_more : said_after ≡ said ++ text
+
+-- what waited was sent, and then the text
+pub record IsSent (log log_after out out_after : Option Text)
+    (logged logged_after said said_after text : Text) : Type 0 where
+  pub to_log : Appends log log_after logged
+  pub to_out : Appends out out_after (said ++ text)
+  pub none_logged : logged_after ≡ []
+  pub none_said : said_after ≡ []

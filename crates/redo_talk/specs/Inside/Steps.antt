@@ -1,0 +1,69 @@
+-- Rounds by what is known before and after each, whatever history led there.
+use Rattle.std.specs.Prelude.{◌≡◌, ◌⊎◌, ℕ, ◌≤◌, ◌+◌, true, List, [], ◌∷◌, ◌++◌, length, codes, decimal}
+use Rattle.std.specs.List.{AllByRecursion, flat_map}
+use Rattle.redo_names.specs.Names.{has}
+use Rattle.redo_model.specs.Names.{Text, texts}
+use Rattle.redo_model.specs.State.{State, empty}
+use Rattle.redo_model.specs.Command.{names_in}
+use Rattle.redo_model.specs.Step.{Answers, after}
+use Rattle.redo_model.specs.History.{Line, Legal, left_by}
+use Rattle.redo_model.specs.Inside.Ending.{AreHeld, closing_lines_of}
+use Rattle.redo_text.specs.Grammar.{IsCommandLine, with_names}
+use Rattle.redo_replay.specs.Histories.{line_text_of}
+use Rattle.redo_live.specs.Lines.{names_after}
+use Rattle.redo_talk.specs.Rounds.{Round, Asks, IsFaultWord, HasNoSession, end_word, end_text_of, fault_text_of}
+
+-- the names that were spoken of, and what is known of names
+pub record Known : Type 0 where
+  pub names : List Text
+  pub state : State Text
+
+-- the history led there
+pub record LeadsTo (lines : List (Line Text)) (known : Known) : Type 0 where
+  pub legal : Legal texts lines
+  pub names_are : known.names ≡ names_after lines
+  pub state_is : known.state ≡ left_by texts empty lines
+
+-- a command was answered
+pub record Answering (old new : Known) (round : Round) : Type 0 where
+  pub line : Line Text
+  pub text : Text
+  pub asks : Asks round.heard line.session text
+  pub says : IsCommandLine text line.command
+  pub names_are : new.names ≡ with_names old.names (names_in line.command)
+  pub few_names : length new.names ≤ 65536
+  pub answers : Answers texts old.state line.session line.command line.reply
+  pub state_is : new.state ≡ after texts old.state line.session line.command
+  pub lines_are : round.lines ≡ line ∷ []
+  pub said_is : round.said ≡ line_text_of line
+
+-- a session let go of the targets that it held
+pub record Ending (old new : Known) (round : Round) : Type 0 where
+  pub session : ℕ
+  pub asks : Asks round.heard session end_word
+  pub held : List Text
+  pub are_held : AreHeld texts session old.state held
+  pub known : AllByRecursion (λ t. has old.names t ≡ true) held
+  pub names_are : new.names ≡ old.names
+  pub state_is : new.state ≡ left_by texts old.state round.lines
+  pub lines_are : round.lines ≡ closing_lines_of session old.state held
+  pub said_is : round.said ≡ flat_map line_text_of round.lines ++ end_text_of session
+
+-- a fault was told
+pub record Refusing (old new : Known) (round : Round) : Type 0 where
+  pub same_names : new.names ≡ old.names
+  pub same_state : new.state ≡ old.state
+  pub none : round.lines ≡ []
+  pub cause : (HasNoSession round.heard
+      × (round.said ≡ fault_text_of (codes "0") (codes "bad-session")))
+      ⊎ ((s : ℕ) × (text : Text) × (word : Text) × Asks round.heard s text
+      × IsFaultWord old.names text word × (round.said ≡ fault_text_of (decimal (s + 1)) word))
+
+abbrev pub IsStep : Known → Known → Round → Type 0
+IsStep old new round = Answering old new round ⊎ (Ending old new round ⊎ Refusing old new round)
+
+-- one step for each round, from the old to the new
+abbrev pub AreSteps : Known → Known → List Round → Type 0
+AreSteps old new [] = (new.names ≡ old.names) × (new.state ≡ old.state)
+AreSteps old new (round ∷ rounds) =
+    (middle : Known) × IsStep old middle round × AreSteps middle new rounds

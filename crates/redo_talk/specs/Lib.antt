@@ -1,0 +1,4 @@
+pub mod Rounds
+pub mod Logs
+pub mod Talks
+pub mod Inside

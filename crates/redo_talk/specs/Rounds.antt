@@ -1,0 +1,93 @@
+-- A conversation: what was heard, which lines of the history it made, and what was said.
+use Rattle.std.specs.Prelude.{◌≡◌, ◌≢◌, ◌⊎◌, ℕ, ◌<◌, ◌≤◌, ◌+◌, List, [], ◌∷◌, ◌++◌, Some, length, codes, decimal}
+use Rattle.std.specs.List.{AllByRecursion, flat_map}
+use Rattle.redo_model.specs.Names.{Text, texts}
+use Rattle.redo_model.specs.State.{empty}
+use Rattle.redo_model.specs.Reply.{Okay}
+use Rattle.redo_model.specs.Step.{Answers}
+use Rattle.redo_model.specs.History.{Line, left_by, part_of}
+use Rattle.redo_model.specs.Closing.{ClosesAfter}
+use Rattle.redo_text.specs.Grammar.{IsCommandLine}
+use Rattle.redo_text.specs.Questions.{line_fault}
+use Rattle.redo_text.specs.Faults.{fault_word_of}
+use Rattle.redo_text.specs.declared.fault.LineFault.{LineFault}
+use Rattle.redo_replay.specs.Histories.{ended, line_text_of}
+use Rattle.redo_live.specs.Lines.{names_after}
+
+-- a line that was heard, without its LF; the lines of the history that it made; what was said to it
+pub record Round : Type 0 where
+  pub heard : Text
+  pub lines : List (Line Text)
+  pub said : Text
+
+-- the line asks the session, whose number it counts from 1, for this text
+abbrev pub Asks : Text → ℕ → Text → Type 0
+Asks heard s text = (s < 64) × (heard ≡ decimal (s + 1) ++ codes " " ++ text)
+
+-- the line asks for a command whose names fit: the database answered it, and that was said
+pub record IsAnswered (before : List (Line Text)) (round : Round) : Type 0 where
+  pub line : Line Text
+  pub text : Text
+  pub asks : Asks round.heard line.session text
+  pub says : IsCommandLine text line.command
+  pub few_names : length (names_after (before ++ line ∷ [])) ≤ 65536
+  pub answers : Answers texts (left_by texts empty before) line.session line.command line.reply
+  pub lines_are : round.lines ≡ line ∷ []
+  pub said_is : round.said ≡ line_text_of line
+
+abbrev pub end_word : Text
+end_word = codes "end"
+
+-- what is said behind the closing commands of a session
+abbrev pub end_text_of : ℕ → Text
+end_text_of s = ended (decimal (s + 1) ++ codes " end => ok")
+
+-- the line asks for the session's end: its closing commands were done and said
+pub record IsEnded (before : List (Line Text)) (round : Round) : Type 0 where
+  pub session : ℕ
+  pub asks : Asks round.heard session end_word
+  pub accepted : AllByRecursion (λ line. (line.session ≡ session) × (line.reply ≡ Okay)) round.lines
+  pub closes : ClosesAfter texts (part_of session before) round.lines
+  pub said_is : round.said ≡ flat_map line_text_of round.lines ++ end_text_of session
+
+-- the line of a fault
+abbrev pub fault_text_of : Text → Text → Text
+fault_text_of number word = ended (number ++ codes " fault " ++ word)
+
+-- the line names no session in front
+abbrev pub HasNoSession : Text → Type 0
+HasNoSession heard = (s : ℕ) (text : Text) → ¬ (Asks heard s text)
+
+-- the word for the first fault of a text that is no end, or for want of memory or of counters
+abbrev pub IsFaultWord : List Text → Text → Text → Type 0
+IsFaultWord names text word =
+    ((fault : LineFault) × (text ≢ end_word) × (line_fault names text ≡ Some fault)
+    × (word ≡ fault_word_of fault))
+    ⊎ ((word ≡ codes "memory") ⊎ (word ≡ codes "worn"))
+
+-- the line has a fault: that was said, and it made no line of the history
+pub record IsFaulty (before : List (Line Text)) (round : Round) : Type 0 where
+  pub none : round.lines ≡ []
+  pub cause : (HasNoSession round.heard
+      × (round.said ≡ fault_text_of (codes "0") (codes "bad-session")))
+      ⊎ ((s : ℕ) × (text : Text) × (word : Text) × Asks round.heard s text
+      × IsFaultWord (names_after before) text word
+      × (round.said ≡ fault_text_of (decimal (s + 1)) word))
+
+abbrev pub IsRound : List (Line Text) → Round → Type 0
+IsRound before round = IsAnswered before round ⊎ (IsEnded before round ⊎ IsFaulty before round)
+
+-- each is a round after the lines of the history that stood before it
+abbrev pub AreRounds : List (Line Text) → List Round → Type 0
+AreRounds before [] = Unit {0}
+AreRounds before (round ∷ rounds) =
+    IsRound before round × AreRounds (before ++ round.lines) rounds
+
+abbrev pub lines_in : List Round → List (Line Text)
+lines_in rounds = flat_map (λ round. round.lines) rounds
+
+abbrev pub heard_in : List Round → Text
+heard_in rounds = flat_map (λ round. ended round.heard) rounds
+
+abbrev pub said_in : List Round → Text
+said_in rounds = flat_map (λ round. round.said) rounds

@@ -1,0 +1,14 @@
+ghost use Rattle.std.specs.Prelude.{MatchOption};
+ghost use Rattle.redo_talk.specs.Rounds.{Asks, HasNoSession};
+
+use redo_replay::{cut_at, session_of};
+
+/// The session, counted from 0, that a line asks, and the text for it.
+pub(crate) fn asked(line: &[u8]) -> Option<(u8, &[u8])>
+    ensures { MatchOption result (HasNoSession line.now)
+        (λ parts. Asks line.now parts.0 parts.1.now) }
+{
+    let (word, text) = cut_at(line, b' ')?;
+    let session = session_of(word)?;
+    Some((session, text))
+}

@@ -1,0 +1,84 @@
+use redo_live::Unanswered;
+use redo_text::fault_word;
+use redo_whole::WriteFault;
+use std::alloc::AllocError;
+use thiserror::Error;
+
+/// Why a conversation ended before its input did.
+#[derive(Clone, Copy, Debug, PartialEq, Eq, Error)]
+pub enum TalkFault {
+    /// There was no memory to begin.
+    #[error("out of memory")]
+    Memory,
+    #[error("a read failed")]
+    Read,
+    /// A write to the log or to the output failed, or passing on what was written.
+    #[error("a write failed")]
+    Write,
+    /// More reads than can be counted gave bytes.
+    #[error("too long")]
+    TooLong,
+}
+
+impl From<AllocError> for TalkFault {
+    ghost use Rattle.std.specs.Prelude.{◌≡◌};
+    ghost use Rattle.redo_talk.specs.declared.fault.TalkFault.TheVariants.{Memory};
+
+    ghost from_gives = { λ _ fault. fault ≡ Memory };
+
+    fn from(_: AllocError) -> TalkFault {
+        TalkFault::Memory
+    }
+}
+
+impl From<WriteFault> for TalkFault {
+    ghost use Rattle.std.specs.Prelude.{◌≡◌};
+    ghost use Rattle.redo_talk.specs.declared.fault.TalkFault.TheVariants.{Write};
+
+    ghost from_gives = { λ _ fault. fault ≡ Write };
+
+    fn from(_: WriteFault) -> TalkFault {
+        TalkFault::Write
+    }
+}
+
+/// The fault of a line: the number that is told, 0 where no session is named, and its word.
+#[derive(Clone, Copy, Debug)]
+pub(crate) struct Refusal {
+    pub number: u8,
+    pub word: &'static str,
+}
+
+impl Refusal {
+    ghost use Rattle.std.specs.Prelude.{◌≡◌, ◌+◌, ◌<◌, ◌≤◌, codes, length};
+    ghost use Rattle.redo_talk.specs.Inside.Sending.{refusal_word_of};
+
+    /// No session is named.
+    pub fn no_session() -> Refusal
+        ensures number { result.number ≡ 0 }
+        ensures word { result.word.now ≡ codes "bad-session" }
+    {
+        Refusal {
+            number: 0,
+            word: "bad-session",
+        }
+    }
+
+    /// Why a session was not answered.
+    pub fn of(session: u8, why: Unanswered) -> Refusal
+        requires { session < 64 }
+        ensures number { result.number ≡ session + 1 }
+        ensures word { result.word.now ≡ refusal_word_of why }
+        ensures short { length result.word.now ≤ 20 }
+    {
+        let word = match why {
+            Unanswered::Memory => "memory",
+            Unanswered::Worn => "worn",
+            Unanswered::Fault(fault) => fault_word(fault),
+        };
+        Refusal {
+            number: session + 1,
+            word,
+        }
+    }
+}

@@ -1,0 +1,188 @@
+ghost use Rattle.std.specs.Prelude.{◌≡◌, ◌≤◌, ◌++◌, [], length, take, vec_capacity, decimal, IfErr, OnOk, OnErr};
+ghost use Rattle.redo_model.specs.Names.{Text};
+ghost use Rattle.redo_replay.specs.Devices.{known_in};
+ghost use Rattle.redo_replay.specs.Histories.{ended};
+ghost use Rattle.redo_talk.specs.Rounds.{Round, fault_text_of};
+ghost use Rattle.redo_talk.specs.Logs.{logged_of};
+ghost use Rattle.redo_talk.specs.Inside.Steps.{IsStep, Refusing};
+ghost use Rattle.redo_talk.specs.Inside.KeptLines.{IsHeardOf, IsFrontOf, kept_of};
+ghost use Rattle.redo_talk.specs.Inside.Hearing.{GoesOn, GoesOnInLine, BreaksOff, known_of, place_of};
+
+use crate::asked::asked;
+use crate::fault::Refusal;
+use crate::unsent::{Unsent, send, tell_fault};
+use redo_live::Live;
+use redo_replay::cut_at;
+use redo_whole::{Watched, WriteFault};
+use std::alloc::Global;
+use std::io::Write;
+
+/// So many bytes of a line are kept: one more than a session's number, a space and the longest command have.
+pub(crate) const MOST_KEPT: usize = 8196;
+
+/// The first bytes, so many at most.
+fn first(bytes: &[u8], most: usize) -> &[u8]
+    ensures { result.now ≡ take most bytes.now }
+{
+    if bytes.len() <= most {
+        bytes
+    } else {
+        &bytes[..most]
+    }
+}
+
+/// Puts bytes behind what is kept of a line. Takes no memory.
+fn keep(front: &mut Vec<u8>, bytes: &[u8])
+    requires room { MOST_KEPT ≤ vec_capacity front.old }
+    requires few { length front.old.items ≤ MOST_KEPT }
+    ensures kept { front.new.items ≡ kept_of (front.old.items ++ bytes.now) }
+    ensures room { MOST_KEPT ≤ vec_capacity front.new }
+    ensures few { length front.new.items ≤ MOST_KEPT }
+{
+    let room = MOST_KEPT - front.len();
+    let _ = front.extend_from_slice(first(bytes, room));
+}
+
+/// Answers a line: what it says and logs waits behind what waited.
+fn answer(alloc: Global, live: &mut Live, line: &[u8], unsent: &mut Unsent) -> Result<(), Refusal>
+    ensures step { OnOk result ((round : Round) × (round.heard ≡ line.now)
+        × IsStep (known_of live.old) (known_of live.new) round
+        × (unsent.new.said.items ≡ unsent.old.said.items ++ round.said)
+        × (unsent.new.logged.items
+        ≡ unsent.old.logged.items ++ logged_of (known_of live.old).state round.lines)) }
+    ensures refused { IfErr result (λ fault. Refusing (known_of live.old) (known_of live.new)
+        (record {
+          heard = line.now;
+          lines = [];
+          said = fault_text_of (decimal fault.number) fault.word.now;
+        })) }
+    ensures said { OnErr result (unsent.new.said.items ≡ unsent.old.said.items) }
+    ensures logged { OnErr result (unsent.new.logged.items ≡ unsent.old.logged.items) }
+    ensures short { IfErr result (λ fault. length fault.word.now ≤ 20) }
+{
+    let Some((session, text)) = asked(line) else {
+        return Err(Refusal::no_session());
+    };
+    let done = if text == b"end".as_slice() {
+        live.end(alloc, session, &mut unsent.said, &mut unsent.logged)
+    } else {
+        live.answer(alloc, session, text, &mut unsent.said, &mut unsent.logged)
+    };
+    match done {
+        Ok(()) => Ok(()),
+        Err(why) => Err(Refusal::of(session, why)),
+    }
+}
+
+/// Answers a line, or tells its fault.
+fn respond<L: Write, W: Write>(
+    alloc: Global,
+    live: &mut Live,
+    line: &[u8],
+    unsent: &mut Unsent,
+    log: &mut Watched<L>,
+    out: &mut Watched<W>,
+) -> Result<(), WriteFault>
+    ensures talk { OnOk result ((whole more : Text) → IsHeardOf whole line.now → GoesOn
+        (place_of live.old (known_in L.contents log.old) (known_in W.contents out.old) unsent.old)
+        (place_of live.new (known_in L.contents log.new) (known_in W.contents out.new) unsent.new)
+        (ended whole ++ more) more) }
+    ensures broken { OnErr result ((whole more : Text) → IsHeardOf whole line.now → BreaksOff
+        (place_of live.old (known_in L.contents log.old) (known_in W.contents out.old) unsent.old)
+        (place_of live.new (known_in L.contents log.new) (known_in W.contents out.new) unsent.new)
+        (ended whole ++ more)) }
+{
+    match answer(alloc, live, line, unsent) {
+        Ok(()) => Ok(()),
+        Err(fault) => tell_fault(fault, unsent, log, out),
+    }
+}
+
+/// Answers the line that ends with this piece, and of which a front may be kept.
+fn respond_to_piece<L: Write, W: Write>(
+    alloc: Global,
+    live: &mut Live,
+    front: &mut Vec<u8>,
+    piece: &[u8],
+    unsent: &mut Unsent,
+    log: &mut Watched<L>,
+    out: &mut Watched<W>,
+) -> Result<(), WriteFault>
+    requires room { MOST_KEPT ≤ vec_capacity front.old }
+    requires few { length front.old.items ≤ MOST_KEPT }
+    ensures talk { OnOk result ((begun more : Text) → IsFrontOf begun front.old.items → GoesOn
+        (place_of live.old (known_in L.contents log.old) (known_in W.contents out.old) unsent.old)
+        (place_of live.new (known_in L.contents log.new) (known_in W.contents out.new) unsent.new)
+        (ended (begun ++ piece.now) ++ more) more) }
+    ensures broken { OnErr result ((begun more : Text) → IsFrontOf begun front.old.items → BreaksOff
+        (place_of live.old (known_in L.contents log.old) (known_in W.contents out.old) unsent.old)
+        (place_of live.new (known_in L.contents log.new) (known_in W.contents out.new) unsent.new)
+        (ended (begun ++ piece.now) ++ more)) }
+    ensures room { MOST_KEPT ≤ vec_capacity front.new }
+    ensures none { OnOk result (front.new.items ≡ []) }
+{
+    if front.is_empty() {
+        return respond(alloc, live, piece, unsent, log, out);
+    }
+    keep(front, piece);
+    respond(alloc, live, front, unsent, log, out)?;
+    front.clear();
+    Ok(())
+}
+
+/// Sends what waits, if it is much.
+fn send_much<L: Write, W: Write>(
+    live: &Live,
+    unsent: &mut Unsent,
+    log: &mut Watched<L>,
+    out: &mut Watched<W>,
+) -> Result<(), WriteFault>
+    ensures talk { OnOk result ((more : Text) → GoesOn
+        (place_of live.now (known_in L.contents log.old) (known_in W.contents out.old) unsent.old)
+        (place_of live.now (known_in L.contents log.new) (known_in W.contents out.new) unsent.new)
+        more more) }
+    ensures broken { OnErr result ((more : Text) → BreaksOff
+        (place_of live.now (known_in L.contents log.old) (known_in W.contents out.old) unsent.old)
+        (place_of live.now (known_in L.contents log.new) (known_in W.contents out.new) unsent.new)
+        more) }
+{
+    if unsent.is_much() {
+        send(unsent, log, out)?;
+    }
+    Ok(())
+}
+
+/// Answers each line that ends in the bytes, and sends all answers. Of a line that doesn't end in them a front is kept.
+pub(crate) fn hear<L: Write, W: Write>(
+    alloc: Global,
+    live: &mut Live,
+    front: &mut Vec<u8>,
+    bytes: &[u8],
+    unsent: &mut Unsent,
+    log: &mut Watched<L>,
+    out: &mut Watched<W>,
+) -> Result<(), WriteFault>
+    requires room { MOST_KEPT ≤ vec_capacity front.old }
+    requires few { length front.old.items ≤ MOST_KEPT }
+    ensures talk { OnOk result ((begun : Text) → IsFrontOf begun front.old.items → GoesOnInLine
+        (place_of live.old (known_in L.contents log.old) (known_in W.contents out.old) unsent.old)
+        (place_of live.new (known_in L.contents log.new) (known_in W.contents out.new) unsent.new)
+        (begun ++ bytes.now) front.new.items []) }
+    ensures broken { OnErr result ((begun : Text) → IsFrontOf begun front.old.items → BreaksOff
+        (place_of live.old (known_in L.contents log.old) (known_in W.contents out.old) unsent.old)
+        (place_of live.new (known_in L.contents log.new) (known_in W.contents out.new) unsent.new)
+        (begun ++ bytes.now)) }
+    ensures room { MOST_KEPT ≤ vec_capacity front.new }
+    ensures few { OnOk result (length front.new.items ≤ MOST_KEPT) }
+    ensures none_said { OnOk result (unsent.new.said.items ≡ []) }
+    ensures none_logged { OnOk result (unsent.new.logged.items ≡ []) }
+{
+    let mut rest = bytes;
+    'lines: while let Some((piece, after)) = cut_at(rest, b'\n') {
+        respond_to_piece(alloc, live, front, piece, unsent, log, out)?;
+        send_much(live, unsent, log, out)?;
+        rest = after;
+    }
+    keep(front, rest);
+    send(unsent, log, out)
+}

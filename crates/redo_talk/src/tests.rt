@@ -1,0 +1,73 @@
+//! Conversations that were worked out by hand from the rules.
+use crate::converse;
+use redo_whole::Watched;
+use std::alloc::{AllocError, Global};
+use std::test::Fail;
+
+/// What is said and what is logged when these bytes are heard.
+fn heard(alloc: Global, bytes: &[u8]) -> Result<(Vec<u8>, Vec<u8>), AllocError> {
+    let (mut said, mut logged) = (Vec::new(alloc), Vec::new(alloc));
+    let ended = converse(
+        alloc,
+        &mut Watched::new(bytes),
+        &mut Watched::new(&mut logged),
+        &mut Watched::new(&mut said),
+    );
+    match ended {
+        Ok(()) => Ok((said, logged)),
+        Err(_) => Err(AllocError),
+    }
+}
+
+/// A session builds a target and ends while it holds it; another asks.
+#[test]
+fn common_path(rt: HostRuntime) -> Result<(), Fail> {
+    let (said, logged) = heard(
+        rt.alloc(),
+        b"1 file a.c 10\n1 lock a.o\n2 lock a.o\n1 start a.o\n1 ifchange a.o a.c\n\
+        1 done a.o 20\n1 file a.c 11\n2 ood\n1 end\n2 lock a.o\n2 start a.o\n2 end\n",
+    )?;
+    let want = "1 file a.c 10 => ok\n1 lock a.o => granted 1\n2 lock a.o => busy 1\n\
+        1 start a.o => ok\n1 ifchange a.o a.c => ok\n1 done a.o 20 => ok\n1 file a.c 11 => ok\n\
+        2 ood => ood a.o\n1 unlock a.o => ok\n1 end => ok\n2 lock a.o => granted 2\n\
+        2 start a.o => ok\n2 failed a.o => ok\n2 unlock a.o => ok\n2 end => ok\n";
+    assert!(rt; said.as_slice() == want.as_bytes());
+    let kept = "1 file a.c 10 => ok\n1 lock a.o => granted 1\n1 start a.o => ok\n\
+        1 ifchange a.o a.c => ok\n1 done a.o 20 => ok\n1 file a.c 11 => ok\n1 unlock a.o => ok\n\
+        2 lock a.o => granted 2\n2 start a.o => ok\n2 failed a.o => ok\n2 unlock a.o => ok\n";
+    assert!(rt; logged.as_slice() == kept.as_bytes());
+    Ok(())
+}
+
+/// Lines that are no commands are faults, the first that they have; a rest without LF is not heard.
+#[test]
+fn faults(rt: HostRuntime) -> Result<(), Fail> {
+    let (said, logged) = heard(
+        rt.alloc(),
+        b"\n0 ood\n65 ood\nood\n1 end now\n1 \n3 lock\n3 lock -\n64 ? ood\n2 file a -\n1 ood",
+    )?;
+    let want = "0 fault bad-session\n0 fault bad-session\n0 fault bad-session\n\
+        0 fault bad-session\n1 fault unknown-command\n1 fault unknown-command\n\
+        3 fault wrong-words\n3 fault bad-name\n64 fault unknown-command\n2 fault bad-stamp\n";
+    assert!(rt; said.as_slice() == want.as_bytes());
+    assert!(rt; logged.is_empty());
+    Ok(())
+}
+
+/// A line of any length is one line.
+#[test]
+fn long_lines(rt: HostRuntime) -> Result<(), Fail> {
+    let alloc = rt.alloc();
+    let mut bytes = Vec::new(alloc);
+    for length in [8192, 8193, 200_000] {
+        bytes.extend_from_slice(b"64 gone ")?;
+        for _ in 5..length {
+            bytes.push(b'a')?;
+        }
+        bytes.push(b'\n')?;
+    }
+    let (said, _) = heard(alloc, &bytes)?;
+    let want = "64 fault bad-name\n64 fault line-too-long\n64 fault line-too-long\n";
+    assert!(rt; said.as_slice() == want.as_bytes());
+    Ok(())
+}

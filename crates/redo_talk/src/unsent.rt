@@ -1,0 +1,140 @@
+ghost use Rattle.std.specs.Prelude.{◌≡◌, ◌⊎◌, ◌+◌, ◌≤◌, ◌++◌, [], OnOk, OnErr, decimal, length};
+ghost use Rattle.redo_replay.specs.Devices.{known_in, Writes};
+ghost use Rattle.redo_whole.specs.Inside.Watched.{AppendsFront};
+ghost use Rattle.redo_talk.specs.Rounds.{fault_text_of};
+ghost use Rattle.redo_talk.specs.Inside.Sending.{SendsFronts, IsKeptBack, IsSent};
+
+use crate::fault::Refusal;
+use arrayvec::ArrayVec;
+use itoa::Buffer;
+use redo_whole::{Watched, WriteFault, write_whole};
+use std::alloc::Global;
+use std::io::Write;
+
+/// The line of a fault: a number of two digits, ` fault `, the longest word and an LF have room in it.
+type FaultLine = ArrayVec<u8, 32>;
+
+/// So many bytes are sent without waiting for more.
+const MANY: usize = 65_536;
+
+/// What was answered and isn't sent yet: what is said, and what the log takes.
+#[derive(Drop)]
+pub(crate) struct Unsent {
+    pub said: Vec<u8>,
+    pub logged: Vec<u8>,
+}
+
+impl Unsent {
+    /// Nothing. Takes no memory.
+    pub fn new(alloc: Global) -> Unsent
+        ensures said { result.said.items ≡ [] }
+        ensures logged { result.logged.items ≡ [] }
+    {
+        Unsent {
+            said: Vec::new(alloc),
+            logged: Vec::new(alloc),
+        }
+    }
+
+    pub fn is_much(&self) -> bool {
+        self.said.len() > MANY || self.logged.len() > MANY
+    }
+
+    fn clear(&mut self)
+        ensures said { self.new.said.items ≡ [] }
+        ensures logged { self.new.logged.items ≡ [] }
+    {
+        self.said.clear();
+        self.logged.clear();
+    }
+}
+
+/// Writes the bytes, if there are any, and has them passed on.
+fn put<D: Write>(device: &mut Watched<D>, bytes: &[u8]) -> Result<(), WriteFault>
+    ensures whole { OnOk result (Writes D.contents device.old device.new bytes.now) }
+    ensures front { OnErr result
+        (AppendsFront (known_in D.contents device.old) (known_in D.contents device.new) bytes.now) }
+{
+    if bytes.is_empty() {
+        return Ok(());
+    }
+    write_whole(device, bytes)?;
+    device.flush()
+}
+
+/// Sends what waits: first to the log, and when that was passed on, to the output. Takes no memory.
+pub(crate) fn send<L: Write, W: Write>(
+    unsent: &mut Unsent,
+    log: &mut Watched<L>,
+    out: &mut Watched<W>,
+) -> Result<(), WriteFault>
+    ensures logged { OnOk result (Writes L.contents log.old log.new unsent.old.logged.items) }
+    ensures said { OnOk result (Writes W.contents out.old out.new unsent.old.said.items) }
+    ensures none_said { OnOk result (unsent.new.said.items ≡ []) }
+    ensures none_logged { OnOk result (unsent.new.logged.items ≡ []) }
+    ensures err { OnErr result (SendsFronts
+        (known_in L.contents log.old) (known_in L.contents log.new)
+        (known_in W.contents out.old) (known_in W.contents out.new)
+        unsent.old.logged.items unsent.old.said.items) }
+{
+    put(log, &unsent.logged)?;
+    put(out, &unsent.said)?;
+    unsent.clear();
+    Ok(())
+}
+
+/// Appends the bytes. Takes no memory.
+fn add(line: &mut FaultLine, bytes: &[u8])
+    requires { length line.old.items + length bytes.now ≤ 32 }
+    ensures { line.new.items ≡ line.old.items ++ bytes.now }
+{
+    let _ = line.try_extend_from_slice(bytes);
+}
+
+/// The line of a fault. Takes no memory.
+fn fault_line(fault: Refusal) -> FaultLine
+    requires { length fault.word.now ≤ 20 }
+    ensures { result.items ≡ fault_text_of (decimal fault.number) fault.word.now }
+{
+    let mut digits = Buffer::new();
+    let mut line = ArrayVec::new();
+    add(&mut line, digits.format(fault.number).as_bytes());
+    add(&mut line, b" fault ");
+    add(&mut line, fault.word.as_bytes());
+    add(&mut line, b"\n");
+    line
+}
+
+/// Tells a fault: behind what waits to be said where there is memory for it, else behind what was sent.
+pub(crate) fn tell_fault<L: Write, W: Write>(
+    fault: Refusal,
+    unsent: &mut Unsent,
+    log: &mut Watched<L>,
+    out: &mut Watched<W>,
+) -> Result<(), WriteFault>
+    requires { length fault.word.now ≤ 20 }
+    ensures told { OnOk result (IsKeptBack
+        (known_in L.contents log.old) (known_in L.contents log.new)
+        (known_in W.contents out.old) (known_in W.contents out.new)
+        unsent.old.logged.items unsent.new.logged.items
+        unsent.old.said.items unsent.new.said.items
+        (fault_text_of (decimal fault.number) fault.word.now)
+        ⊎ IsSent
+        (known_in L.contents log.old) (known_in L.contents log.new)
+        (known_in W.contents out.old) (known_in W.contents out.new)
+        unsent.old.logged.items unsent.new.logged.items
+        unsent.old.said.items unsent.new.said.items
+        (fault_text_of (decimal fault.number) fault.word.now)) }
+    ensures err { OnErr result (SendsFronts
+        (known_in L.contents log.old) (known_in L.contents log.new)
+        (known_in W.contents out.old) (known_in W.contents out.new)
+        unsent.old.logged.items
+        (unsent.old.said.items ++ fault_text_of (decimal fault.number) fault.word.now)) }
+{
+    let line = fault_line(fault);
+    if unsent.said.extend_from_slice(&line).is_ok() {
+        return Ok(());
+    }
+    send(unsent, log, out)?;
+    put(out, &line)
+}
