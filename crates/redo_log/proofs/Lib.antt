@@ -1,0 +1,5 @@
+pub mod Grown
+pub mod CutLogs
+pub mod Asked
+pub mod Redone
+pub mod Stepping

@@ -1,0 +1,207 @@
+-- The lines of a log, one after another.
+use Rattle.std.proofs.Common.{◌≡◌, ℕ, ◌+◌, ◌-◌, ◌≤◌, List, [], ◌∷◌, ◌++◌, length, refl, sym, ap, ◌∙◌, subst, arith, append-nil, append_assoc, length-append}
+use Rattle.std.specs.Prelude.{Contains}
+use Rattle.std.proofs.lemmas.List.{append_cancel_left}
+use Rattle.std.proofs.lemmas.Grind.{flat_map-append}
+use Rattle.redo_model.specs.Names.{Text, texts}
+use Rattle.redo_model.specs.State.{State, empty}
+use Rattle.redo_model.specs.Step.{Answers, after}
+use Rattle.redo_model.specs.History.{Line}
+use Rattle.redo_model.proofs.OneMore.{left_by-append}
+use Rattle.redo_text.specs.Grammar.{AddsNames}
+use Rattle.redo_replay.specs.Histories.{line_text_of}
+use Rattle.redo_replay.proofs.HistoryReadsBack.{own_text_of}
+use Rattle.redo_replay.proofs.TextCuts.{has_lf}
+use Rattle.redo_live.specs.Inside.LiveState.{LiveState, state_in, calls_in}
+use Rattle.redo_live.specs.Lines.{lines_text_of, names_after}
+use Rattle.redo_log.specs.Logs.{log_header, AreLogged, IsLogOf}
+use Rattle.redo_log.specs.Restores.{IsLeftBy, IsRestoredTo, DiffersBehind, IsRestoreCause, IsOfRoom}
+use Rattle.redo_log.specs.declared.restoring.RestoreFault.{RestoreFault}
+use Rattle.redo_log.specs.declared.restoring.RestoreFault.TheVariants.{Memory, Worn, Differs}
+use Rattle.redo_log.specs.Steps.{NothingFollows, DoesNext, IsDoneUpTo}
+use Rattle.redo_log.proofs.Grown.{logged_more, can_follow}
+
+-- a line's text ends with a line feed
+text_has_lf : (line : Line Text) (rest : Text) → Contains (line_text_of line ++ rest) 10
+text_has_lf line rest =
+    let own = own_text_of line in
+    subst (λ (t : Text). Contains t 10) (sym (append_assoc own (10 ∷ []) rest)) (has_lf own rest 10)
+
+-- lines of which a text without line feeds is left are none
+none_left : (others : List (Line Text)) (left torn : Text) → ¬ (Contains left 10)
+    → left ≡ lines_text_of others ++ torn → others ≡ []
+none_left [] left torn free e = refl
+none_left (line ∷ others) left torn free e =
+    absurd (free (subst (λ (t : Text). Contains t 10)
+    (sym (e ∙ append_assoc (line_text_of line) (lines_text_of others) torn))
+    (text_has_lf line (lines_text_of others ++ torn))))
+
+left_by_more : (lines : List (Line Text)) (old new : LiveState) (left rest : Text)
+    → IsLeftBy lines old → (next : DoesNext old new left rest)
+    → new.names ≡ names_after (lines ++ next.line ∷ []) → IsLeftBy (lines ++ next.line ∷ []) new
+left_by_more lines old new left rest by next named =
+    let line = next.line in
+    record {
+      names = named;
+      state = next.after_is
+          ∙ ap (λ (st : State Text). after texts st line.session line.command) by.state
+          ∙ sym (left_by-append texts empty lines (line ∷ []));
+      calls = let calls = next.calls in
+          let before = by.calls in
+          let long = length-append lines (line ∷ []) in
+          omega arith;
+    }
+
+-- a log of lines goes on from a line that is done
+go_on : (log : Text) (lines all : List (Line Text)) (old new : LiveState) (left rest torn : Text)
+    → IsLeftBy lines old → (next : DoesNext old new left rest) → IsLogOf log all torn
+    → (others : List (Line Text)) → all ≡ lines ++ others → left ≡ lines_text_of others ++ torn
+    → (more : List (Line Text)) × (all ≡ (lines ++ next.line ∷ []) ++ more)
+    × (rest ≡ lines_text_of more ++ torn)
+go_on log lines all old new left rest torn by next is [] whole e =
+    absurd (is.free (subst (λ (t : Text). Contains t 10) (sym next.parts ∙ e)
+    (text_has_lf next.line rest)))
+go_on log lines all old new left rest torn by next is (first ∷ more) whole e =
+    let behind = lines_text_of more ++ torn in
+    let front : left ≡ line_text_of first ++ behind =
+    e ∙ append_assoc (line_text_of first) (lines_text_of more) torn in
+    let same : first ≡ next.line =
+    next.only first behind
+    (can_follow lines more first old by (subst AreLogged whole is.logged)) front in (
+      more,
+      whole ∙ ap (λ (l : Line Text). lines ++ l ∷ more) same
+          ∙ sym (append_assoc lines (next.line ∷ []) more),
+      append_cancel_left (line_text_of next.line) rest behind (sym next.parts ∙ front
+          ∙ ap (λ (l : Line Text). line_text_of l ++ behind) same),
+    )
+
+text_more : (lines : List (Line Text)) (line : Line Text) (rest : Text)
+    → log_header ++ lines_text_of lines ++ (line_text_of line ++ rest)
+    ≡ log_header ++ lines_text_of (lines ++ line ∷ []) ++ rest
+text_more lines line rest =
+    sym (append_assoc (log_header ++ lines_text_of lines) (line_text_of line) rest)
+    ∙ ap (λ (t : Text). t ++ rest) (append_assoc log_header (lines_text_of lines) (line_text_of line)
+    ∙ ap (λ (t : Text). log_header ++ t) (whole lines))
+  where
+    whole : (ls : List (Line Text)) → lines_text_of ls ++ line_text_of line
+        ≡ lines_text_of (ls ++ line ∷ [])
+    whole ls = ap (λ (t : Text). lines_text_of ls ++ t) (sym (append-nil (line_text_of line)))
+        ∙ sym (flat_map-append line_text_of ls (line ∷ []))
+
+-- one line more
+pub done_more : (log : Text) (lines : List (Line Text)) (old new : LiveState) (left rest : Text)
+    → IsDoneUpTo log lines old left → (next : DoesNext old new left rest)
+    → IsDoneUpTo log (lines ++ next.line ∷ []) new rest
+done_more log lines old new left rest is next =
+    let line = next.line in
+    let more = logged_more lines line new.names is.logged next.said
+    (subst (λ (ns : List Text). AddsNames ns (line.command ∷ []) new.names) is.left_by.names
+    next.named)
+    (subst (λ (st : State Text). Answers texts st line.session line.command line.reply)
+    is.left_by.state next.answers) in
+    record {
+      logged = more.0;
+      left_by = left_by_more lines old new left rest is.left_by next more.1;
+      parts = is.parts ∙ ap (λ (t : Text). log_header ++ lines_text_of lines ++ t) next.parts
+          ∙ text_more lines line rest;
+      only = λ all torn log_of. let (others, whole, e) = is.only all torn log_of in
+          go_on log lines all old new left rest torn is.left_by next log_of others whole e;
+    }
+
+-- before the first line
+pub done_at_first : (log left : Text) (live : LiveState) → log ≡ log_header ++ left
+    → live.names ≡ [] → state_in live ≡ empty → calls_in live ≡ 0 → IsDoneUpTo log [] live left
+done_at_first log left live parts names state calls = record {
+  logged = nothing_logged;
+  left_by = record { names = names; state = state; calls = calls };
+  parts = parts;
+  only = λ all torn is. (
+    all,
+    refl,
+    append_cancel_left log_header left (lines_text_of all ++ torn) (sym parts ∙ is.parts),
+  );
+}
+  where
+    nothing_logged : AreLogged []
+    nothing_logged = record { legal = tt; said = tt; few_names = omega arith }
+
+-- where no line is left, the lines are those of the log
+pub done_all : (log left torn : Text) (lines all : List (Line Text)) (live : LiveState)
+    → IsDoneUpTo log lines live left → ¬ (Contains left 10) → IsLogOf log all torn → all ≡ lines
+done_all log left torn lines all live is free log_of =
+    let (others, whole, e) = is.only all torn log_of in
+    let none = none_left others left torn free e in
+    whole ∙ ap (λ (l : List (Line Text)). lines ++ l) none ∙ append-nil lines
+
+pub log_done : (log left : Text) (lines : List (Line Text)) (live : LiveState)
+    → IsDoneUpTo log lines live left → ¬ (Contains left 10) → IsLogOf log lines left
+log_done log left lines live is free =
+    record { logged = is.logged; parts = is.parts; free = free }
+
+module _ (log left : Text) (lines : List (Line Text)) (live : LiveState)
+    (is : IsDoneUpTo log lines live left) (none : NothingFollows live left)
+    (has : Contains left 10)
+  where
+    -- what can't be done can't be logged
+    pub differs_behind : DiffersBehind log lines
+    differs_behind = record {
+      logged = is.logged;
+      left = left;
+      parts = is.parts;
+      has_line = has;
+      differs = λ line rest e logged.
+          none line rest (can_follow lines [] line live is.left_by logged) e;
+    }
+
+    -- and the log is no log of lines
+    pub no_log : (all : List (Line Text)) (torn : Text) → ¬ (IsLogOf log all torn)
+    no_log all torn log_of =
+        let (others, whole, e) = is.only all torn log_of in by others whole e
+      where
+        by : (others : List (Line Text)) → all ≡ lines ++ others
+            → left ≡ lines_text_of others ++ torn → ⊥
+        by [] whole e = log_of.free (subst (λ (t : Text). Contains t 10) e has)
+        by (line ∷ others) whole e =
+            none line (lines_text_of others ++ torn)
+            (can_follow lines others line live is.left_by (subst AreLogged whole log_of.logged))
+            (e ∙ append_assoc (line_text_of line) (lines_text_of others) torn)
+
+-- each line has a byte at least
+pub few_lines : (lines : List (Line Text)) → length lines ≤ length (lines_text_of lines)
+few_lines [] = omega arith
+few_lines (line ∷ lines) =
+    omega (
+      arith,
+      few_lines lines,
+      length-append (line_text_of line) (lines_text_of lines),
+      length-append (own_text_of line) (10 ∷ []),
+    )
+
+-- what is left is a rest, and what stands before it is counted
+pub sizes : (log left : Text) (lines : List (Line Text)) (live : LiveState)
+    → IsDoneUpTo log lines live left
+    → (length log ≡ length (log_header ++ lines_text_of lines) + length left)
+    × (length lines + 13 ≤ length (log_header ++ lines_text_of lines))
+sizes log left lines live is = (
+  ap length is.parts ∙ length-append (log_header ++ lines_text_of lines) left,
+  omega (arith, few_lines lines, length-append log_header (lines_text_of lines)),
+)
+
+-- the cause of a fault that is of room
+pub room_cause : (log left : Text) (lines : List (Line Text)) (live : LiveState)
+    (fault : RestoreFault) → IsDoneUpTo log lines live left → IsOfRoom fault
+    → (fault ≡ Worn → 4294836223 ≤ calls_in live) → IsRestoreCause log fault
+room_cause log left lines live Memory is room worn = tt
+room_cause log left lines live Worn is room worn =
+    let long = worn refl in
+    let calls = is.left_by.calls in
+    (lines, left, is.logged, is.parts, omega arith)
+room_cause log left lines live (Differs number count size) is room worn = absurd room
+
+-- what is restored
+pub restored_to : (log left : Text) (lines : List (Line Text)) (live : LiveState) (count : ℕ)
+    → IsDoneUpTo log lines live left → count ≡ length lines
+    → IsRestoredTo lines (record { live = live; lines = count; bytes = length log - length left })
+restored_to log left lines live count is counted =
+    let size = sizes log left lines live is in
+    record { left = is.left_by; lines_are = counted; bytes_are = omega arith }

@@ -1,0 +1,13 @@
+use Rattle.std.proofs.Common.{◌≡◌, List, length}
+use Rattle.redo_model.specs.Names.{Text}
+use Rattle.redo_model.specs.History.{Line}
+use Rattle.redo_log.specs.Steps.{IsDoneUpTo}
+use Rattle.redo_log.proofs.restoring.restore_lines.Given as goal
+
+abbrev pub invariant-lines : goal.invariant-lines
+invariant-lines l =
+    (done : List (Line Text)) × IsDoneUpTo l.fn.log done l.again.live l.left
+    × (l.count ≡ length done)
+
+abbrev pub decreases-lines : goal.decreases-lines
+decreases-lines l = length l.left

@@ -1,0 +1,71 @@
+-- What is restored from a log, and why a log is refused.
+use Rattle.std.specs.Prelude.{◌≡◌, ◌≢◌, ◌⊎◌, ℕ, ◌+◌, ◌≤◌, List, [], ◌∷◌, ◌++◌, length, Contains, ⊤}
+use Rattle.redo_model.specs.Names.{Text, texts}
+use Rattle.redo_model.specs.State.{empty}
+use Rattle.redo_model.specs.History.{Line, left_by}
+use Rattle.redo_replay.specs.Histories.{line_text_of}
+use Rattle.redo_live.specs.Inside.LiveState.{LiveState, state_in, calls_in}
+use Rattle.redo_live.specs.Lines.{lines_text_of, names_after}
+use Rattle.redo_log.specs.Logs.{log_header, AreLogged, IsLogOf, IsTornHeader}
+use Rattle.redo_log.specs.declared.restoring.Restored.{Restored}
+use Rattle.redo_log.specs.declared.restoring.RestoreFault.{RestoreFault}
+use Rattle.redo_log.specs.declared.restoring.RestoreFault.TheVariants.{Memory, Worn, Differs}
+
+-- the database is as the lines leave it, from the start
+pub record IsLeftBy (lines : List (Line Text)) (live : LiveState) : Type 0 where
+  pub names : live.names ≡ names_after lines
+  pub state : state_in live ≡ left_by texts empty lines
+  pub calls : calls_in live ≡ length lines
+
+-- the lines were done again; they and the header have so many bytes
+pub record IsRestoredTo (lines : List (Line Text)) (restored : Restored) : Type 0 where
+  pub left : IsLeftBy lines restored.live
+  pub lines_are : restored.lines ≡ length lines
+  pub bytes_are : restored.bytes ≡ length (log_header ++ lines_text_of lines)
+
+-- the lines of a log were done again; or not even a header was there
+abbrev pub IsRestored : Text → Restored → Type 0
+IsRestored bytes restored =
+    ((lines : List (Line Text)) × (torn : Text) × IsLogOf bytes lines torn
+    × IsRestoredTo lines restored)
+    ⊎ (IsTornHeader bytes × IsLeftBy [] restored.live × (restored.lines ≡ 0)
+    × (restored.bytes ≡ 0))
+
+-- neither the header nor a front of it
+abbrev pub HasBadHeader : Text → Type 0
+HasBadHeader bytes = ¬ (IsTornHeader bytes) × ((rest : Text) → bytes ≢ log_header ++ rest)
+
+-- behind the lines stands another line, which could not be logged there
+pub record DiffersBehind (bytes : Text) (lines : List (Line Text)) : Type 0 where
+  pub logged : AreLogged lines
+  pub left : Text
+  pub parts : bytes ≡ log_header ++ lines_text_of lines ++ left
+  pub has_line : Contains left 10
+  pub differs : (line : Line Text) (rest : Text) → left ≡ line_text_of line ++ rest
+      → ¬ (AreLogged (lines ++ line ∷ []))
+
+-- a line of the file, counted from 1, is not the database's answer: so many lines and bytes of a
+-- log stand before it
+abbrev pub DiffersAt : Text → ℕ → ℕ → ℕ → Type 0
+DiffersAt bytes number count size =
+    (HasBadHeader bytes × (number ≡ 1) × (count ≡ 0) × (size ≡ 0))
+    ⊎ ((lines : List (Line Text)) × DiffersBehind bytes lines × (number ≡ length lines + 2)
+    × (count ≡ length lines) × (size ≡ length (log_header ++ lines_text_of lines)))
+
+-- more lines are there than the database answers
+abbrev pub HasTooMany : Text → Type 0
+HasTooMany bytes =
+    (lines : List (Line Text)) × (rest : Text) × AreLogged lines
+    × (bytes ≡ log_header ++ lines_text_of lines ++ rest) × (4294836223 ≤ length lines)
+
+-- the cause of a fault; for want of memory nothing is said
+abbrev pub IsRestoreCause : Text → RestoreFault → Type 0
+IsRestoreCause bytes Memory = ⊤
+IsRestoreCause bytes Worn = HasTooMany bytes
+IsRestoreCause bytes (Differs number count size) = DiffersAt bytes number count size
+
+-- a fault that says nothing about the log's bytes
+abbrev pub IsOfRoom : RestoreFault → Type 0
+IsOfRoom Memory = ⊤
+IsOfRoom Worn = ⊤
+IsOfRoom (Differs number count size) = ⊥

@@ -1,0 +1,52 @@
+-- One line of a log after another.
+use Rattle.std.specs.Prelude.{◌≡◌, ◌≢◌, ℕ, ◌+◌, List, [], ◌∷◌, ◌++◌, decimal}
+use Rattle.redo_model.specs.Names.{Text, texts}
+use Rattle.redo_model.specs.Step.{Answers, after}
+use Rattle.redo_model.specs.History.{Line}
+use Rattle.redo_text.specs.Grammar.{AddsNames}
+use Rattle.redo_replay.specs.Histories.{line_text_of}
+use Rattle.redo_replay.specs.HistoryFaults.{arrow}
+use Rattle.redo_replay.specs.Inside.HistoryTexts.{IsLineSaid}
+use Rattle.redo_live.specs.Inside.LiveState.{LiveState, state_in, calls_in}
+use Rattle.redo_live.specs.Lines.{lines_text_of}
+use Rattle.redo_log.specs.Logs.{log_header, AreLogged, IsLogOf}
+use Rattle.redo_log.specs.Restores.{IsLeftBy}
+
+-- the text is that of a session's command, and then of an arrow and whatever follows
+abbrev pub AsksFor : Text → ℕ → Text → Type 0
+AsksFor text session said =
+    (reply : Text) × (text ≡ decimal (session + 1) ++ 32 ∷ (said ++ arrow ++ reply))
+
+-- the line can be the next one: it is the database's answer, and its names fit
+pub record CanFollow (live : LiveState) (line : Line Text) : Type 0 where
+  pub said : IsLineSaid line
+  pub names : List Text
+  pub named : AddsNames live.names (line.command ∷ []) names
+  pub answers : Answers texts (state_in live) line.session line.command line.reply
+
+-- no line that can be the next one stands in front
+abbrev pub NothingFollows : LiveState → Text → Type 0
+NothingFollows live left =
+    (line : Line Text) (rest : Text) → CanFollow live line → left ≢ line_text_of line ++ rest
+
+-- the line in front was done, and this is left; no other one can be the next
+pub record DoesNext (old new : LiveState) (left rest : Text) : Type 0 where
+  pub line : Line Text
+  pub said : IsLineSaid line
+  pub named : AddsNames old.names (line.command ∷ []) new.names
+  pub answers : Answers texts (state_in old) line.session line.command line.reply
+  pub after_is : state_in new ≡ after texts (state_in old) line.session line.command
+  pub calls : calls_in new ≡ calls_in old + 1
+  pub parts : left ≡ line_text_of line ++ rest
+  pub only : (other : Line Text) (others : Text) → CanFollow old other
+      → left ≡ line_text_of other ++ others → other ≡ line
+
+-- these lines were done, and this is left of the log; any lines that it is a log of go on from here
+pub record IsDoneUpTo (log : Text) (lines : List (Line Text)) (live : LiveState) (left : Text)
+    : Type 0 where
+  pub logged : AreLogged lines
+  pub left_by : IsLeftBy lines live
+  pub parts : log ≡ log_header ++ lines_text_of lines ++ left
+  pub only : (all : List (Line Text)) (torn : Text) → IsLogOf log all torn
+      → (others : List (Line Text)) × (all ≡ lines ++ others)
+      × (left ≡ lines_text_of others ++ torn)

@@ -1,0 +1,10 @@
+//! The log of a database that is talked to: how it is restored, and what a beginning of it is.
+#![tactic(auto)]
+
+mod laws;
+mod restoring;
+#[cfg(test)]
+mod tests;
+
+pub use laws::{cut_log, one_log};
+pub use restoring::{LOG_HEADER, RestoreFault, Restored, restore};

@@ -1,0 +1,179 @@
+ghost use Rattle.std.specs.Prelude.{◌≡◌, ◌<◌, ◌≤◌, ◌++◌, ℕ, List, IfOk, IfErr, IfSome, MatchOption, IsSomeAnd};
+ghost use Rattle.redo_model.specs.Names.{Text};
+ghost use Rattle.redo_model.specs.Command.{Command};
+ghost use Rattle.redo_model.specs.History.{Line};
+ghost use Rattle.redo_text.specs.Grammar.{IsCommandLine};
+ghost use Rattle.redo_live.specs.Inside.LiveState.{calls_in};
+ghost use Rattle.redo_replay.specs.Inside.HistoryFaults.{IsCutAt};
+ghost use Rattle.redo_log.specs.Logs.{log_header, IsLogOf, IsTornHeader};
+ghost use Rattle.redo_log.specs.Restores.{IsRestored, IsRestoredTo, IsRestoreCause, IsOfRoom};
+ghost use Rattle.redo_log.specs.Steps.{AsksFor, DoesNext, NothingFollows};
+
+use redo_live::{Live, Unanswered};
+use redo_replay::{cut_at, cut_at_arrow, cut_at_space, session_of};
+use std::alloc::{AllocError, Global};
+use thiserror::Error;
+
+/// The first line of a log.
+pub const LOG_HEADER: &[u8] = b"redodb-log 1\n";
+
+/// A database that is as a log's lines leave it.
+#[derive(Drop)]
+pub struct Restored {
+    pub live: Live,
+    /// How many lines were done again.
+    pub lines: usize,
+    /// How many bytes of the log they and the header have. What stands behind them was torn.
+    pub bytes: usize,
+}
+
+/// Why a log can't be restored.
+#[derive(Clone, Copy, Debug, PartialEq, Eq, Error)]
+pub enum RestoreFault {
+    #[error("out of memory")]
+    Memory,
+    /// The log has more lines than the database answers.
+    #[error("worn")]
+    Worn,
+    /// This line of the log isn't the database's answer, or it isn't the header. Lines are counted from 1, and the header
+    /// is line 1; before it stand so many lines behind the header, and so many bytes.
+    #[error("line {line} differs")]
+    Differs {
+        line: usize,
+        lines: usize,
+        bytes: usize,
+    },
+}
+
+impl From<AllocError> for RestoreFault {
+    ghost use Rattle.std.specs.Prelude.{◌≡◌};
+    ghost use Rattle.redo_log.specs.declared.restoring.RestoreFault.TheVariants.{Memory};
+
+    ghost from_gives = { λ _ fault. fault ≡ Memory };
+
+    fn from(_: AllocError) -> RestoreFault {
+        RestoreFault::Memory
+    }
+}
+
+/// The session and the text of the command that a line begins with.
+fn asked(text: &[u8]) -> Option<(u8, &[u8])>
+    ensures session { IfSome result (λ asked. asked.0 < 64) }
+    ensures found { (session : ℕ) (said : Text) (command : Command Text) → session < 64
+        → IsCommandLine said command → AsksFor text.now session said
+        → IsSomeAnd result (λ asked. (asked.0 ≡ session) × (asked.1.now ≡ said)) }
+{
+    let (word, rest) = cut_at_space(text);
+    let session = session_of(word)?;
+    let (command, _) = cut_at_arrow(rest)?;
+    Some((session, command))
+}
+
+/// A database that a log's lines are done in, and buffers for one of them.
+#[derive(Drop)]
+struct Again {
+    live: Live,
+    said: Vec<u8>,
+    logged: Vec<u8>,
+}
+
+impl Again {
+    /// Does the first line of what is left of a log, which has this text. Answers what is left behind it, where it is the
+    /// database's answer.
+    fn redo<'a>(
+        &mut self,
+        alloc: Global,
+        text: &[u8],
+        left: &'a [u8],
+    ) -> Result<Option<&'a [u8]>, RestoreFault>
+        requires { (rest : Text) × IsCutAt 10 left.now text.now rest }
+        ensures next { IfOk result (λ found.
+            MatchOption found (NothingFollows self.old.live left.now)
+            (λ rest. DoesNext self.old.live self.new.live left.now rest.now)) }
+        ensures room { IfErr result IsOfRoom }
+        ensures worn { IfErr result
+            (λ fault. fault ≡ RestoreFault.Worn → 4294836223 ≤ calls_in self.old.live) }
+    {
+        let Some((session, command)) = asked(text) else {
+            return Ok(None);
+        };
+        self.said.clear();
+        self.logged.clear();
+        match self
+            .live
+            .answer(alloc, session, command, &mut self.said, &mut self.logged)
+        {
+            Ok(()) => Ok(left.strip_prefix(self.said.as_slice())),
+            Err(Unanswered::Fault(_)) => Ok(None),
+            Err(Unanswered::Memory) => Err(RestoreFault::Memory),
+            Err(Unanswered::Worn) => Err(RestoreFault::Worn),
+        }
+    }
+}
+
+/// Does the lines of a log again, which stand behind its header.
+fn restore_lines(alloc: Global, log: &[u8], lines: &[u8]) -> Result<Restored, RestoreFault>
+    requires { log.now ≡ log_header ++ lines.now }
+    ensures restored { IfOk result (λ restored. (done : List (Line Text)) × (torn : Text)
+        × IsLogOf log.now done torn × IsRestoredTo done restored) }
+    ensures only { (done : List (Line Text)) (torn : Text) → IsLogOf log.now done torn
+        → IfErr result IsOfRoom }
+    ensures same { (done : List (Line Text)) (torn : Text) → IsLogOf log.now done torn
+        → IfOk result (IsRestoredTo done) }
+    ensures cause { IfErr result (IsRestoreCause log.now) }
+{
+    let mut again = Again {
+        live: Live::new(alloc)?,
+        said: Vec::new(alloc),
+        logged: Vec::new(alloc),
+    };
+    let mut left = lines;
+    let mut count = 0;
+    'lines: while let Some((text, _)) = cut_at(left, b'\n') {
+        let Some(rest) = again.redo(alloc, text, left)? else {
+            return Err(RestoreFault::Differs {
+                line: count + 2,
+                lines: count,
+                bytes: log.len() - left.len(),
+            });
+        };
+        left = rest;
+        count += 1;
+    }
+    let bytes = log.len() - left.len();
+    Ok(Restored {
+        live: again.live,
+        lines: count,
+        bytes,
+    })
+}
+
+/// Does a log's lines again.
+pub fn restore(alloc: Global, log: &[u8]) -> Result<Restored, RestoreFault>
+    // The lines of a log are done again; what stands behind its last LF was torn.
+    ensures restored { IfOk result (IsRestored log.now) }
+    // A log is refused for want of room alone, and all its lines are restored.
+    ensures only { (lines : List (Line Text)) (torn : Text) → IsLogOf log.now lines torn
+        → IfErr result IsOfRoom }
+    ensures same { (lines : List (Line Text)) (torn : Text) → IsLogOf log.now lines torn
+        → IfOk result (IsRestoredTo lines) }
+    ensures begun { IsTornHeader log.now → IfErr result IsOfRoom }
+    // Each fault has its cause.
+    ensures cause { IfErr result (IsRestoreCause log.now) }
+{
+    if let Some(lines) = log.strip_prefix(LOG_HEADER) {
+        return restore_lines(alloc, log, lines);
+    }
+    if !b"redodb-log 1".starts_with(log) {
+        return Err(RestoreFault::Differs {
+            line: 1,
+            lines: 0,
+            bytes: 0,
+        });
+    }
+    Ok(Restored {
+        live: Live::new(alloc)?,
+        lines: 0,
+        bytes: 0,
+    })
+}
