@@ -1,1 +1,2 @@
 mod FilesAsked
+mod LogAsked

@@ -1,10 +1,12 @@
-//! The words after the program's name: which job they ask for.
+//! The words after a program's name: what they ask for.
 #![tactic(auto)]
 
 mod fault;
+mod live_words;
 mod task;
 mod words;
 
 pub use fault::WordsFault;
-pub use task::Job;
+pub use live_words::conversation;
+pub use task::{Conversation, Job, LogFile};
 pub use words::job;

@@ -26,3 +26,19 @@ impl Job {
         }
     }
 }
+
+/// The log of a conversation.
+#[derive(Debug, Drop)]
+pub struct LogFile {
+    pub name: String,
+    /// Whether each line is to be on the disk before it is answered.
+    pub sync: bool,
+    /// Whether it is to be cut where it is damaged.
+    pub salvage: bool,
+}
+
+/// What the words of `redodb-live` ask for.
+#[derive(Debug, Drop)]
+pub struct Conversation {
+    pub log: Option<LogFile>,
+}

@@ -60,7 +60,7 @@ fn job_of(alloc: Global, matches: &ArgMatches<'_>) -> Result<Option<Job>, AllocE
 
 /// Whatever is refused for another cause than memory is no use of the program, a call for help
 /// included.
-fn refusal(error: &Error) -> WordsFault
+pub(crate) fn refusal(error: &Error) -> WordsFault
     ensures memory { (result ≡ WordsFault.Memory) ↔ (kind_of error.now ≡ ErrorKind.OutOfMemory) }
     ensures usage { (result ≡ WordsFault.Usage) ↔ (kind_of error.now ≢ ErrorKind.OutOfMemory) }
 {
