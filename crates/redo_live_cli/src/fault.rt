@@ -1,0 +1,87 @@
+use redo_log::RestoreFault;
+use redo_whole::{Watched, write_whole};
+use std::alloc::AllocError;
+use thiserror::Error;
+
+/// Why the program fails.
+#[derive(Clone, Copy, Debug, PartialEq, Eq, Error)]
+pub enum Fault {
+    #[error("usage")]
+    Usage,
+    #[error("memory")]
+    Memory,
+    /// A read of standard input failed.
+    #[error("-: read")]
+    Read,
+    /// A write to standard output failed.
+    #[error("write")]
+    Write,
+    #[error("{0}")]
+    Log(LogFault),
+}
+
+/// Why the log is no use. Its text stands behind the name of the log.
+#[derive(Clone, Copy, Debug, PartialEq, Eq, Error)]
+pub enum LogFault {
+    #[error(": cannot open")]
+    CannotOpen,
+    #[error(": in use")]
+    InUse,
+    #[error(": cannot lock")]
+    CannotLock,
+    #[error(": read")]
+    Read,
+    #[error(": write")]
+    Write,
+    /// Lines are counted from 1, the header among them.
+    #[error(": line {line} differs")]
+    Differs { line: usize },
+    #[error(": worn")]
+    Worn,
+    /// A damaged log was copied before.
+    #[error(".damaged: is there already")]
+    IsCopied,
+    #[error(".damaged: cannot open")]
+    CannotCopy,
+    #[error(".damaged: write")]
+    CopyWrite,
+}
+
+impl From<AllocError> for Fault {
+    fn from(_: AllocError) -> Fault {
+        Fault::Memory
+    }
+}
+
+impl From<LogFault> for Fault {
+    fn from(fault: LogFault) -> Fault {
+        Fault::Log(fault)
+    }
+}
+
+impl From<RestoreFault> for Fault {
+    fn from(fault: RestoreFault) -> Fault {
+        match fault {
+            RestoreFault::Memory => Fault::Memory,
+            RestoreFault::Worn => Fault::Log(LogFault::Worn),
+            RestoreFault::Differs { line, .. } => Fault::Log(LogFault::Differs { line }),
+        }
+    }
+}
+
+/// Writes a line to standard error, at once. Where it can't be written, nobody can be told.
+pub fn say(rt: &HostRuntime, line: &str) {
+    let _ = write_whole(&mut Watched::new(rt.stderr()), line.as_bytes());
+}
+
+/// Writes the fault's line; `name` is that of the log.
+pub fn tell(rt: &HostRuntime, name: &str, fault: Fault) {
+    let line = match fault {
+        Fault::Log(fault) => format!(in rt.alloc(); "redodb-live: {name}{fault}\n"),
+        other => format!(in rt.alloc(); "redodb-live: {other}\n"),
+    };
+    match line {
+        Ok(line) => say(rt, &line),
+        Err(_) => say(rt, "redodb-live: memory\n"),
+    }
+}

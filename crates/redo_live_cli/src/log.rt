@@ -1,0 +1,155 @@
+use crate::fault::{Fault, LogFault, say};
+use crate::log_writer::LogWriter;
+use redo_live::Live;
+use redo_log::{LOG_HEADER, RestoreFault, Restored, restore};
+use redo_whole::{Watched, WholeFault, read_whole, write_whole};
+use redo_words::LogFile;
+use std::alloc::{AllocError, Global};
+use std::fs::{File, OpenOptions, TryLockError};
+use std::io::{ErrorKind, Read, Write};
+
+const SESSIONS: u8 = 64;
+
+/// What a conversation goes on from.
+#[derive(Drop)]
+pub struct Begun {
+    pub live: Live,
+    /// How many lines the log held.
+    pub restored: usize,
+    pub log: Watched<LogWriter>,
+}
+
+/// Opens the log, which no other process may have. The lock goes with the process.
+fn open(rt: &HostRuntime, name: &str) -> Result<File, LogFault> {
+    let opened = OpenOptions::new()
+        .read(true)
+        .append(true)
+        .create(true)
+        .open(rt, name);
+    let Ok(file) = opened else {
+        return Err(LogFault::CannotOpen);
+    };
+    match file.try_lock() {
+        Ok(()) => Ok(file),
+        Err(TryLockError::WouldBlock) => Err(LogFault::InUse),
+        Err(TryLockError::Error(_)) => Err(LogFault::CannotLock),
+    }
+}
+
+/// All that the log holds. Of a device, which has no length, nothing is read.
+fn read(alloc: Global, file: &File) -> Result<Vec<u8>, Fault> {
+    let Ok(metadata) = file.metadata() else {
+        return Err(Fault::Log(LogFault::Read));
+    };
+    let mut reader = Watched::new(file.take(metadata.len()));
+    match read_whole(alloc, &mut reader, usize::MAX) {
+        Ok(bytes) => Ok(bytes),
+        Err(WholeFault::Memory) => Err(Fault::Memory),
+        Err(WholeFault::Device | WholeFault::TooLong) => Err(Fault::Log(LogFault::Read)),
+    }
+}
+
+fn cut(file: &File, length: usize) -> Result<(), LogFault> {
+    match file.set_len(length as u64) {
+        Ok(()) => Ok(()),
+        Err(_) => Err(LogFault::Write),
+    }
+}
+
+/// Copies the log to a new file beside it, and has the copy on the disk.
+fn copy(rt: &HostRuntime, name: &str, bytes: &[u8]) -> Result<(), Fault> {
+    let copied = format!(in rt.alloc(); "{name}.damaged")?;
+    let opened = OpenOptions::new()
+        .write(true)
+        .create_new(true)
+        .open(rt, copied.as_str());
+    let mut file = match opened {
+        Ok(file) => file,
+        Err(error) if error.kind() == ErrorKind::AlreadyExists => {
+            return Err(Fault::Log(LogFault::IsCopied));
+        }
+        Err(_) => return Err(Fault::Log(LogFault::CannotCopy)),
+    };
+    if file.write_all(bytes).is_err() || file.sync_data().is_err() {
+        return Err(Fault::Log(LogFault::CopyWrite));
+    }
+    Ok(())
+}
+
+/// Cuts a damaged log before the first line that differs, where its copy is made.
+fn salvage(
+    rt: &HostRuntime,
+    name: &str,
+    file: &File,
+    damaged: &[u8],
+    lines: usize,
+    kept: usize,
+) -> Result<(), Fault> {
+    copy(rt, name, damaged)?;
+    cut(file, kept)?;
+    let gone = damaged.len().saturating_sub(kept);
+    let line = format!(in rt.alloc();
+        "redodb-live: {name}: {lines} lines kept, {gone} bytes cut off\n"
+    )?;
+    say(rt, &line);
+    Ok(())
+}
+
+/// Does the lines of the log again, and cuts off a line that is torn.
+fn resume(rt: &HostRuntime, asked: &LogFile, file: &File) -> Result<Restored, Fault> {
+    let bytes = read(rt.alloc(), file)?;
+    match restore(rt.alloc(), &bytes) {
+        Err(
+            RestoreFault::Differs {
+                lines,
+                bytes: kept,
+                ..
+            },
+        ) if asked.salvage => {
+            salvage(rt, &asked.name, file, &bytes, lines, kept)?;
+            Ok(restore(rt.alloc(), &bytes[..kept])?)
+        }
+        Err(fault) => Err(Fault::from(fault)),
+        Ok(restored) => {
+            if restored.bytes < bytes.len() {
+                cut(file, restored.bytes)?;
+            }
+            Ok(restored)
+        }
+    }
+}
+
+/// Closes the sessions of the former run: the lines that the log takes for it.
+fn close_all(alloc: Global, live: &mut Live, logged: &mut Vec<u8>) -> Result<(), AllocError> {
+    let mut said = Vec::new(alloc);
+    for session in 0..SESSIONS {
+        if live.end(alloc, session, &mut said, logged).is_err() {
+            return Err(AllocError);
+        }
+    }
+    Ok(())
+}
+
+/// Restores the log that is asked for, and closes the sessions of its former run.
+pub fn begin(rt: &HostRuntime, asked: &LogFile) -> Result<Begun, Fault> {
+    let file = open(rt, &asked.name)?;
+    let Restored {
+        mut live,
+        lines,
+        bytes,
+    } = resume(rt, asked, &file)?;
+    let mut logged = Vec::new(rt.alloc());
+    if bytes == 0 {
+        logged.extend_from_slice(LOG_HEADER)?;
+    }
+    close_all(rt.alloc(), &mut live, &mut logged)?;
+    let mut log = Watched::new(LogWriter::new(file, asked.sync));
+    if write_whole(&mut log, &logged).is_err() || log.flush().is_err() {
+        return Err(Fault::Log(LogFault::Write));
+    }
+    Ok(Begun {
+        live,
+        restored: lines,
+        log,
+    })
+}
