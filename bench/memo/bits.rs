@@ -1,5 +1,5 @@
 // A set of small numbers.
-pub struct Bits(Vec<u64>);
+pub struct Bits(pub Vec<u64>);
 
 fn ones(mut word: u64) -> impl Iterator<Item = u32> {
     std::iter::from_fn(move || {

@@ -1,6 +1,7 @@
 // What is known of each name, and the rows: what a search looks at.
 use crate::lines::Stamp;
 use crate::rows::{Mark, Rows};
+use std::borrow::Cow;
 
 #[derive(Clone, Copy, PartialEq)]
 pub enum State {
@@ -22,7 +23,7 @@ pub struct Cell {
     pub grants: u32,
 }
 
-const UNKNOWN: Cell = Cell {
+pub const UNKNOWN: Cell = Cell {
     state: State::Idle,
     always: false,
     file: None,
@@ -46,11 +47,11 @@ impl Cell {
 
 pub struct Graph<'a> {
     // where the stamps are
-    text: &'a [u8],
-    digests: &'a [[u8; 20]],
-    cells: Vec<Cell>,
+    pub text: Cow<'a, [u8]>,
+    pub digests: Cow<'a, [[u8; 20]]>,
+    pub cells: Vec<Cell>,
     // the mark of each name, which its cell has as well: these lie closer together
-    marks: Vec<Mark>,
+    pub marks: Vec<Mark>,
     pub changes: Rows<Mark>,
     pub created: Rows<()>,
 }
@@ -58,8 +59,8 @@ pub struct Graph<'a> {
 impl<'a> Graph<'a> {
     pub fn new(text: &'a [u8], digests: &'a [[u8; 20]], names: usize) -> Graph<'a> {
         Graph {
-            text,
-            digests,
+            text: text.into(),
+            digests: digests.into(),
             cells: vec![UNKNOWN; names],
             marks: vec![Mark::Absent; names],
             changes: Rows::new(names),
@@ -91,14 +92,14 @@ impl<'a> Graph<'a> {
     }
 
     pub fn is_same_stamp(&self, a: Option<Stamp>, b: Option<Stamp>) -> bool {
-        a == b || matches!((a, b), (Some(a), Some(b)) if a.of(self.text) == b.of(self.text))
+        a == b || matches!((a, b), (Some(a), Some(b)) if a.of(&self.text) == b.of(&self.text))
     }
 
     fn is_same_mark(&self, a: Mark, b: Mark) -> bool {
         match (a, b) {
             _ if a == b => true,
             (Mark::File { at, len }, Mark::File { at: from, len: size }) => {
-                Stamp { at, len }.of(self.text) == Stamp { at: from, len: size }.of(self.text)
+                Stamp { at, len }.of(&self.text) == Stamp { at: from, len: size }.of(&self.text)
             }
             (Mark::Digest(a), Mark::Digest(b)) => self.is_same_digest(a, b),
             _ => false,

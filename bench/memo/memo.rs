@@ -10,7 +10,7 @@ const WAS: u8 = 2;
 const MET: u8 = 4;
 
 pub struct Memo {
-    flags: Vec<u8>,
+    pub flags: Vec<u8>,
     region: Vec<u32>,
     found: Vec<u32>,
     // how many of the names found have told those that depend on them

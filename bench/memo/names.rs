@@ -54,7 +54,7 @@ impl Hasher for Folded {
 #[derive(Default)]
 pub struct Names<'a> {
     pub texts: Vec<&'a [u8]>,
-    numbers: HashMap<&'a [u8], u32, BuildHasherDefault<Folded>>,
+    pub numbers: HashMap<&'a [u8], u32, BuildHasherDefault<Folded>>,
 }
 
 impl<'a> Names<'a> {

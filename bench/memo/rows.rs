@@ -27,17 +27,23 @@ pub struct On {
 }
 
 // the rows of a name, and those on it
-struct Links<M> {
+pub struct Links<M> {
     of: Vec<Row<M>>,
     on: Vec<On>,
 }
 
 // all rows of a kind
-pub struct Rows<M>(Vec<Links<M>>);
+pub struct Rows<M>(pub Vec<Links<M>>);
+
+impl<M> Links<M> {
+    pub fn none() -> Links<M> {
+        Links { of: Vec::new(), on: Vec::new() }
+    }
+}
 
 impl<M> Rows<M> {
     pub fn new(names: usize) -> Rows<M> {
-        Rows((0..names).map(|_| Links { of: Vec::new(), on: Vec::new() }).collect())
+        Rows((0..names).map(|_| Links::none()).collect())
     }
 
     pub fn of(&self, target: u32) -> &[Row<M>] {

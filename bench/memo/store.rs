@@ -5,20 +5,20 @@ use crate::lines::{Command, Listing, Part, Reply, Stamp};
 use crate::memo::Memo;
 
 pub struct Store<'a> {
-    graph: Graph<'a>,
-    memo: Memo,
+    pub graph: Graph<'a>,
+    pub memo: Memo,
     // the place of each name in the order of the names' bytes, and the names in that order
-    ranks: Vec<u32>,
-    sorted: Vec<u32>,
+    pub ranks: Vec<u32>,
+    pub sorted: Vec<u32>,
     // by these places: what has a file, what is a target, and what is out of date
-    files: Bits,
-    targets: Bits,
-    out: Bits,
+    pub files: Bits,
+    pub targets: Bits,
+    pub out: Bits,
     // where a target's row on a name is, if it was noted in this turn
-    noted: Vec<(u32, u32)>,
+    pub noted: Vec<(u32, u32)>,
     turn: u32,
     // the names that the latest reply lists
-    listed: Vec<u32>,
+    pub listed: Vec<u32>,
 }
 
 impl<'a> Store<'a> {

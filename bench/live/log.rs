@@ -1,0 +1,142 @@
+// The log: a file of the lines that changed something.
+use crate::database::{Answers, Database};
+use std::fs::{File, OpenOptions, TryLockError};
+use std::io::{self, BufRead, BufReader, Read, Seek, Write};
+
+const HEADER: &[u8] = b"redodb-log 1\n";
+
+pub struct Log {
+    name: String,
+    file: File,
+    is_synced: bool,
+}
+
+// how far a log was restored: so many lines behind the header, and so many bytes
+struct Restored {
+    lines: u64,
+    bytes: u64,
+    // the number of the line that isn't the answer, counted with the header
+    differs: Option<u64>,
+}
+
+// whether a line of the log is what the database answers
+fn is_answer(database: &mut Database, line: &[u8], answers: &mut Answers) -> bool {
+    let Some(end) = line.windows(4).position(|four| four == b" => ") else {
+        return false;
+    };
+    answers.said.clear();
+    answers.logged.clear();
+    database.answer_command(&line[..end], answers);
+    answers.said == line
+}
+
+// does the lines of a log again, up to the first that differs or has no LF
+fn restore(file: &File, database: &mut Database) -> io::Result<Restored> {
+    // of a device, which has no length, nothing is read
+    let length = file.metadata()?.len();
+    let mut input = BufReader::with_capacity(1 << 16, file.take(length));
+    let mut line = Vec::new();
+    input.by_ref().take(HEADER.len() as u64).read_until(b'\n', &mut line)?;
+    let mut restored = Restored { lines: 0, bytes: 0, differs: None };
+    if !HEADER.starts_with(&line) {
+        restored.differs = Some(1);
+        return Ok(restored);
+    }
+    let mut answers = Answers::default();
+    while line.last() == Some(&b'\n') {
+        restored.bytes += line.len() as u64;
+        line.clear();
+        input.read_until(b'\n', &mut line)?;
+        if line.last() == Some(&b'\n') {
+            if !is_answer(database, &line, &mut answers) {
+                restored.differs = Some(restored.lines + 2);
+                return Ok(restored);
+            }
+            restored.lines += 1;
+        }
+    }
+    Ok(restored)
+}
+
+impl Log {
+    // The log of this name, which nobody else has open.
+    pub fn open(name: &str, is_synced: bool) -> Result<Log, String> {
+        let opened = OpenOptions::new().read(true).append(true).create(true).open(name);
+        let file = opened.map_err(|_| format!("{name}: cannot open"))?;
+        match file.try_lock() {
+            Ok(()) => Ok(Log { name: name.to_string(), file, is_synced }),
+            Err(TryLockError::WouldBlock) => Err(format!("{name}: in use")),
+            Err(TryLockError::Error(_)) => Err(format!("{name}: cannot lock")),
+        }
+    }
+
+    fn copy_to_damaged(&mut self) -> Result<(), String> {
+        let name = format!("{}.damaged", self.name);
+        let opened = OpenOptions::new().write(true).create_new(true).open(&name);
+        let mut copy = opened.map_err(|error| match error.kind() {
+            io::ErrorKind::AlreadyExists => format!("{name}: is there already"),
+            _ => format!("{name}: cannot open"),
+        })?;
+        self.file.rewind().map_err(|_| self.read_fault())?;
+        io::copy(&mut self.file, &mut copy).map_err(|_| format!("{name}: write"))?;
+        copy.sync_data().map_err(|_| format!("{name}: write"))
+    }
+
+    fn read_fault(&self) -> String {
+        format!("{}: read", self.name)
+    }
+
+    // Keeps the lines before the first that differs, and a copy of all.
+    fn salvage(&mut self, lines: u64, bytes: u64) -> Result<(), String> {
+        self.copy_to_damaged()?;
+        let length = self.file.metadata().map_err(|_| self.read_fault())?.len();
+        self.cut(bytes)?;
+        let cut = length - bytes;
+        eprintln!("redodb-live: {}: {lines} lines kept, {cut} bytes cut off", self.name);
+        self.file.rewind().map_err(|_| self.read_fault())
+    }
+
+    fn done_again(&self) -> Result<(Database, Restored), String> {
+        let mut database = Database::new();
+        let restored = restore(&self.file, &mut database).map_err(|_| self.read_fault())?;
+        Ok((database, restored))
+    }
+
+    // Does the lines of the log again, cuts off what isn't whole, and closes the sessions of the
+    // former run. Answers the database, and how many lines the log held.
+    pub fn restored(&mut self, is_salvaged: bool) -> Result<(Database, u64), String> {
+        let (mut database, mut restored) = self.done_again()?;
+        if let Some(line) = restored.differs {
+            if !is_salvaged {
+                return Err(format!("{}: line {line} differs", self.name));
+            }
+            self.salvage(restored.lines, restored.bytes)?;
+            (database, restored) = self.done_again()?;
+        }
+        if self.file.metadata().map_err(|_| self.read_fault())?.len() > restored.bytes {
+            self.cut(restored.bytes)?;
+        }
+        if restored.bytes == 0 {
+            self.append(HEADER)?;
+        }
+        let mut answers = Answers::default();
+        (1..=64).for_each(|session| database.close(session, &mut answers));
+        self.append(&answers.logged)?;
+        Ok((database, restored.lines))
+    }
+
+    fn cut(&mut self, length: u64) -> Result<(), String> {
+        self.file.set_len(length).map_err(|_| format!("{}: write", self.name))
+    }
+
+    // Appends lines; they are on the disk then, where that is asked for.
+    pub fn append(&mut self, lines: &[u8]) -> Result<(), String> {
+        if lines.is_empty() {
+            return Ok(());
+        }
+        let written = self.file.write_all(lines);
+        let synced =
+            written.and_then(|()| if self.is_synced { self.file.sync_data() } else { Ok(()) });
+        synced.map_err(|_| format!("{}: write", self.name))
+    }
+}
