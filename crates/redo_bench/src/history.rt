@@ -1,11 +1,12 @@
 ghost use Rattle.std.specs.Prelude.{◌≡◌, length, List, IfOk};
 ghost use Rattle.redo_model.specs.Names.{Text};
 ghost use Rattle.redo_model.specs.History.{Line};
-ghost use Rattle.redo_replay.specs.Histories.{history_text_of};
+ghost use Rattle.redo_history.specs.Histories.{history_text_of};
 
 use anyhow::{Result, bail};
 use redo_command::{Watched, read_whole};
-use redo_replay::{INPUT_LIMIT, history_text, read_history, replay_text};
+use redo_history::{history_text, read_history};
+use redo_replay::{INPUT_LIMIT, replay_text};
 use std::alloc::Global;
 use std::io;
 

@@ -2,7 +2,7 @@ use crate::journals::{journals_of, plan_of};
 use anyhow::{Result, bail};
 use redo_command::Line;
 use redo_journal::are_journals;
-use redo_replay::merge;
+use redo_merge::merge;
 
 /// A checksum of the order of the lines' sessions.
 fn checksum(lines: &[Line]) -> u64 {

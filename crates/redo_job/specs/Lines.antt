@@ -4,8 +4,8 @@ use Rattle.std.specs.declared.alloc.Global.{Global}
 use Rattle.redo_text.specs.Faults.{fault_word_of}
 use Rattle.redo_command.specs.declared.fault.TextFault.{TextFault}
 use Rattle.redo_command.specs.declared.fault.TextFault.TheVariants as texts
-use Rattle.redo_replay.specs.declared.fault.HistoryFault.{HistoryFault}
-use Rattle.redo_replay.specs.declared.fault.HistoryFault.TheVariants as histories
+use Rattle.redo_history.specs.declared.fault.HistoryFault.{HistoryFault}
+use Rattle.redo_history.specs.declared.fault.HistoryFault.TheVariants as histories
 use Rattle.redo_replay.specs.declared.fault.ReplayFault.{ReplayFault}
 use Rattle.redo_replay.specs.declared.fault.ReplayFault.TheVariants as replays
 use Rattle.redo_replay.specs.declared.verdict.Verdict.{Verdict}

@@ -1,7 +1,7 @@
 ghost use Rattle.std.specs.Prelude.{◌≡◌, IfErr, IfSome, OnOk, OnErr, false, true};
 ghost use Rattle.std.specs.List.{flat_map};
 ghost use Rattle.redo_whole.specs.Watched.{is_faulted};
-ghost use Rattle.redo_replay.specs.Devices.{Writes, WritesNothing};
+ghost use Rattle.redo_whole.specs.Devices.{Writes, WritesNothing};
 ghost use Rattle.redo_job.specs.Lines.{file_name, text_line, history_line, replay_line, fault_line, said, said_of, in_line, status_of};
 
 use crate::fault::Fault;

@@ -1,10 +1,11 @@
 -- The scripts of a run.
 use Rattle.std.specs.Prelude.{ℕ, ◌≤◌, List, [], length, map, slice_index_or}
 use Rattle.std.specs.List.{AllByRecursion}
+use Rattle.redo_names.specs.Names.{text_at}
 use Rattle.redo_names.specs.Inside.Names.{AreNames}
 use Rattle.redo_model.specs.Names.{Text}
 use Rattle.redo_model.specs.Command as commands
-use Rattle.redo_model.specs.Renaming.{IsBelow}
+use Rattle.redo_model.specs.Renaming.{IsBelow, named_item}
 use Rattle.redo_terms.specs.declared.script.Item.{Item}
 use Rattle.redo_terms.specs.Meaning.{command_of}
 use Rattle.redo_terms.specs.Inside.Meaning.{item_of}
@@ -20,6 +21,10 @@ scripts_of scripts = map (λ script. map item_of script) scripts
 -- the script of a session; it has no line where there is no such session
 abbrev pub script_of : PlanOf → ℕ → List (commands.Item ℕ)
 script_of plan s = slice_index_or plan.scripts s []
+
+-- the scripts of a plan, over its names
+abbrev pub scripts_named : PlanOf → List (List (commands.Item Text))
+scripts_named plan = map (λ script. map (named_item (text_at plan.names)) script) plan.scripts
 
 -- the numbers of its commands are below n
 abbrev pub AreBelow : ℕ → List Item → Type 0

@@ -5,7 +5,7 @@ use Rattle.redo_model.specs.Names.{Text}
 use Rattle.redo_model.specs.Command.{names_in}
 use Rattle.redo_model.specs.History.{Line}
 use Rattle.redo_text.specs.Grammar.{with_names}
-use Rattle.redo_replay.specs.Histories.{line_text_of}
+use Rattle.redo_history.specs.Histories.{line_text_of}
 
 -- the lines' texts, one after the other
 abbrev pub lines_text_of : List (Line Text) → Text

@@ -1,11 +1,11 @@
 ghost use Rattle.std.specs.Prelude.{◌≡◌, ◌++◌, [], length, if◌then◌else◌, IfOk, OnOk, OnErr};
 ghost use Rattle.redo_model.specs.Renaming.{IsLineBelow};
 ghost use Rattle.redo_terms.specs.Meaning.{line_of, line_at};
-ghost use Rattle.redo_replay.specs.Histories.{line_text_of};
+ghost use Rattle.redo_history.specs.Histories.{line_text_of};
 ghost use Rattle.redo_live.specs.Inside.Told.{TellsNothing};
 
 use redo_names::Names;
-use redo_replay::put_line;
+use redo_history::put_line;
 use redo_terms::{Line, Reply};
 use std::alloc::{AllocError, Global};
 

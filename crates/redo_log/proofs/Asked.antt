@@ -8,12 +8,12 @@ use Rattle.redo_model.specs.History.{Line}
 use Rattle.redo_text.specs.Texts.{command_text_of, reply_text_of}
 use Rattle.redo_text.specs.Grammar.{IsCommandLine}
 use Rattle.redo_text.proofs.LineLaws.{text_is_spelled}
-use Rattle.redo_replay.specs.Histories.{line_text_of}
-use Rattle.redo_replay.specs.HistoryFaults.{arrow, IsCutAtSpace, IsCutAtArrow, IsSessionWord, HasNoArrow}
-use Rattle.redo_replay.specs.Inside.HistoryTexts.{IsLineSaid, IsSaid}
-use Rattle.redo_replay.proofs.CutOnce.{Without, without_append, without_from, one_cut_at_space, one_cut_at_arrow}
-use Rattle.redo_replay.proofs.FreeWords.{command_is_one_line}
-use Rattle.redo_replay.proofs.HistoryLines.{number_is_without, command_cut}
+use Rattle.redo_history.specs.Histories.{line_text_of}
+use Rattle.redo_history.specs.HistoryFaults.{arrow, IsCutAtSpace, IsCutAtArrow, IsSessionWord, HasNoArrow}
+use Rattle.redo_history.specs.Inside.HistoryTexts.{IsLineSaid, IsSaid}
+use Rattle.redo_history.proofs.CutOnce.{Without, without_append, without_from, one_cut_at_space, one_cut_at_arrow}
+use Rattle.redo_history.proofs.FreeWords.{command_is_one_line}
+use Rattle.redo_history.proofs.HistoryLines.{number_is_without, command_cut}
 use Rattle.redo_log.specs.Steps.{AsksFor}
 
 pub line_said : (command : Command Text) → IsSaid command

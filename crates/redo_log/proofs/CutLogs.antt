@@ -5,9 +5,9 @@ use Rattle.std.specs.List.{AllByRecursion}
 use Rattle.std.proofs.lemmas.List.{append_cancel_left}
 use Rattle.redo_model.specs.Names.{Text}
 use Rattle.redo_model.specs.History.{Line}
-use Rattle.redo_replay.specs.Inside.HistoryTexts.{HasLineForm}
-use Rattle.redo_replay.proofs.CutLogs as cuts
-use Rattle.redo_replay.proofs.LinesFit.{legal_lines_fit}
+use Rattle.redo_history.specs.Inside.HistoryTexts.{HasLineForm}
+use Rattle.redo_history.proofs.CutLogs as cuts
+use Rattle.redo_history.proofs.LinesFit.{legal_lines_fit}
 use Rattle.redo_live.specs.Lines.{lines_text_of}
 use Rattle.redo_log.specs.Logs.{header_words, log_header, AreLogged, IsLogOf, IsTornHeader}
 use Rattle.redo_log.proofs.Grown.{logged_front}

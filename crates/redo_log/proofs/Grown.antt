@@ -10,8 +10,8 @@ use Rattle.redo_model.specs.History.{Line, LegalFrom, left_by}
 use Rattle.redo_model.proofs.OneMore.{legal_more}
 use Rattle.redo_text.specs.Grammar.{with_names, AddsNames}
 use Rattle.redo_text.proofs.ScriptParts.{with_names-append, with_names-longer}
-use Rattle.redo_replay.specs.Inside.HistoryTexts.{IsLineSaid}
-use Rattle.redo_replay.proofs.Replayed.{all_more}
+use Rattle.redo_history.specs.Inside.HistoryTexts.{IsLineSaid}
+use Rattle.redo_history.proofs.RecordedLines.{all_more}
 use Rattle.redo_live.specs.Inside.LiveState.{LiveState}
 use Rattle.redo_live.specs.Lines.{names_after}
 use Rattle.redo_log.specs.Logs.{AreLogged}

@@ -12,8 +12,8 @@ use Rattle.redo_text.specs.Texts.{command_text_of}
 use Rattle.redo_text.specs.declared.fault.LineFault.{LineFault}
 use Rattle.redo_text.proofs.FaultOrCommand.{no_fault_in_a_line}
 use Rattle.redo_text.proofs.LineLaws.{one_command}
-use Rattle.redo_replay.specs.Histories.{line_text_of}
-use Rattle.redo_replay.proofs.CommandsSaid.{command_said}
+use Rattle.redo_history.specs.Histories.{line_text_of}
+use Rattle.redo_history.proofs.CommandsSaid.{command_said}
 use Rattle.redo_live.specs.Inside.LiveState.{LiveState, state_in}
 use Rattle.redo_live.specs.Inside.Told.{AnswersText}
 use Rattle.redo_log.specs.Steps.{CanFollow, NothingFollows, DoesNext}

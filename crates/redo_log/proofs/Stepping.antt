@@ -9,9 +9,9 @@ use Rattle.redo_model.specs.Step.{Answers, after}
 use Rattle.redo_model.specs.History.{Line}
 use Rattle.redo_model.proofs.OneMore.{left_by-append}
 use Rattle.redo_text.specs.Grammar.{AddsNames}
-use Rattle.redo_replay.specs.Histories.{line_text_of}
-use Rattle.redo_replay.proofs.HistoryReadsBack.{own_text_of}
-use Rattle.redo_replay.proofs.TextCuts.{has_lf}
+use Rattle.redo_history.specs.Histories.{line_text_of}
+use Rattle.redo_history.proofs.HistoryReadsBack.{own_text_of}
+use Rattle.redo_history.proofs.TextCuts.{has_lf}
 use Rattle.redo_live.specs.Inside.LiveState.{LiveState, state_in, calls_in}
 use Rattle.redo_live.specs.Lines.{lines_text_of, names_after}
 use Rattle.redo_log.specs.Logs.{log_header, AreLogged, IsLogOf}

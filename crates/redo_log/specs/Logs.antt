@@ -3,8 +3,8 @@ use Rattle.std.specs.Prelude.{◌≡◌, ◌≤◌, List, ◌++◌, length, code
 use Rattle.std.specs.List.{AllByRecursion}
 use Rattle.redo_model.specs.Names.{Text, texts}
 use Rattle.redo_model.specs.History.{Line, Legal}
-use Rattle.redo_replay.specs.Histories.{ended}
-use Rattle.redo_replay.specs.Inside.HistoryTexts.{IsLineSaid}
+use Rattle.redo_history.specs.Histories.{ended}
+use Rattle.redo_history.specs.Inside.HistoryTexts.{IsLineSaid}
 use Rattle.redo_live.specs.Lines.{names_after, lines_text_of}
 
 abbrev pub header_words : Text

@@ -3,7 +3,7 @@ use Rattle.std.specs.Prelude.{◌≡◌, ◌≢◌, ◌⊎◌, ℕ, ◌+◌, ◌
 use Rattle.redo_model.specs.Names.{Text, texts}
 use Rattle.redo_model.specs.State.{empty}
 use Rattle.redo_model.specs.History.{Line, left_by}
-use Rattle.redo_replay.specs.Histories.{line_text_of}
+use Rattle.redo_history.specs.Histories.{line_text_of}
 use Rattle.redo_live.specs.Inside.LiveState.{LiveState, state_in, calls_in}
 use Rattle.redo_live.specs.Lines.{lines_text_of, names_after}
 use Rattle.redo_log.specs.Logs.{log_header, AreLogged, IsLogOf, IsTornHeader}

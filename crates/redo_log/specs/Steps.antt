@@ -4,9 +4,9 @@ use Rattle.redo_model.specs.Names.{Text, texts}
 use Rattle.redo_model.specs.Step.{Answers, after}
 use Rattle.redo_model.specs.History.{Line}
 use Rattle.redo_text.specs.Grammar.{AddsNames}
-use Rattle.redo_replay.specs.Histories.{line_text_of}
-use Rattle.redo_replay.specs.HistoryFaults.{arrow}
-use Rattle.redo_replay.specs.Inside.HistoryTexts.{IsLineSaid}
+use Rattle.redo_history.specs.Histories.{line_text_of}
+use Rattle.redo_history.specs.HistoryFaults.{arrow}
+use Rattle.redo_history.specs.Inside.HistoryTexts.{IsLineSaid}
 use Rattle.redo_live.specs.Inside.LiveState.{LiveState, state_in, calls_in}
 use Rattle.redo_live.specs.Lines.{lines_text_of}
 use Rattle.redo_log.specs.Logs.{log_header, AreLogged, IsLogOf}

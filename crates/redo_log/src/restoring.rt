@@ -4,13 +4,13 @@ ghost use Rattle.redo_model.specs.Command.{Command};
 ghost use Rattle.redo_model.specs.History.{Line};
 ghost use Rattle.redo_text.specs.Grammar.{IsCommandLine};
 ghost use Rattle.redo_live.specs.Inside.LiveState.{calls_in};
-ghost use Rattle.redo_replay.specs.Inside.HistoryFaults.{IsCutAt};
+ghost use Rattle.redo_history.specs.Inside.HistoryFaults.{IsCutAt};
 ghost use Rattle.redo_log.specs.Logs.{log_header, IsLogOf, IsTornHeader};
 ghost use Rattle.redo_log.specs.Restores.{IsRestored, IsRestoredTo, IsRestoreCause, IsOfRoom};
 ghost use Rattle.redo_log.specs.Steps.{AsksFor, DoesNext, NothingFollows};
 
 use redo_live::{Live, Unanswered};
-use redo_replay::{cut_at, cut_at_arrow, cut_at_space, session_of};
+use redo_history::{cut_at, cut_at_arrow, cut_at_space, session_of};
 use std::alloc::{AllocError, Global};
 use thiserror::Error;
 

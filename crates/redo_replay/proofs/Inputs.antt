@@ -2,11 +2,11 @@
 use Rattle.std.proofs.Common.{◌≡◌, ◌≤◌, ◌⊎◌, inl, inr, Bool, Option, None, Some, Result, Ok, Err, length, subst, sym, ap}
 use Rattle.std.specs.Prelude.{IfSome}
 use Rattle.redo_model.specs.Names.{Text}
-use Rattle.redo_replay.specs.HistoryFaults.{IsHistoryFault}
+use Rattle.redo_history.specs.HistoryFaults.{IsHistoryFault}
 use Rattle.redo_replay.specs.Replays.{IsCause, IsDeviceFault}
 use Rattle.redo_replay.specs.Inside.Replays.{replay_fault}
-use Rattle.redo_replay.specs.declared.fault.HistoryFault.{HistoryFault}
-use Rattle.redo_replay.specs.declared.fault.HistoryFault.TheVariants as history_faults
+use Rattle.redo_history.specs.declared.fault.HistoryFault.{HistoryFault}
+use Rattle.redo_history.specs.declared.fault.HistoryFault.TheVariants as history_faults
 use Rattle.redo_replay.specs.declared.fault.ReplayFault.TheVariants.{Memory}
 
 -- what holds of all that was read holds of the bytes, where they are known

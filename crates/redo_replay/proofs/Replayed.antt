@@ -24,17 +24,9 @@ use Rattle.redo_terms.specs.Meaning.{command_of, reply_of, line_of, line_at, rep
 use Rattle.redo_terms.specs.Inside.Meaning.{command_at}
 use Rattle.redo_terms.specs.declared.reply.Line.{Line}
 use Rattle.redo_terms.specs.declared.reply.Reply.{Reply}
-use Rattle.redo_replay.specs.Recorded.{AreLinesBelow}
-use Rattle.redo_replay.specs.Inside.Recorded.{Recorded, lines_of}
+use Rattle.redo_history.specs.Recorded.{AreLinesBelow}
+use Rattle.redo_history.proofs.RecordedLines.{all_more, all_map}
 use Rattle.redo_replay.specs.Verdicts.{IsFirstWrong}
-
--- the lines of the code are those of the history, under its names
-pub recorded_lines : (history : Recorded) (names : List Text) (lines : List Line)
-    → names ≡ history.names → map line_of lines ≡ history.lines
-    → map (line_at names) lines ≡ lines_of history
-recorded_lines history names lines same recorded =
-    sym (map-map (named_line (text_at names)) line_of lines)
-    ∙ (λ i. map (named_line (text_at (same i))) (recorded i))
 
 -- the lines are legal, and the state is what they leave
 pub record Replayed (order : ℕ → ℕ → Ordering) (state : State ℕ) (lines : List Line) : Type 0 where
@@ -48,17 +40,6 @@ replied line reply = record {
   command = command_of line.command;
   reply = reply_of reply;
 }
-
--- of a list and one more element
-pub all_more : {X : Type 0} (P : X → Type 0) (xs : List X) (y : X) → AllByRecursion P xs → P y
-    → AllByRecursion P (xs ++ y ∷ [])
-all_more P [] y h k = (k, tt)
-all_more P (x ∷ xs) y h k = (h.0, all_more P xs y h.1 k)
-
-pub all_map : {X Y : Type 0} (f : X → Y) (P : Y → Type 0) (xs : List X)
-    → AllByRecursion (λ x. P (f x)) xs → AllByRecursion P (map f xs)
-all_map f P [] h = tt
-all_map f P (x ∷ xs) h = (h.0, all_map f P xs h.1)
 
 all_front : {X : Type 0} (P : X → Type 0) (xs : List X) (y : X) (ys : List X)
     → AllByRecursion P (xs ++ y ∷ ys) → AllByRecursion P xs × P y

@@ -1,8 +1,2 @@
-pub mod Recorded
-pub mod Kept
-pub mod Verdicts
-pub mod HistoryTexts
-pub mod HistoryFaults
 pub mod Replays
-pub mod Merges
-pub mod Merging
+pub mod Verdicts

@@ -1,9 +1,3 @@
-pub mod Histories
-pub mod Recorded
-pub mod Verdicts
-pub mod HistoryTexts
-pub mod HistoryFaults
-pub mod Devices
-pub mod Replays
-pub mod Merges
 pub mod Inside
+pub mod Replays
+pub mod Verdicts

@@ -4,10 +4,10 @@ use Rattle.std.specs.Io.KnownBytes.{Appends}
 use Rattle.redo_model.specs.Names.{Text}
 use Rattle.redo_model.specs.History.{Line}
 use Rattle.redo_replay.specs.Verdicts.{IsVerdict, verdict_at, verdict_text_of}
-use Rattle.redo_replay.specs.HistoryTexts.{IsHistory}
-use Rattle.redo_replay.specs.HistoryFaults.{IsHistoryFault}
+use Rattle.redo_history.specs.HistoryTexts.{IsHistory}
+use Rattle.redo_history.specs.HistoryFaults.{IsHistoryFault}
 use Rattle.redo_replay.specs.declared.verdict.Verdict as declared
-use Rattle.redo_replay.specs.declared.fault.HistoryFault.TheVariants as history_faults
+use Rattle.redo_history.specs.declared.fault.HistoryFault.TheVariants as history_faults
 use Rattle.redo_replay.specs.declared.fault.ReplayFault.{ReplayFault}
 use Rattle.redo_replay.specs.declared.fault.ReplayFault.TheVariants.{Memory, History, Device, TooLong, Write}
 

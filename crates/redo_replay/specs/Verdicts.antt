@@ -7,7 +7,7 @@ use Rattle.redo_model.specs.Step.{Answers}
 use Rattle.redo_model.specs.History.{Line, left_by, Legal}
 use Rattle.redo_terms.specs.Meaning.{reply_at}
 use Rattle.redo_text.specs.Texts.{reply_text_of}
-use Rattle.redo_replay.specs.Histories.{ended}
+use Rattle.redo_history.specs.Histories.{ended}
 use Rattle.redo_replay.specs.declared.verdict.Verdict as declared
 use Rattle.redo_replay.specs.declared.verdict.Verdict.TheVariants as coded
 

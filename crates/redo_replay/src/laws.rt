@@ -1,16 +1,8 @@
-//! What holds of the texts of histories, and of verdicts.
+//! What holds of verdicts.
 
-ghost use Rattle.std.specs.Prelude.{◌≡◌, ◌↔◌, ◌<◌, ◌≤◌, ◌^◌, ◌++◌, List, [], length, map};
-ghost use Rattle.std.specs.List.{AllByRecursion, flat_map};
+ghost use Rattle.std.specs.Prelude.{◌≡◌, ◌↔◌, List, length};
 ghost use Rattle.redo_model.specs.Names.{Text, texts};
-ghost use Rattle.redo_model.specs.Command.{names_in};
 ghost use Rattle.redo_model.specs.History.{Legal, Line};
-ghost use Rattle.redo_text.specs.Grammar.{with_names, AddsNames};
-ghost use Rattle.redo_replay.specs.Histories.{history_text_of};
-ghost use Rattle.redo_replay.specs.HistoryTexts.{IsHistory, AreNamesOf, names_in_line};
-ghost use Rattle.redo_replay.specs.Inside.HistoryTexts.{HasLineForm, IsLineSaid};
-ghost use Rattle.redo_replay.specs.HistoryFaults.{IsHistoryFault};
-ghost use Rattle.redo_replay.specs.declared.fault.HistoryFault.{HistoryFault};
 ghost use Rattle.redo_replay.specs.Verdicts.{IsVerdict, Verdict, Same};
 
 /// Lines have at most one verdict.
@@ -23,45 +15,4 @@ pub fn one_verdict()
 pub fn same_where_legal()
     ensures { (lines : List (Line Text)) (verdict : Verdict) → IsVerdict lines verdict →
         (verdict ≡ Same (length lines)) ↔ Legal texts lines }
-{}
-
-/// The text of lines is a history of these lines, whatever follows, where their commands, replies
-/// and names fit.
-pub fn history_reads_back()
-    ensures { (lines : List (Line Text)) (names : List Text) (rest : Text) →
-        AllByRecursion HasLineForm lines → length lines ≤ 1048576 → AreNamesOf lines names →
-        IsHistory (history_text_of lines ++ rest) names lines }
-{}
-
-/// Where sessions say the commands of legal lines, each line has the form of a history's, and the
-/// replies add no names to those of the commands.
-pub fn legal_lines_fit()
-    ensures form { (lines : List (Line Text)) → Legal texts lines
-        → AllByRecursion IsLineSaid lines → length lines < 2 ^ 32
-        → AllByRecursion HasLineForm lines }
-    ensures names { (lines : List (Line Text)) → Legal texts lines
-        → AllByRecursion IsLineSaid lines → length lines < 2 ^ 32
-        → with_names [] (flat_map names_in_line lines)
-        ≡ with_names [] (flat_map names_in (map (λ line. line.command) lines)) }
-{}
-
-/// The text of legal lines is a history of these lines, whatever follows, where sessions say their
-/// commands, and neither lines nor the commands' names are too many.
-pub fn legal_history_reads_back()
-    ensures { (lines : List (Line Text)) (names : List Text) (rest : Text) → Legal texts lines
-        → AllByRecursion IsLineSaid lines → length lines ≤ 1048576
-        → AddsNames [] (map (λ line. line.command) lines) names
-        → IsHistory (history_text_of lines ++ rest) names lines }
-{}
-
-/// A text is the history of at most one list of names and lines.
-pub fn one_history()
-    ensures { (input : Text) (n m : List Text) (a b : List (Line Text)) →
-        IsHistory input n a → IsHistory input m b → (n ≡ m) × (a ≡ b) }
-{}
-
-/// A history has no fault but want of memory.
-pub fn no_fault()
-    ensures { (input : Text) (names : List Text) (lines : List (Line Text)) (fault : HistoryFault) →
-        IsHistory input names lines → IsHistoryFault input fault → fault ≡ HistoryFault.Memory }
 {}

@@ -2,13 +2,13 @@ ghost use Rattle.std.specs.Prelude.{◌≡◌, ◌↔◌, ◌≤◌, length, map
 ghost use Rattle.redo_model.specs.Names.{texts};
 ghost use Rattle.redo_model.specs.History.{Legal};
 ghost use Rattle.redo_terms.specs.Meaning.{line_at};
-ghost use Rattle.redo_replay.specs.Recorded.{AreLinesBelow};
-ghost use Rattle.redo_replay.specs.Inside.Recorded.{lines_of};
+ghost use Rattle.redo_history.specs.Recorded.{AreLinesBelow};
+ghost use Rattle.redo_history.specs.Inside.Recorded.{lines_of};
 ghost use Rattle.redo_replay.specs.Verdicts.{IsSame, IsVerdict, verdict_at};
 ghost use Rattle.redo_replay.specs.Inside.Verdicts.{IsVerdictBelow};
 
-use crate::history::History;
 use crate::verdict::Verdict;
+use redo_history::History;
 use redo_names::Names;
 use redo_store::Redo;
 use redo_terms::Line;

@@ -2,16 +2,15 @@ ghost use Rattle.std.specs.Prelude.{◌≡◌, ◌≢◌, ◌↔◌, ◌⊎◌, 
 ghost use Rattle.redo_model.specs.Names.{Text, texts};
 ghost use Rattle.redo_model.specs.History.{Line, Legal};
 ghost use Rattle.redo_whole.specs.Watched.{is_faulted};
-ghost use Rattle.redo_replay.specs.Devices.{known_in, WritesNothing};
-ghost use Rattle.redo_replay.specs.Inside.Recorded.{lines_of};
+ghost use Rattle.redo_whole.specs.Devices.{known_in, WritesNothing};
+ghost use Rattle.redo_history.specs.Inside.Recorded.{lines_of};
 ghost use Rattle.redo_replay.specs.Verdicts.{IsSame};
 ghost use Rattle.redo_replay.specs.Replays.{IsReadAs, IsKnownAs, HasVerdict, WritesVerdict, WritesPart, IsCause, IsDeviceFault};
 
 use crate::fault::ReplayFault;
-use crate::history::History;
-use crate::read::read_history;
 use crate::replays::replay;
 use crate::verdict::{Verdict, verdict_text};
+use redo_history::{History, read_history};
 use redo_whole::{Watched, WholeFault, WriteFault, read_whole, write_whole};
 use std::alloc::Global;
 use std::io::{Read, Write};

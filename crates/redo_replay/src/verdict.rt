@@ -2,7 +2,7 @@ ghost use Rattle.std.specs.Prelude.{◌≡◌, length, IfOk};
 ghost use Rattle.redo_replay.specs.Verdicts.{verdict_at, verdict_text_of};
 ghost use Rattle.redo_replay.specs.Inside.Verdicts.{IsVerdictBelow};
 
-use crate::printed::put_number;
+use redo_history::put_number;
 use redo_names::Names;
 use redo_terms::Reply;
 use redo_text::reply_text;

@@ -4,10 +4,10 @@ use Rattle.std.specs.List.{AllByRecursion, flat_map}
 use Rattle.redo_model.specs.Names.{Text}
 use Rattle.redo_model.specs.Command.{Command, Item, commands_in, names_in}
 use Rattle.redo_text.specs.Grammar.{IsScript}
-use Rattle.redo_session.specs.Runs.{AreAccepted}
-use Rattle.redo_replay.specs.Inside.HistoryTexts.{IsSaid}
-use Rattle.redo_replay.proofs.CommandsSaid.{commands_said}
-use Rattle.redo_replay.proofs.KnownNames.{IsKnown, AreKnown, known-with_names, added_are_known}
+use Rattle.redo_run_text.specs.Files.{AreAccepted}
+use Rattle.redo_history.specs.Inside.HistoryTexts.{IsSaid}
+use Rattle.redo_history.proofs.CommandsSaid.{commands_said}
+use Rattle.redo_history.proofs.KnownNames.{IsKnown, AreKnown, known-with_names, added_are_known}
 
 -- the command may stand in a script, and its names are among these
 pub record IsAsked (names : List Text) (command : Command Text) : Type 0 where

@@ -5,7 +5,7 @@ use Rattle.std.proofs.lemmas.List.{get_or-map, length-map}
 use Rattle.redo_model.specs.Names.{Text}
 use Rattle.redo_command.specs.declared.fault.TextFault.{TextFault}
 use Rattle.redo_command.specs.declared.fault.TextFault.TheVariants.{Memory, Read, TooManySessions, NoSession, Write, Device, TooLong}
-use Rattle.redo_session.specs.Faults.{IsCause, IsDeviceFault}
+use Rattle.redo_run_text.specs.Faults.{IsCause, IsDeviceFault}
 
 module _ {X : Type 0} (flag : X → Bool) where
   -- a flag that is up is that of some element

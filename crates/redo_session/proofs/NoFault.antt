@@ -10,8 +10,9 @@ use Rattle.redo_text.proofs.ScriptLaws.{one_script}
 use Rattle.redo_text.proofs.ScriptSteps.{no_first_fault}
 use Rattle.redo_command.specs.declared.fault.TextFault.{TextFault}
 use Rattle.redo_command.specs.declared.fault.TextFault.TheVariants.{Memory, Read, TooManySessions, NoSession, Write, Device, TooLong}
-use Rattle.redo_session.specs.Runs.{AreAccepted, AreKnownSessions}
-use Rattle.redo_session.specs.Faults.{IsCause, IsDeviceFault}
+use Rattle.redo_session.specs.Runs.{AreKnownSessions}
+use Rattle.redo_run_text.specs.Files.{AreAccepted}
+use Rattle.redo_run_text.specs.Faults.{IsCause, IsDeviceFault}
 
 -- a script leaves one list of names
 one_after : (names : List Text) (text : Text) (a b : List (Item Text)) (m n : List Text)

@@ -35,12 +35,13 @@ use Rattle.redo_journal.specs.Plans.{PlanOf, IsPlan, script_of}
 use Rattle.redo_journal.specs.Journals.{journals_of, naming_of}
 use Rattle.redo_journal.specs.declared.entry.Journal.{Journal}
 use Rattle.redo_board.proofs.Orders.{by_text_is_naming}
-use Rattle.redo_replay.specs.Recorded.{AreLinesBelow}
-use Rattle.redo_replay.specs.Merges.{by_number, AreMerged}
-use Rattle.redo_replay.proofs.Replayed.{all_map}
+use Rattle.redo_history.specs.Recorded.{AreLinesBelow}
+use Rattle.redo_merge.specs.Merges.{by_number, AreMerged}
+use Rattle.redo_history.proofs.RecordedLines.{all_map}
 use Rattle.redo_session.specs.Runs.{IsRun}
-use Rattle.redo_session.specs.Outcomes.{scripts_named, AreWhole, SeenStands}
-use Rattle.redo_session.proofs.Lists.{all-unmapped, all-weaker}
+use Rattle.redo_session.specs.Outcomes.{AreWhole, SeenStands}
+use Rattle.redo_journal.specs.Plans.{scripts_named}
+use Rattle.redo_run_text.proofs.Lists.{all-unmapped, all-weaker}
 use Rattle.redo_session.proofs.Wholes.{of_session, no_lines}
 use Rattle.redo_session.proofs.Served.{Serves, whole_at}
 

@@ -1,5 +1,8 @@
 -- The run text of a plan's outcome is one of the scripts' commands.
-use Rattle.std.proofs.Common.{◌≡◌, ℕ, List, [], ◌∷◌, length, map, refl, sym, ap, ◌∙◌, subst}
+use Rattle.std.proofs.Common.{◌≡◌, ℕ, ◌<◌, ◌≤◌, Option, Result, Ok, Err, List, [], ◌∷◌, length, map, refl, sym, ap, ◌∙◌, subst, arith}
+use Rattle.std.specs.Prelude.{IfOk, OnOk, Vec}
+use mathlib.Core.Logic.{dite}
+use native.Mathlib.Decide.{dec_lt}
 use Rattle.std.proofs.lemmas.List.{length-map}
 use Rattle.std.proofs.lemmas.Simd.{map-map}
 use Rattle.redo_names.specs.Names.{text_at}
@@ -8,14 +11,18 @@ use Rattle.redo_model.specs.Command as model
 use Rattle.redo_model.specs.History.{Line}
 use Rattle.redo_model.specs.Renaming.{named_item}
 use Rattle.redo_terms.specs.declared.script.Item.{Item}
-use Rattle.redo_session.specs.RunTexts.{run_text_of, sessions_below}
+use Rattle.redo_run_text.specs.RunTexts.{run_text_of, sessions_below}
 use Rattle.redo_terms.specs.Meaning.{line_at}
-use Rattle.redo_terms.specs.Inside.Meaning.{item_of}
+use Rattle.redo_terms.specs.Inside.Meaning.{item_at, item_of}
 use Rattle.redo_terms.specs.declared.reply.Line as coded
 use Rattle.redo_journal.specs.Plans.{PlanOf, scripts_of}
-use Rattle.redo_session.specs.Runs.{IsRun, IsRunText}
-use Rattle.redo_session.specs.Inside.Files.{scripts_at}
-use Rattle.redo_session.specs.Outcomes.{scripts_named}
+use Rattle.redo_command.specs.declared.fault.TextFault.{TextFault}
+use Rattle.redo_command.specs.declared.fault.TextFault.TheVariants.{NoSession}
+use Rattle.redo_session.specs.Runs.{IsRun, IsRunText, RunsAs}
+use Rattle.redo_run_text.specs.Files.{AreAccepted}
+use Rattle.redo_run_text.proofs.Accepted.{AreAccepted-length}
+use Rattle.redo_run_text.specs.Inside.Files.{scripts_at}
+use Rattle.redo_journal.specs.Plans.{scripts_named}
 
 -- the plan of these scripts, over these names
 abbrev plan_here : List Text → List (List Item) → PlanOf
@@ -47,3 +54,19 @@ run_text_here p names scripts history text same run is =
       subst (λ all. IsRun all lines) named run,
       is ∙ (λ i. run_text_of (named i) (sessions_below (long i)) lines),
     )
+
+-- the text of accepted files, where they are neither none nor too many
+pub runs_as : {A : Type 0} (result : Result (Vec ℕ A) TextFault) (files : List (Option Text))
+    (scripts : List (List Item)) (names : List Text)
+    → AreAccepted [] files (scripts_at names scripts) names
+    → IfOk result (λ text. IsRunText (scripts_at names scripts) text.items)
+    → OnOk result (length scripts ≤ 64) → (length scripts ≡ 0 → result ≡ Err NoSession)
+    → IfOk result (λ text. RunsAs files text.items)
+runs_as (Ok text) files scripts names are run few none =
+    let same = AreAccepted-length [] files (scripts_at names scripts) names are in
+    let long = length-map scripts (λ script. map (item_at names) script) in
+    let some : 1 ≤ length scripts =
+    dite (dec_lt 0 (length scripts)) (λ less. omega arith)
+    (λ no. absurd (let wrong = none (omega arith) in cc)) in
+    (scripts_at names scripts, (omega arith, omega arith, (names, are)), run)
+runs_as (Err fault) files scripts names are run few none = tt

@@ -17,7 +17,7 @@ use Rattle.redo_board.specs.Rule.{HasPart}
 use Rattle.redo_board.specs.Shown.{lines_in, IsForAll}
 use Rattle.redo_board.specs.Histories.{IsHistoryOf}
 use Rattle.redo_board.specs.Outcomes.{Closes}
-use Rattle.redo_replay.specs.Merges.{by_number}
+use Rattle.redo_merge.specs.Merges.{by_number}
 use Rattle.redo_session.specs.Inside.Sessions.{parts_told, IsEnded, AllEnded, AreDone}
 use Rattle.redo_session.specs.Outcomes.{AreWhole}
 

@@ -1,4 +1,1 @@
-pub mod Faults
-pub mod Files
 pub mod Sessions
-pub mod Printed

@@ -1,6 +1,3 @@
-pub mod RunTexts
-pub mod Runs
-pub mod Faults
-pub mod Files
-pub mod Outcomes
 pub mod Inside
+pub mod Outcomes
+pub mod Runs

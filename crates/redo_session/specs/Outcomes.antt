@@ -1,21 +1,13 @@
 -- What a run leaves.
-use Rattle.std.specs.Prelude.{◌≡◌, ℕ, List, ◌∷◌, ◌++◌, length, map, Some, All, slice_get}
-use Rattle.redo_names.specs.Names.{text_at}
-use Rattle.redo_model.specs.Names.{Text}
-use Rattle.redo_model.specs.Command.{Item}
+use Rattle.std.specs.Prelude.{◌≡◌, ℕ, List, ◌∷◌, ◌++◌, length, Some, All, slice_get}
 use Rattle.redo_model.specs.Placed.{Place, PlacedLine, part_of}
 use Rattle.redo_model.specs.Journals.{IsWholeJournal, IsJointOrder}
 use Rattle.redo_model.specs.Seen.{HasSeen, StandsIn}
-use Rattle.redo_model.specs.Renaming.{named_item}
 use Rattle.redo_journal.specs.Plans.{PlanOf, script_of}
 use Rattle.redo_journal.specs.Journals.{told_by, journals_of, naming_of, IsMarked}
 use Rattle.redo_journal.specs.declared.entry.Journal.{Journal}
 use Rattle.redo_board.specs.Shown.{rows_up_to}
-use Rattle.redo_replay.specs.Merges.{by_number}
-
--- the scripts of a plan, over its names
-abbrev pub scripts_named : PlanOf → List (List (Item Text))
-scripts_named p = map (λ script. map (named_item (text_at p.names)) script) p.scripts
+use Rattle.redo_merge.specs.Merges.{by_number}
 
 -- all that the session does, with its closing commands marked, and how many rows it tried: those up
 -- to its own latest

@@ -1,5 +1,5 @@
 -- What a run of some session files is.
-use Rattle.std.specs.Prelude.{◌≡◌, ℕ, ◌<◌, ◌≤◌, false, List, [], ◌∷◌, ◌++◌, length, map, Option, None, Some, IfSome, slice_index_or}
+use Rattle.std.specs.Prelude.{◌≡◌, ℕ, ◌<◌, false, List, [], ◌++◌, length, map, Option, None, Some, slice_index_or}
 use Rattle.std.specs.List.{AllByRecursion}
 use Rattle.std.specs.Io.KnownBytes.{Appends}
 use Rattle.redo_model.specs.Names.{Text, texts}
@@ -7,24 +7,8 @@ use Rattle.redo_model.specs.Command.{Item}
 use Rattle.redo_model.specs.State.{empty, is_building, target_state}
 use Rattle.redo_model.specs.History.{Line, part_of, left_by, Legal}
 use Rattle.redo_model.specs.Scripts.{Does}
-use Rattle.redo_text.specs.Grammar.{IsScript}
-use Rattle.redo_session.specs.RunTexts.{run_text_of, sessions_below}
-
--- the file's bytes, where they are known, are a script of these lines, with the names before
--- and after it
-abbrev pub IsAccepted : List Text → Option Text → List (Item Text) → List Text → Type 0
-IsAccepted names file script after =
-    IfSome file (λ bytes. (length bytes ≤ 67108864) × IsScript names bytes script after)
-
--- the files are accepted one after another, each with the names of those before it
-abbrev pub AreAccepted : List Text → List (Option Text) → List (List (Item Text)) → List Text
-    → Type 0
-AreAccepted names [] [] after = after ≡ names
-AreAccepted names [] (script ∷ scripts) after = ⊥
-AreAccepted names (file ∷ files) [] after = ⊥
-AreAccepted names (file ∷ files) (script ∷ scripts) after =
-    (middle : List Text) × IsAccepted names file script middle
-    × AreAccepted middle files scripts after
+use Rattle.redo_run_text.specs.Files.{AreSessions}
+use Rattle.redo_run_text.specs.RunTexts.{run_text_of, sessions_below}
 
 -- one history in which each session does all that its script says, each reply the database's at its
 -- point: the commands of its lines once and in order, of guarded ones those that the replies let
@@ -47,12 +31,6 @@ abbrev pub IsRunText : List (List (Item Text)) → Text → Type 0
 IsRunText scripts text =
     (lines : List (Line Text)) × IsRun scripts lines
     × (text ≡ run_text_of scripts (sessions_below (length scripts)) lines)
-
--- 1 to 64 files, one after another, are these scripts
-abbrev pub AreSessions : List (Option Text) → List (List (Item Text)) → Type 0
-AreSessions files scripts =
-    (1 ≤ length files) × (length files ≤ 64)
-    × ((names : List Text) × AreAccepted [] files scripts names)
 
 -- the files are accepted, and this is a run text of their commands
 abbrev pub RunsAs : List (Option Text) → Text → Type 0

@@ -4,7 +4,7 @@ ghost use Rattle.std.specs.Prelude.{◌≡◌, List, [], ◌∷◌, Some, map};
 ghost use Rattle.redo_model.specs.Names.{Text, texts};
 ghost use Rattle.redo_model.specs.Command.{Item};
 ghost use Rattle.redo_model.specs.History.{Line, Legal};
-ghost use Rattle.redo_replay.specs.HistoryTexts.{IsHistory};
+ghost use Rattle.redo_history.specs.HistoryTexts.{IsHistory};
 ghost use Rattle.redo_session.specs.Runs.{IsRun, LeavesNothingHeld, RunsAs};
 
 /// One file whose bytes are known has at most one run text: what is printed for a file is a

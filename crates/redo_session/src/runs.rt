@@ -1,25 +1,20 @@
 ghost use Rattle.std.specs.Prelude.{map, IfOk};
 ghost use Rattle.redo_terms.specs.Meaning.{line_of, line_at};
-ghost use Rattle.redo_replay.specs.Merges.{AreMerged};
-ghost use Rattle.redo_replay.specs.Recorded.{AreLinesBelow};
+ghost use Rattle.redo_merge.specs.Merges.{AreMerged};
+ghost use Rattle.redo_history.specs.Recorded.{AreLinesBelow};
 ghost use Rattle.redo_session.specs.Runs.{IsRun, LeavesNothingHeld};
-ghost use Rattle.redo_session.specs.Outcomes.{scripts_named, AreWhole, SeenStands};
+ghost use Rattle.redo_session.specs.Outcomes.{AreWhole, SeenStands};
+ghost use Rattle.redo_journal.specs.Plans.{scripts_named};
 
 use crate::sessions::{Sessions, run_all};
-use redo_board::{Board, Gate, Journal, Plan};
-use redo_command::{Line, TextFault};
-use redo_replay::merge;
+use redo_board::{Board, Gate, Plan};
+use redo_command::TextFault;
+use redo_merge::merge;
+use redo_run_text::Outcome;
 use std::alloc::{AllocError, AllocFailed, Global};
 use std::sync::Wait;
 use std::thread::Threads;
 use thiserror::Error;
-
-/// What a run left: one history of all sessions, and what each session did.
-#[derive(Debug, Drop)]
-pub struct Outcome {
-    pub history: Vec<Line>,
-    pub journals: Vec<Journal>,
-}
 
 /// Why there is no outcome.
 #[derive(Clone, Copy, Debug, PartialEq, Eq, Error)]

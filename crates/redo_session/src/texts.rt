@@ -1,18 +1,17 @@
 ghost use Rattle.std.specs.Prelude.{◌≡◌, ◌≢◌, ◌↔◌, ◌⊎◌, ◌<◌, ◌≤◌, [], false, true, length, map, Any, All, IfOk, IfErr, OnOk, IsErrOf, IsErrAnd};
 ghost use Rattle.redo_whole.specs.Watched.{is_faulted};
-ghost use Rattle.redo_replay.specs.Devices.{known_in, WritesNothing};
+ghost use Rattle.redo_whole.specs.Devices.{known_in, WritesNothing};
 ghost use Rattle.redo_session.specs.Runs.{IsRunText, RunsAs, WritesRun, WritesPart, AreKnownSessions};
-ghost use Rattle.redo_session.specs.Files.{bytes_of_files, flags_of_files};
-ghost use Rattle.redo_session.specs.Inside.Files.{scripts_at, AreScriptsBelow};
-ghost use Rattle.redo_session.specs.Faults.{IsCause, IsDeviceFault};
+ghost use Rattle.redo_run_text.specs.Files.{bytes_of_files, flags_of_files};
+ghost use Rattle.redo_run_text.specs.Inside.Files.{scripts_at, AreScriptsBelow};
+ghost use Rattle.redo_run_text.specs.Faults.{IsCause, IsDeviceFault};
 
-use crate::files::read_files;
-use crate::printed::run_text;
 use crate::runs::run;
 use redo_board::{Open, Plan};
 use redo_command::{Script, TextFault, Watched, WriteFault, write_whole};
 use redo_journal::PlanFault;
 use redo_names::Names;
+use redo_run_text::{read_files, run_text};
 use std::alloc::Global;
 use std::io::{Read, Write};
 use std::sync::Wait;

@@ -3,9 +3,9 @@ use Rattle.std.proofs.Common.{◌≡◌, ℕ, ◌+◌, ◌∷◌, ◌++◌, sym,
 use Rattle.std.specs.Prelude.{codes, decimal}
 use Rattle.std.specs.List.{Contains}
 use Rattle.redo_model.specs.Names.{Text}
-use Rattle.redo_replay.specs.HistoryFaults.{IsSessionWord}
-use Rattle.redo_replay.specs.Inside.HistoryFaults.{IsCutAt}
-use Rattle.redo_replay.proofs.TextCuts.{one_cut, no_byte_in_decimal, has_lf}
+use Rattle.redo_history.specs.HistoryFaults.{IsSessionWord}
+use Rattle.redo_history.specs.Inside.HistoryFaults.{IsCutAt}
+use Rattle.redo_history.proofs.TextCuts.{one_cut, no_byte_in_decimal, has_lf}
 use Rattle.redo_talk.specs.Rounds.{Asks, HasNoSession}
 
 asks_at_space : (heard : Text) (s : ℕ) (text : Text) → Asks heard s text

@@ -6,7 +6,7 @@ use Rattle.std.proofs.lemmas.List.{take_all, take-append-le, length-take-le}
 use Rattle.std.proofs.lemmas.List.Elements.{Contains-append_cases}
 use Rattle.redo_model.specs.Names.{Text}
 use Rattle.redo_model.proofs.Members.{contains_none}
-use Rattle.redo_replay.specs.Histories.{ended}
+use Rattle.redo_history.specs.Histories.{ended}
 use Rattle.redo_talk.specs.Logs.{HasNoEnd}
 use Rattle.redo_talk.specs.Inside.KeptLines.{kept_of, IsFrontOf, IsHeardOf}
 

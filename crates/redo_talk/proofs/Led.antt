@@ -18,7 +18,7 @@ use Rattle.redo_model.proofs.OneMore.{left_by-append, legal_more}
 use Rattle.redo_model.proofs.Texts.{texts_are_names}
 use Rattle.redo_text.specs.Grammar.{with_names}
 use Rattle.redo_text.proofs.ScriptParts.{with_names-append}
-use Rattle.redo_replay.proofs.KnownNames.{AreKnown, with_names-known}
+use Rattle.redo_history.proofs.KnownNames.{AreKnown, with_names-known}
 use Rattle.redo_live.specs.Lines.{names_after}
 use Rattle.redo_talk.specs.Rounds.{Round, IsRound, IsAnswered, IsEnded, IsFaulty, AreRounds, lines_in, IsFaultWord, Asks, fault_text_of, HasNoSession}
 use Rattle.redo_talk.specs.Inside.Steps.{Known, LeadsTo, Answering, Ending, Refusing, IsStep, AreSteps}

@@ -3,7 +3,7 @@ use Rattle.std.proofs.Common.{◌≡◌, ◌⊎◌, [], ◌++◌, Option, refl, 
 use Rattle.std.specs.Io.KnownBytes.{Appends, Keeps}
 use Rattle.std.proofs.KnownBytes.{Appends-kept}
 use Rattle.redo_model.specs.Names.{Text}
-use Rattle.redo_replay.specs.Histories.{ended}
+use Rattle.redo_history.specs.Histories.{ended}
 use Rattle.redo_talk.specs.Rounds.{Round}
 use Rattle.redo_talk.specs.Logs.{logged_of}
 use Rattle.redo_talk.specs.Inside.Steps.{Known, Refusing, IsStep}

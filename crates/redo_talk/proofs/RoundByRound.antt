@@ -10,7 +10,7 @@ use Rattle.redo_model.specs.History.{Line, left_by}
 use Rattle.redo_model.specs.Changes.{changes, changing_from}
 use Rattle.redo_model.specs.Step.{after}
 use Rattle.redo_model.proofs.OneMore.{left_by-append}
-use Rattle.redo_replay.specs.Histories.{ended, line_text_of}
+use Rattle.redo_history.specs.Histories.{ended, line_text_of}
 use Rattle.redo_live.specs.Lines.{lines_text_of}
 use Rattle.redo_talk.specs.Rounds.{Round, lines_in, heard_in, said_in}
 use Rattle.redo_talk.specs.Logs.{logged_of}

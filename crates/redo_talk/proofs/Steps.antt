@@ -15,8 +15,8 @@ use Rattle.redo_model.specs.Inside.Ending.{AreHeld, okay_line, closing_lines_of}
 use Rattle.redo_model.specs.Inside.Renaming.{value_at}
 use Rattle.redo_store.specs.Tables.{state_of}
 use Rattle.redo_text.specs.Grammar.{with_names}
-use Rattle.redo_replay.proofs.KnownNames.{AreKnown, all_members}
-use Rattle.redo_replay.specs.Histories.{line_text_of}
+use Rattle.redo_history.proofs.KnownNames.{AreKnown, all_members}
+use Rattle.redo_history.specs.Histories.{line_text_of}
 use Rattle.redo_live.specs.Inside.Answered.{logged_text}
 use Rattle.redo_live.specs.Inside.LiveState.{LiveState, state_in}
 use Rattle.redo_live.specs.Inside.Told.{AnswersText, EndsSession}

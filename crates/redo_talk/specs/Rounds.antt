@@ -11,7 +11,7 @@ use Rattle.redo_text.specs.Grammar.{IsCommandLine}
 use Rattle.redo_text.specs.Questions.{line_fault}
 use Rattle.redo_text.specs.Faults.{fault_word_of}
 use Rattle.redo_text.specs.declared.fault.LineFault.{LineFault}
-use Rattle.redo_replay.specs.Histories.{ended, line_text_of}
+use Rattle.redo_history.specs.Histories.{ended, line_text_of}
 use Rattle.redo_live.specs.Lines.{names_after}
 
 -- a line that was heard, without its LF; the lines of the history that it made; what was said to it

@@ -1,7 +1,7 @@
 ghost use Rattle.std.specs.Prelude.{MatchOption};
 ghost use Rattle.redo_talk.specs.Rounds.{Asks, HasNoSession};
 
-use redo_replay::{cut_at, session_of};
+use redo_history::{cut_at, session_of};
 
 /// The session, counted from 0, that a line asks, and the text for it.
 pub(crate) fn asked(line: &[u8]) -> Option<(u8, &[u8])>

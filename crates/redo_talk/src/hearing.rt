@@ -1,7 +1,7 @@
 ghost use Rattle.std.specs.Prelude.{◌≡◌, ◌≤◌, ◌++◌, [], length, take, vec_capacity, decimal, IfErr, OnOk, OnErr};
 ghost use Rattle.redo_model.specs.Names.{Text};
-ghost use Rattle.redo_replay.specs.Devices.{known_in};
-ghost use Rattle.redo_replay.specs.Histories.{ended};
+ghost use Rattle.redo_whole.specs.Devices.{known_in};
+ghost use Rattle.redo_history.specs.Histories.{ended};
 ghost use Rattle.redo_talk.specs.Rounds.{Round, fault_text_of};
 ghost use Rattle.redo_talk.specs.Logs.{logged_of};
 ghost use Rattle.redo_talk.specs.Inside.Steps.{IsStep, Refusing};
@@ -12,7 +12,7 @@ use crate::asked::asked;
 use crate::fault::Refusal;
 use crate::unsent::{Unsent, send, tell_fault};
 use redo_live::Live;
-use redo_replay::cut_at;
+use redo_history::cut_at;
 use redo_whole::{Watched, WriteFault};
 use std::alloc::Global;
 use std::io::Write;

@@ -2,7 +2,7 @@ ghost use Rattle.std.specs.Prelude.{◌≡◌, ◌≢◌, ◌++◌, List, OnOk, 
 ghost use Rattle.std.specs.Io.KnownBytes.{IsAtEnd};
 ghost use Rattle.redo_model.specs.Names.{Text};
 ghost use Rattle.redo_model.specs.History.{Line};
-ghost use Rattle.redo_replay.specs.Devices.{known_in};
+ghost use Rattle.redo_whole.specs.Devices.{known_in};
 ghost use Rattle.redo_talk.specs.Rounds.{Round, lines_in};
 ghost use Rattle.redo_talk.specs.Talks.{IsConversation, IsCutShort};
 ghost use Rattle.redo_talk.specs.Inside.LeftBy.{IsLeftBy};

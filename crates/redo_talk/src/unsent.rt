@@ -1,5 +1,5 @@
 ghost use Rattle.std.specs.Prelude.{◌≡◌, ◌⊎◌, ◌+◌, ◌≤◌, ◌++◌, [], OnOk, OnErr, decimal, length};
-ghost use Rattle.redo_replay.specs.Devices.{known_in, Writes};
+ghost use Rattle.redo_whole.specs.Devices.{known_in, Writes};
 ghost use Rattle.redo_whole.specs.Inside.Watched.{AppendsFront};
 ghost use Rattle.redo_talk.specs.Rounds.{fault_text_of};
 ghost use Rattle.redo_talk.specs.Inside.Sending.{SendsFronts, IsKeptBack, IsSent};

@@ -6,11 +6,9 @@ use crate::devices::FaultyWriter;
 use crate::failing::{ALL, NEVER, writer};
 use crate::told::again;
 use redo_command::{LineFault, Watched};
+use redo_history::{History, HistoryFault, history_text, read_history};
 use redo_names::Names;
-use redo_replay::{
-    History, HistoryFault, ReplayFault, Verdict, history_text, read_history, replay, replay_text,
-    verdict_text,
-};
+use redo_replay::{ReplayFault, Verdict, replay, replay_text, verdict_text};
 use std::alloc::{AllocError, Global};
 use std::process::Abort;
 use std::test::Fail;

@@ -1,7 +1,7 @@
 //! Runs of one file, of two and of eight.
 ghost use Rattle.std.specs.Prelude.{◌≡◌, [], IfOk};
-ghost use Rattle.redo_replay.specs.Recorded.{AreLinesBelow};
-ghost use Rattle.redo_session.specs.Inside.Files.{AreScriptsBelow};
+ghost use Rattle.redo_history.specs.Recorded.{AreLinesBelow};
+ghost use Rattle.redo_run_text.specs.Inside.Files.{AreScriptsBelow};
 
 use crate::devices::FaultyWriter;
 use crate::failing::{ALL, NEVER, writer};

@@ -3,7 +3,7 @@ use crate::orders::first_order;
 use crate::told::{Told, Wanted, are_lines, are_wanted, journals_of};
 use redo_command::Line;
 use redo_journal::{Journal, Plan, are_journals};
-use redo_replay::merge;
+use redo_merge::merge;
 use std::alloc::{AllocError, Global};
 use std::process::Abort;
 

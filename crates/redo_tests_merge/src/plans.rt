@@ -1,8 +1,8 @@
 //! Plans of texts.
-use redo_command::{Command, Watched};
+use redo_command::{Command, TextFault, Watched};
 use redo_journal::Plan;
 use redo_names::Names;
-use redo_session::{TextFault, read_files};
+use redo_run_text::read_files;
 use std::alloc::{AllocError, Global};
 use std::process::Abort;
 

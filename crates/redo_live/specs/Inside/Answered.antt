@@ -6,7 +6,7 @@ use Rattle.redo_model.specs.History.{Line}
 use Rattle.redo_model.specs.Step.{Answers, after}
 use Rattle.redo_model.specs.Changes.{changes}
 use Rattle.redo_text.specs.Grammar.{IsCommandLine, AddsNames}
-use Rattle.redo_replay.specs.Histories.{line_text_of}
+use Rattle.redo_history.specs.Histories.{line_text_of}
 
 -- the line is the session's command that the text says, with the database's reply to it; the new
 -- state is what the command leaves, and its names are added

@@ -4,7 +4,7 @@ use Rattle.redo_model.specs.Names.{Text, texts}
 use Rattle.redo_model.specs.State.{State}
 use Rattle.redo_model.specs.History.{Line, left_by}
 use Rattle.redo_model.specs.Inside.Ending.{AreHeld, closing_lines_of}
-use Rattle.redo_replay.specs.Histories.{ended}
+use Rattle.redo_history.specs.Histories.{ended}
 
 -- by these lines the session lets go of all that it holds, in the order of the texts, and the new
 -- state is what they leave

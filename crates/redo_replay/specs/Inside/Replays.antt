@@ -1,6 +1,6 @@
 -- Faults of a history as faults of a replay.
-use Rattle.redo_replay.specs.declared.fault.HistoryFault.{HistoryFault}
-use Rattle.redo_replay.specs.declared.fault.HistoryFault.TheVariants as history_faults
+use Rattle.redo_history.specs.declared.fault.HistoryFault.{HistoryFault}
+use Rattle.redo_history.specs.declared.fault.HistoryFault.TheVariants as history_faults
 use Rattle.redo_replay.specs.declared.fault.ReplayFault.{ReplayFault}
 use Rattle.redo_replay.specs.declared.fault.ReplayFault.TheVariants.{Memory, History}
 

@@ -9,7 +9,7 @@ use Rattle.redo_model.specs.Step.{Answers, after}
 use Rattle.redo_model.specs.History.{Line, Legal, left_by}
 use Rattle.redo_model.specs.Inside.Ending.{AreHeld, closing_lines_of}
 use Rattle.redo_text.specs.Grammar.{IsCommandLine, with_names}
-use Rattle.redo_replay.specs.Histories.{line_text_of}
+use Rattle.redo_history.specs.Histories.{line_text_of}
 use Rattle.redo_live.specs.Lines.{names_after}
 use Rattle.redo_talk.specs.Rounds.{Round, Asks, IsFaultWord, HasNoSession, end_word, end_text_of, fault_text_of}
 

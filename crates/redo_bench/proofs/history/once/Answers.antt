@@ -1,7 +1,7 @@
 use Rattle.std.proofs.Common.{rules, ◌≡◌, map, sym}
 use Rattle.std.proofs.lemmas.List.{length-map}
 use Rattle.redo_terms.specs.Meaning.{line_at}
-use Rattle.redo_replay.specs.Histories.{history_text_of}
+use Rattle.redo_history.specs.Histories.{history_text_of}
 use Rattle.redo_bench.proofs.history.once.Goals as goal
 
 pub returns : goal.returns

@@ -1,6 +1,6 @@
 use Rattle.std.proofs.Common.{take}
 use Rattle.std.specs.List.{flat_map}
-use Rattle.redo_replay.specs.Devices.{Writes}
+use Rattle.redo_whole.specs.Devices.{Writes}
 use Rattle.redo_job.proofs.ending.write_pieces.Given as goal
 
 abbrev pub invariant-loop-piece : goal.invariant-loop-piece

@@ -3,10 +3,10 @@ use Rattle.std.specs.Prelude.{IfOk}
 use Rattle.redo_model.specs.Names.{Text}
 use Rattle.redo_model.specs.History.{Line}
 use Rattle.redo_terms.specs.Meaning.{line_at}
-use Rattle.redo_replay.specs.Inside.Recorded.{lines_of}
+use Rattle.redo_history.specs.Inside.Recorded.{lines_of}
 use Rattle.redo_replay.specs.Verdicts.{IsVerdict, verdict_at}
 use Rattle.redo_replay.proofs.OneVerdict.{answered_same}
-use Rattle.redo_replay.proofs.Replayed.{recorded_lines}
+use Rattle.redo_history.proofs.RecordedLines.{recorded_lines}
 use Rattle.redo_replay.proofs.replays.replay.Goals as goal
 
 pub returns-clause-verdict : goal.returns-clause-verdict

@@ -2,8 +2,8 @@ use Rattle.std.proofs.Common.{◌≡◌, ◌∙◌, false, refl, sym, subst}
 use Rattle.std.proofs.lemmas.Result.{err_from_is_err_and}
 use Rattle.redo_model.specs.Names.{Text}
 use Rattle.redo_whole.specs.Watched.{is_faulted, inner_of}
-use Rattle.redo_replay.specs.HistoryTexts.{IsHistory}
-use Rattle.redo_replay.specs.HistoryFaults.{IsHistoryFault}
+use Rattle.redo_history.specs.HistoryTexts.{IsHistory}
+use Rattle.redo_history.specs.HistoryFaults.{IsHistoryFault}
 use Rattle.redo_replay.proofs.Inputs.{whole_known, memory_alone, read_alone, IsCause-read}
 use Rattle.redo_replay.proofs.texts.history_of.Goals as goal
 

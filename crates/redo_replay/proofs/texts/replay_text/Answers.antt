@@ -1,7 +1,7 @@
 use Rattle.std.proofs.Common.{◌∙◌, sym, subst}
 use Rattle.std.proofs.lemmas.Result.{err_from_is_err_and}
 use Rattle.redo_model.specs.Names.{Text}
-use Rattle.redo_replay.specs.Devices.{known_in}
+use Rattle.redo_whole.specs.Devices.{known_in}
 use Rattle.redo_replay.specs.Replays.{HasVerdict}
 use Rattle.redo_replay.proofs.texts.replay_text.Goals as goal
 

@@ -2,7 +2,7 @@ use Rattle.std.proofs.Common.{◌∙◌, ◌↔◌, List, ap, subst}
 use Rattle.std.proofs.lemmas.Result.{err_from_is_err_and}
 use Rattle.redo_model.specs.Names.{Text, texts}
 use Rattle.redo_model.specs.History.{Line, Legal}
-use Rattle.redo_replay.specs.Inside.Recorded.{lines_of}
+use Rattle.redo_history.specs.Inside.Recorded.{lines_of}
 use Rattle.redo_replay.specs.Verdicts.{IsSame, verdict_at, verdict_text_of}
 use Rattle.redo_replay.proofs.texts.verdict_on_input.Goals as goal
 

@@ -10,8 +10,9 @@ use Rattle.redo_journal.specs.declared.entry.Journal.{Journal}
 use Rattle.redo_board.specs.declared.board.Board.{Board}
 use Rattle.redo_board.specs.declared.seat.Seat.{Seat}
 use Rattle.redo_board.specs.Outcomes.{Closes}
-use Rattle.redo_replay.specs.Merges.{AreMerged}
-use Rattle.redo_session.specs.Outcomes.{scripts_named, AreWhole}
+use Rattle.redo_merge.specs.Merges.{AreMerged}
+use Rattle.redo_session.specs.Outcomes.{AreWhole}
+use Rattle.redo_journal.specs.Plans.{scripts_named}
 use Rattle.redo_session.specs.Inside.Sessions.{AreDone}
 use Rattle.redo_session.proofs.LetGo.{run_lets_go}
 use Rattle.redo_session.proofs.Served.{Serves, for_all, served, are_journals, are_whole}

@@ -3,7 +3,7 @@ use Rattle.std.proofs.lemmas.Result.{err_from_is_err_and}
 use Rattle.redo_model.specs.Names.{Text}
 use Rattle.redo_whole.specs.Watched.{is_faulted, inner_of}
 use Rattle.redo_session.specs.Runs.{RunsAs}
-use Rattle.redo_session.specs.Files.{bytes_of_files, flags_of_files}
+use Rattle.redo_run_text.specs.Files.{bytes_of_files, flags_of_files}
 use Rattle.redo_session.proofs.NoFault.{refused_only}
 use Rattle.redo_session.proofs.Devices.{device_read, no_flag}
 use Rattle.redo_session.proofs.texts.run_texts.Goals as goal

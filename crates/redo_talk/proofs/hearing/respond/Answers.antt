@@ -1,6 +1,6 @@
 use Rattle.std.proofs.Common.{[], ◌++◌, sym, subst, decimal}
 use Rattle.redo_whole.specs.Watched.{inner_of}
-use Rattle.redo_replay.specs.Histories.{ended}
+use Rattle.redo_history.specs.Histories.{ended}
 use Rattle.redo_talk.specs.Rounds.{Round, fault_text_of}
 use Rattle.redo_talk.specs.Inside.KeptLines.{IsHeardOf}
 use Rattle.redo_talk.specs.Inside.Hearing.{known_of}

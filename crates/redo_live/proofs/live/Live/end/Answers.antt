@@ -6,8 +6,8 @@ use Rattle.redo_model.specs.Renaming.{IsBelow}
 use Rattle.redo_terms.specs.Meaning.{command_of, line_of, line_at}
 use Rattle.redo_terms.specs.declared.reply.Line.{Line}
 use Rattle.redo_store.specs.Tables.{state_of, tables_count, tables_naming, calls_of}
-use Rattle.redo_replay.specs.Histories.{line_text_of}
-use Rattle.redo_replay.specs.Recorded.{AreLinesBelow}
+use Rattle.redo_history.specs.Histories.{line_text_of}
+use Rattle.redo_history.specs.Recorded.{AreLinesBelow}
 use Rattle.redo_live.specs.Inside.Ended.{end_text}
 use Rattle.redo_live.specs.Inside.ClosingLines.{AreClosing, TakesNoRoom}
 use Rattle.redo_live.specs.Inside.Kept.{live_of}

@@ -1,0 +1,63 @@
+-- Names that are met are at most as many as those that they are among.
+use Rattle.std.proofs.Common.{◌≡◌, ◌≤◌, ◌||◌, Bool, true, false, cond, List, [], ◌∷◌, ◌++◌, length, refl, sym, ◌∙◌, subst, inl, inr, ◌⊎◌}
+use Rattle.std.specs.Prelude.{bytes_eq}
+use Rattle.std.specs.List.{IsDistinct}
+use Rattle.std.proofs.lemmas.Bool.{false≢true}
+use Rattle.std.proofs.lemmas.Cmp.{nat_list_eq_equiv}
+use Rattle.std.proofs.lemmas.List.Folds.{list_any-append}
+use Rattle.std.proofs.lemmas.Map.Keys.{IsDistinct-push}
+use Rattle.std.proofs.lemmas.Map.Made.{length-le_from_is_member}
+use Rattle.std.proofs.lemmas.Slice.Eq.{bytes_eq-Decides}
+use Rattle.redo_names.specs.Names.{has, with_name}
+use Rattle.redo_names.proofs.NameLists.{AreNames-none}
+use Rattle.redo_model.specs.Names.{Text}
+use Rattle.redo_text.specs.Grammar.{with_names}
+use Rattle.redo_history.proofs.KnownNames.{IsKnown, AreKnown}
+
+either : (b c : Bool) → (b || c) ≡ true → (b ≡ true) ⊎ (c ≡ true)
+either true c e = inl refl
+either false c e = inr e
+
+-- with one name more, which is known
+with_one : (names front : List Text) (t q : Text) → (IsKnown front q → IsKnown names q)
+    → IsKnown names t → IsKnown (with_name front t) q → IsKnown names q
+with_one names front t q among known = by (has front t)
+  where
+    by : (b : Bool) → IsKnown (cond b front (front ++ t ∷ [])) q → IsKnown names q
+    by true h = among h
+    by false h =
+        elim (either (has front q) (has (t ∷ []) q)
+        (sym (list_any-append (bytes_eq q) front (t ∷ [])) ∙ h)) [
+          | inl k ↦ among k
+          | inr k ↦ elim (either (bytes_eq q t) false k) [
+            | inl e ↦ subst (IsKnown names) (sym ((bytes_eq-Decides q t).0 e)) known
+            | inr e ↦ absurd (false≢true e)
+          ]
+        ]
+
+with_all : (names front ts : List Text) (q : Text) → (IsKnown front q → IsKnown names q)
+    → AreKnown names ts → IsKnown (with_names front ts) q → IsKnown names q
+with_all names front [] q among known h = among h
+with_all names front (t ∷ ts) q among known h =
+    with_all names (with_name front t) ts q (with_one names front t q among known.0) known.1 h
+
+distinct_one : (front : List Text) (t : Text) → IsDistinct bytes_eq front
+    → IsDistinct bytes_eq (with_name front t)
+distinct_one front t distinct = by (has front t) refl
+  where
+    by : (b : Bool) → has front t ≡ b → IsDistinct bytes_eq (cond b front (front ++ t ∷ []))
+    by true e = distinct
+    by false e = IsDistinct-push nat_list_eq_equiv front t distinct e
+
+distinct_all : (front ts : List Text) → IsDistinct bytes_eq front
+    → IsDistinct bytes_eq (with_names front ts)
+distinct_all front [] distinct = distinct
+distinct_all front (t ∷ ts) distinct =
+    distinct_all (with_name front t) ts (distinct_one front t distinct)
+
+pub few_known : (names ts : List Text) → AreKnown names ts
+    → length (with_names [] ts) ≤ length names
+few_known names ts known =
+    length-le_from_is_member nat_list_eq_equiv (with_names [] ts) names
+    (distinct_all [] ts AreNames-none.distinct)
+    (λ q h. with_all names [] ts q (λ none. absurd (false≢true none)) known h)

@@ -1,0 +1,99 @@
+-- Why a text is not read as a history: each fault with its cause.
+use Rattle.std.specs.Prelude.{◌≡◌, ◌≢◌, ℕ, ◌+◌, ◌≤◌, ◌<◌, ◌⊎◌, List, [], ◌∷◌, ◌++◌, length, codes, decimal, Contains, Some, ⊤}
+use Rattle.std.specs.List.{flat_map}
+use Rattle.redo_model.specs.Names.{Text}
+use Rattle.redo_model.specs.Command.{Command}
+use Rattle.redo_model.specs.Reply.{Reply}
+use Rattle.redo_model.specs.History.{Line}
+use Rattle.redo_text.specs.Grammar.{IsCommandLine, AddsNames}
+use Rattle.redo_text.specs.Questions.{line_fault}
+use Rattle.redo_text.specs.Replies.{IsReplyText, AddsReplyNames}
+use Rattle.redo_history.specs.Histories.{ended, header_of}
+use Rattle.redo_text.specs.declared.fault.LineFault.{LineFault}
+use Rattle.redo_history.specs.HistoryTexts.{AreLinesOf}
+use Rattle.redo_history.specs.declared.fault.HistoryFault.{HistoryFault}
+use Rattle.redo_history.specs.declared.fault.HistoryFault.TheVariants.{Memory, BadHeader, Cut, BadSession, BadLine, BadReply}
+
+-- what stands before the first space, or all where there is none; and what stands after that space
+pub record IsCutAtSpace (line front rest : Text) : Type 0 where
+  pub free : ¬ (Contains front 32)
+  pub parts : (line ≡ front ++ 32 ∷ rest) ⊎ ((line ≡ front) × (rest ≡ []))
+
+abbrev pub arrow : Text
+arrow = codes " => "
+
+-- what stands before the first arrow, and what stands after it
+pub record IsCutAtArrow (rest command reply : Text) : Type 0 where
+  pub parts : rest ≡ command ++ arrow ++ reply
+  pub first : (front back : Text) → rest ≡ front ++ arrow ++ back → length command ≤ length front
+
+abbrev pub HasNoArrow : Text → Type 0
+HasNoArrow rest = (front back : Text) → rest ≢ front ++ arrow ++ back
+
+abbrev pub IsSessionWord : Text → ℕ → Type 0
+IsSessionWord word session = (session < 64) × (word ≡ decimal (session + 1))
+
+-- the line's first word is no session's number
+abbrev pub HasBadSession : Text → Type 0
+HasBadSession line =
+    (front : Text) × (rest : Text) × IsCutAtSpace line front rest
+    × ((session : ℕ) → ¬ (IsSessionWord front session))
+
+-- the line begins with a session's number, and this is the rest
+abbrev pub HasSession : Text → Text → Type 0
+HasSession line rest =
+    (front : Text) × (session : ℕ) × IsCutAtSpace line front rest × IsSessionWord front session
+
+-- the text is no reply's, or its names don't fit
+abbrev pub IsNoReply : List Text → Text → Type 0
+IsNoReply names text =
+    (reply : Reply Text) (after : List Text) → IsReplyText text reply
+    → ¬ (AddsReplyNames names reply after)
+
+-- a session and a command, and then no reply
+abbrev pub HasBadReply : List Text → Text → Type 0
+HasBadReply names line =
+    (rest : Text) × HasSession line rest × (HasNoArrow rest
+    ⊎ ((text : Text) × (reply : Text) × (command : Command Text) × (after : List Text)
+    × IsCutAtArrow rest text reply × IsCommandLine text command
+    × AddsNames names (command ∷ []) after × IsNoReply after reply))
+
+-- a session, and then no command: this is the fault of its text
+abbrev pub HasBadCommand : List Text → Text → LineFault → Type 0
+HasBadCommand names line fault =
+    (rest : Text) × (text : Text) × (reply : Text) × HasSession line rest
+    × IsCutAtArrow rest text reply × (line_fault names text ≡ Some fault)
+
+-- the lines before the one of this number, counted from 1, are read, with these names; the header
+-- counts this one too, and this is what is left of the input
+pub record IsReadUpTo (input : Text) (number : ℕ) (names : List Text) (left : Text) : Type 0 where
+  pub count : ℕ
+  pub few : count ≤ 1048576
+  pub within : number ≤ count
+  pub texts : List Text
+  pub lines : List (Line Text)
+  pub read : AreLinesOf texts lines names
+  pub counted : number ≡ length texts + 1
+  pub parts : input ≡ header_of count ++ flat_map ended texts ++ left
+
+-- the same, where what is left begins with this line
+abbrev pub IsReadBefore : Text → ℕ → List Text → Text → Type 0
+IsReadBefore input number names line =
+    ¬ (Contains line 10) × ((left : Text) × IsReadUpTo input number names (ended line ++ left))
+
+-- the cause of a fault; for want of memory nothing is said
+abbrev pub IsHistoryFault : Text → HistoryFault → Type 0
+IsHistoryFault input Memory = ⊤
+IsHistoryFault input BadHeader =
+    (count : ℕ) (rest : Text) → count ≤ 1048576 → input ≢ header_of count ++ rest
+IsHistoryFault input Cut =
+    (number : ℕ) × (names : List Text) × (left : Text) × IsReadUpTo input number names left
+    × ¬ (Contains left 10)
+IsHistoryFault input (BadSession number) =
+    (names : List Text) × (line : Text) × IsReadBefore input number names line × HasBadSession line
+IsHistoryFault input (BadLine number fault) =
+    (names : List Text) × (line : Text) × IsReadBefore input number names line
+    × HasBadCommand names line fault
+IsHistoryFault input (BadReply number) =
+    (names : List Text) × (line : Text) × IsReadBefore input number names line
+    × HasBadReply names line

@@ -1,0 +1,4 @@
+pub mod HistoryFaults
+pub mod HistoryTexts
+pub mod Kept
+pub mod Recorded

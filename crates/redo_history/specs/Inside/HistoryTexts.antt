@@ -1,0 +1,30 @@
+-- What a line has to be, so that its text is read again.
+use Rattle.std.specs.Prelude.{◌≡◌, ◌<◌, ◌≤◌, List, length}
+use Rattle.redo_model.specs.Names.{Text}
+use Rattle.redo_model.specs.Command.{Command}
+use Rattle.redo_model.specs.History.{Line}
+use Rattle.redo_text.specs.Grammar.{HasForm, IsShort, with_names}
+use Rattle.redo_text.specs.Texts.{command_text_of}
+use Rattle.redo_text.specs.Replies.{HasReplyForm}
+use Rattle.redo_history.specs.HistoryTexts.{names_in_line}
+
+-- the command's words have its form, and its text is short
+abbrev pub IsSaid : Command Text → Type 0
+IsSaid command = HasForm command × IsShort (command_text_of command)
+
+-- one of the sessions says the command
+pub record IsLineSaid (line : Line Text) : Type 0 where
+  pub session : line.session < 64
+  pub said : IsSaid line.command
+
+-- what a line has to be, so that its text is a line of a history
+pub record HasLineForm (line : Line Text) : Type 0 where
+  pub session : line.session < 64
+  pub command : HasForm line.command
+  pub short : IsShort (command_text_of line.command)
+  pub reply : HasReplyForm line.reply
+
+-- after are the names with those of the line, and not too many
+abbrev pub AddsLineNames : List Text → Line Text → List Text → Type 0
+AddsLineNames names line after =
+    (after ≡ with_names names (names_in_line line)) × (length after ≤ 65536)

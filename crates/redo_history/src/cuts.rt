@@ -1,0 +1,58 @@
+ghost use Rattle.std.specs.Prelude.{◌≡◌, ◌≢◌, ◌<◌, ◌-◌, ◌∷◌, ◌++◌, length, drop, Contains, MatchOption};
+ghost use Rattle.redo_model.specs.Names.{Text};
+ghost use Rattle.redo_history.specs.HistoryFaults.{arrow, IsCutAtSpace, IsCutAtArrow, HasNoArrow};
+ghost use Rattle.redo_history.specs.Inside.HistoryFaults.{IsCutAt};
+
+use redo_text::place_of;
+
+const ARROW: &[u8] = b" => ";
+
+/// What stands before the first such byte, and what stands after it.
+#[inline]
+pub fn cut_at(text: &[u8], byte: u8) -> Option<(&[u8], &[u8])>
+    ensures { MatchOption result (¬ (Contains text.now byte))
+        (λ parts. IsCutAt byte text.now parts.0.now parts.1.now) }
+{
+    let at = place_of(text, byte)?;
+    Some((&text[..at], &text[at + 1..]))
+}
+
+/// What stands before the first space, and what stands after it. All of it stands before, where
+/// there is none.
+pub fn cut_at_space(line: &[u8]) -> (&[u8], &[u8])
+    ensures { IsCutAtSpace line.now result.0.now result.1.now }
+{
+    match cut_at(line, b' ') {
+        Some(parts) => parts,
+        None => (line, &[]),
+    }
+}
+
+/// What stands after the arrow whose equals sign is at this place.
+#[inline]
+fn after_arrow(rest: &[u8], at: usize) -> Option<&[u8]>
+    requires { at < length rest.now }
+    ensures { MatchOption result ((back : Text) → 0 < at → drop (at - 1) rest.now ≢ arrow ++ back)
+        (λ reply. (0 < at) × (drop (at - 1) rest.now ≡ arrow ++ reply.now)) }
+{
+    if at == 0 {
+        return None;
+    }
+    rest[at - 1..].strip_prefix(ARROW)
+}
+
+/// What stands before the first arrow, and what stands after it.
+pub fn cut_at_arrow(rest: &[u8]) -> Option<(&[u8], &[u8])>
+    ensures { MatchOption result (HasNoArrow rest.now)
+        (λ parts. IsCutAtArrow rest.now parts.0.now parts.1.now) }
+{
+    let mut seen = 0;
+    while let Some(more) = place_of(&rest[seen..], b'=') {
+        let at = seen + more;
+        if let Some(reply) = after_arrow(rest, at) {
+            return Some((&rest[..at - 1], reply));
+        }
+        seen = at + 1;
+    }
+    None
+}

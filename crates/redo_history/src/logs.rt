@@ -1,0 +1,24 @@
+//! What holds of logs: the texts of lines, one after another, of which a beginning may be left.
+
+ghost use Rattle.std.specs.Prelude.{◌≡◌, ◌++◌, List, Contains};
+ghost use Rattle.std.specs.List.{AllByRecursion, flat_map};
+ghost use Rattle.redo_model.specs.Names.{Text};
+ghost use Rattle.redo_model.specs.History.{Line};
+ghost use Rattle.redo_history.specs.Histories.{line_text_of};
+ghost use Rattle.redo_history.specs.Inside.HistoryTexts.{HasLineForm};
+
+/// Any beginning of a log is the texts of a front of its lines, and then a rest without an LF.
+pub fn cut_lines()
+    ensures { (lines : List (Line Text)) (cut rest : Text) → AllByRecursion HasLineForm lines
+        → flat_map line_text_of lines ≡ cut ++ rest
+        → (front : List (Line Text)) × (back : List (Line Text)) × (torn : Text)
+        × (lines ≡ front ++ back) × (cut ≡ flat_map line_text_of front ++ torn)
+        × ¬ (Contains torn 10) }
+{}
+
+/// Bytes are the texts of lines, and then a rest without an LF, in at most one way.
+pub fn one_cut()
+    ensures { (a b : List (Line Text)) (r s : Text) → AllByRecursion HasLineForm a
+        → AllByRecursion HasLineForm b → ¬ (Contains r 10) → ¬ (Contains s 10)
+        → flat_map line_text_of a ++ r ≡ flat_map line_text_of b ++ s → (a ≡ b) × (r ≡ s) }
+{}

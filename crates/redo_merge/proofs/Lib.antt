@@ -1,0 +1,5 @@
+mod BusyCounts
+mod MergeSteps
+mod ToldEntries
+mod TurnsShown
+pub mod Unmerged

@@ -1,0 +1,152 @@
+//! One history of what several sessions did.
+
+ghost use Rattle.std.specs.Prelude.{◌≡◌, ◌↔◌, ℕ, ◌<◌, ◌≤◌, ◌+◌, IsTrue, IfOk, OnOk, MatchOption, MatchBool, length, map, slice_index, slice_index_or};
+ghost use Rattle.redo_terms.specs.Meaning.{line_of};
+ghost use Rattle.redo_terms.specs.Inside.Meaning.{item_of};
+ghost use Rattle.redo_model.specs.Placed as placed;
+ghost use Rattle.redo_journal.specs.Journals.{AreJournals, line_told, entries_of};
+ghost use Rattle.redo_merge.specs.Merges.{AreMerged};
+ghost use Rattle.redo_merge.specs.Inside.Merges.{HaveNoOrder};
+ghost use Rattle.redo_merge.specs.Inside.Merging.{none, AreWithin, IsLeast, MayCome, MayTake, NoneMayCome, Tells, Turned, Uncounted};
+
+mod counts;
+mod fitting;
+mod turning;
+
+use counts::{Counts, busy_answers, is_free, take};
+use fitting::all_fit;
+use redo_journal::{Entry, Journal, Plan};
+use redo_terms::{Command, Line, Script};
+use std::alloc::{AllocError, Global};
+use turning::{Turns, comes, turn};
+
+/// Whether the entry at k may come next.
+fn may_come(turns: &Turns, counts: &Counts, entries: &[Entry], k: usize) -> bool
+    requires { AreWithin (length turns.now.claims.items) entries.now }
+    ensures { IsTrue result ↔ MayCome turns.now counts.now entries.now k }
+{
+    if k >= entries.len() {
+        return false;
+    }
+    let place = entries[k].place;
+    comes(turns, place) && is_free(counts, place)
+}
+
+/// The least session whose next entry may come next.
+fn least(turns: &Turns, counts: &Counts, journals: &[Journal], next: &[usize]) -> Option<usize>
+    requires sized { length next.now ≡ length journals.now }
+    requires within { (s : ℕ) →
+        AreWithin (length turns.now.claims.items) (entries_of journals.now s) }
+    ensures { MatchOption result
+        (NoneMayCome turns.now counts.now journals.now next.now)
+        (IsLeast turns.now counts.now journals.now next.now) }
+{
+    'looking: for s in 0..journals.len() {
+        if may_come(turns, counts, &journals[s].entries, next[s]) {
+            return Some(s);
+        }
+    }
+    None
+}
+
+/// Whether nothing is left.
+fn is_done(journals: &[Journal], next: &[usize]) -> bool
+    requires { length next.now ≡ length journals.now }
+    ensures { MatchBool result
+        ((s : ℕ) → s < length journals.now
+        → length (entries_of journals.now s) ≤ slice_index next.now s)
+        ((s : ℕ) × (s < length journals.now)
+        × (slice_index next.now s < length (entries_of journals.now s))) }
+{
+    'looking: for s in 0..journals.len() {
+        let entries: &[Entry] = &journals[s].entries;
+        if next[s] < entries.len() {
+            return false;
+        }
+    }
+    true
+}
+
+/// The line that the entry tells of its session.
+fn told(alloc: Global, session: u8, script: &Script, entry: &Entry) -> Result<Line, AllocError>
+    ensures { IfOk result (λ line. line_of line
+        ≡ placed.line_of (line_told session (map item_of script.now) entry.now)) }
+{
+    let command = match entry.command(script) {
+        Some(command) => command.copy(alloc)?,
+        // No entry of a journal is without a command.
+        None => Command::Ood,
+    };
+    let reply = entry.reply.copy(alloc)?;
+    Ok(Line {
+        session,
+        command,
+        reply,
+    })
+}
+
+/// Takes the entry at k: its line is told, and its place counted. Answers where the next one is.
+fn take_entry(
+    alloc: Global,
+    script: &Script,
+    journal: &Journal,
+    k: usize,
+    turns: &mut Turns,
+    counts: &mut Counts,
+    lines: &mut Vec<Line>,
+) -> Result<usize, AllocError>
+    requires { MayTake turns.old counts.old journal.now.entries.items k }
+    ensures next { IfOk result (λ next. next ≡ k + 1) }
+    ensures turned { OnOk result
+        (Turned turns.old turns.new (slice_index_or journal.now.entries.items k none).place) }
+    ensures taken { OnOk result
+        (Uncounted counts.old counts.new (slice_index_or journal.now.entries.items k none).place) }
+    ensures told { OnOk result (Tells lines.old.items lines.new.items journal.now.session
+        (map item_of script.now) (slice_index_or journal.now.entries.items k none)) }
+{
+    let entry = &journal.entries[k];
+    lines.push(told(alloc, journal.session, script, entry)?)?;
+    turn(turns, entry.place);
+    take(counts, entry.place);
+    Ok(k + 1)
+}
+
+/// The joint order of the journals whose list of sessions comes first in dictionary order, if they
+/// have a joint order.
+pub fn merge(
+    alloc: Global,
+    plan: &Plan,
+    journals: &[Journal],
+) -> Result<Option<Vec<Line>>, AllocError>
+    requires journals { AreJournals plan.now journals.now }
+    ensures merged { IfOk result (λ answer. MatchOption answer
+        (HaveNoOrder plan.now journals.now)
+        (λ lines. AreMerged plan.now journals.now (map line_of lines.items))) }
+{
+    let scripts = plan.scripts();
+    if !all_fit(scripts, journals) {
+        return Ok(None);
+    }
+    let mut counts = busy_answers(alloc, journals)?;
+    let claims = vec![in alloc; 0u64; plan.names().len() as usize]?;
+    let mut turns = Turns { rows: 0, claims };
+    let mut next: Vec<usize> = vec![in alloc; 0; journals.len()]?;
+    let mut lines: Vec<Line> = Vec::new(alloc);
+    'merging: while let Some(s) = least(&turns, &counts, journals, &next) {
+        let k = next[s];
+        next[s] = take_entry(
+            alloc,
+            &scripts[s],
+            &journals[s],
+            k,
+            &mut turns,
+            &mut counts,
+            &mut lines,
+        )?;
+    }
+    if is_done(journals, &next) {
+        Ok(Some(lines))
+    } else {
+        Ok(None)
+    }
+}

@@ -1,6 +1,0 @@
-use Rattle.std.proofs.Common.{ℕ, ◌<◌}
-use Rattle.redo_replay.specs.Inside.Merging.{SessionMayCome}
-use Rattle.redo_replay.proofs.merging.least.Given as goal
-
-abbrev pub invariant-looking : goal.invariant-looking
-invariant-looking l = (u : ℕ) → u < l.s → SessionMayCome l.turns l.counts l.journals l.next u → ⊥

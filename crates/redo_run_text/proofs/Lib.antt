@@ -1,0 +1,5 @@
+pub mod Accepted
+pub mod Causes
+pub mod Lists
+pub mod Parts
+pub mod ScriptTexts

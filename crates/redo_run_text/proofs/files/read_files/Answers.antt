@@ -1,0 +1,58 @@
+use Rattle.std.proofs.Common.{◌∙◌, arith}
+use Rattle.std.proofs.lemmas.Result.{err_from_is_err_and}
+use Rattle.std.proofs.Math.Seq.{map-set_same}
+use Rattle.redo_whole.specs.Watched.{is_faulted, inner_of}
+use Rattle.redo_run_text.proofs.Causes.{IsCause-read, shown_after}
+use Rattle.redo_run_text.specs.Inside.Files.{scripts_at}
+use Rattle.redo_run_text.proofs.Accepted.{AreScriptsBelow-append, files_more}
+use Rattle.redo_run_text.proofs.files.read_files.Goals as goal
+
+pub returns-in_err-script-clause-cause : goal.returns-in_err-script-clause-cause
+returns-in_err-script-clause-cause g c =
+    let at = c.loop-at.at in
+    let same = c.loop-at.invariant.later at (omega arith) in
+    let cause = IsCause-read (λ file. g.R.Read.remaining (inner_of file)) (λ file. is_faulted file)
+    c.args.files.now c.loop-at.files at c.index-files-at.result c.read_file.new.file
+    c.loop-at.names (scripts_at c.loop-at.names c.loop-at.scripts.items) c.in_err-script.field-0.0
+    (omega arith) (omega arith) c.loop-at.invariant.accepted same
+    c.in_err-script.ensures.cause in
+    let p = err_from_is_err_and c.from_residual.result c.from_residual.ensures.1 in
+    rw (p.1, p.2) cause
+
+pub returns-in_err-script-clause-flags : goal.returns-in_err-script-clause-flags
+returns-in_err-script-clause-flags g c =
+    let p = err_from_is_err_and c.from_residual.result c.from_residual.ensures.1 in
+    rw (p.1, p.2) (λ quiet. map-set_same (λ file. is_faulted file) c.loop-at.files c.loop-at.at
+    c.read_file.new.file c.index-files-at.result (c.in_err-script.ensures.flag quiet)
+    ∙ c.loop-at.invariant.flags)
+
+pub returns-in_err-push-clause-flags : goal.returns-in_err-push-clause-flags
+returns-in_err-push-clause-flags g c quiet =
+    map-set_same (λ file. is_faulted file) c.loop-at.files c.loop-at.at c.read_file.new.file
+    c.index-files-at.result (c.in_ok-script.ensures.flag (λ none. none))
+    ∙ c.loop-at.invariant.flags
+
+pub loop-at-preserved : goal.loop-at-preserved
+loop-at-preserved g c =
+    let at = c.loop-at.at in
+    let same = c.loop-at.invariant.later at (omega arith) in
+    let old = c.loop-at.names in
+    let new = c.read_file.new.names in
+    let scripts = c.loop-at.scripts.items in
+    let script = c.in_ok-script.script in
+    let accepted = files_more (λ file. g.R.Read.remaining (inner_of file)) c.args.files.now
+    c.loop-at.files at c.index-files-at.result old new scripts script (omega arith)
+    (omega arith) same
+    c.in_ok-script.ensures.kept c.loop-at.invariant.below c.loop-at.invariant.accepted
+    c.in_ok-script.ensures.accepted in
+    let below = AreScriptsBelow-append old new scripts script c.in_ok-script.ensures.kept
+    c.loop-at.invariant.below c.in_ok-script.ensures.below in
+    record {
+      accepted = rw c.in_ok-push.ensures.items accepted;
+      below = rw c.in_ok-push.ensures.items below;
+      later = λ k after. shown_after (λ file. g.R.Read.remaining (inner_of file)) c.loop-at.files at
+          k c.read_file.new.file (omega arith) ∙ c.loop-at.invariant.later k (omega arith);
+      flags = map-set_same (λ file. is_faulted file) c.loop-at.files c.loop-at.at
+          c.read_file.new.file c.index-files-at.result (c.in_ok-script.ensures.flag (λ none. none))
+          ∙ c.loop-at.invariant.flags;
+    }

@@ -1,0 +1,53 @@
+-- Why a run is refused: each fault with its cause.
+use Rattle.std.specs.Prelude.{◌≡◌, ℕ, ◌<◌, ◌≤◌, Bool, false, List, [], length, take, Option, None, IfSome, IsTrue, slice_index_or, ⊤}
+use Rattle.redo_model.specs.Names.{Text}
+use Rattle.redo_model.specs.Command.{Item}
+use Rattle.redo_text.specs.Faults.{IsFirstFault}
+use Rattle.redo_run_text.specs.Files.{AreAccepted, AreSessions}
+use Rattle.redo_text.specs.declared.fault.LineFault.{LineFault}
+use Rattle.redo_command.specs.declared.fault.TextFault.{TextFault}
+use Rattle.redo_command.specs.declared.fault.TextFault.TheVariants.{Memory, Read, TooManySessions, NoSession, Write, Device, TooLong}
+
+-- the files before this one are accepted, and leave these names
+abbrev pub FilesBefore : List (Option Text) → ℕ → List Text → Type 0
+FilesBefore files file names =
+    (file < length files)
+    × ((scripts : List (List (Item Text))) × AreAccepted [] (take file files) scripts names)
+
+-- a file's bytes are not too long, and this is the first fault in their lines
+abbrev pub HasFaultyLine : List Text → ℕ → LineFault → Text → Type 0
+HasFaultyLine names line fault bytes =
+    (length bytes ≤ 67108864) × IsFirstFault names bytes line fault
+
+abbrev pub AreTooLong : Text → Type 0
+AreTooLong bytes = 67108864 < length bytes
+
+-- the cause of a fault: `files` are the files' bytes, where they are known, `faulted` says of which
+-- files a read failed, and `out_faulted` whether a write failed
+abbrev pub IsCause : List (Option Text) → List Bool → Bool → TextFault → Type 0
+IsCause files faulted out_faulted Memory = ⊤
+IsCause files faulted out_faulted (Read file line fault) =
+    (names : List Text) × FilesBefore files file names
+    × IfSome (slice_index_or files file None) (HasFaultyLine names line fault)
+IsCause files faulted out_faulted TooManySessions =
+    (64 < length files)
+    × ((scripts : List (List (Item Text))) × (names : List Text)
+    × AreAccepted [] files scripts names)
+IsCause files faulted out_faulted NoSession = files ≡ []
+IsCause files faulted out_faulted Write =
+    ((scripts : List (List (Item Text))) × AreSessions files scripts) × IsTrue out_faulted
+IsCause files faulted out_faulted (Device file) =
+    (names : List Text) × FilesBefore files file names × IsTrue (slice_index_or faulted file false)
+IsCause files faulted out_faulted (TooLong file) =
+    (names : List Text) × FilesBefore files file names
+    × IfSome (slice_index_or files file None) AreTooLong
+
+-- the fault is one of a device: a read or a write failed
+abbrev pub IsDeviceFault : TextFault → Type 0
+IsDeviceFault Memory = ⊥
+IsDeviceFault (Read file line fault) = ⊥
+IsDeviceFault TooManySessions = ⊥
+IsDeviceFault NoSession = ⊥
+IsDeviceFault Write = ⊤
+IsDeviceFault (Device file) = ⊤
+IsDeviceFault (TooLong file) = ⊥

@@ -1,0 +1,38 @@
+-- What is read from session files, one after another.
+use Rattle.std.specs.Prelude.{◌≡◌, ◌≤◌, Bool, List, [], ◌∷◌, length, map, Option, IfSome}
+use Rattle.redo_model.specs.Names.{Text}
+use Rattle.redo_model.specs.Command.{Item}
+use Rattle.redo_text.specs.Grammar.{IsScript}
+use Rattle.redo_whole.specs.declared.watched.Watched.{Watched}
+use Rattle.redo_whole.specs.Watched.{is_faulted}
+use Rattle.redo_whole.specs.Devices.{known_in}
+
+-- what each file has left, where it is known; `remaining` says it of a reader
+abbrev pub bytes_of_files : {R : Type 0} → (R → Option Text) → List (Watched R) → List (Option Text)
+bytes_of_files remaining files = map (known_in remaining) files
+
+-- of which files a read failed
+abbrev pub flags_of_files : {R : Type 0} → List (Watched R) → List Bool
+flags_of_files files = map (λ file. is_faulted file) files
+
+-- the file's bytes, where they are known, are a script of these lines, with the names before
+-- and after it
+abbrev pub IsAccepted : List Text → Option Text → List (Item Text) → List Text → Type 0
+IsAccepted names file script after =
+    IfSome file (λ bytes. (length bytes ≤ 67108864) × IsScript names bytes script after)
+
+-- the files are accepted one after another, each with the names of those before it
+abbrev pub AreAccepted : List Text → List (Option Text) → List (List (Item Text)) → List Text
+    → Type 0
+AreAccepted names [] [] after = after ≡ names
+AreAccepted names [] (script ∷ scripts) after = ⊥
+AreAccepted names (file ∷ files) [] after = ⊥
+AreAccepted names (file ∷ files) (script ∷ scripts) after =
+    (middle : List Text) × IsAccepted names file script middle
+    × AreAccepted middle files scripts after
+
+-- 1 to 64 files, one after another, are these scripts
+abbrev pub AreSessions : List (Option Text) → List (List (Item Text)) → Type 0
+AreSessions files scripts =
+    (1 ≤ length files) × (length files ≤ 64)
+    × ((names : List Text) × AreAccepted [] files scripts names)

@@ -1,0 +1,101 @@
+ghost use Rattle.std.specs.Prelude.{◌≡◌, ◌↔◌, ℕ, ◌<◌, false, [], length, map, IfOk, IfErr, IsErrAnd, OnErr};
+ghost use Rattle.redo_names.specs.Inside.Names.{Extends};
+ghost use Rattle.redo_terms.specs.Inside.Meaning.{item_at};
+ghost use Rattle.redo_whole.specs.Watched.{is_faulted};
+ghost use Rattle.redo_whole.specs.Devices.{known_in};
+ghost use Rattle.redo_run_text.specs.Files.{IsAccepted, AreAccepted};
+ghost use Rattle.redo_run_text.specs.Files.{bytes_of_files, flags_of_files};
+ghost use Rattle.redo_run_text.specs.Inside.Files.{scripts_at, IsScriptBelow, AreScriptsBelow};
+ghost use Rattle.redo_run_text.specs.Faults.{IsCause, IsDeviceFault};
+ghost use Rattle.redo_run_text.specs.Inside.Faults.{IsFileCause};
+
+use redo_command::{
+    LineFault, ReadFault, Script, TextFault, Watched, WholeFault, read_script, read_whole,
+};
+use redo_names::Names;
+use std::alloc::Global;
+use std::io::Read;
+
+/// A file of more bytes is refused.
+pub const FILE_LIMIT: usize = 67_108_864;
+
+/// The run's fault where the bytes of this file have this one.
+fn whole_fault(file: usize, fault: WholeFault) -> TextFault
+    ensures memory { (result ≡ TextFault.Memory) ↔ (fault ≡ WholeFault.Memory) }
+    ensures device { fault ≡ WholeFault.Device → result ≡ TextFault.Device file }
+    ensures too_long { fault ≡ WholeFault.TooLong → result ≡ TextFault.TooLong file }
+{
+    match fault {
+        WholeFault::Memory => TextFault::Memory,
+        WholeFault::Device => TextFault::Device { file },
+        WholeFault::TooLong => TextFault::TooLong { file },
+    }
+}
+
+/// The run's fault where the commands of this file have this one.
+fn read_fault(file: usize, fault: ReadFault) -> TextFault
+    ensures memory { (result ≡ TextFault.Memory) ↔ (fault ≡ ReadFault.Memory) }
+    ensures line { (line : ℕ) (own : LineFault) → fault ≡ ReadFault.Line line own
+        → result ≡ TextFault.Read file line own }
+{
+    match fault {
+        ReadFault::Memory => TextFault::Memory,
+        ReadFault::Line { line, fault } => TextFault::Read { file, line, fault },
+    }
+}
+
+/// Reads one file, which is the one of this number.
+fn read_file<R: Read>(
+    alloc: Global,
+    at: usize,
+    file: &mut Watched<R>,
+    names: &mut Names,
+) -> Result<Script, TextFault>
+    ensures accepted { IfOk result (λ script. IsAccepted names.old
+        (known_in R.remaining file.old) (map (item_at names.new) script) names.new) }
+    ensures below { IfOk result (IsScriptBelow names.new) }
+    ensures kept { Extends names.old names.new }
+    ensures cause { IfErr result (IsFileCause names.old
+        (known_in R.remaining file.old) (is_faulted file.new) at) }
+    ensures flag { ¬ (IsErrAnd result IsDeviceFault) → is_faulted file.new ≡ is_faulted file.old }
+{
+    let text = match read_whole(alloc, file, FILE_LIMIT) {
+        Ok(text) => text,
+        Err(fault) => return Err(whole_fault(at, fault)),
+    };
+    match read_script(alloc, &text, names) {
+        Ok(script) => Ok(script),
+        Err(fault) => Err(read_fault(at, fault)),
+    }
+}
+
+/// Reads a script from each file, in order, over the names of those before it. The first fault ends
+/// it; the names are then those of the files before the faulty one, and some of that one's.
+pub fn read_files<R: Read>(
+    alloc: Global,
+    files: &mut [Watched<R>],
+    names: &mut Names,
+) -> Result<Vec<Script>, TextFault>
+    requires { names.old ≡ [] }
+
+    // Each file is a script, and what is answered are their commands.
+    ensures accepted { IfOk result (λ scripts. AreAccepted []
+        (bytes_of_files R.remaining files.old) (scripts_at names.new scripts.items) names.new) }
+    ensures below { IfOk result (λ scripts. AreScriptsBelow names.new scripts.items) }
+
+    // Each fault has its cause; without a file there is none.
+    ensures cause { IfErr result (IsCause
+        (bytes_of_files R.remaining files.old) (flags_of_files files.new) false) }
+    ensures some { OnErr result (0 < length files.old) }
+
+    // Only where a device failed, a file remembers that it did.
+    ensures flags { ¬ (IsErrAnd result IsDeviceFault)
+        → flags_of_files files.new ≡ flags_of_files files.old }
+{
+    let mut scripts = Vec::new(alloc);
+    for (at, file) in files.iter_mut().enumerate() {
+        let script = read_file(alloc, at, file, names)?;
+        scripts.push(script)?;
+    }
+    Ok(scripts)
+}

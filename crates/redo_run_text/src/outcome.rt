@@ -1,0 +1,9 @@
+use redo_command::Line;
+use redo_journal::Journal;
+
+/// What a run left: one history of all sessions, and what each session did.
+#[derive(Debug, Drop)]
+pub struct Outcome {
+    pub history: Vec<Line>,
+    pub journals: Vec<Journal>,
+}
