@@ -4,16 +4,17 @@ ghost use Rattle.redo_terms.specs.Meaning.{line_of, line_at};
 ghost use Rattle.redo_history.specs.Histories.{ended, answer_text_of, line_text_of, history_text_of};
 ghost use Rattle.redo_history.specs.Recorded.{AreLinesBelow};
 
+use itoa::Buffer;
 use redo_names::Names;
 use redo_terms::Line;
-use redo_text::{command_text, reply_text};
+use redo_text::{put_command, put_reply};
 use std::alloc::{AllocError, Global};
 
 /// Writes a number in decimal digits.
-pub fn put_number(alloc: Global, text: &mut Vec<u8>, n: usize) -> Result<(), AllocError>
+pub fn put_number(text: &mut Vec<u8>, n: usize) -> Result<(), AllocError>
     ensures { OnOk result (text.new.items ≡ text.old.items ++ decimal n) }
 {
-    text.extend_from_slice(n.to_string(alloc)?.as_bytes())
+    text.extend_from_slice(Buffer::new().format(n).as_bytes())
 }
 
 /// Writes a line's command and reply, with an LF after them.
@@ -27,9 +28,9 @@ pub fn put_answer(
     ensures { OnOk result (text.new.items
         ≡ text.old.items ++ ended (answer_text_of (line_at names.now line.now))) }
 {
-    text.extend_from_slice(&command_text(alloc, &line.command, names)?)?;
+    put_command(alloc, text, &line.command, names)?;
     text.extend_from_slice(b" => ")?;
-    text.extend_from_slice(&reply_text(alloc, &line.reply, names)?)?;
+    put_reply(alloc, text, &line.reply, names)?;
     text.push(b'\n')?;
     Ok(())
 }
@@ -45,7 +46,7 @@ pub fn put_line(
     ensures { OnOk result (text.new.items
         ≡ text.old.items ++ line_text_of (line_at names.now line.now)) }
 {
-    put_number(alloc, text, line.session as usize + 1)?;
+    put_number(text, line.session as usize + 1)?;
     text.push(b' ')?;
     put_answer(alloc, text, line, names)
 }
@@ -58,7 +59,7 @@ pub fn history_text(alloc: Global, lines: &[Line], names: &Names) -> Result<Vec<
 {
     let mut text = Vec::new(alloc);
     text.extend_from_slice(b"history ")?;
-    put_number(alloc, &mut text, lines.len())?;
+    put_number(&mut text, lines.len())?;
     text.push(b'\n')?;
     for line in lines {
         put_line(alloc, &mut text, line, names)?;

@@ -4,10 +4,13 @@ ghost use Rattle.redo_terms.specs.Meaning.{line_of, line_at};
 ghost use Rattle.redo_history.specs.Histories.{line_text_of};
 ghost use Rattle.redo_live.specs.Inside.Told.{TellsNothing};
 
-use redo_names::Names;
 use redo_history::put_line;
+use redo_names::Names;
 use redo_terms::{Line, Reply};
 use std::alloc::{AllocError, Global};
+
+/// Bytes that most lines don't exceed.
+const USUAL_LINE: usize = 64;
 
 /// The line that a command is answered, its text, and the reply as the database gave it.
 #[derive(Drop)]
@@ -29,7 +32,7 @@ pub(crate) fn line_text(alloc: Global, line: &Line, names: &Names) -> Result<Vec
     requires { IsLineBelow (length names.now) (line_of line.now) }
     ensures { IfOk result (λ text. text.items ≡ line_text_of (line_at names.now line.now)) }
 {
-    let mut text = Vec::new(alloc);
+    let mut text = Vec::with_capacity(alloc, USUAL_LINE)?;
     put_line(alloc, &mut text, line, names)?;
     Ok(text)
 }

@@ -9,8 +9,8 @@ ghost use Rattle.redo_log.specs.Logs.{log_header, IsLogOf, IsTornHeader};
 ghost use Rattle.redo_log.specs.Restores.{IsRestored, IsRestoredTo, IsRestoreCause, IsOfRoom};
 ghost use Rattle.redo_log.specs.Steps.{AsksFor, DoesNext, NothingFollows};
 
-use redo_live::{Live, Unanswered};
 use redo_history::{cut_at, cut_at_arrow, cut_at_space, session_of};
+use redo_live::{Live, Unanswered};
 use std::alloc::{AllocError, Global};
 use thiserror::Error;
 

@@ -5,7 +5,7 @@ ghost use Rattle.redo_replay.specs.Inside.Verdicts.{IsVerdictBelow};
 use redo_history::put_number;
 use redo_names::Names;
 use redo_terms::Reply;
-use redo_text::reply_text;
+use redo_text::put_reply;
 use std::alloc::{AllocError, Global};
 
 /// Whether a history's replies are those of the database.
@@ -28,13 +28,13 @@ pub fn verdict_text(alloc: Global, verdict: &Verdict, names: &Names) -> Result<V
     match verdict {
         Verdict::Same(count) => {
             text.extend_from_slice(b"same ")?;
-            put_number(alloc, &mut text, *count)?;
+            put_number(&mut text, *count)?;
         }
         Verdict::Differs { line, reply } => {
             text.extend_from_slice(b"differs ")?;
-            put_number(alloc, &mut text, *line)?;
+            put_number(&mut text, *line)?;
             text.push(b' ')?;
-            text.extend_from_slice(&reply_text(alloc, reply, names)?)?;
+            put_reply(alloc, &mut text, reply, names)?;
         }
     }
     text.push(b'\n')?;

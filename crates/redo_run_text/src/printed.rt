@@ -12,10 +12,10 @@ ghost use Rattle.redo_history.specs.Recorded.{AreLinesBelow};
 ghost use Rattle.redo_run_text.specs.Inside.Printed.{part_in, closing_lines_of, ArePrinted};
 
 use crate::outcome::Outcome;
-use redo_command::{Item, Line, Reply, line_text, reply_text};
+use redo_command::{Item, Line, Reply, put_item, put_reply};
+use redo_history::{history_text, put_answer, put_number};
 use redo_journal::Plan;
 use redo_names::Names;
-use redo_history::{history_text, put_answer, put_number};
 use std::alloc::{AllocError, Global};
 
 /// Where the session's first line stands from here on; past all lines where there is none.
@@ -57,9 +57,9 @@ fn put_done(
     ensures { OnOk result (text.new.items ≡ text.old.items
         ++ ended (done_text_of (item_at names.now item.now) (reply_at names.now reply.now))) }
 {
-    text.extend_from_slice(&line_text(alloc, item, names)?)?;
+    put_item(alloc, text, item, names)?;
     text.extend_from_slice(b" => ")?;
-    text.extend_from_slice(&reply_text(alloc, reply, names)?)?;
+    put_reply(alloc, text, reply, names)?;
     text.push(b'\n')?;
     Ok(())
 }
@@ -75,7 +75,7 @@ fn put_skipped(
     ensures { OnOk result (text.new.items
         ≡ text.old.items ++ ended (skipped_text_of (item_at names.now item.now))) }
 {
-    text.extend_from_slice(&line_text(alloc, item, names)?)?;
+    put_item(alloc, text, item, names)?;
     text.extend_from_slice(b" => skipped\n")?;
     Ok(())
 }
@@ -141,18 +141,13 @@ fn put_closing(
     Ok(count)
 }
 
-fn put_header(
-    alloc: Global,
-    text: &mut Vec<u8>,
-    session: u8,
-    count: usize,
-) -> Result<(), AllocError>
+fn put_header(text: &mut Vec<u8>, session: u8, count: usize) -> Result<(), AllocError>
     ensures { OnOk result (text.new.items ≡ text.old.items ++ session_header_of session count) }
 {
     text.extend_from_slice(b"session ")?;
-    put_number(alloc, text, session as usize + 1)?;
+    put_number(text, session as usize + 1)?;
     text.push(b' ')?;
-    put_number(alloc, text, count)?;
+    put_number(text, count)?;
     text.push(b'\n')?;
     Ok(())
 }
@@ -175,7 +170,7 @@ fn put_session(
     let mut body = Vec::new(alloc);
     let closing = put_script(alloc, &mut body, session, items, lines, names)?;
     let count = put_closing(alloc, &mut body, session, lines, closing, names)?;
-    put_header(alloc, text, session, items.len() + count)?;
+    put_header(text, session, items.len() + count)?;
     text.extend_from_slice(&body)?;
     Ok(())
 }

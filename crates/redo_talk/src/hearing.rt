@@ -11,8 +11,8 @@ ghost use Rattle.redo_talk.specs.Inside.Hearing.{GoesOn, GoesOnInLine, BreaksOff
 use crate::asked::asked;
 use crate::fault::Refusal;
 use crate::unsent::{Unsent, send, tell_fault};
-use redo_live::Live;
 use redo_history::cut_at;
+use redo_live::Live;
 use redo_whole::{Watched, WriteFault};
 use std::alloc::Global;
 use std::io::Write;

@@ -2,8 +2,8 @@
 use crate::gates::{Holds, Pairs};
 use crate::plans::plan_of;
 use redo_board::Gate;
-use redo_journal::{Entry, Journal, Place, Plan};
 use redo_history::history_text;
+use redo_journal::{Entry, Journal, Place, Plan};
 use redo_session::{Outcome, RunFault, run};
 use std::alloc::Global;
 use std::process::Abort;

@@ -29,4 +29,4 @@ pub use read::{LONGEST_LINE, MOST_COMMANDS, read_command};
 pub use replies::read_reply;
 pub use scan::place_of;
 pub use session_file::read_script;
-pub use text::{command_text, line_text, reply_text};
+pub use text::{command_text, line_text, put_command, put_item, put_reply, reply_text};

@@ -1,4 +1,4 @@
-ghost use Rattle.std.specs.Prelude.{◌≡◌, ◌<◌, ◌++◌, map, length, decimal, IfOk, OnOk};
+ghost use Rattle.std.specs.Prelude.{◌≡◌, ◌<◌, ◌++◌, ℕ, List, map, length, decimal, IfOk, OnOk};
 ghost use Rattle.std.specs.List.{flat_map};
 ghost use Rattle.hex.specs.Hex.{encode_lower};
 ghost use Rattle.redo_names.specs.Names.{text_at};
@@ -9,6 +9,7 @@ ghost use Rattle.redo_terms.specs.Inside.Meaning.{kind_of, command_at, item_at};
 ghost use Rattle.redo_text.specs.Texts.{after_space, stamp_word, content_word, refusal_words, word_of, command_text_of, item_text_of, reply_text_of};
 
 use crate::keywords::keyword;
+use itoa::Buffer;
 use redo_names::Names;
 use redo_terms::{Command, FileStamp, Item, Kind, Refusal, Reply};
 use std::alloc::{AllocError, Global};
@@ -69,9 +70,9 @@ fn put_form(
     command: &Command,
     names: &Names,
 ) -> Result<(), AllocError>
-    requires below { IsBelow (length names.now) (command_of command.now) }
-    requires begun { out.old.items ≡ word_of (kind_of command.now) }
-    ensures { OnOk result (out.new.items ≡ command_text_of (command_at names.now command.now)) }
+    requires { IsBelow (length names.now) (command_of command.now) }
+    ensures { (front : List ℕ) → out.old.items ≡ front ++ word_of (kind_of command.now)
+        → OnOk result (out.new.items ≡ front ++ command_text_of (command_at names.now command.now)) }
 {
     match command {
         Command::File(n, stamp) => {
@@ -100,6 +101,21 @@ fn put_form(
     }
 }
 
+/// Writes the text of a command: its words with single spaces, without LF.
+pub fn put_command(
+    alloc: Global,
+    out: &mut Vec<u8>,
+    command: &Command,
+    names: &Names,
+) -> Result<(), AllocError>
+    requires { IsBelow (length names.now) (command_of command.now) }
+    ensures { OnOk result
+        (out.new.items ≡ out.old.items ++ command_text_of (command_at names.now command.now)) }
+{
+    out.extend_from_slice(keyword(command.kind()))?;
+    put_form(alloc, out, command, names)
+}
+
 /// The text of a command: its words with single spaces, without LF.
 pub fn command_text(alloc: Global, command: &Command, names: &Names) -> Result<Vec<u8>, AllocError>
     requires { IsBelow (length names.now) (command_of command.now) }
@@ -107,38 +123,45 @@ pub fn command_text(alloc: Global, command: &Command, names: &Names) -> Result<V
         (λ text. text.items ≡ command_text_of (command_at names.now command.now)) }
 {
     let mut out = Vec::new(alloc);
-    out.extend_from_slice(keyword(command.kind()))?;
-    put_form(alloc, &mut out, command, names)?;
+    put_command(alloc, &mut out, command, names)?;
     Ok(out)
 }
 
-/// The text of a line of a script: that of its command, with `? ` before it where it is guarded.
+/// Writes the text of a line of a script: that of its command, with `? ` before it where it is
+/// guarded.
+pub fn put_item(
+    alloc: Global,
+    out: &mut Vec<u8>,
+    item: &Item,
+    names: &Names,
+) -> Result<(), AllocError>
+    requires { IsBelow (length names.now) (command_of item.now.command) }
+    ensures { OnOk result
+        (out.new.items ≡ out.old.items ++ item_text_of (item_at names.now item.now)) }
+{
+    if item.guarded {
+        out.extend_from_slice(b"? ")?;
+    }
+    put_command(alloc, out, &item.command, names)
+}
+
+/// The text of a line of a script.
 pub fn line_text(alloc: Global, item: &Item, names: &Names) -> Result<Vec<u8>, AllocError>
     requires { IsBelow (length names.now) (command_of item.now.command) }
     ensures { IfOk result (λ text. text.items ≡ item_text_of (item_at names.now item.now)) }
 {
-    let text = command_text(alloc, &item.command, names)?;
-    if !item.guarded {
-        return Ok(text);
-    }
     let mut out = Vec::new(alloc);
-    out.extend_from_slice(b"? ")?;
-    out.extend_from_slice(&text)?;
+    put_item(alloc, &mut out, item, names)?;
     Ok(out)
 }
 
 /// Writes a word and a number.
-fn put_numbered(
-    alloc: Global,
-    out: &mut Vec<u8>,
-    word: &[u8],
-    number: u32,
-) -> Result<(), AllocError>
+fn put_numbered(out: &mut Vec<u8>, word: &[u8], number: u32) -> Result<(), AllocError>
     ensures { OnOk result
         (out.new.items ≡ out.old.items ++ word.now ++ after_space (decimal number)) }
 {
     out.extend_from_slice(word)?;
-    put_word(out, number.to_string(alloc)?.as_bytes())
+    put_word(out, Buffer::new().format(number).as_bytes())
 }
 
 /// Writes the words for a refusal.
@@ -159,40 +182,55 @@ fn put_refusal(out: &mut Vec<u8>, refusal: Refusal, names: &Names) -> Result<(),
     }
 }
 
+/// Writes the text of a reply, without LF.
+pub fn put_reply(
+    alloc: Global,
+    out: &mut Vec<u8>,
+    reply: &Reply,
+    names: &Names,
+) -> Result<(), AllocError>
+    requires { IsReplyBelow (length names.now) (reply_of reply.now) }
+    ensures { OnOk result
+        (out.new.items ≡ out.old.items ++ reply_text_of (reply_at names.now reply.now)) }
+{
+    match reply {
+        Reply::Okay => out.extend_from_slice(b"ok")?,
+        Reply::Granted(grant) => put_numbered(out, b"granted", *grant)?,
+        Reply::Busy(grant) => put_numbered(out, b"busy", *grant)?,
+        Reply::Stale(stale) => {
+            out.extend_from_slice(b"stale")?;
+            put_names(out, names, stale)?;
+        }
+        Reply::Stamped(digest) => {
+            out.extend_from_slice(b"stamped")?;
+            put_hex(alloc, out, digest)?;
+        }
+        Reply::Ood(ood) => {
+            out.extend_from_slice(keyword(Kind::Ood))?;
+            put_names(out, names, ood)?;
+        }
+        Reply::Targets(targets) => {
+            out.extend_from_slice(keyword(Kind::Targets))?;
+            put_names(out, names, targets)?;
+        }
+        Reply::Sources(sources) => {
+            out.extend_from_slice(keyword(Kind::Sources))?;
+            put_names(out, names, sources)?;
+        }
+        Reply::Refused(refusal) => {
+            out.extend_from_slice(b"refused")?;
+            put_refusal(out, *refusal, names)?;
+        }
+    }
+    Ok(())
+}
+
 /// The text of a reply, without LF.
 pub fn reply_text(alloc: Global, reply: &Reply, names: &Names) -> Result<Vec<u8>, AllocError>
     requires { IsReplyBelow (length names.now) (reply_of reply.now) }
     ensures { IfOk result (λ text. text.items ≡ reply_text_of (reply_at names.now reply.now)) }
 {
     let mut out = Vec::new(alloc);
-    match reply {
-        Reply::Okay => out.extend_from_slice(b"ok")?,
-        Reply::Granted(grant) => put_numbered(alloc, &mut out, b"granted", *grant)?,
-        Reply::Busy(grant) => put_numbered(alloc, &mut out, b"busy", *grant)?,
-        Reply::Stale(stale) => {
-            out.extend_from_slice(b"stale")?;
-            put_names(&mut out, names, stale)?;
-        }
-        Reply::Stamped(digest) => {
-            out.extend_from_slice(b"stamped")?;
-            put_hex(alloc, &mut out, digest)?;
-        }
-        Reply::Ood(ood) => {
-            out.extend_from_slice(keyword(Kind::Ood))?;
-            put_names(&mut out, names, ood)?;
-        }
-        Reply::Targets(targets) => {
-            out.extend_from_slice(keyword(Kind::Targets))?;
-            put_names(&mut out, names, targets)?;
-        }
-        Reply::Sources(sources) => {
-            out.extend_from_slice(keyword(Kind::Sources))?;
-            put_names(&mut out, names, sources)?;
-        }
-        Reply::Refused(refusal) => {
-            out.extend_from_slice(b"refused")?;
-            put_refusal(&mut out, *refusal, names)?;
-        }
-    }
+    put_reply(alloc, &mut out, reply, names)?;
     Ok(out)
 }

@@ -16,8 +16,8 @@ use crate::fault::Unanswered;
 use crate::live::Live;
 use crate::ordering::sort;
 use crate::told::tell;
-use redo_names::Names;
 use redo_history::{put_line, put_number};
+use redo_names::Names;
 use redo_store::Redo;
 use redo_terms::{Command, Line, Reply};
 use std::alloc::{AllocError, Global};
@@ -67,7 +67,7 @@ fn with_end(alloc: Global, session: u8, lines: &[u8]) -> Result<Vec<u8>, AllocEr
     ensures { IfOk result (λ text. text.items ≡ lines.now ++ end_text session) }
 {
     let mut text = Vec::from_slice(alloc, lines)?;
-    put_number(alloc, &mut text, session as usize + 1)?;
+    put_number(&mut text, session as usize + 1)?;
     text.extend_from_slice(b" end => ok\n")?;
     Ok(text)
 }
