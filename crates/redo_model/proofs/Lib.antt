@@ -29,6 +29,7 @@ pub mod OwnLines
 pub mod OwnReasons
 pub mod Parts
 pub mod RecordsByName
+pub mod Reasons
 pub mod Refused
 pub mod Region
 pub mod RepliesByName
@@ -41,4 +42,5 @@ pub mod Unchanging
 pub mod Unique
 pub mod UpToDate
 pub mod VerdictsByName
+pub mod WhyByName
 pub mod Within

@@ -1,5 +1,5 @@
 -- Records over numbers, under their names: each name has what its number has.
-use Rattle.std.proofs.Common.{◌≡◌, ℕ, ◌<◌, Bool, true, false, cond, List, [], ◌∷◌, Option, Some, None, is_some, refl, sym, ap, ◌∙◌, subst, inl, inr, map}
+use Rattle.std.proofs.Common.{◌≡◌, ℕ, ◌<◌, Bool, true, false, cond, List, [], ◌∷◌, Option, Some, None, is_some, refl, sym, ap, ◌∙◌, subst, inl, inr, map, length, arith}
 use Rattle.std.proofs.Math.Path.{fun_ext}
 use Rattle.std.proofs.lemmas.Bool.{cases_Bool, false≢true, eqb-true, eq-eqb, false_from_ne_true}
 use Rattle.std.specs.Prelude.{◌==◌}
@@ -87,7 +87,8 @@ module _ {M : Type 0} {to : Renaming M} (law : IsRenaming to) where
         → has_file (named_records to r) (to.name k) ≡ has_file r k
     file_at_name k below = ap (λ (c : Cell). is_some c.file) (cell_at_name k below)
 
-    mark_at_name : (k : ℕ) → k < to.count → mark_of (named_records to r) (to.name k) ≡ mark_of r k
+    pub mark_at_name : (k : ℕ) → k < to.count
+        → mark_of (named_records to r) (to.name k) ≡ mark_of r k
     mark_at_name k below = ap (λ (c : Cell). mark_in c.state c) (cell_at_name k below)
 
     pub change_at_names : (k m : ℕ) → k < to.count → m < to.count
@@ -139,7 +140,8 @@ module _ {M : Type 0} {to : Renaming M} (law : IsRenaming to) where
           subst (λ state. ReasonIn state (named_records to r) (to.name k))
           (sym (state_at_name k below)) (reason_in k below (target_state r k) h)
 
-      chain_to_names : (k : ℕ) (ns : List ℕ) → k < to.count → Chain (Depends r) (HasReason r) k ns
+      pub chain_to_names : (k : ℕ) (ns : List ℕ) → k < to.count
+          → Chain (Depends r) (HasReason r) k ns
           → Chain (Depends (named_records to r)) (HasReason (named_records to r)) (to.name k)
           (map to.name ns)
       chain_to_names k [] below h = reason_to_name k below h
@@ -184,19 +186,20 @@ module _ {M : Type 0} {to : Renaming M} (law : IsRenaming to) where
           reason_from k below (target_state r k) (subst
           (λ state. ReasonIn state (named_records to r) (to.name k)) (state_at_name k below) h)
 
-      chain_from_names : (ts : List M) (k : ℕ) → k < to.count
+      -- a chain of numbers for one of names, as long
+      pub chain_from_names : (ts : List M) (k : ℕ) → k < to.count
           → Chain (Depends (named_records to r)) (HasReason (named_records to r)) (to.name k) ts
-          → OutOfDate r k
-      chain_from_names [] k below h = ([], reason_from_name k below h)
+          → (ns : List ℕ) × Chain (Depends r) (HasReason r) k ns × (length ns ≡ length ts)
+      chain_from_names [] k below h = ([], reason_from_name k below h, refl)
       chain_from_names (t ∷ ts) k below ((is, has), rest) =
           let (n, number, row) =
           number_where to.number is_some None (r.rows.change k) t (to.number t) refl refl
           (sym (ap is_some (row_at_name None r.rows.change k t below)) ∙ has) in
-          let (ns, chain) =
+          let (ns, chain, same) =
           chain_from_names ts n (law.below t n number)
           (subst (λ u. Chain (Depends (named_records to r)) (HasReason (named_records to r)) u ts)
           (sym (law.forth t n number)) rest) in
-          (n ∷ ns, ((target_from_name k below is, row), chain))
+          (n ∷ ns, ((target_from_name k below is, row), chain), omega (arith, same))
 
       pub out_to_name : (k : ℕ) → k < to.count → OutOfDate r k
           → OutOfDate (named_records to r) (to.name k)
@@ -204,4 +207,5 @@ module _ {M : Type 0} {to : Renaming M} (law : IsRenaming to) where
 
       pub out_from_name : (k : ℕ) → k < to.count → OutOfDate (named_records to r) (to.name k)
           → OutOfDate r k
-      out_from_name k below (ts, chain) = chain_from_names ts k below chain
+      out_from_name k below (ts, chain) =
+          let (ns, there, same) = chain_from_names ts k below chain in (ns, there)

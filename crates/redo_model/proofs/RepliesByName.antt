@@ -71,7 +71,7 @@ module _ {M : Type 0} {to : Renaming M} (law : IsRenaming to) where
 
   module _ (naming : Naming M) (order : ℕ → ℕ → Ordering)
       (orders : OrdersAlike to naming order) where
-    listed_forth : {P : ℕ → Type 0} {Q : M → Type 0} → Carries to P Q → (ks : List ℕ)
+    pub listed_forth : {P : ℕ → Type 0} {Q : M → Type 0} → Carries to P Q → (ks : List ℕ)
         → IsListed (numbers order) P ks → IsListed naming Q (map to.name ks)
     listed_forth {P = P} {Q = Q} carries ks h = (
       pairs_map (λ j k. order j k ≡ Less) (λ s t. naming.order s t ≡ Less) to.name ks

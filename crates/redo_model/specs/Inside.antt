@@ -2,6 +2,9 @@ pub mod Names
 pub mod State
 pub mod Ending
 pub mod OutOfDate
+pub mod Why
+pub mod Deps
+pub mod Unknown
 pub mod Placed
 pub mod Journals
 pub mod Words

@@ -12,4 +12,6 @@ pub mod Journals
 pub mod Scripts
 pub mod Seen
 pub mod Renaming
+pub mod Why
+pub mod Deps
 pub mod Inside
