@@ -1,7 +1,7 @@
 -- Marks that are set and taken away, and what stays true of the queue.
 use Rattle.std.proofs.Common.{◌≡◌, ◌⊎◌, ◌↔◌, ◌∙◌, ℕ, ◌<◌, ◌≤◌, ◌+◌, ◌^◌, Bool, true, false, cond, not, IsTrue, List, [], ◌∷◌, ◌++◌, length, get_or, set, take, refl, sym, ap, subst, inl, inr, arith, length-append, append_assoc}
 use Rattle.std.proofs.lemmas.Bool.{cases_Bool, cases_eq, cases_lt, false≢true}
-use Rattle.std.proofs.lemmas.List.{append-nil, length-set, get_or-set_same, get_or-set_other, get_or_past, take_all, take_more, take-append-le}
+use Rattle.std.proofs.lemmas.List.{length-set, get_or-set_same, get_or-set_other, get_or_past, take_all, take_more, take-append-le}
 use Rattle.std.proofs.lemmas.List.Sums.{sum_by-set, count_by-le-length}
 use Rattle.std.proofs.lemmas.List.Quantifiers.{all_pairs_push}
 use Rattle.std.proofs.lemmas.List.Elements.{Contains-get_or, Contains-push, Contains-push_cases, Contains-append_left, All-from_recursion}
@@ -32,7 +32,7 @@ set_stays marks t u below on = elim (cases_eq u t) [
   | inr other ↦ get_or-set_other marks t u true false other ∙ on
 ]
 
-set_cases : (marks : List Bool) (t u : ℕ) → IsSet (set marks t true) u → IsSet marks u ⊎ (u ≡ t)
+pub set_cases : (marks : List Bool) (t u : ℕ) → IsSet (set marks t true) u → IsSet marks u ⊎ (u ≡ t)
 set_cases marks t u on = elim (cases_eq u t) [
   | inl e ↦ inr e
   | inr other ↦ inl (sym (get_or-set_other marks t u true false other) ∙ on)

@@ -1,5 +1,5 @@
 -- Marks on names, and a queue of names that were marked.
-use Rattle.std.specs.Prelude.{◌≡◌, ◌≢◌, ◌⊎◌, ◌↔◌, ◌<◌, ◌≤◌, ◌+◌, ◌^◌, ◌++◌, ℕ, Bool, false, not, List, Contains, IsTrue, AllPairs, length, slice_index_or, count_by}
+use Rattle.std.specs.Prelude.{◌≡◌, ◌≢◌, ◌⊎◌, ◌↔◌, ◌<◌, ◌≤◌, ◌+◌, ◌^◌, ◌++◌, ◌∷◌, [], ℕ, Bool, true, false, not, List, Contains, IsTrue, AllPairs, length, slice_index_or, slice_set, count_by}
 
 -- whether each name is marked, and the names that were marked since the queue was emptied
 pub record Marked : Type 0 where
@@ -18,6 +18,10 @@ IsMarked m t = IsSet m.marks t
 
 abbrev pub IsQueued : Marked → ℕ → Type 0
 IsQueued m t = Contains m.queue t
+
+-- the marks and the queue with one more name
+abbrev pub with_name : Marked → ℕ → Marked
+with_name m t = record { marks = slice_set m.marks t true; queue = m.queue ++ t ∷ [] }
 
 -- the queue holds marked names, each once
 pub record IsQueue (m : Marked) : Type 0 where

@@ -13,8 +13,8 @@ use crate::region::{is_target, spread};
 use redo_records::Records;
 use redo_rows::DepRows;
 
-// Whether the target has a change row on the name, and the name is marked.
-fn needs_marked(rows: &DepRows, marks: &Marks, t: u32, n: u32) -> bool
+/// Whether the target has a change row on the name, and the name is marked.
+pub(crate) fn needs_marked(rows: &DepRows, marks: &Marks, t: u32, n: u32) -> bool
     requires target { t < rows_count rows.now }
     requires name { n < size_of marks.now }
     ensures { IsTrue result ↔ (IsSome ((rows_of rows.now).change t n) × IsMarked marks.now n) }

@@ -7,5 +7,8 @@ mod marks;
 mod ood;
 mod reason;
 mod region;
+mod why;
 
 pub use ood::Ood;
+pub use reason::Reason;
+pub use why::Why;

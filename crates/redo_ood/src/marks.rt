@@ -1,9 +1,9 @@
 //! Marks on names, and a queue of the names that were marked. A name enters the queue once, so a queue with room for
 //! all names takes no memory.
 
-ghost use Rattle.std.specs.Prelude.{◌≡◌, ◌↔◌, ◌<◌, ◌≤◌, ℕ, IsTrue, [], IfOk, length, false, replicate, slice_index, slice_index_or, Contains};
+ghost use Rattle.std.specs.Prelude.{◌≡◌, ◌↔◌, ◌<◌, ◌≤◌, ◌^◌, ℕ, IsTrue, [], IfOk, length, false, replicate, slice_index, slice_index_or, Contains};
 ghost use Rattle.redo_model.specs.Renaming.{AllBelow};
-ghost use Rattle.redo_ood.specs.Marks.{Marked, IsSet, IsQueued, IsQueue, Enters, Unmarks, size_of};
+ghost use Rattle.redo_ood.specs.Marks.{Marked, IsSet, IsQueued, IsQueue, Enters, Unmarks, size_of, with_name};
 
 use redo_records::extended;
 use std::alloc::{AllocError, Global};
@@ -92,6 +92,7 @@ impl Marks {
     pub fn queue_len(&self) -> usize
         ensures len { result ≡ length self.now.queue }
         ensures few { result ≤ size_of self.now }
+        ensures short { result < 2 ^ 32 }
     {
         self.queue.len()
     }
@@ -105,14 +106,23 @@ impl Marks {
         self.queue[k]
     }
 
+    /// Marks a name that isn't marked, and puts it at the queue's end.
+    pub fn enter_new(&mut self, t: u32)
+        requires below { t < size_of self.old }
+        requires unmarked { slice_index_or self.old.marks t false ≡ false }
+        ensures { self.new ≡ with_name self.old t }
+    {
+        self.marks[t as usize] = true;
+        self.queue.push_reserved(t);
+    }
+
     /// Marks the name, and puts it into the queue where it wasn't marked.
     pub fn enter(&mut self, t: u32)
         requires { t < size_of self.old }
         ensures { Enters (λ u. u ≡ t) self.old self.new }
     {
         if !self.marks[t as usize] {
-            self.marks[t as usize] = true;
-            self.queue.push_reserved(t);
+            self.enter_new(t);
         }
     }
 

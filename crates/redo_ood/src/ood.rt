@@ -1,14 +1,19 @@
-ghost use Rattle.std.specs.Prelude.{◌≡◌, ◌<◌, ◌≤◌, ℕ, IsTrue, length, IfOk, OnOk, OnErr, ◌++◌, ◌∷◌, [], if◌then◌else◌};
+ghost use Rattle.std.specs.Prelude.{◌≡◌, ◌<◌, ◌≤◌, ℕ, IsTrue, length, IfOk, IfSome, IsOk, OnOk, OnErr, option_map, ◌++◌, ◌∷◌, [], if◌then◌else◌};
 ghost use Rattle.redo_model.specs.Names.{IsListed};
 ghost use Rattle.redo_model.specs.Inside.OutOfDate.{InRegion};
+ghost use Rattle.redo_model.specs.Why.{TellsWhy};
+ghost use Rattle.redo_model.specs.Inside.Why.{IsWhyBelow};
+ghost use Rattle.redo_model.specs.OutOfDate.{OutOfDate};
 ghost use Rattle.redo_model.specs.Renaming.{AllBelow};
 ghost use Rattle.redo_model.specs.State.{empty};
 ghost use Rattle.redo_rows.specs.Rows.{with_rows, by_number, rows_count};
+ghost use Rattle.redo_ood.specs.Meaning.{why_of};
 ghost use Rattle.redo_ood.specs.Memo.{memo_count, is_out, IsRight, WasRight, HasCount};
 
 use crate::derive::derive;
 use crate::marks::Marks;
 use crate::region::{enter_marked, find_region};
+use crate::why::{Why, search};
 use redo_records::Records;
 use redo_rows::DepRows;
 use std::alloc::{AllocError, Global};
@@ -110,6 +115,30 @@ impl Ood {
         ensures { result ≡ is_out self.now t }
     {
         self.out.has(t)
+    }
+
+    /// Why the target is out of date, where it is so and the memo is right. Takes no memory where it is up to date.
+    pub fn why(
+        &self,
+        alloc: Global,
+        records: &Records,
+        rows: &DepRows,
+        t: u32,
+    ) -> Result<Option<Why>, AllocError>
+        requires target { t < memo_count self.now }
+        requires records { length records.now ≡ memo_count self.now }
+        requires rows { rows_count rows.now ≡ memo_count self.now }
+        requires right { IsRight self.now (with_rows records.now rows.now) }
+        ensures why { IfOk result
+            (λ found. TellsWhy (with_rows records.now rows.now) t (option_map why_of found)) }
+        ensures below { IfOk result
+            (λ found. IfSome found (λ why. IsWhyBelow (memo_count self.now) (why_of why))) }
+        ensures up_to_date { (OutOfDate (with_rows records.now rows.now) t → ⊥) → IsOk result }
+    {
+        if !self.is(t) {
+            return Ok(None);
+        }
+        search(alloc, records, rows, &self.out, t)
     }
 
     /// The out-of-date targets, by ascending number.

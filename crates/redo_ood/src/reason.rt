@@ -1,11 +1,73 @@
-//! Whether a target has a reason of its own to be built again.
+//! Which reason of its own a target has to be built again.
 
-ghost use Rattle.std.specs.Prelude.{◌≡◌, ◌↔◌, ◌<◌, IsTrue, length};
+ghost use Rattle.std.specs.Prelude.{◌≡◌, ◌↔◌, ◌<◌, IsTrue, IfSome, MatchOption, length};
+ghost use Rattle.redo_model.specs.Why.{IsReason};
+ghost use Rattle.redo_model.specs.Inside.Why.{IsReasonBelow};
 ghost use Rattle.redo_model.specs.OutOfDate.{HasReason};
+ghost use Rattle.redo_model.specs.State as states;
+ghost use Rattle.redo_records.specs.Cells.{cell_at};
 ghost use Rattle.redo_rows.specs.Rows.{with_rows, rows_count};
+ghost use Rattle.redo_ood.specs.Meaning.{reason_of};
 
 use redo_records::{Records, State};
-use redo_rows::DepRows;
+use redo_rows::{DepRows, News};
+
+/// A reason of its own that a target has to be built again.
+#[derive(Clone, Copy, Debug, PartialEq, Eq)]
+pub enum Reason {
+    /// It is being built.
+    Building,
+    /// Its last build failed.
+    Failed,
+    /// Its file is another than its last done gave.
+    Edited,
+    /// It has an always row.
+    Always,
+    /// It has a created row on this name, which has a file now.
+    Appeared(u32),
+    /// It has a change row on this name with another mark than the name has now.
+    Changed(u32),
+}
+
+// The reason of a target that is built: the first that applies.
+fn built_reason(records: &Records, rows: &DepRows, t: u32) -> Option<Reason>
+    requires target { t < rows_count rows.now }
+    requires names { length records.now ≡ rows_count rows.now }
+    requires built { (cell_at records.now t).state ≡ states.Built }
+    ensures reason { MatchOption result (HasReason (with_rows records.now rows.now) t → ⊥)
+        (λ reason. IsReason (with_rows records.now rows.now) t (reason_of reason)) }
+    ensures below { IfSome result
+        (λ reason. IsReasonBelow (rows_count rows.now) (reason_of reason)) }
+{
+    if records.changed(t) {
+        return Some(Reason::Edited);
+    }
+    if rows.always(t) {
+        return Some(Reason::Always);
+    }
+    match rows.news(records, t) {
+        Some(News::Appeared(n)) => Some(Reason::Appeared(n)),
+        Some(News::Changed(n)) => Some(Reason::Changed(n)),
+        None => None,
+    }
+}
+
+/// The target's reason of its own: the first that applies.
+pub(crate) fn own_reason(records: &Records, rows: &DepRows, t: u32) -> Option<Reason>
+    requires target { t < rows_count rows.now }
+    requires names { length records.now ≡ rows_count rows.now }
+    ensures reason { MatchOption result (HasReason (with_rows records.now rows.now) t → ⊥)
+        (λ reason. IsReason (with_rows records.now rows.now) t (reason_of reason)) }
+    ensures below { IfSome result
+        (λ reason. IsReasonBelow (rows_count rows.now) (reason_of reason)) }
+{
+    match records.state(t) {
+        State::Idle => None,
+        State::Building(_) => Some(Reason::Building),
+        State::Built => built_reason(records, rows, t),
+        State::Failed => Some(Reason::Failed),
+    }
+}
 
 /// Whether it is a target with a reason of its own.
 pub(crate) fn has_reason(records: &Records, rows: &DepRows, t: u32) -> bool
@@ -13,10 +75,5 @@ pub(crate) fn has_reason(records: &Records, rows: &DepRows, t: u32) -> bool
     requires names { length records.now ≡ rows_count rows.now }
     ensures { IsTrue result ↔ HasReason (with_rows records.now rows.now) t }
 {
-    match records.state(t) {
-        State::Idle => false,
-        State::Building(_) => true,
-        State::Built => { records.changed(t) || rows.always(t) || rows.has_news(records, t) }
-        State::Failed => true,
-    }
+    own_reason(records, rows, t).is_some()
 }

@@ -26,7 +26,7 @@ target_below test blank targets t n row = elim (cases_lt t (length targets)) [
 ]
 
 -- and only on names
-name_below : (targets : List TargetRows) (needed awaited : List NumberList) (seated : List ℕ)
+pub name_below : (targets : List TargetRows) (needed awaited : List NumberList) (seated : List ℕ)
     (t n : ℕ) → IsKept targets needed awaited seated → HasRowIn (target_at targets t).seats n
     → n < length targets
 name_below targets needed awaited seated t n h row = h.below t n (elim row [

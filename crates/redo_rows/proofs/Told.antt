@@ -1,27 +1,24 @@
 -- Which news the seats of a target tell, by their places.
-use Rattle.std.proofs.Common.{◌≡◌, ◌≢◌, refl, ℕ, ◌<◌, Bool, true, false, List, length, get_or, sym, subst, ◌∙◌, inl, inr, Option, Some, ◌↔◌, IsTrue, not}
+use Rattle.std.proofs.Common.{◌≡◌, ◌≢◌, refl, ℕ, ◌<◌, Bool, true, false, List, length, get_or, sym, ap, subst, ◌∙◌, ◌⊎◌, inl, inr, Option, Some, None, IfSome, IsSome, MatchOption, ◌↔◌, IsTrue, not}
 use Rattle.std.proofs.lemmas.Bool.{false≢true}
 use Rattle.std.proofs.lemmas.Option.{none-some, same_Some}
-use Rattle.redo_model.specs.State.{Records, Mark}
-use Rattle.redo_rows.specs.Rows.{Seat, seat_at, has_seat}
+use Rattle.redo_model.specs.State.{Cell, Records, Mark}
+use Rattle.redo_model.specs.OutOfDate.{SomeAppeared, SomeChanged}
+use Rattle.redo_rows.specs.Rows.{Seat, TargetRows, seat_at, has_seat, target_at, with_rows}
 use Rattle.redo_rows.specs.Target.{Ascending, blank}
-use Rattle.redo_rows.specs.News.{HasNews, SomeNews}
+use Rattle.redo_rows.specs.News.{known, name_of, IsNews, HasAppeared, HasChanged, HasNews, SomeNews, IsNewsOf, IsNewsIn}
+use Rattle.redo_rows.specs.declared.news.News.{News}
+use Rattle.redo_rows.specs.declared.news.News.TheVariants.{Appeared, Changed}
+use Rattle.redo_rows.specs.Numbers.{NumberList}
+use Rattle.redo_rows.specs.Kept.{IsKept}
+use Rattle.redo_rows.proofs.Inverses.{found_target}
+use Rattle.redo_rows.proofs.Listed.{name_below}
 use Rattle.redo_rows.proofs.Seats.{seat_found, seat_there, nothing_stands}
 
 -- the name of a seat has one
 pub named_seat : (seats : List Seat) (i : ℕ) (d : Seat) → Ascending seats → i < length seats
     → has_seat seats (get_or seats i d).name ≡ true
 named_seat seats i d ascending in' = (seat_found seats i d ascending in').1
-
--- the news of a seat are some news
-pub some_news : (r : Records ℕ) (seats : List Seat) (i : ℕ) (d : Seat) → Ascending seats
-    → i < length seats
-    → HasNews r (get_or seats i d) (get_or seats i d).name → SomeNews r seats
-some_news r seats i d ascending in' news = (
-  (get_or seats i d).name,
-  subst (λ seat. HasNews r seat (get_or seats i d).name)
-      (sym (seat_found seats i d ascending in').0) news,
-)
 
 -- no news stand where there is no seat
 blank_tells_nothing : (r : Records ℕ) (n : ℕ) → HasNews r (blank n) n → ⊥
@@ -59,3 +56,66 @@ other_told change kept mark true e h = (
 )
 other_told change kept mark false e h =
     (λ t. (kept, e, λ same. false≢true (h.1 same)), λ other. refl)
+
+-- the news of a seat are news of its name
+pub news_in : (r : Records ℕ) (seats : List Seat) (i : ℕ) (d : Seat) (news : News)
+    → Ascending seats → i < length seats → IsNewsOf r (get_or seats i d) news
+    → IsNewsIn r seats news
+news_in r seats i d (Appeared n) ascending in' is =
+    subst (λ m. HasAppeared r (seat_at seats m) m) (sym is.0)
+    (subst (λ seat. HasAppeared r seat (get_or seats i d).name)
+    (sym (seat_found seats i d ascending in').0) is.1)
+news_in r seats i d (Changed n) ascending in' is =
+    subst (λ m. HasChanged r (seat_at seats m) m) (sym is.0)
+    (subst (λ seat. HasChanged r seat (get_or seats i d).name)
+    (sym (seat_found seats i d ascending in').0) is.1)
+
+-- the news of a target's seats are those of its rows
+news_at : (cells : List Cell) (targets : List TargetRows) (t : ℕ) (found : Option News)
+    → MatchOption found (SomeNews (known cells) (target_at targets t).seats → ⊥)
+    (IsNewsIn (known cells) (target_at targets t).seats)
+    → MatchOption found (SomeAppeared (with_rows cells targets) t
+    ⊎ SomeChanged (with_rows cells targets) t → ⊥) (IsNews (with_rows cells targets) t)
+news_at cells targets t None none = λ some. none (elim some [
+  | inl (n, row, file) ↦ (n, inl (row, file))
+  | inr (n, mark, row, other) ↦ (n, inr (mark, row, other))
+])
+news_at cells targets t (Some (Appeared n)) is = is
+news_at cells targets t (Some (Changed n)) is = is
+
+-- the same in the terms of the code
+pub news_told : (cells : List Cell) (targets now : List TargetRows) (t : ℕ) (target : TargetRows)
+    (seats : List Seat) (found : Option News) → targets ≡ now → t < length now
+    → target ≡ get_or targets t target → seats ≡ target.seats
+    → MatchOption found (SomeNews (known cells) seats → ⊥) (IsNewsIn (known cells) seats)
+    → MatchOption found (SomeAppeared (with_rows cells now) t
+    ⊎ SomeChanged (with_rows cells now) t → ⊥) (IsNews (with_rows cells now) t)
+news_told cells targets now t target seats found is t_in at same told =
+    let own = found_target targets now t target is t_in at in
+    let all : seats ≡ (target_at now t).seats =
+    same ∙ ap (λ (x : TargetRows). x.seats) own.1
+    ∙ ap (λ (ts : List TargetRows). (target_at ts t).seats) is in
+    news_at cells now t found
+    (subst (λ ss. MatchOption found (SomeNews (known cells) ss → ⊥) (IsNewsIn (known cells) ss))
+    all told)
+
+-- the news of rows are of a name below the count
+name_told : (cells : List Cell) (targets : List TargetRows) (t : ℕ)
+    (needed awaited : List NumberList) (seated : List ℕ) (news : News) → IsKept targets needed awaited seated
+    → IsNews (with_rows cells targets) t news → name_of news < length targets
+name_told cells targets t needed awaited seated (Appeared n) kept is =
+    name_below targets needed awaited seated t n kept (inr is.0)
+name_told cells targets t needed awaited seated (Changed n) kept is =
+    name_below targets needed awaited seated t n kept (inl (subst IsSome (sym is.1) refl))
+
+pub news_below : (cells : List Cell) (targets now : List TargetRows) (t : ℕ)
+    (needed awaited : List NumberList) (seated : List ℕ) (found : Option News) → targets ≡ now
+    → IsKept targets needed awaited seated
+    → MatchOption found (SomeAppeared (with_rows cells now) t
+    ⊎ SomeChanged (with_rows cells now) t → ⊥) (IsNews (with_rows cells now) t)
+    → IfSome found (λ news. name_of news < length now)
+news_below cells targets now t needed awaited seated None is kept told = tt
+news_below cells targets now t needed awaited seated (Some news) is kept told =
+    subst (λ (ts : List TargetRows). name_of news < length ts) is
+    (name_told cells targets t needed awaited seated news kept
+    (subst (λ (ts : List TargetRows). IsNews (with_rows cells ts) t news) (sym is) told))

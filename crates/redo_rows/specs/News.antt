@@ -1,10 +1,12 @@
 -- What the rows of a target tell of the names that they are on.
-use Rattle.std.specs.Prelude.{◌⊎◌, ℕ, List, IsTrue}
-use Rattle.redo_model.specs.State.{Cell, Records, mark_of, no_rows}
-use Rattle.redo_model.specs.OutOfDate.{HasFile}
+use Rattle.std.specs.Prelude.{◌≡◌, ◌≢◌, ◌⊎◌, ℕ, List, Some, IsTrue}
+use Rattle.redo_model.specs.State.{Cell, Mark, Records, mark_of, no_rows}
+use Rattle.redo_model.specs.OutOfDate.{HasFile, HasCreatedRow}
 use Rattle.redo_records.specs.Cells.{cell_at}
 use Rattle.redo_rows.specs.Rows.{Seat, seat_at}
 use Rattle.redo_rows.specs.Target.{HasChangeBut}
+use Rattle.redo_rows.specs.declared.news.News.{News}
+use Rattle.redo_rows.specs.declared.news.News.TheVariants.{Appeared, Changed}
 
 -- what is known of each name, without rows
 abbrev pub known : List Cell → Records ℕ
@@ -24,3 +26,24 @@ HasNews r seat n = HasAppeared r seat n ⊎ HasChanged r seat n
 -- some name has appeared or changed
 abbrev pub SomeNews : Records ℕ → List Seat → Type 0
 SomeNews r seats = (n : ℕ) × HasNews r (seat_at seats n) n
+
+-- the name that the news are of
+abbrev pub name_of : News → ℕ
+name_of (Appeared n) = n
+name_of (Changed n) = n
+
+-- the news are of this seat's name
+abbrev pub IsNewsOf : Records ℕ → Seat → News → Type 0
+IsNewsOf r seat (Appeared n) = (n ≡ seat.name) × HasAppeared r seat seat.name
+IsNewsOf r seat (Changed n) = (n ≡ seat.name) × HasChanged r seat seat.name
+
+-- the news are of a name with a seat
+abbrev pub IsNewsIn : Records ℕ → List Seat → News → Type 0
+IsNewsIn r seats (Appeared n) = HasAppeared r (seat_at seats n) n
+IsNewsIn r seats (Changed n) = HasChanged r (seat_at seats n) n
+
+-- the news are true of t's rows: a created row on a name that has a file now, or a change row with
+-- another mark than the name has now
+abbrev pub IsNews : Records ℕ → ℕ → News → Type 0
+IsNews r t (Appeared n) = HasCreatedRow r t n × HasFile r n
+IsNews r t (Changed n) = (mark : Mark) × (r.rows.change t n ≡ Some mark) × (mark ≢ mark_of r n)

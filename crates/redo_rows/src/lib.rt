@@ -9,4 +9,5 @@ mod numbers;
 mod rows;
 mod target;
 
+pub use news::News;
 pub use rows::DepRows;

@@ -1,12 +1,13 @@
-ghost use Rattle.std.specs.Prelude.{◌≡◌, ◌⊎◌, ◌↔◌, ℕ, ◌<◌, ◌≤◌, ◌==◌, ◌&&◌, not, false, IsTrue, length, Contains, ◌||◌, option_map, IfOk, OnOk, OnErr};
+ghost use Rattle.std.specs.Prelude.{◌≡◌, ◌⊎◌, ◌↔◌, ℕ, ◌<◌, ◌≤◌, ◌==◌, ◌&&◌, not, false, IsTrue, length, Contains, ◌||◌, option_map, IfOk, IfSome, MatchOption, OnOk, OnErr};
 ghost use Rattle.redo_model.specs.Names.{IsListed};
 ghost use Rattle.redo_model.specs.OutOfDate.{SomeAppeared, SomeChanged};
 ghost use Rattle.redo_model.specs.State.{no_rows};
 ghost use Rattle.redo_model.specs.Renaming.{AllBelow};
 ghost use Rattle.redo_records.specs.Meaning.{row_mark_of};
+ghost use Rattle.redo_rows.specs.News.{IsNews, name_of};
 ghost use Rattle.redo_rows.specs.Rows.{rows_count, rows_of, room_of, with_change, with_created, with_always, without_rows, HasRowOn, HasChangeRowOn, HasCreatedRowOn, by_number, with_rows};
 
-use crate::news::is_any_news;
+use crate::news::{News, first_news};
 use crate::numbers::Numbers;
 use crate::target::Target;
 use crate::{inverse, made};
@@ -212,15 +213,17 @@ impl DepRows {
         self.targets[t as usize].names()
     }
 
-    /// Whether `t` has a created row on a name that has a file now, or a change row with another mark than the name
-    /// has now.
-    pub fn has_news(&self, records: &Records, t: u32) -> bool
+    /// The first name, by ascending number, that has a file now and on which `t` has a created row, or that has another
+    /// mark now than the change row of `t` on it.
+    pub fn news(&self, records: &Records, t: u32) -> Option<News>
         requires target { t < rows_count self.now }
         requires names { length records.now ≡ rows_count self.now }
-        ensures { IsTrue result ↔ (SomeAppeared (with_rows records.now self.now) t
-            ⊎ SomeChanged (with_rows records.now self.now) t) }
+        ensures news { MatchOption result (SomeAppeared (with_rows records.now self.now) t
+            ⊎ SomeChanged (with_rows records.now self.now) t → ⊥)
+            (IsNews (with_rows records.now self.now) t) }
+        ensures below { IfSome result (λ news. name_of news < rows_count self.now) }
     {
-        is_any_news(records, self.targets[t as usize].seats())
+        first_news(records, self.targets[t as usize].seats())
     }
 
     /// The targets with a change row on `n`, by ascending number.

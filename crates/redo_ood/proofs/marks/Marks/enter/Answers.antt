@@ -1,27 +1,12 @@
-use Rattle.std.proofs.Common.{◌<◌, true, sym, subst, arith}
-use Rattle.std.proofs.lemmas.List.{length-set}
-use Rattle.redo_ood.specs.Marks.{Marked, size_of}
-use Rattle.redo_ood.specs.KeptMarks.{marked_of}
-use Rattle.redo_ood.proofs.Marking.{enters_name, queue_with_name, read_off}
+use Rattle.std.proofs.Common.{◌≡◌, false, get_or, subst}
+use Rattle.redo_ood.specs.Marks.{Marked}
+use Rattle.redo_ood.proofs.Marking.{enters_name, read_off}
 use Rattle.redo_ood.proofs.marks.Marks.enter.Goals as goal
-
-pub invariant_of-self : goal.invariant_of-self
-invariant_of-self c =
-    let m : Marked = marked_of c.self.inside in
-    let t = c.args.t in
-    let below = subst (λ (k : Marked). t < size_of k) (sym c.self.view_is) c.requires in
-    let off = read_off m.marks t c.index.result.now c.if-not-index.true c.index.ensures in
-    let sized = length-set m.marks t true in
-    let pushed = c.push_reserved.ensures in
-    record {
-      queue = rw pushed.items (queue_with_name m t below off c.self.invariant.queue);
-      room = omega (arith, sized, c.self.invariant.room, pushed.capacity);
-    }
 
 pub returns-then-not-index : goal.returns-then-not-index
 returns-then-not-index c =
-    let m : Marked = marked_of c.self.inside in
     let t = c.args.t in
-    let below = subst (λ (k : Marked). t < size_of k) (sym c.self.view_is) c.requires in
-    let off = read_off m.marks t c.index.result.now c.if-not-index.true c.index.ensures in
-    rw (c.push_reserved.ensures.items, ← c.self.view_is) (enters_name m t below off)
+    let read = read_off c.self.inside.marks.items t c.index.result.now c.if-not-index.true
+    c.index.ensures in
+    let off = subst (λ (k : Marked). get_or k.marks t false ≡ false) c.self.view_is read in
+    rw c.enter_new.ensures (enters_name c.args.self.now t c.requires off)

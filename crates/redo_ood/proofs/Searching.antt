@@ -1,0 +1,260 @@
+-- A search along change rows, step by step.
+use Rattle.std.proofs.Common.{◌≡◌, ◌⊎◌, ◌↔◌, ◌∙◌, ℕ, ◌<◌, ◌≤◌, ◌+◌, true, false, List, [], ◌∷◌, ◌++◌, length, get_or, take, IsSome, refl, sym, ap, subst, inl, inr, arith, length-append, append_assoc}
+use Rattle.std.proofs.Math.ListN.{get_or-append, replicate, length-replicate}
+use Rattle.std.proofs.lemmas.Bool.{cases_lt, false≢true}
+use Rattle.std.proofs.lemmas.List.{get_or_default, length-set}
+use Rattle.std.specs.List.{Contains}
+use Rattle.redo_model.specs.State.{Records}
+use Rattle.redo_model.specs.OutOfDate.{IsTarget, HasReason, Depends}
+use Rattle.redo_model.proofs.Members.{contains_first, contains_none}
+use Rattle.redo_records.proofs.MorePlaces.{same_everywhere}
+use Rattle.redo_ood.specs.Marks.{Marked, IsMarked, IsQueued, with_name, size_of}
+use Rattle.redo_ood.specs.Search.{IsSearch, StepsBefore, Finds}
+use Rattle.redo_ood.proofs.Marking.{set_cases, one_more}
+use Rattle.redo_ood.proofs.SearchTree.{search_with_name}
+
+module _ (r : Records ℕ) where
+  -- a search of which fewer steps are told
+  pub fewer_steps : (Looked Fewer : ℕ → ℕ → Type 0) {at : ℕ} {seen : Marked} {parents : List ℕ}
+      → ((i m : ℕ) → Fewer i m → Looked i m) → IsSearch r Looked at seen parents
+      → IsSearch r Fewer at seen parents
+  fewer_steps Looked Fewer weaker search = record {
+    tree = search.tree;
+    queued = search.queued;
+    near = search.near;
+    found = λ i m looked. search.found i m (weaker i m looked);
+  }
+
+  -- a name that was found before
+  found_before : (Looked : ℕ → ℕ → Type 0) (n from : ℕ) (seen : Marked)
+      (parents : List ℕ) → IsSearch r Looked from seen parents → from < length seen.queue
+      → (P : Type 0) → (P → IsMarked seen n)
+      → IsSearch r (λ i m. Looked i m ⊎ ((i ≡ from) × (m ≡ n) × P)) from seen parents
+  found_before Looked n from seen parents search in' P on = record {
+    tree = search.tree;
+    queued = search.queued;
+    near = search.near;
+    found = λ i m looked. elim looked [
+      | inl earlier ↦ search.found i m earlier
+      | inr (e, f, p) ↦
+          let q : IsQueued seen n = search.queued n (on p) in
+          let name : get_or seen.queue q.0 0 ≡ m =
+          get_or_default seen.queue q.0 0 n q.1 ∙ q.2 ∙ sym f in
+          let deep : search.tree.depth q.0 ≤ search.tree.depth i + 1 =
+          omega (arith, search.near in' q.0 q.1, ap search.tree.depth e) in
+          (q.0, q.1, name, deep)
+    ];
+  }
+
+  -- one more step of a place was looked at
+  pub one_more_step : (P : Type 0) (Looked : ℕ → ℕ → Type 0) (n from : ℕ) (a b : Marked)
+      (ps qs : List ℕ) → n < size_of a → from < length a.queue
+      → ((i m : ℕ) → Looked i m → i ≤ from) → (P → Depends r (get_or a.queue from 0) n)
+      → Finds P n from a ps b qs → IsSearch r Looked from a ps
+      → IsSearch r (λ i m. Looked i m ⊎ ((i ≡ from) × (m ≡ n) × P)) from b qs
+  one_more_step P Looked n from a b ps qs below in' before depends finds search = elim finds [
+    | inl (same, same', on) ↦
+        subst (λ k. IsSearch r (λ i m. Looked i m ⊎ ((i ≡ from) × (m ≡ n) × P)) from k qs)
+        (sym same)
+        (subst (λ ks. IsSearch r (λ i m. Looked i m ⊎ ((i ≡ from) × (m ≡ n) × P)) from a ks)
+        (sym same') (found_before Looked n from a ps search in' P on))
+    | inr (p, e, e') ↦
+        subst (λ k. IsSearch r (λ i m. Looked i m ⊎ ((i ≡ from) × (m ≡ n) × P)) from k qs) (sym e)
+        (subst (λ ks. IsSearch r (λ i m. Looked i m ⊎ ((i ≡ from) × (m ≡ n) × P)) from
+        (with_name a n) ks) (sym e')
+        (fewer_steps (λ i m. Looked i m ⊎ ((i ≡ from) × (m ≡ n)))
+        (λ i m. Looked i m ⊎ ((i ≡ from) × (m ≡ n) × P))
+        (λ i m s. elim s [ inl old ↦ inl old | inr w ↦ inr (w.0, w.1) ])
+        (search_with_name r Looked n from a ps search in' (depends p) below before)))
+  ]
+
+  -- all steps of a place were looked at
+  pub next_place : (Looked : ℕ → ℕ → Type 0) (at : ℕ) (seen : Marked) (parents : List ℕ)
+      → IsSearch r Looked at seen parents → at < length seen.queue
+      → IsSearch r Looked (at + 1) seen parents
+  next_place Looked at seen parents search in' = record {
+    tree = search.tree;
+    queued = search.queued;
+    near = λ more j here.
+        let rise = search.tree.rising at (at + 1) (omega arith) more in
+        omega (arith, search.near in' j here, rise);
+    found = search.found;
+  }
+
+  -- the search begins at one name
+  pub search_begun : (Looked : ℕ → ℕ → Type 0) (t : ℕ) (seen : Marked) (parents : List ℕ)
+      → ((i m : ℕ) → Looked i m → ⊥) → seen.queue ≡ t ∷ [] → parents ≡ 0 ∷ []
+      → ((n : ℕ) → IsMarked seen n → IsQueued seen n) → IsSearch r Looked 0 seen parents
+  search_begun Looked t seen parents none q p queued =
+      let one : length seen.queue ≡ 1 = ap length q in
+      let one' : length parents ≡ 1 = ap length p in
+      record {
+        tree = record {
+          depth = λ i. 0;
+          sized = omega (arith, one, one');
+          earlier = λ i some here. absurd (omega (arith, one, some, here));
+          step = λ i some here. absurd (omega (arith, one, some, here));
+          first = refl;
+          deeper = λ i some here. absurd (omega (arith, one, some, here));
+          rising = λ i j le here. omega arith;
+        };
+        queued = queued;
+        near = λ some j here. omega arith;
+        found = λ i m looked. absurd (none i m looked);
+      }
+
+-- the steps from the places before this one, and those along the rows of t, which stands here, to
+-- some names
+abbrev pub StepsPartly : Records ℕ → Marked → List ℕ → ℕ → ℕ → List ℕ → ℕ → ℕ → Type 0
+StepsPartly r out queue at t names i n = StepsBefore r out queue at i n
+    ⊎ ((i ≡ at) × Contains names n × IsSome (r.rows.change t n) × IsMarked out n)
+
+module _ (r : Records ℕ) (out : Marked) (queue : List ℕ) (at t : ℕ) (in' : at < length queue)
+    (here : t ≡ get_or queue at 0)
+  where
+    partly_before : (names : List ℕ) (i m : ℕ) → StepsPartly r out queue at t names i m → i ≤ at
+    partly_before names i m step = elim step [
+      | inl w ↦ omega (arith, w.0)
+      | inr w ↦ omega (arith, w.0)
+    ]
+
+    -- no row of t was looked at
+    pub partly_begun : {seen : Marked} {parents : List ℕ}
+        → IsSearch r (StepsBefore r out queue at) at seen parents
+        → IsSearch r (StepsPartly r out queue at t []) at seen parents
+    partly_begun search = fewer_steps r (StepsBefore r out queue at)
+        (StepsPartly r out queue at t [])
+        (λ i m s. elim s [ inl before ↦ before | inr w ↦ absurd (contains_none m w.1) ]) search
+
+    -- one more row of t was looked at
+    pub partly_more : (names : List ℕ) (k : ℕ) (a b : Marked) (ps qs ns : List ℕ) (P : Type 0)
+        → k < length names → get_or names k 0 < size_of a → a.queue ≡ queue ++ ns
+        → IsTarget r t
+        → P ↔ (IsSome (r.rows.change t (get_or names k 0)) × IsMarked out (get_or names k 0))
+        → Finds P (get_or names k 0) at a ps b qs
+        → IsSearch r (StepsPartly r out queue at t (take k names)) at a ps
+        → IsSearch r (StepsPartly r out queue at t (take (k + 1) names)) at b qs
+    partly_more names k a b ps qs ns P in'' below behind target due finds search =
+        let n = get_or names k 0 in
+        let L : ℕ → ℕ → Type 0 = StepsPartly r out queue at t (take k names) in
+        let longer : at < length a.queue =
+        omega (arith, in', ap length behind, length-append queue ns) in
+        let stands : t ≡ get_or a.queue at 0 =
+        here ∙ sym (ap (λ q. get_or q at 0) behind ∙ get_or-append queue ns 0 at in') in
+        let depends : P → Depends r (get_or a.queue at 0) n =
+        λ p. subst (λ u. Depends r u n) stands (target, (due.0 p).0) in
+        fewer_steps r (λ i m. L i m ⊎ ((i ≡ at) × (m ≡ n) × P))
+        (StepsPartly r out queue at t (take (k + 1) names))
+        (λ i m s. elim s [
+          | inl before ↦ inl (inl before)
+          | inr w ↦ elim ((one_more names k 0 m in'').0 w.1) [
+            | inl earlier ↦ inl (inr (w.0, earlier, w.2, w.3))
+            | inr now ↦ inr (
+              w.0,
+              now,
+              due.1 (
+                subst (λ u. IsSome (r.rows.change t u)) now w.2,
+                subst (IsMarked out) now w.3,
+              ),
+            )
+          ]
+        ])
+        (one_more_step r P L n at a b ps qs below longer (partly_before (take k names)) depends
+        finds search)
+
+    -- all rows of t were looked at, if it is a target
+    pub partly_done : (names : List ℕ) (seen : Marked) (parents ns : List ℕ)
+        → seen.queue ≡ queue ++ ns
+        → (IsTarget r t → (n : ℕ) → IsSome (r.rows.change t n) → Contains names n)
+        → IsSearch r (StepsPartly r out queue at t names) at seen parents
+        → IsSearch r (StepsBefore r out seen.queue (at + 1)) (at + 1) seen parents
+    partly_done names seen parents ns behind all search =
+        let longer : at < length seen.queue =
+        omega (arith, in', ap length behind, length-append queue ns) in
+        let same : (i : ℕ) → i < length queue → get_or seen.queue i 0 ≡ get_or queue i 0 =
+        λ i below. ap (λ q. get_or q i 0) behind ∙ get_or-append queue ns 0 i below in
+        next_place r (StepsBefore r out seen.queue (at + 1)) at seen parents
+        (fewer_steps r (StepsPartly r out queue at t names)
+        (StepsBefore r out seen.queue (at + 1))
+        (λ i m s. elim (cases_lt i at) [
+          | inl before ↦
+              let e = same i (omega (arith, before, in')) in
+              inl (before, subst (λ u. Depends r u m) e s.1, s.2)
+          | inr past ↦
+              let e : i ≡ at = omega (arith, past, s.0) in
+              let stands : get_or seen.queue i 0 ≡ t =
+              ap (λ k. get_or seen.queue k 0) e ∙ same at in' ∙ sym here in
+              let step = subst (λ u. Depends r u m) stands s.1 in
+              inr (e, all step.0 m step.1, step.1, s.2)
+        ]) search) longer
+
+pub finds_sized : (P : Type 0) (n from : ℕ) (a b : Marked) (ps qs : List ℕ)
+    → Finds P n from a ps b qs → size_of b ≡ size_of a
+finds_sized P n from a b ps qs finds = elim finds [
+  | inl w ↦ ap size_of w.0
+  | inr w ↦ ap size_of w.1 ∙ length-set a.marks n true
+]
+
+pub finds_behind : (P : Type 0) (n from : ℕ) (queue : List ℕ) (a b : Marked) (ps qs : List ℕ)
+    → Finds P n from a ps b qs → (ns : List ℕ) × (a.queue ≡ queue ++ ns)
+    → (ns : List ℕ) × (b.queue ≡ queue ++ ns)
+finds_behind P n from queue a b ps qs finds behind = elim finds [
+  | inl w ↦ (behind.0, ap (λ (m : Marked). m.queue) w.0 ∙ behind.1)
+  | inr w ↦ (
+    behind.0 ++ n ∷ [],
+    ap (λ (m : Marked). m.queue) w.1 ∙ ap (λ q. q ++ n ∷ []) behind.1
+        ∙ append_assoc queue behind.0 (n ∷ []),
+  )
+]
+
+-- the queue of the search's first name alone
+pub one_name : (names t : ℕ) (m b : Marked)
+    → m ≡ record { marks = replicate names false; queue = [] }
+    → b ≡ with_name m t → b.queue ≡ t ∷ []
+one_name names t m b e f =
+    ap (λ (k : Marked). k.queue) f ∙ ap (λ (k : Marked). k.queue ++ t ∷ []) e
+
+pub one_name_sized : (names t : ℕ) (m b : Marked)
+    → m ≡ record { marks = replicate names false; queue = [] } → b ≡ with_name m t
+    → size_of b ≡ names
+one_name_sized names t m b e f =
+    ap size_of f ∙ length-set m.marks t true ∙ ap size_of e ∙ length-replicate names false
+
+-- the search begins at a name where nothing was marked
+pub search_at_first : (r : Records ℕ) (out : Marked) (names t : ℕ) (m b : Marked) (ps : List ℕ)
+    → m ≡ record { marks = replicate names false; queue = [] } → b ≡ with_name m t → ps ≡ 0 ∷ []
+    → IsSearch r (StepsBefore r out b.queue 0) 0 b ps
+search_at_first r out names t m b ps e f p =
+    let q = one_name names t m b e f in
+    let unmarked : (n : ℕ) → IsMarked m n → ⊥ = λ n on.
+    let off : get_or m.marks n false ≡ false =
+    ap (λ (k : Marked). get_or k.marks n false) e ∙ same_everywhere names n false in
+    false≢true (sym off ∙ on) in
+    search_begun r (StepsBefore r out b.queue 0) t b ps (λ i n s. absurd (omega (arith, s.0))) q p
+    (λ n on. elim (set_cases m.marks t n (subst (λ (k : Marked). IsMarked k n) f on)) [
+      | inl before ↦ absurd (unmarked n before)
+      | inr here ↦ subst (λ (ks : List ℕ). Contains ks n) (sym q)
+          (subst (Contains (t ∷ [])) (sym here) (contains_first t []))
+    ])
+
+-- none of the names looked at has a reason, the one at this place included
+pub none_more : (r : Records ℕ) (queue longer ns : List ℕ) (at : ℕ) → at < length queue
+    → longer ≡ queue ++ ns → ((i : ℕ) → i < at → HasReason r (get_or queue i 0) → ⊥)
+    → (HasReason r (get_or queue at 0) → ⊥)
+    → (i : ℕ) → i < at + 1 → HasReason r (get_or longer i 0) → ⊥
+none_more r queue longer ns at in' behind none here i before reason =
+    let below : i < length queue = omega (arith, before, in') in
+    let same : get_or longer i 0 ≡ get_or queue i 0 =
+    ap (λ q. get_or q i 0) behind ∙ get_or-append queue ns 0 i below in
+    let was = subst (HasReason r) same reason in
+    elim (cases_lt i at) [
+      | inl earlier ↦ none i earlier was
+      | inr past ↦
+          let e : i ≡ at = omega (arith, past, before) in
+          here (subst (λ k. HasReason r (get_or queue k 0)) e was)
+    ]
+
+pub first_kept : (queue whole ns : List ℕ) → 0 < length queue → whole ≡ queue ++ ns
+    → get_or whole 0 0 ≡ get_or queue 0 0
+first_kept queue whole ns some behind =
+    ap (λ q. get_or q 0 0) behind ∙ get_or-append queue ns 0 0 some

@@ -1,0 +1,83 @@
+use Rattle.std.proofs.Common.{◌≡◌, ◌∙◌, ◌<◌, ◌≤◌, ◌+◌, ◌++◌, [], ◌∷◌, get_or, length, length-append, sym, ap, subst, arith}
+use Rattle.redo_model.specs.Why.{IsReason}
+use Rattle.redo_model.specs.OutOfDate.{HasReason}
+use Rattle.redo_model.specs.Renaming.{AllBelow}
+use Rattle.redo_rows.specs.Rows.{with_rows}
+use Rattle.redo_ood.specs.Meaning.{reason_of}
+use Rattle.redo_ood.proofs.Searching.{one_name, one_name_sized, search_at_first, none_more, first_kept}
+use Rattle.redo_ood.proofs.Shortest.{way_explains, none_found}
+use Rattle.redo_ood.proofs.why.search.Goals as goal
+
+pub names-init : goal.names-init
+names-init c =
+    let r = with_rows c.args.records.now c.args.rows.now in
+    let t = c.args.t in
+    let m = c.in_ok-seen.seen in
+    let b = c.enter_new.new.self in
+    let ps = c.push.new.self.items in
+    let names = c.count.result in
+    let e = c.in_ok-seen.ensures in
+    let f = c.enter_new.ensures in
+    let q = one_name names t m b e f in
+    let one : length b.queue ≡ 1 = ap length q in
+    let pushed : ps ≡ 0 ∷ [] =
+    c.in_ok-push.ensures.items ∙ ap (λ xs. xs ++ 0 ∷ []) c.new-parents.ensures.items in
+    record {
+      sized = one_name_sized names t m b e f ∙ c.count.ensures ∙ c.requires.sized;
+      first = sym (ap (λ xs. get_or xs 0 0) q);
+      done = omega arith;
+      some = omega (arith, one);
+      search = search_at_first r c.args.out.now names t m b ps e f pushed;
+      none = λ i before reason. absurd (omega (arith, before));
+    }
+
+pub returns-in-Some-clause-why : goal.returns-in-Some-clause-why
+returns-in-Some-clause-why c =
+    let r = with_rows c.args.records.now c.args.rows.now in
+    let inv = c.names.invariant in
+    let at = c.names.next in
+    let in' : at < length c.names.seen.queue =
+    omega (arith, c.names-test.true, c.queue_len.ensures.len) in
+    let reason = reason_of c.in-Some.reason in
+    let own : IsReason r (get_or c.names.seen.queue at 0) reason =
+    subst (λ n. IsReason r n reason) c.queued.ensures.name c.in-Some.ensures.reason in
+    way_explains r c.args.out.now c.names.seen c.names.parents.items at c.requires.right inv.search
+    inv.none c.args.t inv.first in' reason own c.in_ok-names.names.items c.in_ok-names.ensures.way
+
+pub returns-in-Some-clause-below : goal.returns-in-Some-clause-below
+returns-in-Some-clause-below c = record {
+  names = subst (λ n. AllBelow n c.in_ok-names.names.items) c.names.invariant.sized
+      c.in_ok-names.ensures.below;
+  reason = c.in-Some.ensures.below;
+}
+
+pub names-preserved : goal.names-preserved
+names-preserved c =
+    let r = with_rows c.args.records.now c.args.rows.now in
+    let inv = c.names.invariant in
+    let at = c.names.next in
+    let queue = c.names.seen.queue in
+    let longer = c.find_needs.new.seen.queue in
+    let behind = c.in_ok-find_needs.ensures.behind in
+    let in' : at < length queue = omega (arith, c.names-test.true, c.queue_len.ensures.len) in
+    let here : HasReason r (get_or queue at 0) → ⊥ = λ reason.
+    c.in_default.ensures.reason (subst (HasReason r) (sym c.queued.ensures.name) reason) in
+    let long : length longer ≡ length queue + length behind.0 =
+    ap length behind.1 ∙ length-append queue behind.0 in
+    record {
+      sized = c.in_ok-find_needs.ensures.sized ∙ inv.sized;
+      first = inv.first ∙ sym (first_kept queue longer behind.0 inv.some behind.1);
+      done = omega (arith, in', long);
+      some = omega (arith, inv.some, long);
+      search = c.in_ok-find_needs.ensures.search;
+      none = none_more r queue longer behind.0 at in' behind.1 inv.none here;
+    }
+
+pub returns-clause-why : goal.returns-clause-why
+returns-clause-why c =
+    let r = with_rows c.args.records.now c.args.rows.now in
+    let inv = c.names.invariant in
+    let end : length c.names.seen.queue ≤ c.names.next =
+    omega (arith, c.names-test.false, c.queue_len.ensures.len) in
+    none_found r c.args.out.now c.names.seen c.names.parents.items c.names.next c.requires.right
+    inv.search inv.none c.args.t inv.first inv.some end

@@ -1,0 +1,138 @@
+//! A shortest chain of change rows from an out-of-date target to one with a reason of its own: a search, breadth first,
+//! through names that are out of date.
+
+ghost use Rattle.std.specs.Prelude.{◌≡◌, ◌<◌, ◌+◌, ◌++◌, ℕ, List, IsTrue, IfOk, IfSome, OnOk, length, slice_index, option_map};
+ghost use Rattle.redo_model.specs.Why.{TellsWhy};
+ghost use Rattle.redo_model.specs.Inside.Why.{IsWhyBelow};
+ghost use Rattle.redo_model.specs.OutOfDate.{OutOfDate};
+ghost use Rattle.redo_model.specs.Renaming.{AllBelow};
+ghost use Rattle.redo_rows.specs.Rows.{with_rows, rows_count};
+ghost use Rattle.redo_ood.specs.Marks.{IsMarked, size_of};
+ghost use Rattle.redo_ood.specs.Meaning.{why_of};
+ghost use Rattle.redo_ood.specs.Search.{IsSearch, StepsBefore, Finds, IsWay};
+
+use crate::derive::needs_marked;
+use crate::marks::Marks;
+use crate::reason::{Reason, own_reason};
+use crate::region::is_target;
+use redo_records::Records;
+use redo_rows::DepRows;
+use std::alloc::{AllocError, Global};
+
+/// Why a target is out of date.
+#[derive(Drop)]
+pub struct Why {
+    /// The names after it of a shortest chain of change rows to a target with a reason of its own.
+    pub names: Vec<u32>,
+    /// The reason of the last of them; its own, where there are none.
+    pub reason: Reason,
+}
+
+// Puts the name at the queue's end, as found from this place, where it is due and wasn't found before.
+fn find_if(
+    n: u32,
+    from: u32,
+    is_due: bool,
+    seen: &mut Marks,
+    parents: &mut Vec<u32>,
+) -> Result<(), AllocError>
+    requires { n < size_of seen.old }
+    ensures { OnOk result
+        (Finds (IsTrue is_due) n from seen.old parents.old.items seen.new parents.new.items) }
+{
+    if is_due && !seen.has(n) {
+        parents.push(from)?;
+        seen.enter_new(n);
+    }
+    Ok(())
+}
+
+// Finds the out-of-date names on which the target at this place has a change row.
+fn find_needs(
+    records: &Records,
+    rows: &DepRows,
+    out: &Marks,
+    from: u32,
+    seen: &mut Marks,
+    parents: &mut Vec<u32>,
+) -> Result<(), AllocError>
+    requires from { from < length seen.old.queue }
+    requires records { length records.now ≡ rows_count rows.now }
+    requires sized { size_of seen.old ≡ rows_count rows.now }
+    requires out { size_of out.now ≡ rows_count rows.now }
+    requires search { IsSearch (with_rows records.now rows.now)
+        (StepsBefore (with_rows records.now rows.now) out.now seen.old.queue from) from
+        seen.old parents.old.items }
+    ensures sized { OnOk result (size_of seen.new ≡ size_of seen.old) }
+    ensures behind { OnOk result ((ns : List ℕ) × (seen.new.queue ≡ seen.old.queue ++ ns)) }
+    ensures search { OnOk result (IsSearch (with_rows records.now rows.now)
+        (StepsBefore (with_rows records.now rows.now) out.now seen.new.queue (from + 1)) (from + 1)
+        seen.new parents.new.items) }
+{
+    let t = seen.queued(from as usize);
+    if is_target(records, t) {
+        for &n in rows.of(t) {
+            let is_due = needs_marked(rows, out, t, n);
+            find_if(n, from, is_due, seen, parents)?;
+        }
+    }
+    Ok(())
+}
+
+// The names on the way from the queue's first place, whose name is left out, to this one.
+fn way_to(
+    alloc: Global,
+    seen: &Marks,
+    parents: &Vec<u32>,
+    place: usize,
+) -> Result<Vec<u32>, AllocError>
+    requires place { place < length seen.now.queue }
+    requires sized { length parents.now.items ≡ length seen.now.queue }
+    requires earlier { (i : ℕ) → 0 < i → i < length seen.now.queue
+        → slice_index parents.now.items i < i }
+    ensures way { IfOk result
+        (λ way. IsWay seen.now.queue parents.now.items 0 place way.items) }
+    ensures below { IfOk result (λ way. AllBelow (size_of seen.now) way.items) }
+{
+    let mut way = Vec::new(alloc);
+    let mut i = place;
+    'back: while i > 0 {
+        way.push(seen.queued(i))?;
+        i = parents[i] as usize;
+    }
+    way.reverse();
+    Ok(way)
+}
+
+/// Why the target is out of date, where it is so. Takes memory for a mark on each name, and for each name that is found.
+pub(crate) fn search(
+    alloc: Global,
+    records: &Records,
+    rows: &DepRows,
+    out: &Marks,
+    t: u32,
+) -> Result<Option<Why>, AllocError>
+    requires target { t < rows_count rows.now }
+    requires records { length records.now ≡ rows_count rows.now }
+    requires sized { size_of out.now ≡ rows_count rows.now }
+    requires right { (n : ℕ) → OutOfDate (with_rows records.now rows.now) n → IsMarked out.now n }
+    ensures why { IfOk result
+        (λ found. TellsWhy (with_rows records.now rows.now) t (option_map why_of found)) }
+    ensures below { IfOk result
+        (λ found. IfSome found (λ why. IsWhyBelow (rows_count rows.now) (why_of why))) }
+{
+    let mut seen = Marks::new(alloc, out.count())?;
+    let mut parents = Vec::new(alloc);
+    seen.enter_new(t);
+    parents.push(0)?;
+    let mut next = 0;
+    'names: while next < seen.queue_len() {
+        if let Some(reason) = own_reason(records, rows, seen.queued(next)) {
+            let names = way_to(alloc, &seen, &parents, next)?;
+            return Ok(Some(Why { names, reason }));
+        }
+        find_needs(records, rows, out, next as u32, &mut seen, &mut parents)?;
+        next += 1;
+    }
+    Ok(None)
+}
