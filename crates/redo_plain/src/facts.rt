@@ -14,7 +14,7 @@ impl Plain {
     }
 
     /// The session that holds the lock.
-    pub(crate) fn holder(&self, t: u32) -> Option<u8> {
+    pub fn holder(&self, t: u32) -> Option<u8> {
         self.known(t)?.holder
     }
 
@@ -56,6 +56,22 @@ impl Plain {
     pub fn needs(&self, t: u32, n: u32) -> bool {
         match self.known(t) {
             Some(known) => known.needs(n),
+            None => false,
+        }
+    }
+
+    /// Whether it has a created row on the other name.
+    pub fn awaits(&self, t: u32, n: u32) -> bool {
+        match self.known(t) {
+            Some(known) => known.created.contains(&n),
+            None => false,
+        }
+    }
+
+    /// Whether it has an always row.
+    pub fn always(&self, t: u32) -> bool {
+        match self.known(t) {
+            Some(known) => known.always,
             None => false,
         }
     }

@@ -11,3 +11,4 @@ pub mod Obeyed
 pub mod Holding
 pub mod Counting
 pub mod Slots
+pub mod Unknown

@@ -91,6 +91,18 @@ module _ (naming : Naming ℕ) (P : ℕ → Type 0) (sorted : List ℕ) (k d : �
       (sym (append-nil names)) (listed_without names (λ p. false≢true (is.1 p)) h)
 
 -- the next item is added where it is due
+pub listed_next : (naming : Naming ℕ) (P : ℕ → Type 0) (items : List ℕ) (k d : ℕ)
+    → k < length items → Ascending naming items → (names new_names : List ℕ) (due : Bool)
+    → (IsTrue due ↔ P (get_or items k d)) → new_names ≡ names ++ cond due (get_or items k d ∷ []) []
+    → IsListed naming (λ n. Contains (take k items) n × P n) names
+    → IsListed naming (λ n. Contains (take (k + 1) items) n × P n) new_names
+listed_next naming P items k d below up names new_names due due_is added h =
+    let more : take (k + 1) items ≡ take k items ++ get_or items k d ∷ [] =
+    take_more items k d below in
+    subst (λ (ns : List ℕ). IsListed naming (λ n. Contains ns n × P n) new_names) (sym more)
+    (subst (IsListed naming (λ n. Contains (take k items ++ get_or items k d ∷ []) n × P n))
+    (sym added) (listed_more naming P items k d below up names due due_is h))
+
 pub first_more : {t : Stored} {P : ℕ → Type 0} {items names new_names : List ℕ} {due : Bool}
     (k d : ℕ) → IsStored t → items ≡ t.sorted → k < length items → AreFirst t P items k names
     → (IsTrue due ↔ P (get_or items k d)) → new_names ≡ names ++ cond due (get_or items k d ∷ []) []
@@ -98,38 +110,41 @@ pub first_more : {t : Stored} {P : ℕ → Type 0} {items names new_names : List
 first_more {t} {P} {items} {names} {new_names} {due} k d stored is below h due_is added =
     let up : Ascending (naming_of t) items =
     subst (Ascending (naming_of t)) (sym is) stored.all_in_order.0 in
-    let more : take (k + 1) items ≡ take k items ++ get_or items k d ∷ [] =
-    take_more items k d below in
-    let listed : IsListed (naming_of t)
-    (λ n. Contains (take k items ++ get_or items k d ∷ []) n × P n) new_names =
-    subst (IsListed (naming_of t) (λ n. Contains (take k items ++ get_or items k d ∷ []) n × P n))
-    (sym added) (listed_more (naming_of t) P items k d below up names due due_is h.listed)
-    in
     record {
-      listed = subst (λ (ns : List ℕ). IsListed (naming_of t)
-          (λ n. Contains ns n × P n) new_names) (sym more) listed;
+      listed = listed_next (naming_of t) P items k d below up names new_names due due_is added
+          h.listed;
     }
+
+-- after all items, the list is that of the numbers with P, if each of these is an item
+pub listed_at_end : (naming : Naming ℕ) (P : ℕ → Type 0) (items : List ℕ) (k : ℕ)
+    → length items ≤ k → ((n : ℕ) → P n → Contains items n) → (names : List ℕ)
+    → IsListed naming (λ n. Contains (take k items) n × P n) names → IsListed naming P names
+listed_at_end naming P items k whole all names h = (
+  h.0,
+  λ n. (
+    λ c. ((h.1 n).0 c).1,
+    λ p. (h.1 n).1
+        (subst (λ (ns : List ℕ). Contains ns n) (sym (take_all k items whole)) (all n p), p),
+  ),
+)
+
+-- a list of numbers with P, if these are below the count
+pub listed_below : (naming : Naming ℕ) (P : ℕ → Type 0) (count : ℕ) → ((n : ℕ) → P n → n < count)
+    → (names : List ℕ) → IsListed naming P names → AllBelow count names
+listed_below naming P count below names h =
+    recursion_from_All (λ n. n < count) names
+    (All-weaker (Contains names) (λ n. n < count) (λ n c. below n ((h.1 n).0 c)) names
+    (All-contains_itself names))
 
 -- after all items, the list is that of the names with P
 pub first_all : {t : Stored} {P : ℕ → Type 0} {items names : List ℕ} {k : ℕ} → IsStored t
     → items ≡ t.sorted → length items ≤ k → ((n : ℕ) → P n → n < count_of t)
     → AreFirst t P items k names → AreInOrder t P names
 first_all {t} {P} {items} {names} {k} stored is whole below h =
-    let all : take k items ≡ t.sorted = take_all k items whole ∙ is in
-    let listed : IsListed (naming_of t) (λ n. Contains t.sorted n × P n) names =
-    subst (λ (ns : List ℕ). IsListed (naming_of t) (λ n. Contains ns n × P n) names) all h.listed in
-    record {
-      listed = (
-        listed.0,
-        λ n. (
-          λ c. ((listed.1 n).0 c).1,
-          λ p. (listed.1 n).1 ((stored.all_in_order.1 n).1 (below n p), p),
-        ),
-      );
-      below = recursion_from_All (λ n. n < count_of t) names
-          (All-weaker (Contains names) (λ n. n < count_of t)
-          (λ n c. below n ((listed.1 n).0 c).1) names (All-contains_itself names));
-    }
+    let all : (n : ℕ) → P n → Contains items n = λ n p.
+    subst (λ (ns : List ℕ). Contains ns n) (sym is) ((stored.all_in_order.1 n).1 (below n p)) in
+    let listed = listed_at_end (naming_of t) P items k whole all names h.listed in
+    record { listed = listed; below = listed_below (naming_of t) P (count_of t) below names listed }
 
 -- only a number below the count has a file
 pub file_below : (t : Stored) (n : ℕ) → HasFile (records_of t) n → n < count_of t

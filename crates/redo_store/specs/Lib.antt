@@ -5,3 +5,4 @@ pub mod KeptStore
 pub mod Tables
 pub mod Kept
 pub mod Numbered
+pub mod Meaning

@@ -20,6 +20,7 @@ use std::marker::Model;
 
 mod changes;
 pub(crate) mod lists;
+mod questions;
 mod refusals;
 mod room;
 mod slots;

@@ -5,6 +5,7 @@ ghost use Rattle.redo_model.specs.Renaming.{IsBelow};
 ghost use Rattle.redo_terms.specs.Meaning.{command_of};
 ghost use Rattle.redo_tests_store.specs.declared.random.TheConstants.{NAMES};
 
+use crate::questions::check_answers;
 use crate::random::NAMES;
 use crate::search::search;
 use crate::sorts::{Sort, sort_of};
@@ -52,8 +53,8 @@ impl Compared {
         Ok(Compared { redo, plain })
     }
 
-    /// The reply of the database is that of the plain form, and so is what is out of date after it. Answers the sort
-    /// of the reply.
+    /// The reply of the database is that of the plain form, and so is what is out of date after it, and what is known of
+    /// some name. Answers the sort of the reply.
     pub(crate) fn call(
         &mut self,
         rt: &impl Abort,
@@ -65,6 +66,8 @@ impl Compared {
     {
         let sort = self.ask(rt, alloc, session, command)?;
         self.ask(rt, alloc, 0, &Command::Ood)?;
+        let t = self.redo.calls() / 2 % NAMES;
+        check_answers(rt, alloc, &self.redo, &self.plain, t)?;
         Ok(sort)
     }
 

@@ -12,6 +12,8 @@ mod digests;
 #[cfg(test)]
 mod oracle;
 #[cfg(test)]
+mod questions;
+#[cfg(test)]
 mod random;
 #[cfg(test)]
 mod records;

@@ -1,18 +1,85 @@
 //! Questions about what the database holds.
-ghost use Rattle.std.specs.Prelude.{◌≡◌, ℕ, ◌<◌, ◌↔◌, Some, Contains, IfOk};
+ghost use Rattle.std.specs.Prelude.{◌≡◌, ℕ, ◌<◌, ◌≤◌, ◌↔◌, Some, Contains, IfOk, IfSome, IsOk, option_map};
 ghost use Rattle.std.specs.List.Sorted.{IsStrictlyIncreasing};
 ghost use Rattle.redo_model.specs.Changes.{changes};
+ghost use Rattle.redo_model.specs.Deps.{AreDeps};
+ghost use Rattle.redo_model.specs.Inside.Deps.{AreDepsBelow};
+ghost use Rattle.redo_model.specs.Inside.Unknown.{IsUnknown};
+ghost use Rattle.redo_model.specs.Why.{TellsWhy};
+ghost use Rattle.redo_model.specs.Inside.Why.{IsWhyBelow};
+ghost use Rattle.redo_model.specs.OutOfDate.{OutOfDate};
 ghost use Rattle.redo_model.specs.State.{is_building, target_state};
 ghost use Rattle.redo_model.specs.Renaming.{AllBelow, IsBelow};
+ghost use Rattle.redo_ood.specs.Meaning.{why_of};
+ghost use Rattle.redo_records.specs.Meaning.{target_state_of};
+ghost use Rattle.redo_rows.specs.Rows.{by_number};
 ghost use Rattle.redo_terms.specs.Meaning.{command_of, reply_of};
-ghost use Rattle.redo_store.specs.Tables.{tables_records, locks_of, tables_count};
+ghost use Rattle.redo_store.specs.Meaning.{deps_of};
+ghost use Rattle.redo_store.specs.Tables.{state_of, tables_records, locks_of, tables_count};
 
+use crate::deps::Deps;
 use crate::redo::Redo;
 use crate::store::lists::push_if;
-use redo_terms::{Command, Reply};
+use redo_ood::Why;
+use redo_records::State;
+use redo_terms::{Command, FileStamp, Reply};
 use std::alloc::{AllocError, Global};
 
 impl Redo {
+    /// Why the target is out of date, where it is so. Takes no memory where it is up to date.
+    pub fn why(&self, alloc: Global, t: u32) -> Result<Option<Why>, AllocError>
+        requires { t < tables_count self.now }
+        ensures why { IfOk result
+            (λ found. TellsWhy (tables_records self.now) t (option_map why_of found)) }
+        ensures below { IfOk result
+            (λ found. IfSome found (λ why. IsWhyBelow (tables_count self.now) (why_of why))) }
+        ensures up_to_date { (OutOfDate (tables_records self.now) t → ⊥) → IsOk result }
+    {
+        self.store.why(alloc, t)
+    }
+
+    /// On which names the target has rows.
+    pub fn deps(&self, alloc: Global, t: u32) -> Result<Deps, AllocError>
+        requires { t < tables_count self.now }
+        ensures deps { IfOk result
+            (λ deps. AreDeps by_number (tables_records self.now) t (deps_of deps)) }
+        ensures below { IfOk result (λ deps. AreDepsBelow (tables_count self.now) (deps_of deps)) }
+    {
+        self.store.deps(alloc, t)
+    }
+
+    /// How far it has come.
+    pub fn state(&self, n: u32) -> State
+        requires { n < tables_count self.now }
+        ensures { target_state_of result ≡ target_state (tables_records self.now) n }
+    {
+        self.store.state(n)
+    }
+
+    /// The stamp of its file.
+    pub fn file(&self, n: u32) -> Option<FileStamp>
+        requires { n < tables_count self.now }
+        ensures { result ≡ ((tables_records self.now).cell n).file }
+    {
+        self.store.file(n)
+    }
+
+    /// The session that holds its lock.
+    pub fn holder(&self, n: u32) -> Option<u8>
+        requires { n < tables_count self.now }
+        ensures { result ≡ (locks_of self.now).holder n }
+    {
+        self.holders[n as usize]
+    }
+
+    /// How many numbers there are for names. Of no other number is anything known.
+    pub fn count(&self) -> u32
+        ensures count { result ≡ tables_count self.now }
+        ensures others { (n : ℕ) → tables_count self.now ≤ n → IsUnknown (state_of self.now) n }
+    {
+        self.store.count()
+    }
+
     /// The targets that the session holds, in the order of their numbers.
     pub fn held_by(&self, alloc: Global, session: u8) -> Result<Vec<u32>, AllocError>
         ensures held { IfOk result (λ held. (t : ℕ) → Contains held.items t

@@ -206,7 +206,8 @@ impl Store {
 
     /// How many names there are.
     pub(crate) fn count(&self) -> u32
-        ensures { result ≡ count_of self.now }
+        ensures count { result ≡ count_of self.now }
+        ensures stored { IsStored self.now }
     {
         self.records.count() as u32
     }

@@ -1,0 +1,12 @@
+use Rattle.std.proofs.Common.{ℕ, ◌≤◌, subst}
+use Rattle.redo_model.specs.Inside.Unknown.{IsUnknown}
+use Rattle.redo_store.specs.Kept.{tables_of}
+use Rattle.redo_store.specs.Tables.{Tables, state_of, tables_count}
+use Rattle.redo_store.proofs.Unknown.{unknown_past}
+use Rattle.redo_store.proofs.redo.Redo.count.Goals as goal
+
+pub returns-clause-others : goal.returns-clause-others
+returns-clause-others c =
+    subst (λ (tables : Tables). (n : ℕ) → tables_count tables ≤ n → IsUnknown (state_of tables) n)
+    c.self.view_is
+    (unknown_past (tables_of c.self.inside) c.count.ensures.stored c.self.invariant)

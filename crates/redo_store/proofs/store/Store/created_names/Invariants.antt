@@ -1,0 +1,12 @@
+use Rattle.std.proofs.Common.{take}
+use Rattle.std.specs.List.{Contains}
+use Rattle.redo_model.specs.Names.{IsListed}
+use Rattle.redo_model.specs.OutOfDate.{HasCreatedRow}
+use Rattle.redo_rows.specs.Rows.{by_number}
+use Rattle.redo_store.specs.Stored.{records_of}
+use Rattle.redo_store.proofs.store.Store.created_names.Given as goal
+
+abbrev pub invariant-loop-n : goal.invariant-loop-n
+invariant-loop-n l = IsListed by_number
+    (λ n. Contains (take l.n-index l.n-items) n × HasCreatedRow (records_of l.fn.self) l.t n)
+    l.names.items

@@ -1,0 +1,11 @@
+-- What the answers of the code mean.
+use Rattle.std.specs.Prelude.{ℕ}
+use Rattle.redo_model.specs.Deps as model
+use Rattle.redo_store.specs.declared.deps.Deps.{Deps}
+
+abbrev pub deps_of : Deps → model.Deps ℕ
+deps_of deps = record {
+  change = deps.change.items;
+  created = deps.created.items;
+  always = deps.always;
+}

@@ -1,0 +1,113 @@
+//! Questions about what the store knows.
+ghost use Rattle.std.specs.Prelude.{◌≡◌, ◌↔◌, ◌<◌, IsTrue, IfOk, IfSome, IsOk, option_map};
+ghost use Rattle.redo_model.specs.Deps.{AreDeps};
+ghost use Rattle.redo_model.specs.Inside.Deps.{AreDepsBelow};
+ghost use Rattle.redo_model.specs.Why.{TellsWhy};
+ghost use Rattle.redo_model.specs.Inside.Why.{IsWhyBelow};
+ghost use Rattle.redo_model.specs.Names.{IsListed};
+ghost use Rattle.redo_model.specs.OutOfDate.{HasChangeRow, HasCreatedRow, OutOfDate};
+ghost use Rattle.redo_model.specs.Renaming.{AllBelow};
+ghost use Rattle.redo_model.specs.State.{target_state};
+ghost use Rattle.redo_ood.specs.Meaning.{why_of};
+ghost use Rattle.redo_records.specs.Meaning.{target_state_of};
+ghost use Rattle.redo_rows.specs.Rows.{by_number};
+ghost use Rattle.redo_store.specs.Meaning.{deps_of};
+ghost use Rattle.redo_store.specs.Stored.{count_of, records_of};
+
+use crate::deps::Deps;
+use crate::store::Store;
+use crate::store::lists::push_if;
+use redo_ood::Why;
+use redo_records::State;
+use redo_terms::FileStamp;
+use std::alloc::{AllocError, Global};
+
+impl Store {
+    /// Why the target is out of date, where it is so. Takes no memory where it is up to date.
+    pub fn why(&self, alloc: Global, t: u32) -> Result<Option<Why>, AllocError>
+        requires { t < count_of self.now }
+        ensures why { IfOk result
+            (λ found. TellsWhy (records_of self.now) t (option_map why_of found)) }
+        ensures below { IfOk result
+            (λ found. IfSome found (λ why. IsWhyBelow (count_of self.now) (why_of why))) }
+        ensures up_to_date { (OutOfDate (records_of self.now) t → ⊥) → IsOk result }
+    {
+        self.memo.why(alloc, &self.records, &self.rows, t)
+    }
+
+    /// On which names the target has rows.
+    pub fn deps(&self, alloc: Global, t: u32) -> Result<Deps, AllocError>
+        requires { t < count_of self.now }
+        ensures deps { IfOk result
+            (λ deps. AreDeps by_number (records_of self.now) t (deps_of deps)) }
+        ensures below { IfOk result (λ deps. AreDepsBelow (count_of self.now) (deps_of deps)) }
+    {
+        Ok(Deps {
+            change: self.change_names(alloc, t)?,
+            created: self.created_names(alloc, t)?,
+            always: self.rows.always(t),
+        })
+    }
+
+    /// How far it has come.
+    pub fn state(&self, n: u32) -> State
+        requires { n < count_of self.now }
+        ensures { target_state_of result ≡ target_state (records_of self.now) n }
+    {
+        self.records.state(n)
+    }
+
+    /// The stamp of its file.
+    pub fn file(&self, n: u32) -> Option<FileStamp>
+        requires { n < count_of self.now }
+        ensures { result ≡ ((records_of self.now).cell n).file }
+    {
+        self.records.file(n)
+    }
+
+    /// Whether the target has a change row on the name.
+    fn has_change(&self, t: u32, n: u32) -> bool
+        requires { t < count_of self.now }
+        ensures { IsTrue result ↔ HasChangeRow (records_of self.now) t n }
+    {
+        self.rows.change_of(t, n).is_some()
+    }
+
+    /// Whether the target has a created row on the name.
+    fn has_created(&self, t: u32, n: u32) -> bool
+        requires { t < count_of self.now }
+        ensures { IsTrue result ↔ HasCreatedRow (records_of self.now) t n }
+    {
+        self.rows.created(t, n)
+    }
+
+    /// The names on which the target has a change row.
+    fn change_names(&self, alloc: Global, t: u32) -> Result<Vec<u32>, AllocError>
+        requires { t < count_of self.now }
+        ensures listed { IfOk result
+            (λ names. IsListed by_number (HasChangeRow (records_of self.now) t) names.items) }
+        ensures below { IfOk result (λ names. AllBelow (count_of self.now) names.items) }
+    {
+        let mut names = Vec::new(alloc);
+        for &n in self.rows.of(t) {
+            let is_due = self.has_change(t, n);
+            push_if(&mut names, n, is_due)?;
+        }
+        Ok(names)
+    }
+
+    /// The names on which the target has a created row.
+    fn created_names(&self, alloc: Global, t: u32) -> Result<Vec<u32>, AllocError>
+        requires { t < count_of self.now }
+        ensures listed { IfOk result
+            (λ names. IsListed by_number (HasCreatedRow (records_of self.now) t) names.items) }
+        ensures below { IfOk result (λ names. AllBelow (count_of self.now) names.items) }
+    {
+        let mut names = Vec::new(alloc);
+        for &n in self.rows.of(t) {
+            let is_due = self.has_created(t, n);
+            push_if(&mut names, n, is_due)?;
+        }
+        Ok(names)
+    }
+}
