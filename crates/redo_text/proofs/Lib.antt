@@ -25,3 +25,4 @@ pub mod ScriptSteps
 pub mod Scripts
 pub mod Spaced
 pub mod Steps
+pub mod Inquired

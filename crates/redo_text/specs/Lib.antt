@@ -4,3 +4,4 @@ pub mod Questions
 pub mod Faults
 pub mod Replies
 pub mod Inside
+pub mod Inquiries

@@ -4,6 +4,7 @@
 mod args;
 mod fault;
 mod forms;
+mod inquiries;
 mod keywords;
 mod known;
 mod laws;
@@ -19,6 +20,7 @@ mod text;
 mod words;
 
 pub use fault::{LineFault, ReadFault, ReplyFault, fault_word};
+pub use inquiries::{Inquiry, read_inquiry};
 pub use laws::{
     command_reads_back, fault_or_command, fault_or_script, line_reads_back, no_read_fault,
     one_command_a_line, one_reply_a_text, one_script, reply_reads_back,
@@ -29,4 +31,7 @@ pub use read::{LONGEST_LINE, MOST_COMMANDS, read_command};
 pub use replies::read_reply;
 pub use scan::place_of;
 pub use session_file::read_script;
-pub use text::{command_text, line_text, put_command, put_item, put_reply, reply_text};
+pub use text::{
+    command_text, line_text, put_command, put_item, put_names, put_reply, put_stamp_or_none,
+    put_word, reply_text,
+};

@@ -15,7 +15,7 @@ use redo_terms::{Command, FileStamp, Item, Kind, Refusal, Reply};
 use std::alloc::{AllocError, Global};
 
 /// Writes a word with the space before it.
-fn put_word(out: &mut Vec<u8>, word: &[u8]) -> Result<(), AllocError>
+pub fn put_word(out: &mut Vec<u8>, word: &[u8]) -> Result<(), AllocError>
     ensures { OnOk result (out.new.items ≡ out.old.items ++ after_space word.now) }
 {
     out.push(b' ')?;
@@ -24,7 +24,7 @@ fn put_word(out: &mut Vec<u8>, word: &[u8]) -> Result<(), AllocError>
 }
 
 /// Writes the names of these numbers.
-fn put_names(out: &mut Vec<u8>, names: &Names, numbers: &[u32]) -> Result<(), AllocError>
+pub fn put_names(out: &mut Vec<u8>, names: &Names, numbers: &[u32]) -> Result<(), AllocError>
     requires { AllBelow (length names.now) numbers.now }
     ensures { OnOk result (out.new.items
         ≡ out.old.items ++ flat_map after_space (map (text_at names.now) numbers.now)) }
@@ -36,7 +36,7 @@ fn put_names(out: &mut Vec<u8>, names: &Names, numbers: &[u32]) -> Result<(), Al
 }
 
 /// Writes a stamp, or `-` for none.
-fn put_stamp_or_none(out: &mut Vec<u8>, stamp: Option<FileStamp>) -> Result<(), AllocError>
+pub fn put_stamp_or_none(out: &mut Vec<u8>, stamp: Option<FileStamp>) -> Result<(), AllocError>
     ensures { OnOk result (out.new.items ≡ out.old.items ++ after_space (stamp_word stamp)) }
 {
     match stamp {

@@ -1,0 +1,55 @@
+-- The fault of a line that may ask something, by what it begins with and by how long it is.
+use Rattle.std.proofs.Common.{◌≡◌, ◌<◌, ◌≤◌, true, cond, List, length, Option, Some, None, refl, sym, ap, ◌∙◌, inl, inr, arith}
+use Rattle.std.specs.Prelude.{IsSome, is_some}
+use Rattle.std.proofs.lemmas.Bool.{cases_lt, lt-ltb}
+use Rattle.redo_model.specs.Names.{Text}
+use Rattle.redo_text.specs.declared.fault.LineFault.{LineFault}
+use Rattle.redo_text.specs.declared.fault.LineFault.TheVariants.{LineTooLong}
+use Rattle.redo_text.specs.declared.inquiries.Inquiry.{Inquiry}
+use Rattle.redo_text.specs.Questions.{first_yes, is_too_long, text_questions, words_of, line_fault}
+use Rattle.redo_text.specs.Inquiries.{inquiry_in, inquiry_fault, asked_fault}
+
+-- of a command, it is the command's
+pub asked_of_command : (names : List Text) (text : Text) → inquiry_in (words_of text) ≡ None
+    → asked_fault names text ≡ line_fault names text
+asked_of_command names text none =
+    ap (λ o. cond (is_some o) (inquiry_fault text) (line_fault names text)) none
+
+asked_by : (names : List Text) (text : Text) (o : Option Inquiry) → IsSome o
+    → cond (is_some o) (inquiry_fault text) (line_fault names text) ≡ inquiry_fault text
+asked_by names text None some = absurd cc
+asked_by names text (Some inquiry) some = refl
+
+-- of what asks something, it is that of the inquiry
+pub asked_of_inquiry : (names : List Text) (text : Text) → IsSome (inquiry_in (words_of text))
+    → asked_fault names text ≡ inquiry_fault text
+asked_of_inquiry names text some = asked_by names text (inquiry_in (words_of text)) some
+
+command_too_long : (names : List Text) (text : Text) → is_too_long text ≡ true
+    → line_fault names text ≡ Some LineTooLong
+unfolding line_fault
+command_too_long names text e =
+    ap (λ b. cond b (Some LineTooLong) (first_yes (text_questions names text))) e
+
+inquiry_too_long : (text : Text) → is_too_long text ≡ true → inquiry_fault text ≡ Some LineTooLong
+unfolding inquiry_fault
+inquiry_too_long text e = rw e refl
+
+both_too_long : (names : List Text) (text : Text) (o : Option Inquiry)
+    → is_too_long text ≡ true
+    → cond (is_some o) (inquiry_fault text) (line_fault names text) ≡ Some LineTooLong
+both_too_long names text None e = command_too_long names text e
+both_too_long names text (Some inquiry) e = inquiry_too_long text e
+
+-- a text that is too long has that fault, whatever it asks
+pub asked_when_long : (names : List Text) (text : Text) → 8192 < length text
+    → asked_fault names text ≡ Some LineTooLong
+asked_when_long names text long =
+    both_too_long names text (inquiry_in (words_of text)) (lt-ltb 8192 (length text) long)
+
+-- what asks something and has no fault is short
+pub fits_is_short : (text : Text) → inquiry_fault text ≡ None → length text ≤ 8192
+fits_is_short text fits = elim (cases_lt 8192 (length text)) [
+  | inl long ↦ absurd (let e = sym fits ∙ inquiry_too_long text (lt-ltb 8192 (length text) long) in cc)
+  | inr short ↦ omega arith
+]
