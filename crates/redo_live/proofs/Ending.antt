@@ -42,7 +42,7 @@ use Rattle.redo_live.proofs.Keeping.{taken_below}
 use Rattle.redo_live.proofs.Lines.{all_from_map, all_of}
 use Rattle.redo_live.proofs.Reordered.{ascending_once, listed_again}
 
-number_is_strict : (n : ℕ) → nat_cmp n n ≢ Less
+pub number_is_strict : (n : ℕ) → nat_cmp n n ≢ Less
 number_is_strict n e = let f = tied_itself nat_cmp_total n in cc
 
 text_is_strict : (names : List Text) (n : ℕ) → (by_text names).order n n ≢ Less

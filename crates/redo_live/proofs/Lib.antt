@@ -2,6 +2,7 @@ pub mod Within
 pub mod MoreNames
 pub mod Reordered
 pub mod Answering
+pub mod Asking
 pub mod Keeping
 pub mod Changing
 pub mod Obeying

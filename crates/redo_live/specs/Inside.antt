@@ -5,4 +5,5 @@ pub mod Ordered
 pub mod Told
 pub mod ClosingLines
 pub mod Answered
+pub mod Asked
 pub mod Ended

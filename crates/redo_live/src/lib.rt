@@ -1,6 +1,7 @@
 //! A database that is talked to: it answers commands as they come, over names that come with them.
 #![tactic(auto)]
 
+mod asked;
 mod fault;
 mod live;
 mod ordering;

@@ -17,6 +17,7 @@ use redo_text::read_command;
 use std::alloc::{AllocError, Global};
 use std::marker::Model;
 
+mod asking;
 mod ending;
 
 /// How many numbers there are for names at first.

@@ -1,7 +1,8 @@
 //! What is said to commands, worked out by hand from the rules.
 use crate::{Live, Unanswered};
-use redo_text::LineFault;
+use redo_text::{Inquiry, LineFault};
 use std::alloc::Global;
+use std::process::Abort;
 use std::test::Fail;
 
 /// The lines of a session's commands, of which those with `true` change something.
@@ -112,4 +113,93 @@ fn end(rt: HostRuntime) -> Result<(), Fail> {
         told(alloc, &mut live, 0, "lock c")?.as_slice() == b"1 lock c => busy 1\n".as_slice()
     );
     Ok(())
+}
+
+/// A build of `t`, which isn't done, and what is told while it goes on.
+const BEGUN: &[&str] = &[
+    "file z.h 1",
+    "file a.h 1",
+    "lock t",
+    "start t",
+    "ifchange t z.h a.h",
+    "ifcreate t new.h",
+    "always t",
+];
+
+const TOLD_MEANWHILE: &[(Inquiry, &str, &str)] = &[
+    (Inquiry::Why, "t", "2 why t => building t t\n"),
+    (
+        Inquiry::State,
+        "t",
+        "2 state t => building 1 lock 1 file -\n",
+    ),
+    (Inquiry::State, "z.h", "2 state z.h => idle lock - file 1\n"),
+];
+
+/// It is done, and `top` is built, which needs it; and what is told then.
+const DONE: &[&str] = &[
+    "done t 5",
+    "lock top",
+    "start top",
+    "ifchange top t",
+    "done top -",
+];
+
+const TOLD_THEN: &[(Inquiry, &str, &str)] = &[
+    (Inquiry::Why, "top", "2 why top => always t top t\n"),
+    (Inquiry::Why, "a.h", "2 why a.h => clean\n"),
+    (Inquiry::Why, "nobody", "2 why nobody => clean\n"),
+    (
+        Inquiry::Deps,
+        "t",
+        "2 deps t => change 2 a.h z.h created 1 new.h always 1\n",
+    ),
+    (
+        Inquiry::Deps,
+        "top",
+        "2 deps top => change 1 t created 0 always 0\n",
+    ),
+    (
+        Inquiry::Deps,
+        "nobody",
+        "2 deps nobody => change 0 created 0 always 0\n",
+    ),
+    (Inquiry::State, "t", "2 state t => built lock 1 file 5\n"),
+    (
+        Inquiry::State,
+        "top",
+        "2 state top => built lock 1 file -\n",
+    ),
+    (
+        Inquiry::State,
+        "nobody",
+        "2 state nobody => idle lock - file -\n",
+    ),
+];
+
+/// The commands are answered, and then the inquiries.
+fn ask_after(
+    rt: &impl Abort,
+    alloc: Global,
+    live: &mut Live,
+    commands: &[&str],
+    questions: &[(Inquiry, &str, &str)],
+) -> Result<(), Fail> {
+    for text in commands {
+        told(alloc, live, 0, text)?;
+    }
+    for (question, name, want) in questions {
+        let mut said = Vec::new(alloc);
+        live.ask(alloc, 1, *question, name.as_bytes(), &mut said)?;
+        assert!(rt; said.as_slice() == want.as_bytes(), "{want}");
+    }
+    Ok(())
+}
+
+#[test]
+fn questions(rt: HostRuntime) -> Result<(), Fail> {
+    let alloc = rt.alloc();
+    let mut live = Live::new(alloc)?;
+    ask_after(&rt, alloc, &mut live, BEGUN, TOLD_MEANWHILE)?;
+    ask_after(&rt, alloc, &mut live, DONE, TOLD_THEN)
 }

@@ -1,9 +1,10 @@
 -- What a database that is talked to holds.
-use Rattle.std.specs.Prelude.{◌≡◌, ℕ, List}
+use Rattle.std.specs.Prelude.{◌≡◌, ℕ, ◌<◌, List, length}
+use Rattle.redo_names.specs.Names.{text_at}
 use Rattle.redo_model.specs.Names.{Text}
 use Rattle.redo_model.specs.State.{State}
 use Rattle.redo_model.specs.Inside.Renaming.{named_state, numbering}
-use Rattle.redo_store.specs.Tables.{Tables, state_of, calls_of}
+use Rattle.redo_store.specs.Tables.{Tables, state_of, tables_count, calls_of}
 
 -- the names that were spoken of, and a database over their numbers
 pub record LiveState : Type 0 where
@@ -17,6 +18,12 @@ state_in live = named_state (numbering live.names) (state_of live.tables)
 -- how many commands were answered
 abbrev pub calls_in : LiveState → ℕ
 calls_in live = calls_of live.tables
+
+-- the name has this number, of which the database knows
+pub record IsNumberOf (live : LiveState) (name : Text) (n : ℕ) : Type 0 where
+  pub named : text_at live.names n ≡ name
+  pub among_names : n < length live.names
+  pub among_numbers : n < tables_count live.tables
 
 -- the same is known, and as many commands were answered
 pub record IsAsKnown (old new : LiveState) : Type 0 where

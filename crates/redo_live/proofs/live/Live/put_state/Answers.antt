@@ -1,0 +1,32 @@
+use Rattle.std.proofs.Common.{◌≡◌, ◌++◌, List, length, ap, subst}
+use Rattle.std.specs.List.{flat_map}
+use Rattle.std.proofs.lemmas.Result.{IfOk-equal}
+use Rattle.redo_records.specs.Meaning.{target_state_of}
+use Rattle.redo_model.specs.Names.{Text}
+use Rattle.redo_model.specs.State.{target_state}
+use Rattle.redo_store.specs.Tables.{state_of, tables_records, locks_of}
+use Rattle.redo_text.specs.Texts.{after_space}
+use Rattle.redo_live.specs.Inside.LiveState.{LiveState}
+use Rattle.redo_live.specs.Inside.Within.{IsStateWithin}
+use Rattle.redo_live.proofs.Asking.{told_state}
+use Rattle.redo_live.proofs.live.Live.put_state.Goals as goal
+
+pub returns-in-Some : goal.returns-in-Some
+returns-in-Some c =
+    let live : LiveState = c.args.self.now in
+    let known = c.in-Some.ensures.known in
+    let n = c.in-Some.n in
+    let state = target_state_of c.state.result in
+    let within = subst (λ (l : LiveState). IsStateWithin (length l.names) (state_of l.tables))
+    c.self.view_is c.self.invariant.state.within in
+    let is_state = subst (λ (l : LiveState). state ≡ target_state (tables_records l.tables) n)
+    c.self.view_is c.state.ensures in
+    let is_holder = subst (λ (l : LiveState). c.holder.result ≡ (locks_of l.tables).holder n)
+    c.self.view_is c.holder.ensures in
+    let is_file = subst (λ (l : LiveState). c.file.result ≡ ((tables_records l.tables).cell n).file)
+    c.self.view_is c.file.ensures in
+    IfOk-equal c.put_state.result _ _ _ c.put_state.ensures
+    (ap (λ (words : List Text). c.args.line.now.items ++ flat_map after_space words)
+    (told_state live.names c.in-Some.ensures.names (state_of live.tables) within n
+    c.args.name.now known.among_names known.named state c.holder.result c.file.result is_state
+    is_holder is_file))

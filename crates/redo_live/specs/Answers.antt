@@ -1,0 +1,85 @@
+-- What is told about a name.
+use Rattle.std.specs.Prelude.{◌≡◌, ℕ, ◌+◌, Bool, true, false, List, [], ◌∷◌, ◌++◌, Option, Some, None, length, codes, decimal}
+use Rattle.redo_model.specs.Names.{Text, texts}
+use Rattle.redo_model.specs.State.{State, TargetState, Idle, Building, Built, Failed, target_state}
+use Rattle.redo_model.specs.Deps as model
+use Rattle.redo_model.specs.Deps.{AreDeps}
+use Rattle.redo_model.specs.Why as whys
+use Rattle.redo_model.specs.Why.{Reason, TellsWhy, end_of}
+use Rattle.redo_text.specs.Texts.{spaced, stamp_word}
+use Rattle.redo_text.specs.Inquiries.{inquiry_word}
+use Rattle.redo_history.specs.Histories.{ended}
+use Rattle.redo_text.specs.declared.inquiries.Inquiry.{Inquiry}
+use Rattle.redo_text.specs.declared.inquiries.Inquiry.TheVariants as inquiries
+
+-- the word for a reason
+abbrev pub reason_word : {N : Type 0} → Reason N → Text
+reason_word whys.Building = codes "building"
+reason_word whys.Failed = codes "failed"
+reason_word whys.Edited = codes "edited"
+reason_word whys.Always = codes "always"
+reason_word (whys.Appeared n) = codes "appeared"
+reason_word (whys.Changed n) = codes "changed"
+
+-- the name that is told with the reason of t: the one that appeared or changed, else t
+abbrev pub reason_name : {N : Type 0} → N → Reason N → N
+reason_name t whys.Building = t
+reason_name t whys.Failed = t
+reason_name t whys.Edited = t
+reason_name t whys.Always = t
+reason_name t (whys.Appeared n) = n
+reason_name t (whys.Changed n) = n
+
+-- the reason with its name, and the chain
+abbrev pub why_words : Text → Option (whys.Why Text) → List Text
+why_words t None = codes "clean" ∷ []
+why_words t (Some why) =
+    reason_word why.reason ∷ reason_name (end_of t why.names) why.reason ∷ t ∷ why.names
+
+-- how many names there are, and the names
+abbrev pub counted : List Text → List Text
+counted names = decimal (length names) ∷ names
+
+abbrev pub flag_word : Bool → Text
+flag_word true = codes "1"
+flag_word false = codes "0"
+
+abbrev pub deps_words : model.Deps Text → List Text
+deps_words deps =
+    codes "change" ∷ counted deps.change
+    ++ codes "created" ∷ counted deps.created
+    ++ codes "always" ∷ flag_word deps.always ∷ []
+
+-- sessions are told plus one
+abbrev pub stage_words : TargetState → List Text
+stage_words Idle = codes "idle" ∷ []
+stage_words (Building session) = codes "building" ∷ decimal (session + 1) ∷ []
+stage_words Built = codes "built" ∷ []
+stage_words Failed = codes "failed" ∷ []
+
+-- "-" stands for no holder
+abbrev pub holder_word : Option ℕ → Text
+holder_word None = codes "-"
+holder_word (Some session) = decimal (session + 1)
+
+abbrev pub state_words : TargetState → Option ℕ → Option Text → List Text
+state_words state holder file =
+    stage_words state ++ codes "lock" ∷ holder_word holder ∷ codes "file" ∷ stamp_word file ∷ []
+
+-- these words answer the inquiry about the name
+abbrev pub IsAnswer : State Text → Inquiry → Text → List Text → Type 0
+IsAnswer st inquiries.Why t words = (found : Option (whys.Why Text))
+    × TellsWhy st.records t found × (words ≡ why_words t found)
+IsAnswer st inquiries.Deps t words = (deps : model.Deps Text)
+    × AreDeps texts st.records t deps × (words ≡ deps_words deps)
+IsAnswer st inquiries.State n words =
+    words ≡ state_words (target_state st.records n) (st.locks.holder n) (st.records.cell n).file
+
+-- the line tells the session the answer
+pub record AnswersInquiry (st : State Text) (session : ℕ) (inquiry : Inquiry)
+    (name line : Text) : Type 0
+  where
+    pub words : List Text
+    pub is : IsAnswer st inquiry name words
+    pub line_is : line ≡ ended (spaced (decimal (session + 1))
+        (inquiry_word inquiry ∷ name ∷ codes "=>" ∷ words))

@@ -1,0 +1,162 @@
+//! Questions about names. They change nothing, and a name that isn't known is idle.
+ghost use Rattle.std.specs.Prelude.{◌≡◌, ◌<◌, ◌++◌, List, length, option_map, IfOk, IfSome, IsNone, OnOk, OnErr};
+ghost use Rattle.std.specs.List.{flat_map};
+ghost use Rattle.redo_names.specs.Inside.Names.{AreNames};
+ghost use Rattle.redo_names.specs.Names.{text_at};
+ghost use Rattle.redo_model.specs.Deps.{AreDeps};
+ghost use Rattle.redo_model.specs.Inside.Deps.{AreDepsBelow};
+ghost use Rattle.redo_model.specs.Inside.Unknown.{IsUnknown};
+ghost use Rattle.redo_model.specs.Why.{TellsWhy};
+ghost use Rattle.redo_model.specs.Inside.Why.{IsWhyBelow};
+ghost use Rattle.redo_model.specs.Names.{Text, texts};
+ghost use Rattle.redo_model.specs.State.{target_state};
+ghost use Rattle.redo_ood.specs.Meaning.{why_of};
+ghost use Rattle.redo_store.specs.Meaning.{deps_of};
+ghost use Rattle.redo_store.specs.Tables.{tables_count};
+ghost use Rattle.redo_text.specs.Texts.{after_space};
+ghost use Rattle.redo_text.specs.Inquiries.{inquiry_word};
+ghost use Rattle.redo_live.specs.Answers.{AnswersInquiry, IsAnswer, state_words};
+ghost use Rattle.redo_live.specs.Inside.Asked.{deps_at, why_at};
+ghost use Rattle.redo_live.specs.Inside.LiveState.{IsNumberOf, state_in};
+
+use crate::asked::{inquiry_word, put_deps, put_state, put_why};
+use crate::live::Live;
+use crate::ordering::sort;
+use redo_history::put_number;
+use redo_ood::Why;
+use redo_records::State;
+use redo_store::Deps;
+use redo_text::{Inquiry, put_word};
+use std::alloc::{AllocError, Global};
+
+impl Live {
+    /// Tells a session what it asks about a name: a line goes behind `said`.
+    pub fn ask(
+        &self,
+        alloc: Global,
+        session: u8,
+        inquiry: Inquiry,
+        name: &[u8],
+        said: &mut Vec<u8>,
+    ) -> Result<(), AllocError>
+        ensures told { OnOk result ((line : Text)
+            × AnswersInquiry (state_in self.now) session inquiry name.now line
+            × (said.new.items ≡ said.old.items ++ line)) }
+        ensures untold { OnErr result (said.new.items ≡ said.old.items) }
+    {
+        let mut line = Vec::new(alloc);
+        put_number(&mut line, session as usize + 1)?;
+        put_word(&mut line, inquiry_word(inquiry))?;
+        put_word(&mut line, name)?;
+        put_word(&mut line, b"=>")?;
+        self.put_answer(alloc, inquiry, name, &mut line)?;
+        line.push(b'\n')?;
+        said.extend_from_slice(&line)
+    }
+
+    /// The number of a name of which something may be known.
+    fn known_number(&self, name: &[u8]) -> Option<u32>
+        ensures known { IfSome result (IsNumberOf self.now name.now) }
+        ensures unknown { IsNone result → IsUnknown (state_in self.now) name.now }
+        ensures names { AreNames self.now.names }
+    {
+        // This call says that they are names.
+        let _ = self.names.len();
+        let number = self.names.number_of(name)?;
+        if number < self.redo.count() {
+            Some(number)
+        } else {
+            None
+        }
+    }
+
+    /// Writes the words that answer the question.
+    fn put_answer(
+        &self,
+        alloc: Global,
+        inquiry: Inquiry,
+        name: &[u8],
+        line: &mut Vec<u8>,
+    ) -> Result<(), AllocError>
+        ensures { OnOk result ((words : List Text)
+            × IsAnswer (state_in self.now) inquiry name.now words
+            × (line.new.items ≡ line.old.items ++ flat_map after_space words)) }
+    {
+        match inquiry {
+            Inquiry::Why => {
+                let found = self.why(alloc, name)?;
+                put_why(line, &self.names, name, &found)
+            }
+            Inquiry::Deps => {
+                let deps = self.deps(alloc, name)?;
+                put_deps(alloc, line, &self.names, &deps)
+            }
+            Inquiry::State => self.put_state(alloc, name, line),
+        }
+    }
+
+    /// Why the target is out of date, where it is so.
+    fn why(&self, alloc: Global, name: &[u8]) -> Result<Option<Why>, AllocError>
+        ensures why { IfOk result (λ found. TellsWhy (state_in self.now).records name.now
+            (option_map (why_at self.now.names) found)) }
+        ensures below { IfOk result
+            (λ found. IfSome found (λ why. IsWhyBelow (length self.now.names) (why_of why))) }
+    {
+        match self.known_number(name) {
+            Some(t) => self.redo.why(alloc, t),
+            None => Ok(None),
+        }
+    }
+
+    /// On which names the target with this number has rows, in the order of their texts.
+    fn sorted_deps(&self, alloc: Global, t: u32) -> Result<Deps, AllocError>
+        requires name { t < length self.now.names }
+        requires number { t < tables_count self.now.tables }
+        requires names { AreNames self.now.names }
+        ensures deps { IfOk result (λ deps. AreDeps texts (state_in self.now).records
+            (text_at self.now.names t) (deps_at self.now.names deps)) }
+        ensures below { IfOk result
+            (λ deps. AreDepsBelow (length self.now.names) (deps_of deps)) }
+    {
+        let mut deps = self.redo.deps(alloc, t)?;
+        sort(&self.names, &mut deps.change);
+        sort(&self.names, &mut deps.created);
+        Ok(deps)
+    }
+
+    /// On which names the target has rows.
+    fn deps(&self, alloc: Global, name: &[u8]) -> Result<Deps, AllocError>
+        ensures deps { IfOk result (λ deps. AreDeps texts (state_in self.now).records name.now
+            (deps_at self.now.names deps)) }
+        ensures below { IfOk result
+            (λ deps. AreDepsBelow (length self.now.names) (deps_of deps)) }
+    {
+        match self.known_number(name) {
+            Some(t) => self.sorted_deps(alloc, t),
+            None => Ok(Deps {
+                change: Vec::new(alloc),
+                created: Vec::new(alloc),
+                always: false,
+            }),
+        }
+    }
+
+    /// Writes the words for the state of a name.
+    fn put_state(&self, alloc: Global, name: &[u8], line: &mut Vec<u8>) -> Result<(), AllocError>
+        ensures { OnOk result (line.new.items ≡ line.old.items ++ flat_map after_space
+            (state_words (target_state (state_in self.now).records name.now)
+            ((state_in self.now).locks.holder name.now)
+            ((state_in self.now).records.cell name.now).file)) }
+    {
+        match self.known_number(name) {
+            Some(n) => put_state(
+                alloc,
+                line,
+                self.redo.state(n),
+                self.redo.holder(n),
+                self.redo.file(n),
+            ),
+            None => put_state(alloc, line, State::Idle, None, None),
+        }
+    }
+}
