@@ -19,9 +19,10 @@ use Rattle.redo_model.proofs.Texts.{texts_are_names}
 use Rattle.redo_text.specs.Grammar.{with_names}
 use Rattle.redo_text.proofs.ScriptParts.{with_names-append}
 use Rattle.redo_history.proofs.KnownNames.{AreKnown, with_names-known}
+use Rattle.redo_live.specs.Answers.{AnswersInquiry}
 use Rattle.redo_live.specs.Lines.{names_after}
-use Rattle.redo_talk.specs.Rounds.{Round, IsRound, IsAnswered, IsEnded, IsFaulty, AreRounds, lines_in, IsFaultWord, Asks, fault_text_of, HasNoSession}
-use Rattle.redo_talk.specs.Inside.Steps.{Known, LeadsTo, Answering, Ending, Refusing, IsStep, AreSteps}
+use Rattle.redo_talk.specs.Rounds.{Round, IsRound, IsAnswered, IsEnded, IsTold, IsFaulty, AreRounds, lines_in, IsFaultWord, Asks, fault_text_of, HasNoSession}
+use Rattle.redo_talk.specs.Inside.Steps.{Known, LeadsTo, Answering, Ending, Telling, Refusing, IsStep, AreSteps}
 
 -- the names after more lines
 names_more : (before more : List (Line Text)) → names_after (before ++ more)
@@ -131,13 +132,27 @@ module _ (before : List (Line Text)) (old new : Known) (round : Round) (led : Le
         cause (inr (s, text, word, asks, is, said)) =
             inr (s, text, word, asks, subst (λ ns. IsFaultWord ns text word) led.names_are is, said)
 
-    refusing_leads : Refusing old new round → LeadsTo (before ++ round.lines) new
-    refusing_leads step =
-        led_by [] step.none (subst (λ ls. LeadsTo ls new) (sym (append-nil before)) (record {
+    -- a step that changes nothing
+    unchanged_leads : round.lines ≡ [] → new.names ≡ old.names → new.state ≡ old.state
+        → LeadsTo (before ++ round.lines) new
+    unchanged_leads none same_names same_state =
+        led_by [] none (subst (λ ls. LeadsTo ls new) (sym (append-nil before)) (record {
           legal = led.legal;
-          names_are = step.same_names ∙ led.names_are;
-          state_is = step.same_state ∙ led.state_is;
+          names_are = same_names ∙ led.names_are;
+          state_is = same_state ∙ led.state_is;
         }))
+
+    telling_round : Telling old new round → IsTold before round
+    telling_round step = record {
+      session = step.session;
+      inquiry = step.inquiry;
+      name = step.name;
+      asks = step.asks;
+      fits = step.fits;
+      tells = subst (λ st. AnswersInquiry st step.session step.inquiry step.name round.said)
+          led.state_is step.tells;
+      none = step.none;
+    }
 
     -- the lines of an end, by what the history before it left
     closing_is : (step : Ending old new round) → round.lines
@@ -186,12 +201,16 @@ module _ (before : List (Line Text)) (old new : Known) (round : Round) (led : Le
     step_is_round : IsStep old new round → IsRound before round
     step_is_round (inl step) = inl (answering_round step)
     step_is_round (inr (inl step)) = inr (inl (ending_round step))
-    step_is_round (inr (inr step)) = inr (inr (refusing_round step))
+    step_is_round (inr (inr (inl step))) = inr (inr (inl (telling_round step)))
+    step_is_round (inr (inr (inr step))) = inr (inr (inr (refusing_round step)))
 
     step_leads : IsStep old new round → LeadsTo (before ++ round.lines) new
     step_leads (inl step) = answering_leads step
     step_leads (inr (inl step)) = ending_leads step
-    step_leads (inr (inr step)) = refusing_leads step
+    step_leads (inr (inr (inl step))) =
+        unchanged_leads step.none step.same_names step.same_state
+    step_leads (inr (inr (inr step))) =
+        unchanged_leads step.none step.same_names step.same_state
 
 -- steps from where a history led are rounds after it, and lead on with their lines
 pub steps_are_rounds : (before : List (Line Text)) (old new : Known) (rounds : List Round)

@@ -2,6 +2,7 @@ pub mod Led
 pub mod RoundByRound
 pub mod LongLines
 pub mod Fronts
+pub mod Heeding
 pub mod Responding
 pub mod Conversations
 pub mod Asking

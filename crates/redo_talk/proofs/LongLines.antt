@@ -1,13 +1,13 @@
 -- What is kept of a line tells the fault of the whole line.
-use Rattle.std.proofs.Common.{◌≡◌, ◌⊎◌, ℕ, ◌+◌, ◌-◌, ◌<◌, ◌≤◌, true, cond, List, ◌++◌, Some, length, take, drop, length-append, append_assoc, sym, ap, ◌∙◌, subst, inl, inr, arith}
+use Rattle.std.proofs.Common.{◌≡◌, ◌⊎◌, ℕ, ◌+◌, ◌-◌, ◌<◌, ◌≤◌, List, ◌++◌, length, take, drop, length-append, append_assoc, sym, ap, ◌∙◌, subst, inl, inr, arith}
 use Rattle.std.specs.Prelude.{codes, decimal}
 use Rattle.std.proofs.Math.Seq.{take-append-add}
-use Rattle.std.proofs.lemmas.Bool.{cases_lt, lt-ltb}
+use Rattle.std.proofs.lemmas.Bool.{cases_lt}
 use Rattle.std.proofs.lemmas.Fmt.{length-decimal-le}
 use Rattle.std.proofs.lemmas.List.{take_all, length-take-le, take-append-drop}
 use Rattle.redo_model.specs.Names.{Text}
-use Rattle.redo_text.specs.Questions.{line_fault, first_yes, is_too_long, text_questions}
-use Rattle.redo_text.specs.declared.fault.LineFault.TheVariants.{LineTooLong}
+use Rattle.redo_text.specs.Inquiries.{inquiry_text_of}
+use Rattle.redo_text.proofs.Inquired.{asked_when_long, fits_is_short}
 use Rattle.redo_talk.specs.Rounds.{Round, Asks, HasNoSession, IsFaultWord, end_word, fault_text_of}
 use Rattle.redo_talk.specs.Inside.Steps.{Known, Refusing, IsStep}
 use Rattle.redo_talk.specs.Inside.KeptLines.{kept_of, IsHeardOf}
@@ -49,19 +49,6 @@ asked_length : (heard : Text) (s : ℕ) (text : Text) → Asks heard s text
 asked_length heard s text (few, parts) =
     omega (arith, ap length parts, length-append (front_of s) text, front_is_short s few)
 
-fault_if_long : (names : List Text) (text : Text) → is_too_long text ≡ true
-    → line_fault names text ≡ Some LineTooLong
-unfolding line_fault
-fault_if_long names text e =
-    ap (λ b. cond b (Some LineTooLong) (first_yes (text_questions names text))) e
-
-long_is : (text : Text) → 8192 < length text → is_too_long text ≡ true
-long_is text long = lt-ltb 8192 (length text) long
-
-fault_when_long : (names : List Text) (text : Text) → 8192 < length text
-    → line_fault names text ≡ Some LineTooLong
-fault_when_long names text long = fault_if_long names text (long_is text long)
-
 fault_of_more : (names : List Text) (text more word : Text) → 8192 < length text
     → IsFaultWord names text word → IsFaultWord names (text ++ more) word
 fault_of_more names text more word long (inl (fault, other, is, e)) =
@@ -69,7 +56,7 @@ fault_of_more names text more word long (inl (fault, other, is, e)) =
     inl (
       fault,
       (λ same. absurd (omega (arith, ap length same))),
-      fault_when_long names (text ++ more) longer ∙ sym (fault_when_long names text long) ∙ is,
+      asked_when_long names (text ++ more) longer ∙ sym (asked_when_long names text long) ∙ is,
       e,
     )
 fault_of_more names text more word long (inr want) = inr want
@@ -123,7 +110,15 @@ module _ (old new : Known) (round : Round) (whole : Text) (heard : round.heard �
           ))
       long_step (inr (inl step)) =
           absurd (omega (arith, asked_length round.heard step.session end_word step.asks, long))
-      long_step (inr (inr step)) = inr (inr (refusing_whole step))
+      long_step (inr (inr (inl step))) =
+          let text = inquiry_text_of step.inquiry step.name in
+          absurd (omega (
+            arith,
+            asked_length round.heard step.session text step.asks,
+            fits_is_short text step.fits,
+            long,
+          ))
+      long_step (inr (inr (inr step))) = inr (inr (inr (refusing_whole step)))
 
     -- what is answered to what is kept of a line is the answer to the line
     step_of_kept : IsStep old new round → IsStep old new (record round { heard = whole })

@@ -17,6 +17,9 @@ use Rattle.redo_store.specs.Tables.{state_of}
 use Rattle.redo_text.specs.Grammar.{with_names}
 use Rattle.redo_history.proofs.KnownNames.{AreKnown, all_members}
 use Rattle.redo_history.specs.Histories.{line_text_of}
+use Rattle.redo_text.specs.Inquiries.{inquiry_text_of, inquiry_fault}
+use Rattle.redo_text.specs.declared.inquiries.Inquiry.{Inquiry}
+use Rattle.redo_live.specs.Answers.{AnswersInquiry}
 use Rattle.redo_live.specs.Inside.Answered.{logged_text}
 use Rattle.redo_live.specs.Inside.LiveState.{LiveState, state_in}
 use Rattle.redo_live.specs.Inside.Told.{AnswersText, EndsSession}
@@ -143,3 +146,28 @@ module _ (old new : LiveState) (heard : Text) (session : ℕ) where
         is.says,
         is.logs ∙ ap (λ ls. logged ++ lines_text_of ls) (sym all),
       )
+
+  -- something about a name that was told
+  pub telling_step : (text : Text) (inquiry : Inquiry) (name line said said' logged : Text)
+      → Asks heard session text → text ≡ inquiry_text_of inquiry name → inquiry_fault text ≡ None
+      → AnswersInquiry (state_in old) session inquiry name line → said' ≡ said ++ line
+      → (round : Round) × (round.heard ≡ heard) × IsStep (known_of old) (known_of old) round
+      × (said' ≡ said ++ round.said)
+      × (logged ≡ logged ++ logged_of (state_in old) round.lines)
+  telling_step text inquiry name line said said' logged asks is fits tells e = (
+    record { heard = heard; lines = []; said = line },
+    refl,
+    inr (inr (inl (record {
+      session = session;
+      inquiry = inquiry;
+      name = name;
+      asks = subst (Asks heard session) is asks;
+      fits = subst (λ t. inquiry_fault t ≡ None) is fits;
+      tells = tells;
+      same_names = refl;
+      same_state = refl;
+      none = refl;
+    }))),
+    e,
+    sym (append-nil logged),
+  )

@@ -1,5 +1,5 @@
 -- A conversation: what was heard, which lines of the history it made, and what was said.
-use Rattle.std.specs.Prelude.{◌≡◌, ◌≢◌, ◌⊎◌, ℕ, ◌<◌, ◌≤◌, ◌+◌, List, [], ◌∷◌, ◌++◌, Some, length, codes, decimal}
+use Rattle.std.specs.Prelude.{◌≡◌, ◌≢◌, ◌⊎◌, ℕ, ◌<◌, ◌≤◌, ◌+◌, List, [], ◌∷◌, ◌++◌, Some, None, length, codes, decimal}
 use Rattle.std.specs.List.{AllByRecursion, flat_map}
 use Rattle.redo_model.specs.Names.{Text, texts}
 use Rattle.redo_model.specs.State.{empty}
@@ -8,11 +8,13 @@ use Rattle.redo_model.specs.Step.{Answers}
 use Rattle.redo_model.specs.History.{Line, left_by, part_of}
 use Rattle.redo_model.specs.Closing.{ClosesAfter}
 use Rattle.redo_text.specs.Grammar.{IsCommandLine}
-use Rattle.redo_text.specs.Questions.{line_fault}
+use Rattle.redo_text.specs.Inquiries.{inquiry_text_of, inquiry_fault, asked_fault}
+use Rattle.redo_text.specs.declared.inquiries.Inquiry.{Inquiry}
 use Rattle.redo_text.specs.Faults.{fault_word_of}
 use Rattle.redo_text.specs.declared.fault.LineFault.{LineFault}
 use Rattle.redo_history.specs.Histories.{ended, line_text_of}
 use Rattle.redo_live.specs.Lines.{names_after}
+use Rattle.redo_live.specs.Answers.{AnswersInquiry}
 
 -- a line that was heard, without its LF; the lines of the history that it made; what was said to it
 pub record Round : Type 0 where
@@ -50,6 +52,16 @@ pub record IsEnded (before : List (Line Text)) (round : Round) : Type 0 where
   pub closes : ClosesAfter texts (part_of session before) round.lines
   pub said_is : round.said ≡ flat_map line_text_of round.lines ++ end_text_of session
 
+-- the line asks something about a name: that was told, as it is after the history so far
+pub record IsTold (before : List (Line Text)) (round : Round) : Type 0 where
+  pub session : ℕ
+  pub inquiry : Inquiry
+  pub name : Text
+  pub asks : Asks round.heard session (inquiry_text_of inquiry name)
+  pub fits : inquiry_fault (inquiry_text_of inquiry name) ≡ None
+  pub tells : AnswersInquiry (left_by texts empty before) session inquiry name round.said
+  pub none : round.lines ≡ []
+
 -- the line of a fault
 abbrev pub fault_text_of : Text → Text → Text
 fault_text_of number word = ended (number ++ codes " fault " ++ word)
@@ -61,7 +73,7 @@ HasNoSession heard = (s : ℕ) (text : Text) → ¬ (Asks heard s text)
 -- the word for the first fault of a text that is no end, or for want of memory or of counters
 abbrev pub IsFaultWord : List Text → Text → Text → Type 0
 IsFaultWord names text word =
-    ((fault : LineFault) × (text ≢ end_word) × (line_fault names text ≡ Some fault)
+    ((fault : LineFault) × (text ≢ end_word) × (asked_fault names text ≡ Some fault)
     × (word ≡ fault_word_of fault))
     ⊎ ((word ≡ codes "memory") ⊎ (word ≡ codes "worn"))
 
@@ -75,7 +87,8 @@ pub record IsFaulty (before : List (Line Text)) (round : Round) : Type 0 where
       × (round.said ≡ fault_text_of (decimal (s + 1)) word))
 
 abbrev pub IsRound : List (Line Text) → Round → Type 0
-IsRound before round = IsAnswered before round ⊎ (IsEnded before round ⊎ IsFaulty before round)
+IsRound before round =
+    IsAnswered before round ⊎ (IsEnded before round ⊎ (IsTold before round ⊎ IsFaulty before round))
 
 -- each is a round after the lines of the history that stood before it
 abbrev pub AreRounds : List (Line Text) → List Round → Type 0

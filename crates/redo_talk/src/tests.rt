@@ -71,3 +71,23 @@ fn long_lines(rt: HostRuntime) -> Result<(), Fail> {
     assert!(rt; said.as_slice() == want.as_bytes());
     Ok(())
 }
+
+/// Questions about names are answered and not logged; one that isn't known is idle.
+#[test]
+fn questions(rt: HostRuntime) -> Result<(), Fail> {
+    let (said, logged) = heard(
+        rt.alloc(),
+        b"1 file util.h 1\n1 lock util.o\n1 start util.o\n1 ifchange util.o util.h\n\
+        1 done util.o 2\n1 lock app\n1 start app\n1 ifchange app util.o\n1 done app 3\n\
+        1 file util.h 4\n2 why app\n2 why util.h\n2 deps util.o\n2 state app\n2 state b\n\
+        2 deps b\n2 why b\n3 why\n3 deps a b\n3 state -\n",
+    )?;
+    let told = "2 why app => changed util.h app util.o\n2 why util.h => clean\n\
+        2 deps util.o => change 1 util.h created 0 always 0\n\
+        2 state app => built lock 1 file 3\n2 state b => idle lock - file -\n\
+        2 deps b => change 0 created 0 always 0\n2 why b => clean\n3 fault wrong-words\n\
+        3 fault wrong-words\n3 fault bad-name\n";
+    assert!(rt; said.ends_with(told.as_bytes()));
+    assert!(rt; said.len() == logged.len() + told.len() && said.starts_with(&logged));
+    Ok(())
+}

@@ -1,8 +1,9 @@
 -- What is written where a write fails, and what becomes of a fault that is told.
-use Rattle.std.specs.Prelude.{◌≡◌, ◌⊎◌, [], ◌++◌, Option, codes}
+use Rattle.std.specs.Prelude.{◌≡◌, ◌⊎◌, List, [], ◌++◌, Option, Some, codes, ⊤}
 use Rattle.std.specs.Io.KnownBytes.{Appends, Keeps}
 use Rattle.redo_model.specs.Names.{Text}
 use Rattle.redo_text.specs.Faults.{fault_word_of}
+use Rattle.redo_text.specs.Inquiries.{asked_fault}
 use Rattle.redo_live.specs.declared.fault.Unanswered.{Unanswered}
 use Rattle.redo_live.specs.declared.fault.Unanswered.TheVariants.{Memory, Worn, Fault}
 
@@ -11,6 +12,12 @@ abbrev pub refusal_word_of : Unanswered → Text
 refusal_word_of Memory = codes "memory"
 refusal_word_of Worn = codes "worn"
 refusal_word_of (Fault fault) = fault_word_of fault
+
+-- why a text that is no end was not answered: for want of memory or of calls, or for its fault
+abbrev pub IsRefusedFor : List Text → Text → Unanswered → Type 0
+IsRefusedFor names text Memory = ⊤
+IsRefusedFor names text Worn = ⊤
+IsRefusedFor names text (Fault fault) = asked_fault names text ≡ Some fault
 
 -- a front of what is to be logged went to the log and, if that was whole, a front of what is to be
 -- said to the output

@@ -1,5 +1,5 @@
 -- Rounds by what is known before and after each, whatever history led there.
-use Rattle.std.specs.Prelude.{◌≡◌, ◌⊎◌, ℕ, ◌≤◌, ◌+◌, true, List, [], ◌∷◌, ◌++◌, length, codes, decimal}
+use Rattle.std.specs.Prelude.{◌≡◌, ◌⊎◌, ℕ, ◌≤◌, ◌+◌, true, List, [], ◌∷◌, ◌++◌, None, length, codes, decimal}
 use Rattle.std.specs.List.{AllByRecursion, flat_map}
 use Rattle.redo_names.specs.Names.{has}
 use Rattle.redo_model.specs.Names.{Text, texts}
@@ -9,7 +9,10 @@ use Rattle.redo_model.specs.Step.{Answers, after}
 use Rattle.redo_model.specs.History.{Line, Legal, left_by}
 use Rattle.redo_model.specs.Inside.Ending.{AreHeld, closing_lines_of}
 use Rattle.redo_text.specs.Grammar.{IsCommandLine, with_names}
+use Rattle.redo_text.specs.Inquiries.{inquiry_text_of, inquiry_fault}
+use Rattle.redo_text.specs.declared.inquiries.Inquiry.{Inquiry}
 use Rattle.redo_history.specs.Histories.{line_text_of}
+use Rattle.redo_live.specs.Answers.{AnswersInquiry}
 use Rattle.redo_live.specs.Lines.{names_after}
 use Rattle.redo_talk.specs.Rounds.{Round, Asks, IsFaultWord, HasNoSession, end_word, end_text_of, fault_text_of}
 
@@ -49,6 +52,18 @@ pub record Ending (old new : Known) (round : Round) : Type 0 where
   pub lines_are : round.lines ≡ closing_lines_of session old.state held
   pub said_is : round.said ≡ flat_map line_text_of round.lines ++ end_text_of session
 
+-- something about a name was told
+pub record Telling (old new : Known) (round : Round) : Type 0 where
+  pub session : ℕ
+  pub inquiry : Inquiry
+  pub name : Text
+  pub asks : Asks round.heard session (inquiry_text_of inquiry name)
+  pub fits : inquiry_fault (inquiry_text_of inquiry name) ≡ None
+  pub tells : AnswersInquiry old.state session inquiry name round.said
+  pub same_names : new.names ≡ old.names
+  pub same_state : new.state ≡ old.state
+  pub none : round.lines ≡ []
+
 -- a fault was told
 pub record Refusing (old new : Known) (round : Round) : Type 0 where
   pub same_names : new.names ≡ old.names
@@ -60,7 +75,9 @@ pub record Refusing (old new : Known) (round : Round) : Type 0 where
       × IsFaultWord old.names text word × (round.said ≡ fault_text_of (decimal (s + 1)) word))
 
 abbrev pub IsStep : Known → Known → Round → Type 0
-IsStep old new round = Answering old new round ⊎ (Ending old new round ⊎ Refusing old new round)
+IsStep old new round =
+    Answering old new round
+    ⊎ (Ending old new round ⊎ (Telling old new round ⊎ Refusing old new round))
 
 -- one step for each round, from the old to the new
 abbrev pub AreSteps : Known → Known → List Round → Type 0

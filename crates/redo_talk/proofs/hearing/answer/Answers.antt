@@ -3,7 +3,7 @@ use Rattle.std.proofs.lemmas.Fmt.{decimal_digit}
 use Rattle.std.proofs.lemmas.Slice.Eq.{bytes_eq-Decides}
 use Rattle.redo_talk.specs.Rounds.{Asks, fault_text_of}
 use Rattle.redo_talk.proofs.Outcomes.{ok_holds}
-use Rattle.redo_talk.proofs.Steps.{answering_step, ending_step}
+use Rattle.redo_talk.proofs.Steps.{ending_step}
 use Rattle.redo_talk.proofs.hearing.answer.Goals.{then-eq, else-eq}
 use Rattle.redo_talk.proofs.hearing.answer.Goals as goal
 
@@ -33,10 +33,7 @@ returns-in-Ok-clause-step c = elim c.if-eq.branch [
       w.end-done.new.logged.items
       (subst (Asks c.args.line.now c.in-Some.session) is c.in-Some.ensures) ended)
   | else-eq w ↦
-      let answered = ok_holds w.answer-done.result c.in-Ok.field-0 _
-      (sym w.done-is ∙ c.in-Ok.is) w.answer-done.ensures.answered in
-      rw (w.live-is, w.unsent-is)
-      (answering_step c.args.live.now w.answer-done.new.self c.args.line.now c.in-Some.session
-      c.in-Some.text.now c.args.unsent.now.said.items w.answer-done.new.said.items
-      c.args.unsent.now.logged.items w.answer-done.new.logged.items c.in-Some.ensures answered)
+      let stepped = ok_holds w.heed-done.result c.in-Ok.field-0 _
+      (sym w.done-is ∙ c.in-Ok.is) w.heed-done.ensures.step in
+      rw (w.live-is, w.unsent-is) (stepped c.args.line.now c.in-Some.ensures)
 ]
