@@ -3,6 +3,7 @@ use crate::graph::State;
 use crate::lines::{Command, Reply};
 use crate::names::Names;
 use crate::printing::Printer;
+use crate::questions::{Question, Search};
 use crate::store::Store;
 use std::collections::BTreeSet;
 
@@ -11,6 +12,7 @@ pub struct Database {
     pub store: Store<'static>,
     // the names of the command that is read
     pub lists: Vec<u32>,
+    pub search: Search,
     // what each session holds
     held: Vec<BTreeSet<u32>>,
     calls: u64,
@@ -63,6 +65,7 @@ impl Database {
             names: Names::default(),
             store: Store::new(text, digests, Vec::new()),
             lists: Vec::new(),
+            search: Search::default(),
             held: vec![BTreeSet::new(); 65],
             calls: 0,
         }
@@ -132,11 +135,19 @@ impl Database {
                 self.close(session, answers);
                 answers.said.extend_from_slice(format!("{session} end => ok\n").as_bytes());
             }
-            _ => self.answer_command(line, answers),
+            Some((session, text)) => match Question::of(text) {
+                Some(Ok(question)) => {
+                    answers.said.extend_from_slice(line);
+                    self.tell(&question, &mut answers.said);
+                }
+                Some(Err(fault)) => answers.fault(session, fault),
+                None => self.answer_command(line, answers),
+            },
+            None => self.answer_command(line, answers),
         }
     }
 
-    // The same of a line that isn't the end of a session.
+    // The same of a line that is neither the end of a session nor a question.
     pub fn answer_command(&mut self, line: &[u8], answers: &mut Answers) {
         let Some((session, text)) = session_of(line) else {
             return answers.fault(0, "bad-session");

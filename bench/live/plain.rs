@@ -19,6 +19,7 @@ mod names;
 #[path = "../memo/printing.rs"]
 #[allow(dead_code)]
 mod printing;
+mod questions;
 mod reading;
 #[path = "../memo/rows.rs"]
 mod rows;

@@ -20,7 +20,7 @@ fn is_visible_word(word: &[u8], limit: usize) -> bool {
     (1..=limit).contains(&word.len()) && word != b"-" && word != b"=>"
 }
 
-fn is_name(word: &[u8]) -> bool {
+pub fn is_name(word: &[u8]) -> bool {
     is_visible_word(word, 255) && word[0] != b'#'
 }
 
@@ -36,6 +36,14 @@ fn content_of(word: &[u8]) -> Vec<u8> {
     let digit = |byte: u8| char::from(byte).to_digit(16).expect("a digit") as u8;
     let twos = if word == b"-" { &[] } else { word.as_chunks::<2>().0 };
     twos.iter().map(|two| digit(two[0]) << 4 | digit(two[1])).collect()
+}
+
+pub fn fault_of_bytes(text: &[u8]) -> Option<Fault> {
+    if text.len() > 8192 {
+        return Some("line-too-long");
+    }
+    let is_bad = text.iter().any(|byte| !(32..=126).contains(byte));
+    is_bad.then_some("bad-byte")
 }
 
 // how many names, and what follows them, where so many words stand behind the keyword
@@ -96,12 +104,7 @@ impl Database {
 
     // The command that a text says; its names are known then. A fault adds none.
     pub fn command(&mut self, text: &[u8]) -> Result<Command, Fault> {
-        if text.len() > 8192 {
-            return Err("line-too-long");
-        }
-        if text.iter().any(|byte| !(32..=126).contains(byte)) {
-            return Err("bad-byte");
-        }
+        fault_of_bytes(text).map_or(Ok(()), Err)?;
         let count = text.iter().filter(|byte| **byte == b' ').count();
         let mut words = text.split(|byte| *byte == b' ');
         let keyword = words.next().expect("a word");

@@ -95,7 +95,7 @@ impl<'a> Graph<'a> {
         a == b || matches!((a, b), (Some(a), Some(b)) if a.of(&self.text) == b.of(&self.text))
     }
 
-    fn is_same_mark(&self, a: Mark, b: Mark) -> bool {
+    pub fn is_same_mark(&self, a: Mark, b: Mark) -> bool {
         match (a, b) {
             _ if a == b => true,
             (Mark::File { at, len }, Mark::File { at: from, len: size }) => {

@@ -14,7 +14,7 @@ impl Printer<'_> {
         self.text.extend_from_slice(word.as_ref());
     }
 
-    fn put_names(&mut self, word: &str, names: &[u32]) {
+    pub fn put_names(&mut self, word: &str, names: &[u32]) {
         self.put(word);
         for n in names {
             self.put(" ");
@@ -22,7 +22,7 @@ impl Printer<'_> {
         }
     }
 
-    fn put_stamp(&mut self, stamp: Option<Stamp>) {
+    pub fn put_stamp(&mut self, stamp: Option<Stamp>) {
         self.put(" ");
         self.put(stamp.map_or(b"-".as_slice(), |stamp| stamp.of(self.stamps)));
     }
