@@ -1,4 +1,5 @@
 """Talks with redodb-live: it is started, lines are sent to it, and its answers are read."""
+import contextlib
 import os
 import re
 import select
@@ -14,6 +15,8 @@ HEADER = "redodb-log 1\n"
 SECONDS = 60
 # a status, standard output and standard error
 Ended = tuple[int, str, str]
+# each line that is sent, with the lines of its answer
+Pairs = list[tuple[str, list[str]]]
 
 
 class Checks:
@@ -116,8 +119,9 @@ class Talk:
         self.read = b""
 
     def send(self, text: str) -> None:
-        """Sends a text, in one write where the FIFO takes it."""
-        self.asks.write(text.encode("latin-1"))
+        """Sends a text, in one write where the FIFO takes it. A program that ended hears none."""
+        with contextlib.suppress(BrokenPipeError):
+            self.asks.write(text.encode("latin-1"))
 
     def hear(self) -> str:
         """The next line, or what came of it in time."""
@@ -154,3 +158,27 @@ class Talk:
 def sessions_text(text: str) -> str:
     """A text, indented as in this file, without the indentation and the first line feed."""
     return re.sub(r"^ +", "", text.lstrip("\n"), flags=re.M)
+
+
+def pairs_of(text: str) -> Pairs:
+    """The lines that are sent stand behind `> `, and what has to be answered after them."""
+    pairs: Pairs = []
+    for line in sessions_text(text).splitlines(keepends=True):
+        if line.startswith("> "):
+            pairs.append((line[2:], []))
+        else:
+            pairs[-1][1].append(line)
+    return pairs
+
+
+def line_by_line(
+    checks: Checks, program: Path, folder: Path, name: str, pairs: Pairs, *words: str
+) -> None:
+    """Each answer comes before the next line is sent, and nothing else comes."""
+    talk = Talk(program, folder, *words)
+    checks.check(f"{name}: greeting", talk.hear(), greeting(0))
+    for asked, wanted in pairs:
+        talk.send(asked)
+        checks.check(f"{name}: {asked[:-1]}", [talk.hear() for _ in wanted], wanted)
+    checks.check(f"{name}: silence", talk.is_silent(), True)
+    checks.check(f"{name}: end", talk.end(), (0, ""))
