@@ -1,0 +1,31 @@
+"""What the benchmarks of conversations share: programs are compiled, and run in turn."""
+import os
+import subprocess
+from pathlib import Path
+from typing import Callable, Sequence
+
+TOP = Path(__file__).resolve().parent.parent.parent
+PROGRAM = TOP / "crates/redo_live_cli/out/redo_live_cli"
+ROUNDS = int(os.environ.get("ROUNDS", "5"))
+
+
+def compiled(folder: Path, source: str) -> Path:
+    """A plain program, compiled into the folder."""
+    program, source_file = folder / Path(source).stem, TOP / "bench" / source
+    subprocess.run(["rustc", "--edition", "2021", "-O", "-o", program, source_file], check=True)
+    return program
+
+
+def least(tasks: Sequence[Callable[[], float]], rounds: int = ROUNDS) -> list[float]:
+    """What tasks take, each of which tells it: they are done in turn, and the least counts."""
+    times = [[task() for task in tasks] for _ in range(rounds)]
+    return [min(taken) for taken in zip(*times)]
+
+
+def answered_in(asking: Path, words: Sequence[Path], lines: Path, count: int, piece: int) -> float:
+    """Seconds that pass while a program (these words) is asked so many lines, the last of a file, a
+    piece of so many at a time."""
+    command = [str(word) for word in (asking, count, piece, *words)]
+    with lines.open("rb") as text:
+        run = subprocess.run(command, stdin=text, capture_output=True, check=True)
+    return float(run.stdout)
