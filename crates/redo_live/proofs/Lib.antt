@@ -9,3 +9,4 @@ pub mod Obeying
 pub mod Lines
 pub mod Closing
 pub mod Ending
+pub mod OneAnswer

@@ -66,20 +66,41 @@ abbrev pub state_words : TargetState → Option ℕ → Option Text → List Tex
 state_words state holder file =
     stage_words state ++ codes "lock" ∷ holder_word holder ∷ codes "file" ∷ stamp_word file ∷ []
 
--- these words answer the inquiry about the name
-abbrev pub IsAnswer : State Text → Inquiry → Text → List Text → Type 0
-IsAnswer st inquiries.Why t words = (found : Option (whys.Why Text))
-    × TellsWhy st.records t found × (words ≡ why_words t found)
-IsAnswer st inquiries.Deps t words = (deps : model.Deps Text)
-    × AreDeps texts st.records t deps × (words ≡ deps_words deps)
-IsAnswer st inquiries.State n words =
-    words ≡ state_words (target_state st.records n) (st.locks.holder n) (st.records.cell n).file
+-- what is told of a name: why it is out of date, where it is; its rows; its state, the holder of its
+-- lock, and the stamp of its file
+pub data Answer : Type 0 where
+  Cause : Option (whys.Why Text) → Answer
+  Rows : model.Deps Text → Answer
+  Standing : TargetState → Option ℕ → Option Text → Answer
 
--- the line tells the session the answer
+-- what the answer answers
+abbrev pub inquiry_of : Answer → Inquiry
+inquiry_of (Cause found) = inquiries.Why
+inquiry_of (Rows deps) = inquiries.Deps
+inquiry_of (Standing state holder file) = inquiries.State
+
+abbrev pub answer_words : Text → Answer → List Text
+answer_words name (Cause found) = why_words name found
+answer_words name (Rows deps) = deps_words deps
+answer_words name (Standing state holder file) = state_words state holder file
+
+-- the answer is true of the name
+abbrev pub IsAnswer : State Text → Text → Answer → Type 0
+IsAnswer st name (Cause found) = TellsWhy st.records name found
+IsAnswer st name (Rows deps) = AreDeps texts st.records name deps
+IsAnswer st name (Standing state holder file) = (state ≡ target_state st.records name)
+    × (holder ≡ st.locks.holder name) × (file ≡ (st.records.cell name).file)
+
+-- the line that tells a session the answer about the name
+abbrev pub answer_line : ℕ → Text → Answer → Text
+answer_line session name answer = ended (spaced (decimal (session + 1))
+    (inquiry_word (inquiry_of answer) ∷ name ∷ codes "=>" ∷ answer_words name answer))
+
+-- the line tells the session a true answer to its inquiry
 pub record AnswersInquiry (st : State Text) (session : ℕ) (inquiry : Inquiry)
     (name line : Text) : Type 0
   where
-    pub words : List Text
-    pub is : IsAnswer st inquiry name words
-    pub line_is : line ≡ ended (spaced (decimal (session + 1))
-        (inquiry_word inquiry ∷ name ∷ codes "=>" ∷ words))
+    pub answer : Answer
+    pub asked : inquiry_of answer ≡ inquiry
+    pub is : IsAnswer st name answer
+    pub line_is : line ≡ answer_line session name answer

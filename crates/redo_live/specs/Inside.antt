@@ -7,3 +7,4 @@ pub mod ClosingLines
 pub mod Answered
 pub mod Asked
 pub mod Ended
+pub mod AnswerForms

@@ -14,13 +14,14 @@ ghost use Rattle.redo_text.specs.Inquiries.{inquiry_word};
 ghost use Rattle.redo_live.specs.Answers.{counted, deps_words, flag_word, holder_word, reason_name, reason_word, stage_words, state_words, why_words};
 ghost use Rattle.redo_live.specs.Inside.Asked.{deps_at, why_at};
 
+use redo_history::put_number;
 use redo_names::Names;
 use redo_ood::{Reason, Why};
 use redo_records::State;
 use redo_store::Deps;
 use redo_terms::FileStamp;
 use redo_text::{Inquiry, put_names, put_stamp_or_none, put_word};
-use std::alloc::{AllocError, Global};
+use std::alloc::AllocError;
 
 /// The word that asks it.
 pub(crate) fn inquiry_word(inquiry: Inquiry) -> &'static [u8]
@@ -98,24 +99,20 @@ pub(crate) fn put_why(
     }
 }
 
-fn put_count(alloc: Global, out: &mut Vec<u8>, n: usize) -> Result<(), AllocError>
+fn put_count(out: &mut Vec<u8>, n: usize) -> Result<(), AllocError>
     ensures { OnOk result (out.new.items ≡ out.old.items ++ after_space (decimal n)) }
 {
-    put_word(out, n.to_string(alloc)?.as_bytes())
+    out.push(b' ')?;
+    put_number(out, n)
 }
 
 /// Writes how many names there are, and the names.
-fn put_counted(
-    alloc: Global,
-    out: &mut Vec<u8>,
-    names: &Names,
-    numbers: &[u32],
-) -> Result<(), AllocError>
+fn put_counted(out: &mut Vec<u8>, names: &Names, numbers: &[u32]) -> Result<(), AllocError>
     requires { AllBelow (length names.now) numbers.now }
     ensures { OnOk result (out.new.items ≡ out.old.items
         ++ flat_map after_space (counted (map (text_at names.now) numbers.now))) }
 {
-    put_count(alloc, out, numbers.len())?;
+    put_count(out, numbers.len())?;
     put_names(out, names, numbers)
 }
 
@@ -126,32 +123,27 @@ fn flag_word(flag: bool) -> &'static [u8]
 }
 
 /// Writes on which names a target has rows.
-pub(crate) fn put_deps(
-    alloc: Global,
-    out: &mut Vec<u8>,
-    names: &Names,
-    deps: &Deps,
-) -> Result<(), AllocError>
+pub(crate) fn put_deps(out: &mut Vec<u8>, names: &Names, deps: &Deps) -> Result<(), AllocError>
     requires { AreDepsBelow (length names.now) (deps_of deps.now) }
     ensures { OnOk result (out.new.items ≡ out.old.items
         ++ flat_map after_space (deps_words (deps_at names.now deps.now))) }
 {
     put_word(out, b"change")?;
-    put_counted(alloc, out, names, &deps.change)?;
+    put_counted(out, names, &deps.change)?;
     put_word(out, b"created")?;
-    put_counted(alloc, out, names, &deps.created)?;
+    put_counted(out, names, &deps.created)?;
     put_word(out, b"always")?;
     put_word(out, flag_word(deps.always))
 }
 
 /// Writes the number of a session, which is told plus one.
-fn put_session(alloc: Global, out: &mut Vec<u8>, session: u8) -> Result<(), AllocError>
+fn put_session(out: &mut Vec<u8>, session: u8) -> Result<(), AllocError>
     ensures { OnOk result (out.new.items ≡ out.old.items ++ after_space (decimal (session + 1))) }
 {
-    put_count(alloc, out, session as usize + 1)
+    put_count(out, session as usize + 1)
 }
 
-fn put_stage(alloc: Global, out: &mut Vec<u8>, state: State) -> Result<(), AllocError>
+fn put_stage(out: &mut Vec<u8>, state: State) -> Result<(), AllocError>
     ensures { OnOk result (out.new.items
         ≡ out.old.items ++ flat_map after_space (stage_words (target_state_of state))) }
 {
@@ -159,25 +151,24 @@ fn put_stage(alloc: Global, out: &mut Vec<u8>, state: State) -> Result<(), Alloc
         State::Idle => put_word(out, b"idle"),
         State::Building(session) => {
             put_word(out, b"building")?;
-            put_session(alloc, out, session)
+            put_session(out, session)
         }
         State::Built => put_word(out, b"built"),
         State::Failed => put_word(out, b"failed"),
     }
 }
 
-fn put_holder(alloc: Global, out: &mut Vec<u8>, holder: Option<u8>) -> Result<(), AllocError>
+fn put_holder(out: &mut Vec<u8>, holder: Option<u8>) -> Result<(), AllocError>
     ensures { OnOk result (out.new.items ≡ out.old.items ++ after_space (holder_word holder)) }
 {
     match holder {
         None => put_word(out, b"-"),
-        Some(session) => put_session(alloc, out, session),
+        Some(session) => put_session(out, session),
     }
 }
 
 /// Writes how far a name has come, who holds its lock, and the stamp of its file.
 pub(crate) fn put_state(
-    alloc: Global,
     out: &mut Vec<u8>,
     state: State,
     holder: Option<u8>,
@@ -186,9 +177,9 @@ pub(crate) fn put_state(
     ensures { OnOk result (out.new.items ≡ out.old.items
         ++ flat_map after_space (state_words (target_state_of state) holder file)) }
 {
-    put_stage(alloc, out, state)?;
+    put_stage(out, state)?;
     put_word(out, b"lock")?;
-    put_holder(alloc, out, holder)?;
+    put_holder(out, holder)?;
     put_word(out, b"file")?;
     put_stamp_or_none(out, file)
 }

@@ -3,6 +3,7 @@
 
 mod asked;
 mod fault;
+mod laws;
 mod live;
 mod ordering;
 #[cfg(test)]
@@ -10,4 +11,5 @@ mod tests;
 mod told;
 
 pub use fault::Unanswered;
+pub use laws::one_answer_a_line;
 pub use live::Live;

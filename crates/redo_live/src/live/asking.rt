@@ -1,5 +1,5 @@
 //! Questions about names. They change nothing, and a name that isn't known is idle.
-ghost use Rattle.std.specs.Prelude.{◌≡◌, ◌<◌, ◌++◌, List, length, option_map, IfOk, IfSome, IsNone, OnOk, OnErr};
+ghost use Rattle.std.specs.Prelude.{◌≡◌, ◌<◌, ◌++◌, length, option_map, IfOk, IfSome, IsNone, OnOk, OnErr};
 ghost use Rattle.std.specs.List.{flat_map};
 ghost use Rattle.redo_names.specs.Inside.Names.{AreNames};
 ghost use Rattle.redo_names.specs.Names.{text_at};
@@ -15,7 +15,7 @@ ghost use Rattle.redo_store.specs.Meaning.{deps_of};
 ghost use Rattle.redo_store.specs.Tables.{tables_count};
 ghost use Rattle.redo_text.specs.Texts.{after_space};
 ghost use Rattle.redo_text.specs.Inquiries.{inquiry_word};
-ghost use Rattle.redo_live.specs.Answers.{AnswersInquiry, IsAnswer, state_words};
+ghost use Rattle.redo_live.specs.Answers.{Answer, AnswersInquiry, IsAnswer, answer_words, inquiry_of, state_words};
 ghost use Rattle.redo_live.specs.Inside.Asked.{deps_at, why_at};
 ghost use Rattle.redo_live.specs.Inside.LiveState.{IsNumberOf, state_in};
 
@@ -44,6 +44,21 @@ impl Live {
             × (said.new.items ≡ said.old.items ++ line)) }
         ensures untold { OnErr result (said.new.items ≡ said.old.items) }
     {
+        let line = self.line_told(alloc, session, inquiry, name)?;
+        said.extend_from_slice(&line)
+    }
+
+    /// The line that answers the question.
+    fn line_told(
+        &self,
+        alloc: Global,
+        session: u8,
+        inquiry: Inquiry,
+        name: &[u8],
+    ) -> Result<Vec<u8>, AllocError>
+        ensures { IfOk result (λ line.
+            AnswersInquiry (state_in self.now) session inquiry name.now line.items) }
+    {
         let mut line = Vec::new(alloc);
         put_number(&mut line, session as usize + 1)?;
         put_word(&mut line, inquiry_word(inquiry))?;
@@ -51,7 +66,7 @@ impl Live {
         put_word(&mut line, b"=>")?;
         self.put_answer(alloc, inquiry, name, &mut line)?;
         line.push(b'\n')?;
-        said.extend_from_slice(&line)
+        Ok(line)
     }
 
     /// The number of a name of which something may be known.
@@ -78,9 +93,10 @@ impl Live {
         name: &[u8],
         line: &mut Vec<u8>,
     ) -> Result<(), AllocError>
-        ensures { OnOk result ((words : List Text)
-            × IsAnswer (state_in self.now) inquiry name.now words
-            × (line.new.items ≡ line.old.items ++ flat_map after_space words)) }
+        ensures { OnOk result ((answer : Answer) × (inquiry_of answer ≡ inquiry)
+            × IsAnswer (state_in self.now) name.now answer
+            × (line.new.items
+            ≡ line.old.items ++ flat_map after_space (answer_words name.now answer))) }
     {
         match inquiry {
             Inquiry::Why => {
@@ -89,9 +105,9 @@ impl Live {
             }
             Inquiry::Deps => {
                 let deps = self.deps(alloc, name)?;
-                put_deps(alloc, line, &self.names, &deps)
+                put_deps(line, &self.names, &deps)
             }
-            Inquiry::State => self.put_state(alloc, name, line),
+            Inquiry::State => self.put_state(name, line),
         }
     }
 
@@ -142,7 +158,7 @@ impl Live {
     }
 
     /// Writes the words for the state of a name.
-    fn put_state(&self, alloc: Global, name: &[u8], line: &mut Vec<u8>) -> Result<(), AllocError>
+    fn put_state(&self, name: &[u8], line: &mut Vec<u8>) -> Result<(), AllocError>
         ensures { OnOk result (line.new.items ≡ line.old.items ++ flat_map after_space
             (state_words (target_state (state_in self.now).records name.now)
             ((state_in self.now).locks.holder name.now)
@@ -150,13 +166,12 @@ impl Live {
     {
         match self.known_number(name) {
             Some(n) => put_state(
-                alloc,
                 line,
                 self.redo.state(n),
                 self.redo.holder(n),
                 self.redo.file(n),
             ),
-            None => put_state(alloc, line, State::Idle, None, None),
+            None => put_state(line, State::Idle, None, None),
         }
     }
 }

@@ -1,12 +1,29 @@
-use Rattle.std.proofs.Common.{◌≡◌, ◌++◌, OnOk, refl, sym, subst}
+use Rattle.std.proofs.Common.{◌≡◌, ◌++◌, OnOk, option_map, refl, sym, subst}
 use Rattle.std.specs.List.{flat_map}
 use Rattle.std.proofs.lemmas.Result.{on_ok_weaker}
+use Rattle.redo_model.specs.State.{target_state}
 use Rattle.redo_text.specs.Texts.{after_space}
-use Rattle.redo_live.specs.Answers.{IsAnswer, deps_words}
-use Rattle.redo_live.specs.Inside.Asked.{deps_at}
+use Rattle.redo_live.specs.Answers.{Cause, Rows, Standing, deps_words, why_words}
+use Rattle.redo_live.specs.Inside.Asked.{deps_at, why_at}
 use Rattle.redo_live.specs.Inside.LiveState.{LiveState, state_in}
-use Rattle.redo_text.specs.declared.inquiries.Inquiry.{Inquiry}
 use Rattle.redo_live.proofs.live.Live.put_answer.Goals as goal
+
+pub returns-in_ok-found-in-Why : goal.returns-in_ok-found-in-Why
+returns-in_ok-found-in-Why c =
+    let live : LiveState = c.args.self.now in
+    let old = c.args.line.now.items in
+    let new = c.put_why.new.out.items in
+    let found = c.in_ok-found-in-Why.found in
+    let told = subst (λ (l : LiveState). OnOk c.put_why.result (new
+    ≡ old ++ flat_map after_space
+    (why_words c.args.name.now (option_map (why_at l.names) found)))) c.self.view_is
+    c.put_why.ensures in
+    on_ok_weaker c.put_why.result (λ e. (
+      Cause (option_map (why_at live.names) found),
+      sym c.in-Why.is,
+      c.in_ok-found-in-Why.ensures.why,
+      e,
+    )) told
 
 pub returns-in_ok-deps-in-Deps : goal.returns-in_ok-deps-in-Deps
 returns-in_ok-deps-in-Deps c =
@@ -18,9 +35,19 @@ returns-in_ok-deps-in-Deps c =
     (new ≡ old ++ flat_map after_space (deps_words (deps_at l.names deps)))) c.self.view_is
     c.put_deps.ensures in
     on_ok_weaker c.put_deps.result (λ e. (
-      deps_words (deps_at live.names deps),
-      subst (λ (q : Inquiry). IsAnswer (state_in live) q c.args.name.now
-          (deps_words (deps_at live.names deps))) (sym c.in-Deps.is)
-          (deps_at live.names deps, c.in_ok-deps-in-Deps.ensures.deps, refl),
+      Rows (deps_at live.names deps),
+      sym c.in-Deps.is,
+      c.in_ok-deps-in-Deps.ensures.deps,
       e,
     )) told
+
+pub returns-in-State : goal.returns-in-State
+returns-in-State c =
+    let st = state_in c.args.self.now in
+    let name = c.args.name.now in
+    on_ok_weaker c.put_state.result (λ e. (
+      Standing (target_state st.records name) (st.locks.holder name) (st.records.cell name).file,
+      sym c.in-State.is,
+      (refl, refl, refl),
+      e,
+    )) c.put_state.ensures

@@ -1,0 +1,17 @@
+//! What holds of the lines that answer questions.
+
+ghost use Rattle.std.specs.Prelude.{◌≡◌, ℕ, ◌<◌, true};
+ghost use Rattle.redo_names.specs.Names.{is_name};
+ghost use Rattle.redo_model.specs.Names.{Text};
+ghost use Rattle.redo_live.specs.Answers.{Answer, answer_line};
+ghost use Rattle.redo_live.specs.Inside.AnswerForms.{HasAnswerForm};
+
+/// A line tells at most one session at most one answer about at most one name.
+pub fn one_answer_a_line()
+    ensures { (session other_session : ℕ) (name other_name : Text) (answer other : Answer)
+        → session < 64 → other_session < 64
+        → is_name name ≡ true → is_name other_name ≡ true
+        → HasAnswerForm answer → HasAnswerForm other
+        → answer_line session name answer ≡ answer_line other_session other_name other
+        → (session ≡ other_session) × (name ≡ other_name) × (answer ≡ other) }
+{}
