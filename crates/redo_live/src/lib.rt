@@ -6,8 +6,6 @@ mod fault;
 mod laws;
 mod live;
 mod ordering;
-#[cfg(test)]
-mod tests;
 mod told;
 
 pub use fault::Unanswered;

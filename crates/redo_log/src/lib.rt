@@ -3,8 +3,6 @@
 
 mod laws;
 mod restoring;
-#[cfg(test)]
-mod tests;
 
 pub use laws::{cut_log, one_log};
 pub use restoring::{LOG_HEADER, RestoreFault, Restored, restore};

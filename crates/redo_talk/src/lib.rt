@@ -6,8 +6,6 @@ mod conversing;
 mod fault;
 mod hearing;
 mod talking;
-#[cfg(test)]
-mod tests;
 mod unsent;
 
 pub use conversing::converse;

@@ -1,5 +1,5 @@
 //! What is said to commands, worked out by hand from the rules.
-use crate::{Live, Unanswered};
+use redo_live::{Live, Unanswered};
 use redo_text::{Inquiry, LineFault};
 use std::alloc::Global;
 use std::process::Abort;

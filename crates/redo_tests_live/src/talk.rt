@@ -1,5 +1,5 @@
 //! Conversations that were worked out by hand from the rules.
-use crate::converse;
+use redo_talk::converse;
 use redo_whole::Watched;
 use std::alloc::{AllocError, Global};
 use std::test::Fail;

@@ -1,5 +1,5 @@
 //! What is restored from logs that were worked out by hand from the rules.
-use crate::{RestoreFault, restore};
+use redo_log::{RestoreFault, restore};
 use std::alloc::Global;
 use std::test::Fail;
 
