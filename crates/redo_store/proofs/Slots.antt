@@ -1,5 +1,5 @@
 -- What is known stays where there are more numbers.
-use Rattle.std.proofs.Common.{◌≡◌, ◌↔◌, ℕ, Bool, List, Option, None, get_or, IsTrue, sym, subst}
+use Rattle.std.proofs.Common.{◌≡◌, ◌↔◌, ℕ, Bool, List, None, get_or, IsTrue, sym, subst}
 use Rattle.redo_model.specs.OutOfDate.{OutOfDate}
 use Rattle.redo_model.specs.State.{Cell, Records}
 use Rattle.redo_ood.specs.Memo.{IsRight, is_out}

@@ -1,8 +1,4 @@
-use Rattle.std.proofs.Common.{◌≡◌, ◌∙◌, ◌≤◌, ℕ, List, Option, None, get_or, ap, subst, sym, arith}
-use Rattle.redo_store.specs.KeptStore.{KeepsStored}
-use Rattle.redo_store.specs.Kept.{tables_of}
-use Rattle.redo_store.specs.Tables.{Tables, state_of}
-use Rattle.redo_store.proofs.Slots.{same_state}
+use Rattle.std.proofs.Common.{◌≡◌, ◌∙◌, ◌≤◌, ℕ, List, get_or, ap, subst, sym, arith}
 use Rattle.redo_store.proofs.redo.Redo.grow.Goals as goal
 
 pub invariant_of-self-2 : goal.invariant_of-self-2

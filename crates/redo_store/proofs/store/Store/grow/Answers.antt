@@ -1,4 +1,4 @@
-use Rattle.std.proofs.Common.{◌≡◌, ◌∙◌, ◌≤◌, List, ap, sym, subst, arith}
+use Rattle.std.proofs.Common.{◌∙◌, ◌≤◌, List, ap, sym, subst, arith}
 use Rattle.redo_model.specs.State.{Cell}
 use Rattle.redo_rows.specs.Rows.{TargetRows, with_rows}
 use Rattle.redo_store.specs.KeptStore.{KeepsStored}
