@@ -60,6 +60,10 @@ impl Store {
         ensures after { records_of self.new ≡ records_with_file self.old n file }
         ensures kept { KeepsNames self.old self.new }
     {
+        // Where it changes nothing, the memo is right as it is.
+        if self.is_file(n, &file) {
+            return;
+        }
         self.records.set_file(n, file);
         refresh(&mut self.memo, &self.records, &self.rows, n);
     }

@@ -189,6 +189,17 @@ impl Store {
         }
     }
 
+    /// Whether this is what is known of its file, or that there is none.
+    pub(super) fn is_file(&self, n: u32, file: &Option<FileStamp>) -> bool
+        requires { n < count_of self.now }
+        ensures { IsTrue result ↔ (((records_of self.now).cell n).file ≡ file.now) }
+    {
+        match file {
+            Some(stamp) => self.has_stamp(n, *stamp),
+            None => !self.has_file(n),
+        }
+    }
+
     pub(crate) fn is_building(&self, t: u32) -> bool
         requires { t < count_of self.now }
         ensures { result ≡ is_building (target_state (records_of self.now) t) }
