@@ -119,6 +119,17 @@ kept p s o id i v w me within fits =
       apart = apart_set s.views id v w me within o.apart;
     })
 
+-- a row that was seen is filled
+pub filled : (p : PlanOf) (s : St) (o : Orderly p s) (seen : List ℕ)
+    → Begins (row_words p o.log) seen → (r : ℕ) → r < length seen → r < rows_of p
+    → get_or s.words (r + 1) 0 ≢ 0
+filled p s o seen b r saw near none-there =
+    let long = ap length b.1 in
+    let sum = length-append seen b.0 in
+    let is = words_name p o.log o.plan o.legal r (omega arith) in
+    let a = o.rows r near in
+    omega (arith, is.some)
+
 -- a row that was found empty is the first past the history
 module _ (p : PlanOf) (s : St) (o : Orderly p s) (seen : List ℕ) (near : length seen < rows_of p)
     (b : Begins (row_words p o.log) seen) where

@@ -1,4 +1,4 @@
--- An exchange on the first row that was not seen.
+-- An exchange on the first row that was not seen, a look at it, and an exchange on a row that was.
 use Rattle.std.proofs.Common.{◌≡◌, ◌≢◌, ℕ, ◌+◌, ◌<◌, eqb, List, [], ◌∷◌, ◌++◌, length, get_or, set, Bool, Some, refl, sym, ap, ◌∙◌, subst, arith, length-set, get_or-set_same, get_or-set_other}
 use Rattle.std.specs.Prelude.{MatchOption}
 use Rattle.std.proofs.lemmas.List.{length_push, get_or_push, get_or_append_left, get_or_past, append-nil}
@@ -20,12 +20,12 @@ use Rattle.redo_board.specs.Rows.{naming_of, rows_of}
 use Rattle.redo_board.specs.Core.{Line, Core, row, rows_then, place_at, has, way_at, done, replay, word, Begins, claim_of}
 use Rattle.redo_board.specs.Views.{ViewOf, view}
 use Rattle.redo_board.specs.Rule.{Fits, Orderly}
-use Rattle.redo_board.specs.Plays.{own, own_way, next, made, SaysRow, row_line, Goes, Won, tried}
+use Rattle.redo_board.specs.Plays.{own, own_way, next, made, SaysRow, row_line, Goes, Lost, Won, tried, passed, missed}
 use Rattle.redo_board.proofs.Bounds.{records_replayed}
 use Rattle.redo_board.proofs.Orders.{by_text_is_naming}
 use Rattle.redo_board.proofs.Ways as ways
 use Rattle.redo_board.proofs.Parts.{row-locks}
-use Rattle.redo_board.proofs.Kept.{St, board, exchanged, kept, whole, further}
+use Rattle.redo_board.proofs.Kept.{St, board, exchanged, kept, filled, whole, further}
 use Rattle.redo_board.proofs.Placing as placing
 use Rattle.redo_board.proofs.Placing.{lone, same_next}
 
@@ -155,6 +155,44 @@ module _ (p : PlanOf) (s : St) (o : Orderly p s) (id t : ℕ) (j : List Line) (s
       (seen ++ word p y.0.0.0 y.0.1.number y.0.1.command (own y.0.0.1 y.0.1.command) ∷ []) v₀)
       (λ i. (same i, it i)) goes-here
 
+-- a row that was found filled
+module _ (p : PlanOf) (s : St) (o : Orderly p s) (id t : ℕ) (j : List Line) (seen also : List ℕ)
+    (c : List (ℕ × Unit {0})) (me : get_elem? s.views id ≡ some (lone p t j seen also))
+    (near : length seen < rows_of p)
+    (some-there : get_or s.words (length seen + 1) 0 ≢ 0) where
+  abbrev found : ℕ
+  found = get_or s.words (length seen + 1) 0
+
+  abbrev v₁ : ViewOf
+  v₁ = view p ((t, j) ∷ []) (seen ++ found ∷ []) also
+
+  fits₁ : Fits p o.log v₁
+  fits₁ =
+      let f = o.fits id (lone p t j seen also) me in
+      record { own = f.own; seen = further p s o seen near f.seen some-there; also = f.also }
+
+  -- it is seen, and the history is as it was, whatever an empty row would tell
+  passed-by : (Z : ViewOf → Type 0)
+      → (w : ViewOf) × (a : Act (Unit {0})) × Valid s.homes c a
+      × Orderly p (stepped s (length seen + 1) found id c w a)
+      × ((found ≡ 0 → Z w) × (found ≢ 0 → Lost (lone p t j seen also) found w)
+      × (carried_after c a ≡ c))
+  passed-by Z = (
+    v₁,
+    keeps,
+    tt,
+    kept p s o id (length seen + 1) (lone p t j seen also) v₁ me (λ u h has. (h, has)) fits₁,
+    (
+      (λ e. absurd (some-there e)),
+      (λ _.
+          record {
+            now = refl;
+            told = record { log = o.log; plan = o.plan; legal = o.legal; fits = fits₁ };
+          }),
+      refl,
+    ),
+  )
+
 pub tries : (p : PlanOf) (slots id t r : ℕ) (j : List Line) (seen also : List ℕ)
     (c : List (ℕ × Unit {0})) (n : Numbered ℕ)
     → t < length p.scripts → next p t j ≡ Some n → r ≡ length seen → r < rows_of p
@@ -189,25 +227,57 @@ tries p slots id t r j seen also c n is-session is-next at near in-row reply say
         refl,
       ),
     ))
-    (λ some-there.
-    let f = o.fits id (lone p t j seen also) me in
-    let w : ViewOf = view p ((t, j) ∷ []) (seen ++ m ∷ []) also in
-    let g : Fits p o.log w =
-    record { own = f.own; seen = further p s o seen within f.seen some-there; also = f.also } in (
-      w,
-      keeps,
-      tt,
-      kept p s o id (length seen + 1) (lone p t j seen also) w me (λ u h has. (h, has)) g,
-      (
-        (λ e. absurd (some-there e)),
-        (λ _.
-            record {
-              now = refl;
-              told = record { log = o.log; plan = o.plan; legal = o.legal; fits = g };
-            }),
-        refl,
-      ),
-    )))
+    (λ some-there. passed-by p s o id t j seen also c me within some-there
+    (Won (lone p t j seen also))))
   where
     within : length seen < rows_of p
     within = omega arith
+
+-- a look at the row
+pub passes : (p : PlanOf) (slots id t r : ℕ) (j : List Line) (seen also : List ℕ)
+    (c : List (ℕ × Unit {0})) → r ≡ length seen → r < rows_of p
+    → Allows (Orderly p) slots id (lone p t j seen also, c) (r + 1) (λ m. m)
+    (passed (step slots (r + 1) 0 0 none) (lone p t j seen also, c))
+passes p slots id t r j seen also c at near =
+    subst
+    (λ x. Allows (Orderly p) slots id (lone p t j seen also, c) (x + 1) (λ m. m)
+    (passed (step slots (x + 1) 0 0 none) (lone p t j seen also, c)))
+    (sym at) (λ s o wide me _.
+    let m : ℕ = get_or s.words (length seen + 1) 0 in
+    dite (ℕ_discrete m 0)
+    (λ zero-there. (
+      lone p t j seen also,
+      keeps,
+      tt,
+      kept p s o id (length seen + 1) (lone p t j seen also) (lone p t j seen also) me
+          (λ u h has. (h, has)) (o.fits id (lone p t j seen also) me),
+      ((λ _. refl), (λ ne. absurd (ne zero-there)), refl),
+    ))
+    (λ some-there. passed-by p s o id t j seen also c me within some-there
+    (λ w. w ≡ lone p t j seen also)))
+  where
+    within : length seen < rows_of p
+    within = omega arith
+
+-- an exchange on a row that was seen
+pub misses : (p : PlanOf) (slots id r w : ℕ) (v : ViewOf) (c : List (ℕ × Unit {0}))
+    → r < length v.seen → r < rows_of p
+    → Allows (Orderly p) slots id (v, c) (r + 1) (λ m. either (eqb m 0) w m)
+    (missed (step slots (r + 1) 0 w none) (v, c))
+misses p slots id r w v c saw near =
+    λ s o wide me _.
+    let m : ℕ = get_or s.words (r + 1) 0 in
+    let f = o.fits id v me in
+    let there : m ≢ 0 = filled p s o v.seen f.seen r saw near in
+    exchanged m 0 w
+    (λ (x : ℕ). (u : ViewOf) × (a : Act (Unit {0})) × Valid s.homes c a
+    × Orderly p (stepped s (r + 1) x id c u a)
+    × missed (step slots (r + 1) 0 w none) (v, c) m (u, carried_after c a))
+    (λ zero-there. absurd (there zero-there))
+    (λ some-there. (
+      v,
+      keeps,
+      tt,
+      kept p s o id (r + 1) v v me (λ u h has. (h, has)) f,
+      (some-there, refl, refl),
+    ))

@@ -11,8 +11,8 @@ use Rattle.redo_board.specs.Rows.{rows_of}
 use Rattle.redo_board.specs.Core.{Line, word, row, claim, free}
 use Rattle.redo_board.specs.Views.{ViewOf, view}
 use Rattle.redo_board.specs.Rule.{Orderly, Told}
-use Rattle.redo_board.specs.Plays.{own, own_way, next, SaysRow, row_line, Goes, Lone, Lost, Won, tried, claimed, freed}
-use Rattle.redo_board.proofs.Rows.{tries}
+use Rattle.redo_board.specs.Plays.{own, own_way, next, SaysRow, row_line, Goes, Lone, Lost, Won, tried, passed, missed, claimed, freed}
+use Rattle.redo_board.proofs.Rows.{misses, passes, tries}
 use Rattle.redo_board.proofs.Claims.{locks, frees}
 
 -- the view of a worker of the session t, whose lines are j
@@ -42,6 +42,16 @@ module _ (p q : PlanOf) (slots id t : ℕ) (j : List Line) (m : ViewOf) (c : Slo
       subst F (λ i. (sym key i, (sym is i, sym word-is i)))
       (tries p slots id t r j m.seen m.also c n is-session is-next at near in-row reply says)
 
+  pub passes_as : (r : ℕ) → r ≡ length m.seen → r < rows_of p
+      → Allows (Orderly q) slots id (m, c) (r + 1) (λ n. n)
+      (passed (step slots (r + 1) 0 0 none) (m, c))
+  passes_as r at near =
+      let F : PlanOf × ViewOf
+      → Type 0 = λ x.
+      Allows (Orderly x.0) slots id (x.1, c) (r + 1) (λ n. n)
+      (passed (step slots (r + 1) 0 0 none) (x.1, c)) in
+      subst F (λ i. (sym key i, sym is i)) (passes p slots id t r j m.seen m.also c at near)
+
   pub locks_as : (i u : ℕ) → i ≡ rows_of p + 1 + u → u < length p.names
       → own_way j n.command ≡ claim u
       → Allows (Orderly q) slots id (m, c) i (λ n. bit_or n 1)
@@ -65,6 +75,17 @@ module _ (p q : PlanOf) (slots id t : ℕ) (j : List Line) (m : ViewOf) (c : Slo
       (freed (step slots x.1.1 1 0 none) (x.1.0, c)) in
       subst F (λ k. (sym key k, (sym is k, sym at k)))
       (frees p slots id t u j m.seen m.also c n is-session is-next low to-free)
+
+-- on a row that was seen
+pub misses_as : (p q : PlanOf) (slots id r w : ℕ) (m : ViewOf) (c : Slots) → q ≡ p
+    → r < length m.seen → r < rows_of p
+    → Allows (Orderly q) slots id (m, c) (r + 1) (λ n. either (eqb n 0) w n)
+    (missed (step slots (r + 1) 0 w none) (m, c))
+misses_as p q slots id r w m c key saw near =
+    subst
+    (λ x. Allows (Orderly x) slots id (m, c) (r + 1) (λ n. either (eqb n 0) w n)
+    (missed (step slots (r + 1) 0 w none) (m, c)))
+    (sym key) (misses p slots id r w m c saw near)
 
 -- what a worker's view keeps: its lines, and that a legal history fits it
 pub record Keeps (p : PlanOf) (t : ℕ) (j : List Line) (seen : List ℕ) (w : ViewOf) : Type 0 where

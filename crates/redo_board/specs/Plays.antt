@@ -118,6 +118,14 @@ Won v w =
 abbrev pub tried : PlayOf
 tried st m r n = (r ≡ 0 → Won m.0 n.0) × (r ≢ 0 → Lost m.0 r n.0) × (n.1 ≡ m.1)
 
+-- what a look at the first row that was not seen tells: its word, where it is filled
+abbrev pub passed : PlayOf
+passed st m r n = (r ≡ 0 → n.0 ≡ m.0) × (r ≢ 0 → Lost m.0 r n.0) × (n.1 ≡ m.1)
+
+-- what an exchange on a row that was seen tells: it is lost, and there is nothing new
+abbrev pub missed : PlayOf
+missed st m r n = (r ≢ 0) × (n.0 ≡ m.0) × (n.1 ≡ m.1)
+
 -- what a step on a claim word that found r tells
 abbrev pub Claims : (ℕ → Numbered ℕ → ℕ → ℕ → Line) → ℕ → ViewOf → ℕ → ViewOf → Type 0
 Claims line word v r w =

@@ -22,6 +22,22 @@ impl Play<(), View> for Try {
     ghost then = { tried };
 }
 
+pub struct Pass;
+
+impl Play<(), View> for Pass {
+    ghost use Rattle.redo_board.specs.Plays.{passed};
+
+    ghost then = { passed };
+}
+
+pub struct Miss;
+
+impl Play<(), View> for Miss {
+    ghost use Rattle.redo_board.specs.Plays.{missed};
+
+    ghost then = { missed };
+}
+
 pub struct Claim;
 
 impl Play<(), View> for Claim {

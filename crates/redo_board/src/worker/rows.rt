@@ -1,4 +1,4 @@
-ghost use Rattle.std.specs.Prelude.{◌≡◌, ◌+◌, ◌^◌, ◌<◌, true, None, IfOk, OnOk, OnErr};
+ghost use Rattle.std.specs.Prelude.{◌≡◌, ◌+◌, ◌^◌, ◌<◌, true, None, IsTrue, IsFalse, IfOk, OnOk, OnErr};
 ghost use Rattle.std.specs.Prelude.{MatchBool, length};
 ghost use Rattle.redo_model.specs.Command.{asked_lock};
 ghost use Rattle.redo_model.specs.Renaming.{IsBelow};
@@ -20,7 +20,7 @@ ghost use Rattle.redo_board.specs.Outcomes.{Made, Waits};
 use crate::board::Board;
 use crate::gate::Gate;
 use crate::plan::command_at;
-use crate::rule::Try;
+use crate::rule::{Miss, Pass, Try};
 use crate::worker::Worker;
 use crate::worker::ways::has;
 use crate::worker::words::{again, flag_of, is_closing, number_of, session_of, target_of, word_of};
@@ -105,6 +105,44 @@ impl Worker {
         reply
     }
 
+    /// Looks at the first row that was not seen. Where it is filled, tries the exchange there, which
+    /// is lost, without a list or room. Answers whether it was filled.
+    fn pass_row<G: Gate>(
+        &mut self,
+        board: &Board,
+        plan: &Plan,
+        gate: &G,
+        next: &Next,
+        command: &Command,
+    ) -> bool
+        requires belongs { IsBoardOf plan.now board.now × WorksAt plan.now board.now self.old }
+        requires command { IsNextBy plan.now self.old next.now.line next.now.closing
+            (command_of command.now) }
+        requires way { own_way (journal_of plan.now self.old) (command_of command.now) ≡ row }
+        requires none { self.old.pending ≡ None }
+        ensures works { WorksAt plan.now board.now self.new }
+        ensures session { session_of self.new ≡ session_of self.old }
+        ensures waits { Waits plan.now self.old self.new }
+        ensures tries { IsTrue result → tries_of self.new ≡ tries_of self.old + 1 }
+        ensures row { IsTrue result → tries_of self.old < rows_of plan.now }
+        ensures same { IsFalse result → self.new ≡ self.old }
+    {
+        let row = self.tries as usize + 1;
+        let word = board.table.shared.load::<Pass>(&mut self.seat, row);
+        if word == 0 {
+            return false;
+        }
+        gate.ready(self.session, next.line, self.tries);
+        let own = word_of(self.session, next, command, has(&self.own, command));
+        board
+            .table
+            .shared
+            .compare_exchange::<Miss>(&mut self.seat, row, 0, own);
+        self.tries += 1;
+        self.pending = Some(word);
+        true
+    }
+
     /// One exchange, on the first row that was not seen. What follows a win takes no memory.
     fn try_row(
         &mut self,
@@ -176,6 +214,9 @@ impl Worker {
     {
         loop {
             self.catch_up(plan)?;
+            if self.pass_row(board, plan, gate, next, command) {
+                continue;
+            }
             let list = self.list_first(alloc, command)?;
             self.store.reserve(command)?;
             gate.ready(self.session, next.line, self.tries);

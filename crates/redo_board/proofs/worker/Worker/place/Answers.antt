@@ -1,4 +1,4 @@
-use Rattle.std.proofs.Common.{◌≡◌, ℕ, Some, sym, subst, ◌∙◌, rules}
+use Rattle.std.proofs.Common.{◌≡◌, ℕ, Some, refl, sym, subst, ◌∙◌, rules}
 use Rattle.redo_model.specs.Journals.{Numbered}
 use Rattle.redo_model.specs.Renaming.{IsBelow}
 use Rattle.redo_terms.specs.Meaning.{command_of}
@@ -12,47 +12,58 @@ use Rattle.redo_board.proofs.NextSteps.{next_below}
 use Rattle.redo_board.proofs.Works.{waits-same}
 use Rattle.redo_board.proofs.worker.Worker.place.Goals as goal
 
--- what is next after the others' words too is of the store's names
-numbers_at : (p : PlanOf) (w v u : Worker) (n : Numbered ℕ) → next_by p w ≡ Some n
-    → Waits p w v → u.session ≡ v.session → u.entries ≡ v.entries → u.seat ≡ v.seat
-    → Works p u → IsBelow (count_of u.store) n.command
-numbers_at p w v u n is-next waits session entries seat k =
-    let later : Waits p w u = waits-same p w v u waits session entries seat in
+-- it still waits after the others' words, and after a look at an empty row
+still : (p : PlanOf) (w v u x : Worker) → Waits p w v → u.session ≡ v.session
+    → u.entries ≡ v.entries → u.seat ≡ v.seat → x ≡ u → Waits p w x
+still p w v u x waits session entries seat same =
+    subst (Waits p w) (sym same) (waits-same p w v u waits session entries seat)
+
+-- and what is next is of its store's names
+numbers_at : (p : PlanOf) (w x : Worker) (n : Numbered ℕ) → next_by p w ≡ Some n → Waits p w x
+    → Works p x → IsBelow (count_of x.store) n.command
+numbers_at p w x n is-next waits k =
     subst (λ m. IsBelow m n.command) (sym k.lags.count)
-    (next_below p u n k (later.next ∙ is-next))
+    (next_below p x n k (waits.next ∙ is-next))
 
 pub list_first-requires-clause-numbers : goal.list_first-requires-clause-numbers
 list_first-requires-clause-numbers g c =
+    let p = c.args.plan.now in
+    let w = c.args.self.now in
+    let x = c.pass_row.new.self in
     let e = c.catch_up.ensures in
-    numbers_at c.args.plan.now c.args.self.now c.loop-self.self c.catch_up.new.self
+    numbers_at p w x
     (record { number = c.args.next.now.line; command = command_of c.args.command.now })
-    c.requires.command.next c.loop-self.invariant.2 e.same.0 e.same.1 e.seat e.works
+    c.requires.command.next
+    (still p w c.loop-self.self c.catch_up.new.self x c.loop-self.invariant.2 e.same.0 e.same.1
+    e.seat (c.pass_row.ensures.same c.if-pass_row.false))
+    c.pass_row.ensures.works.works
 
 pub reserve-requires : goal.reserve-requires
 reserve-requires g c =
+    let p = c.args.plan.now in
+    let w = c.args.self.now in
+    let x = c.pass_row.new.self in
     let e = c.catch_up.ensures in
     record {
       numbers =
-          numbers_at c.args.plan.now c.args.self.now c.loop-self.self c.catch_up.new.self
+          numbers_at p w x
           (record { number = c.args.next.now.line; command = command_of c.args.command.now })
-          c.requires.command.next c.loop-self.invariant.2 e.same.0 e.same.1 e.seat e.works;
+          c.requires.command.next
+          (still p w c.loop-self.self c.catch_up.new.self x c.loop-self.invariant.2 e.same.0
+          e.same.1 e.seat (c.pass_row.ensures.same c.if-pass_row.false))
+          c.pass_row.ensures.works.works;
     }
 
 pub returns-in_err-reserve-clause-err : goal.returns-in_err-reserve-clause-err
 returns-in_err-reserve-clause-err g c =
-    let v : Worker = c.loop-self.self in
+    let p = c.args.plan.now in
+    let w = c.args.self.now in
+    let x : Worker = c.pass_row.new.self in
+    let u : Worker = record x { store = c.reserve.new.self } in
     let e = c.catch_up.ensures in
-    let u : Worker =
-    record {
-      seat = c.catch_up.new.self.seat;
-      session = c.catch_up.new.self.session;
-      entries = c.catch_up.new.self.entries;
-      own = c.catch_up.new.self.own;
-      store = c.reserve.new.self;
-      pending = c.catch_up.new.self.pending;
-      tries = c.catch_up.new.self.tries;
-    } in
-    let waits : Waits c.args.plan.now c.args.self.now u =
-    waits-same c.args.plan.now c.args.self.now v u c.loop-self.invariant.2 e.same.0 e.same.1
-    e.seat in
+    let waits : Waits p w u =
+    waits-same p w x u
+    (still p w c.loop-self.self c.catch_up.new.self x c.loop-self.invariant.2 e.same.0 e.same.1
+    e.seat (c.pass_row.ensures.same c.if-pass_row.false))
+    refl refl refl in
     search rules
