@@ -1,0 +1,26 @@
+"""A build-dependency database for redo: names, stamps, the server of a tree, and its clients.
+
+What this module exports is imported when it is first used, so that a program that needs one part
+starts fast.
+"""
+TYPE_CHECKING = False
+if TYPE_CHECKING:
+    from . import errors, replies
+    from .aio import AsyncClient
+    from .client import Client
+
+__version__ = "0.1.0"
+__all__ = ["AsyncClient", "Client", "__version__", "errors", "replies"]
+
+_HOMES = {"Client": "client", "AsyncClient": "aio"}
+_MODULES = ("errors", "replies")
+
+
+def __getattr__(name: str) -> object:
+    from importlib import import_module
+
+    if name in _HOMES:
+        return getattr(import_module("." + _HOMES[name], __name__), name)
+    if name in _MODULES:
+        return import_module("." + name, __name__)
+    raise AttributeError(f"module {__name__!r} has no attribute {name!r}")

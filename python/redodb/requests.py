@@ -1,0 +1,172 @@
+"""The requests of a client: their lines, and how the answers to them are read."""
+from __future__ import annotations
+
+from collections.abc import Callable, Iterable
+from dataclasses import dataclass
+from typing import Generic, TypeVar
+
+from . import replies
+from .errors import BadName
+from .names import is_name
+from .replies import Busy, Deps, Forgotten, Granted, Names, NameState, Ring, Why
+
+Name = bytes | str
+Answer = TypeVar("Answer")
+
+TOP_LEVEL = b"-"
+"""The name in place of the one that is built, where a wait is for none."""
+
+_MOST_NAMES = 64
+_MOST_BYTES = 7_000
+
+
+@dataclass(frozen=True, slots=True)
+class Request(Generic[Answer]):
+    """The lines of a request. read reads the answer to each, and join makes one of several."""
+
+    lines: tuple[bytes, ...]
+    read: Callable[[bytes, bytes], Answer]
+    join: Callable[[list[Answer]], Answer]
+
+    def result(self, answers: list[bytes]) -> Answer:
+        """Return what the answers say. Raises RefusedError and FaultError."""
+        return self.join(
+            [self.read(answer, line) for answer, line in zip(answers, self.lines, strict=True)]
+        )
+
+
+def file(name: Name, stamp: str) -> Request[None]:
+    return _one(b"file %b %b" % (_name(name), _word(stamp)), replies.read_ok)
+
+
+def gone(name: Name) -> Request[None]:
+    return _one(b"gone " + _name(name), replies.read_ok)
+
+
+def lock(target: Name) -> Request[Granted | Busy]:
+    return _one(b"lock " + _name(target), replies.read_lock)
+
+
+def unlock(target: Name) -> Request[None]:
+    return _one(b"unlock " + _name(target), replies.read_ok)
+
+
+def start(target: Name) -> Request[None]:
+    return _one(b"start " + _name(target), replies.read_ok)
+
+
+def ifchange(target: Name, names: Iterable[Name]) -> Request[Names]:
+    return Request(_chunks(b"ifchange " + _name(target), names), replies.read_stale, _all_names)
+
+
+def ifcreate(target: Name, names: Iterable[Name]) -> Request[None]:
+    return Request(_chunks(b"ifcreate " + _name(target), names), replies.read_ok, _nothing)
+
+
+def always(target: Name) -> Request[None]:
+    return _one(b"always " + _name(target), replies.read_ok)
+
+
+def stamp(target: Name, content: bytes) -> Request[str]:
+    digits = content.hex().encode() or b"-"
+    return _one(b"stamp %b %b" % (_name(target), digits), replies.read_digest)
+
+
+def done(target: Name, stamp: str | None) -> Request[None]:
+    word = b"-" if stamp is None else _word(stamp)
+    return _one(b"done %b %b" % (_name(target), word), replies.read_ok)
+
+
+def failed(target: Name) -> Request[None]:
+    return _one(b"failed " + _name(target), replies.read_ok)
+
+
+def ood() -> Request[Names]:
+    return _one(b"ood", replies.read_names)
+
+
+def targets() -> Request[Names]:
+    return _one(b"targets", replies.read_names)
+
+
+def sources() -> Request[Names]:
+    return _one(b"sources", replies.read_names)
+
+
+def why(target: Name) -> Request[Why | None]:
+    return _one(b"why " + _name(target), replies.read_why)
+
+
+def deps(target: Name) -> Request[Deps]:
+    return _one(b"deps " + _name(target), replies.read_deps)
+
+
+def state(name: Name) -> Request[NameState]:
+    return _one(b"state " + _name(name), replies.read_state)
+
+
+def wait(target: Name, parent: Name) -> Request[Granted | Ring | Forgotten]:
+    return _one(b"wait %b %b" % (_name(target), _parent(parent)), replies.read_wait)
+
+
+def forget(target: Name, parent: Name) -> Request[bool]:
+    return _one(b"forget %b %b" % (_name(target), _parent(parent)), replies.read_forget)
+
+
+def look(names: Iterable[Name] | None) -> Request[int]:
+    lines = (b"look",) if names is None else _chunks(b"look", names)
+    return Request(lines, replies.read_count, sum)
+
+
+def group(number: int) -> Request[None]:
+    return _one(b"group %d" % number, replies.read_ok)
+
+
+def ungroup(number: int) -> Request[None]:
+    return _one(b"ungroup %d" % number, replies.read_ok)
+
+
+def end() -> Request[None]:
+    return _one(b"end", replies.read_ok)
+
+
+def _one(line: bytes, read: Callable[[bytes, bytes], Answer]) -> Request[Answer]:
+    return Request((line,), read, lambda answers: answers[0])
+
+
+def _chunks(command: bytes, names: Iterable[Name]) -> tuple[bytes, ...]:
+    """Return lines of the command, with no more names and bytes than a line may have."""
+    lines = []
+    line, count = command, 0
+    for name in map(_name, names):
+        if count == _MOST_NAMES or count and len(line) + len(name) >= _MOST_BYTES:
+            lines.append(line)
+            line, count = command, 0
+        line += b" " + name
+        count += 1
+    return (*lines, line) if count else tuple(lines)
+
+
+def _all_names(answers: list[Names]) -> Names:
+    return Names(tuple(sorted({name for answer in answers for name in answer})))
+
+
+def _nothing(answers: list[None]) -> None:
+    """Of several answers that say nothing, make one."""
+
+
+def _parent(name: Name) -> bytes:
+    return TOP_LEVEL if name in (TOP_LEVEL, TOP_LEVEL.decode()) else _name(name)
+
+
+def _name(name: Name) -> bytes:
+    name = name.encode() if isinstance(name, str) else name
+    if not is_name(name):
+        raise BadName(f"not a name of the database: {name!r}")
+    return name
+
+
+def _word(stamp: str) -> bytes:
+    if not (0 < len(stamp) <= 64 and stamp.isascii() and stamp.isprintable()) or " " in stamp:
+        raise ValueError(f"not a file stamp: {stamp!r}")
+    return stamp.encode()

@@ -1,0 +1,112 @@
+"""The top of a tree, its paths, and where redodb-live is found."""
+import doctest
+import os
+import shutil
+import subprocess
+import sys
+import tempfile
+import unittest
+from pathlib import Path
+
+import beside
+from redodb import places
+from redodb.places import Places, find_top, private_folder
+
+
+def load_tests(
+    loader: unittest.TestLoader, tests: unittest.TestSuite, pattern: str | None
+) -> unittest.TestSuite:
+    tests.addTests(doctest.DocTestSuite(places))
+    return tests
+
+
+class Tops(unittest.TestCase):
+    def setUp(self) -> None:
+        folder = tempfile.TemporaryDirectory()
+        self.addCleanup(folder.cleanup)
+        self.top = os.path.realpath(folder.name)
+        os.makedirs(self.top + "/a/b/c")
+
+    def test_are_the_nearest_folder_with_redo(self) -> None:
+        os.mkdir(self.top + "/.redo")
+        self.assertEqual(find_top(os.fsencode(self.top + "/a/b/c")), os.fsencode(self.top))
+        os.mkdir(self.top + "/a/b/.redo")
+        self.assertEqual(find_top(os.fsencode(self.top + "/a/b/c")), os.fsencode(self.top + "/a/b"))
+        self.assertEqual(find_top(os.fsencode(self.top + "/a/b")), os.fsencode(self.top + "/a/b"))
+        self.assertEqual(find_top(os.fsencode(self.top + "/a")), os.fsencode(self.top))
+
+    def test_are_resolved(self) -> None:
+        os.mkdir(self.top + "/a/.redo")
+        os.symlink("a", self.top + "/link")
+        self.assertEqual(find_top(os.fsencode(self.top + "/link/b")), os.fsencode(self.top + "/a"))
+
+    def test_are_no_files(self) -> None:
+        Path(self.top, "a/b/.redo").write_text("")
+        os.mkdir(self.top + "/.redo")
+        self.assertEqual(find_top(os.fsencode(self.top + "/a/b")), os.fsencode(self.top))
+
+    def test_need_not_be(self) -> None:
+        self.assertIsNone(find_top(os.fsencode(self.top + "/a")))
+
+    def test_have_a_private_folder(self) -> None:
+        Places(os.fsencode(self.top)).make()
+        Places(os.fsencode(self.top)).make()
+        self.assertEqual(os.stat(self.top + "/.redo/server").st_mode & 0o777, 0o700)
+        os.mkdir(self.top + "/run", 0o755)
+        private_folder(os.fsencode(self.top + "/run"))
+        self.assertEqual(os.stat(self.top + "/run").st_mode & 0o777, 0o700)
+
+
+class Program(unittest.TestCase):
+    """redodb-live, as a package finds it that was put somewhere else."""
+
+    def setUp(self) -> None:
+        folder = tempfile.TemporaryDirectory()
+        self.addCleanup(folder.cleanup)
+        self.home = Path(folder.name).resolve()
+        shutil.copytree(
+            Path(beside.FOLDER, "redodb"),
+            self.home / "base/python/redodb",
+            ignore=shutil.ignore_patterns("__pycache__"),
+        )
+
+    def program(self, place: str, mode: int = 0o755) -> Path:
+        path = self.home / place / "redodb-live"
+        path.parent.mkdir(parents=True, exist_ok=True)
+        path.write_text("")
+        path.chmod(mode)
+        return path
+
+    def found(self, **environment: str) -> str:
+        words = (
+            "from redodb.places import find_program; print((find_program() or b'none').decode())"
+        )
+        return subprocess.run(
+            [sys.executable, "-c", words],
+            cwd=self.home / "base/python",
+            env={"PATH": "/none", **environment},
+            capture_output=True,
+            text=True,
+            check=True,
+        ).stdout.strip()
+
+    def test_is_none_where_it_is_nowhere(self) -> None:
+        self.program(".")
+        self.program("base/python/redodb")
+        self.assertEqual(self.found(), "none")
+        self.assertEqual(self.found(PATH=":."), "none")
+
+    def test_is_that_of_path_and_then_of_the_home(self) -> None:
+        on_path = self.program("bin")
+        self.assertEqual(self.found(PATH=f"/none:{self.home}/bin"), str(on_path))
+        self.program("base", 0o644)
+        self.assertEqual(self.found(PATH=f"{self.home}/bin"), str(on_path))
+        at_home = self.program("base")
+        self.assertEqual(self.found(PATH=f"{self.home}/bin"), str(at_home))
+        installed = self.program("base/libexec")
+        self.assertEqual(self.found(PATH=f"{self.home}/bin"), str(installed))
+
+    def test_is_what_the_environment_says(self) -> None:
+        self.program("base")
+        self.assertEqual(self.found(REDODB_LIVE="/some/program"), "/some/program")
+        self.assertEqual(self.found(REDODB_LIVE="here"), f"{self.home}/base/python/here")
