@@ -1,0 +1,159 @@
+"""A plain connection to the server: lines of bytes, with as few imports as can be.
+
+A program that starts often asks by `Lines.ask` and reads the answers itself; `client.Client` has a
+method for each command instead.
+"""
+from __future__ import annotations
+
+import select
+import time
+from _socket import AF_UNIX, MSG_DONTWAIT, SOCK_CLOEXEC, SOCK_STREAM, socket
+
+from .errors import ProtocolError, ServerError
+from .places import Places
+
+TYPE_CHECKING = False
+if TYPE_CHECKING:
+    from collections.abc import Iterable
+
+_MOST_READ = 1 << 18
+_LONGEST_PATH = 100
+
+
+class Lines:
+    """One connection, which is one session. Requests go out together, while answers are read.
+
+    deadline is a time of time.monotonic(), or None. After a TimeoutError the connection can be used
+    on; answers that come late are kept in `late`, by the number of the request. `number` is the
+    last one.
+    """
+
+    def __init__(self, connected: socket) -> None:
+        self.session = 0
+        self.number = 0
+        self.late: dict[int, bytes] = {}
+        self._socket = connected
+        self._rest = b""
+        self._unsent = b""
+
+    def greet(self, deadline: float | None = None) -> bool:
+        """Wait for the session, which may take the time until one is free.
+
+        Return False where the server ended before. Raises ServerError, TimeoutError.
+        """
+        while b"\n" not in self._rest:
+            data = self._receive(deadline)
+            if not data:
+                self.close()
+                return False
+            self._rest += data
+        line, _, self._rest = self._rest.partition(b"\n")
+        word, _, number = line.partition(b" ")
+        if word != b"session" or not number.isdigit():
+            self._complain(line)
+        self.session = int(number)
+        return True
+
+    def ask(self, request: bytes, deadline: float | None = None) -> bytes:
+        """Return the answer to a request. Raises ServerError, TimeoutError."""
+        return self.ask_all((request,), deadline)[0]
+
+    def ask_all(self, requests: Iterable[bytes], deadline: float | None = None) -> list[bytes]:
+        """Return the answers to requests that are sent ahead, in their order. Raises as `ask`."""
+        first = self.number + 1
+        lines = [b"%d %b\n" % (number, request) for number, request in enumerate(requests, first)]
+        self.number += len(lines)
+        self._unsent += b"".join(lines)
+        answers: dict[int, bytes] = {}
+        wanted = range(first, self.number + 1)
+        while len(answers) < len(wanted):
+            self._send()
+            data = self._receive(deadline)
+            if not data:
+                self.close()
+                raise ServerError("the server has ended")
+            self._take(data, wanted, answers)
+        return [answers[number] for number in wanted]
+
+    def fileno(self) -> int:
+        """Return the file descriptor of the connection."""
+        return self._socket.fileno()
+
+    def detach(self) -> tuple[int, bytes]:
+        """Give the descriptor away, on which all goes on, and what was read ahead."""
+        return self._socket.detach(), self._rest
+
+    def close(self) -> None:
+        """End the connection, and with it the session."""
+        self._socket.close()
+
+    def _send(self) -> None:
+        """Send as much as goes without waiting."""
+        while self._unsent:
+            try:
+                sent = self._socket.send(self._unsent, MSG_DONTWAIT)
+            except BlockingIOError:
+                return
+            except (BrokenPipeError, ConnectionResetError):
+                self._unsent = b""
+                return
+            self._unsent = self._unsent[sent:]
+
+    def _receive(self, deadline: float | None) -> bytes:
+        """Return what comes next; b"" at the end. What is unsent goes out meanwhile."""
+        poll = select.poll()
+        while True:
+            poll.register(self._socket, select.POLLIN | (select.POLLOUT if self._unsent else 0))
+            left = None if deadline is None else max(0.0, deadline - time.monotonic()) * 1000
+            events = poll.poll(left)
+            if not events:
+                raise TimeoutError("no answer from the server in time")
+            if events[0][1] & ~select.POLLOUT:
+                try:
+                    return self._socket.recv(_MOST_READ)
+                except ConnectionResetError:
+                    return b""
+            self._send()
+
+    def _take(self, data: bytes, wanted: range, answers: dict[int, bytes]) -> None:
+        lines = (self._rest + data).split(b"\n")
+        self._rest = lines.pop()
+        for line in lines:
+            number, _, answer = line.partition(b" ")
+            if number == b"0" or not number.isdigit():
+                self._complain(line)
+            kept = answers if int(number) in wanted else self.late
+            kept[int(number)] = answer
+
+    def _complain(self, line: bytes) -> None:
+        self.close()
+        if line.startswith(b"0 failed "):
+            raise ServerError(line[len(b"0 failed ") :].decode(errors="replace"))
+        raise ProtocolError(f"not a line of the server: {line!r}")
+
+
+def dial(places: Places) -> socket | None:
+    """Return a connection to the server of a tree, or None where no server listens."""
+    connection = socket(AF_UNIX, SOCK_STREAM | SOCK_CLOEXEC)
+    try:
+        if len(places.socket) <= _LONGEST_PATH:
+            connection.connect(places.socket)
+        else:
+            _connect_by_folder(connection, places)
+        return connection
+    except (FileNotFoundError, ConnectionRefusedError):
+        connection.close()
+        return None
+    except BaseException:
+        connection.close()
+        raise
+
+
+def _connect_by_folder(connection: socket, places: Places) -> None:
+    import os
+
+    folder = os.open(places.server, os.O_PATH | os.O_DIRECTORY | os.O_CLOEXEC)
+    try:
+        connection.connect(f"/proc/self/fd/{folder}/socket")
+    finally:
+        os.close(folder)

@@ -1,0 +1,109 @@
+"""Reaching the server of a tree, which is started where there is none."""
+from __future__ import annotations
+
+import fcntl
+import os
+import sys
+import time
+
+from .errors import ServerError
+from .lines import Lines, dial
+from .places import Places, find_program, package_folder
+
+START_SECONDS = 10.0
+_PAUSE = 0.02
+
+
+def connect(top: bytes, timeout: float | None = None, idle: float = 3.0) -> Lines:
+    """Return a connection to the server of a tree, with its session.
+
+    Where no server listens, one is started, which ends `idle` seconds after its last client. More
+    than 64 connections wait for a session, for ever or timeout seconds. Raises ServerError,
+    TimeoutError.
+    """
+    places = Places(top)
+    deadline = None if timeout is None else time.monotonic() + timeout
+    give_up = time.monotonic() + START_SECONDS
+    while True:
+        lines = dialled(places) or started(places, idle, give_up)
+        try:
+            if lines.greet(deadline):
+                return lines
+        except BaseException:
+            lines.close()
+            raise
+        if time.monotonic() > give_up:
+            raise ServerError("the server ended at once" + _last_error(places, 0))
+
+
+def dialled(places: Places) -> Lines | None:
+    """Return a connection that has no session yet, or None where no server listens."""
+    connection = dial(places)
+    return None if connection is None else Lines(connection)
+
+
+def started(places: Places, idle: float, give_up: float) -> Lines:
+    """Start a server, and return a connection to it. One program at a time tries."""
+    places.make()
+    turn = os.open(places.starting, os.O_RDWR | os.O_CREAT | os.O_CLOEXEC, 0o600)
+    try:
+        fcntl.flock(turn, fcntl.LOCK_EX)
+        while True:
+            lines = dialled(places)
+            if lines is not None:
+                return lines
+            _start(places, idle)
+            lines = dialled(places)
+            if lines is not None:
+                return lines
+            if time.monotonic() > give_up:
+                raise ServerError("the server can't be reached" + _last_error(places, 0))
+            time.sleep(_PAUSE)  # another server is about to listen, or to end
+    finally:
+        os.close(turn)
+
+
+def _start(places: Places, idle: float) -> None:
+    """Start a server in the background, and return when it listens, or found another one there."""
+    import subprocess
+
+    errors = os.open(places.errors, os.O_WRONLY | os.O_CREAT | os.O_APPEND | os.O_CLOEXEC, 0o600)
+    try:
+        before = os.fstat(errors).st_size
+        command = [
+            sys.executable or "python3",
+            "-ESs",
+            "-m",
+            "redodb.server",
+            "--detach",
+            "--idle",
+            str(idle),
+            "--top",
+            os.fsdecode(places.top),
+        ]
+        program = find_program() or b""
+        status = subprocess.run(
+            command,
+            cwd=package_folder(),
+            start_new_session=True,
+            check=False,
+            stdin=subprocess.DEVNULL,
+            stdout=subprocess.DEVNULL,
+            stderr=errors,
+            env={**os.environ, "REDODB_LIVE": os.fsdecode(program)},
+        ).returncode
+    finally:
+        os.close(errors)
+    if status:
+        raise ServerError("the server can't be started" + _last_error(places, before))
+
+
+def _last_error(places: Places, before: int) -> str:
+    """Return `: ` and the last line of the server's errors behind so many bytes, if any."""
+    try:
+        with open(places.errors, "rb") as errors:
+            errors.seek(before)
+            lines = errors.read().decode(errors="replace").splitlines()
+    except OSError:
+        return ""
+    return f": {lines[-1]}" if lines else ""

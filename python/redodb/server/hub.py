@@ -1,0 +1,189 @@
+"""The server: its clients, the sessions that they have, and its end."""
+from __future__ import annotations
+
+import asyncio
+import heapq
+import signal
+from collections import deque
+from collections.abc import Callable
+
+from .connection import Connection
+from .known import Known, Words
+from .live import Live
+from .program import Program
+from .taking import Taken
+from .waits import Wait, Waits
+
+SESSIONS = 64
+
+_FIRST_CLIENT = 10.0
+_IN_USE = "in use"
+_TRIES = 100
+_PAUSE = 0.05
+
+
+class Hub:
+    """One redodb-live, which start starts, and all clients.
+
+    A client that comes gets the lowest session that is free, or waits its turn. Where redodb-live
+    ends, each client is told why; where there is none, the next one is. The server ends `idle`
+    seconds after its last client, or some seconds after its start where none comes.
+    """
+
+    def __init__(self, taken: Taken, start: Callable[[], Program], idle: float) -> None:
+        self.known = Known()
+        self.waits = Waits(self._lock, self._unlock)
+        self.learners: dict[bytes, Callable[[Words, bytes], None]] = {
+            **self.known.learners,
+            b"unlock": self._unlocked,
+        }
+        self.live = Live(self)
+        self.touched: list[Connection] = []
+        self.stuffed = False
+        self._taken = taken
+        self._start = start
+        self._idle = idle
+        self._ready = False
+        self._closing = False
+        self._failure = ""
+        self._told = False
+        self._tries = 0
+        self._free = list(range(1, SESSIONS + 1))
+        self._connections: dict[Connection, None] = {}
+        self._queue: deque[Connection] = deque()
+        self._timer: asyncio.TimerHandle | None = None
+        self._listening: asyncio.Server | None = None
+        self._ended = asyncio.Event()
+
+    async def run(self) -> str:
+        """Serve until the end. Return what failed, or an empty text."""
+        loop = asyncio.get_running_loop()
+        for number in (signal.SIGTERM, signal.SIGINT):
+            loop.add_signal_handler(number, self.close)
+        self._timer = loop.call_later(max(self._idle, _FIRST_CLIENT), self.close)
+        self._listening = await loop.create_unix_server(
+            lambda: Connection(self), sock=self._taken.listener, backlog=self._taken.BACKLOG
+        )
+        await self._start_live()
+        self.known.read_log(self._taken.places.log)
+        await self._ended.wait()
+        return self._failure
+
+    def close(self) -> None:
+        """End: nobody is let in any more, and redodb-live ends when it has answered all."""
+        if self._closing:
+            return
+        self._closing = True
+        self._taken.hide()
+        if self._listening is not None:
+            self._listening.close()
+        for connection in list(self._connections):
+            connection.fail(self._failure or "the server was told to end")
+        if self._failure or not self.live.close():
+            self._ended.set()
+
+    def live_ready(self) -> None:
+        """Take it that redodb-live has read its log, and closed there what was left open."""
+        self.known.read_log(self._taken.places.log)
+        self._ready = True
+        self._welcome()
+
+    def live_ended(self, message: str) -> None:
+        """Take it that redodb-live has ended, and what it said.
+
+        Where the log is in use, that is by the redodb-live of a server that was killed, and ends as
+        well.
+        """
+        if self._closing:
+            self._ended.set()
+        elif not self._ready and message.endswith(_IN_USE) and self._tries < _TRIES:
+            self._tries += 1
+            loop = asyncio.get_running_loop()
+            loop.call_later(_PAUSE, lambda: loop.create_task(self._start_live()))
+        elif not self._failure:
+            self._failure = message
+            self._told = bool(self._connections)
+            for connection in list(self._connections):
+                connection.fail(message)
+            if not self._connections:
+                self._end_later()
+
+    def joined(self, connection: Connection) -> None:
+        """Let a client in. One that comes at the end gets no word, and so takes the next server."""
+        self._connections[connection] = None
+        if self._timer is not None:
+            self._timer.cancel()
+        if self._closing and not self._failure:
+            connection.close()
+        elif self._failure:
+            self._told = True
+            connection.fail(self._failure)
+        else:
+            self._queue.append(connection)
+            self._welcome()
+
+    def left(self, connection: Connection) -> None:
+        """Take it that a client is gone: its session ends, and is then free."""
+        self._connections.pop(connection, None)
+        if connection.session:
+            number = b"%d" % connection.session
+            self.live.ask(connection.session, b"end", self._session_ended, number, is_end=True)
+        elif connection in self._queue:
+            self._queue.remove(connection)
+        if not self._connections:
+            self._end_later()
+
+    def regulate(self, stuffed: bool) -> None:
+        """While redodb-live doesn't take its lines, no client is read from."""
+        self.stuffed = stuffed
+        for connection in list(self._connections):
+            connection.regulate()
+
+    def flush(self) -> None:
+        """Write what was gathered for redodb-live and for the clients."""
+        self.live.flush()
+        touched, self.touched = self.touched, []
+        for connection in touched:
+            connection.flush()
+
+    async def _start_live(self) -> None:
+        try:
+            await self.live.start(self._start())
+        except OSError as error:
+            self.live_ended(f"redodb-live can't be started: {error}")
+
+    def _end_later(self) -> None:
+        """End in a while, if no client comes; at once where one was told of a failure."""
+        if self._timer is not None:
+            self._timer.cancel()
+        seconds = 0.0 if self._told else self._idle
+        self._timer = asyncio.get_running_loop().call_later(seconds, self.close)
+
+    def _welcome(self) -> None:
+        """Give free sessions to those who wait for one."""
+        while self._ready and self._queue and self._free:
+            self._queue.popleft().welcome(heapq.heappop(self._free))
+
+    def _session_ended(self, number: bytes, reply: bytes) -> None:
+        if reply == b"ok":
+            heapq.heappush(self._free, int(number))
+            self._welcome()
+        else:
+            self.live.fail(f"session {int(number)} can't be ended: {reply.decode()}")
+
+    def _lock(self, wait: Wait) -> None:
+        def replied(_: bytes, reply: bytes) -> None:
+            self.waits.replied(wait, reply)
+
+        self.live.ask(wait.session, b"lock " + wait.target, replied, b"")
+
+    def _unlock(self, wait: Wait) -> None:
+        self.live.ask(wait.session, b"unlock " + wait.target, _nothing, b"")
+
+    def _unlocked(self, words: Words, reply: bytes) -> None:
+        if reply == b"ok":
+            self.waits.released(words[2])
+
+
+def _nothing(number: bytes, reply: bytes) -> None:
+    """Take an answer that nobody waits for."""
