@@ -1,0 +1,1 @@
+"""The front end: redo, redo-ifchange and the programs beside them."""

@@ -1,0 +1,78 @@
+"""redo-ood, redo-targets, redo-sources and redo-whichdo."""
+import os
+from typing import Callable
+
+from redodb import names
+from redodb.places import find_top
+from redodb.redo.options import Usage
+from redodb.redo.quick import connect, look
+from redodb.redo.rules import candidates
+
+
+def print_paths(paths: list[bytes]) -> None:
+    """Prints paths, one a line."""
+    text = b"".join(path + b"\n" for path in paths)
+    while text:
+        text = text[os.write(1, text) :]
+
+
+def relative_paths(found: list[bytes], top: bytes) -> list[bytes]:
+    """Returns the paths of names from the working folder."""
+    here = os.path.realpath(b".")
+    if here == top:
+        return [names.unescape(name) for name in found]
+    return [os.path.relpath(names.path_of(name, top), here) for name in found]
+
+
+def listed(question: bytes, arguments: list[str]) -> int:
+    """Prints one of the three lists of the database. Where nothing was ever built, it is empty."""
+    if arguments:
+        raise Usage("it takes no arguments")
+    top = find_top()
+    if top is None:
+        return 0
+    lines = connect(top)
+    look(lines)
+    found = lines.ask(question).split(b" ")[1:]
+    print_paths(relative_paths([name for name in found if name != names.ALWAYS], top))
+    return 0
+
+
+def redo_ood(arguments: list[str]) -> int:
+    """Prints the targets that are there and out of date."""
+    return listed(b"ood", arguments)
+
+
+def redo_targets(arguments: list[str]) -> int:
+    """Prints the targets that are there."""
+    return listed(b"targets", arguments)
+
+
+def redo_sources(arguments: list[str]) -> int:
+    """Prints the files that targets depend on, and that are no targets."""
+    return listed(b"sources", arguments)
+
+
+def redo_whichdo(arguments: list[str]) -> int:
+    """Prints the .do files of a target, up to the first that is there; 1 where none is."""
+    if len(arguments) != 1:
+        raise Usage("it takes one target")
+    folder, name = os.path.split(os.path.abspath(os.fsencode(arguments[0])))
+    target = os.path.join(os.path.realpath(folder), name)
+    here = os.path.realpath(b".")
+    looked_for: list[bytes] = []
+    for rule in candidates(target):
+        looked_for.append(os.path.relpath(rule.do_file, here))
+        if os.path.isfile(rule.do_file):
+            print_paths(looked_for)
+            return 0
+    print_paths(looked_for)
+    return 1
+
+
+PROGRAMS: dict[str, Callable[[list[str]], int]] = {
+    "redo-ood": redo_ood,
+    "redo-targets": redo_targets,
+    "redo-sources": redo_sources,
+    "redo-whichdo": redo_whichdo,
+}
