@@ -1,0 +1,2 @@
+redo-ifchange hello.o
+cc -o "$3" hello.o

@@ -1,0 +1,173 @@
+"""The programs that ask and build nothing, and redo-why."""
+import json
+import shutil
+
+from trees import TOP, Tree, ended, needs
+
+
+def program_of_two(tree: Tree) -> None:
+    """Writes and builds a tree of an app, an object and a header."""
+    tree.files(
+        app__do="redo-ifchange util.o\ncat util.o\n",
+        util__o__do="redo-ifchange util.c util.h\ncat util.[ch]\n",
+        util__c="c\n",
+        util__h="h\n",
+    )
+    tree.redo("app")
+
+
+def case_ood(tree: Tree) -> None:
+    """redo-ood prints the targets that are there and out of date, and builds nothing."""
+    program_of_two(tree)
+    tree.check.same("nothing", tree.run("redo-ood").out, "")
+    tree.write("util.h", "new\n")
+    tree.check.same("edited", tree.run("redo-ood").out, "app\nutil.o\n")
+    tree.path("util.o").unlink()
+    tree.check.same("gone", tree.run("redo-ood").out, "app\n")
+    tree.check.same("app", tree.read("app"), "c\nh\n")
+
+
+def case_ood_always(tree: Tree) -> None:
+    """redo-ood counts what is built in each run."""
+    tree.files(a__do="redo-always\necho a\n", b__do="redo-ifchange a\necho b\n", c__do="echo c\n")
+    tree.redo("b", "c")
+    tree.check.same("out of date", tree.run("redo-ood").out, "a\nb\n")
+
+
+def case_targets_and_sources(tree: Tree) -> None:
+    """redo-targets prints targets that are there, redo-sources files that they depend on."""
+    program_of_two(tree)
+    tree.check.same("targets", tree.run("redo-targets").out, "app\nutil.o\n")
+    tree.check.same("sources", tree.run("redo-sources").out, "app.do\nutil.c\nutil.h\nutil.o.do\n")
+    tree.path("util.o").unlink()
+    tree.path("util.c").unlink()
+    tree.check.same("targets", tree.run("redo-targets").out, "app\n")
+    tree.check.same("sources", tree.run("redo-sources").out, "app.do\nutil.h\nutil.o.do\n")
+
+
+def case_lists_in_a_folder(tree: Tree) -> None:
+    """The lists have the paths from the working folder."""
+    program_of_two(tree)
+    tree.path("d").mkdir()
+    tree.check.same("targets", tree.run("redo-targets", folder="d").out, "../app\n../util.o\n")
+
+
+def case_lists_of_nothing(tree: Tree) -> None:
+    """Where nothing was built, the lists are empty."""
+    for program in ("redo-ood", "redo-targets", "redo-sources"):
+        run = tree.run(program)
+        tree.check.same(program, (run.status, run.out, run.err), (0, "", ""))
+    tree.check.same("started", list(tree.folder.iterdir()), [])
+
+
+def case_whichdo(tree: Tree) -> None:
+    """redo-whichdo prints .do files as they are looked for, up to the one that is there."""
+    tree.path("a/b").mkdir(parents=True)
+    tree.write("a/default.y.do", ":\n")
+    run = tree.run("redo-whichdo", "a/b/c.x.y")
+    wanted = [
+        "a/b/c.x.y.do",
+        "a/b/default.x.y.do",
+        "a/b/default.y.do",
+        "a/b/default.do",
+        "a/default.x.y.do",
+        "a/default.y.do",
+    ]
+    tree.check.same("found", (run.status, run.out.splitlines()), (0, wanted))
+    run = tree.run("redo-whichdo", "b/c.x.y", folder="a")
+    tree.check.same("from a folder", run.out.splitlines()[:2], ["b/c.x.y.do", "b/default.x.y.do"])
+
+
+def case_whichdo_of_nothing(tree: Tree) -> None:
+    """Where none is there, it prints all up to the folder `/`, with status 1."""
+    run = tree.run("redo-whichdo", "/a/b/c.x.y", folder="../../..")
+    wanted = [
+        "a/b/c.x.y.do",
+        "a/b/default.x.y.do",
+        "a/b/default.y.do",
+        "a/b/default.do",
+        "a/default.x.y.do",
+        "a/default.y.do",
+        "a/default.do",
+        "default.x.y.do",
+        "default.y.do",
+        "default.do",
+    ]
+    depth = len(tree.folder.resolve().parts) - 1 - 3
+    tree.check.same(
+        "all", (run.status, run.out.splitlines()), (1, ["../" * depth + path for path in wanted])
+    )
+
+
+def why(tree: Tree, *words: str) -> str:
+    """What redo-why prints."""
+    run = tree.run("redo-why", *words)
+    tree.check.same(f"redo-why {words}: status", (run.status, run.err), (0, ""))
+    return run.out
+
+
+def case_why_changed(tree: Tree) -> None:
+    """redo-why prints a shortest chain to what changed."""
+    program_of_two(tree)
+    tree.check.same("nothing", why(tree, "app"), "app is up to date\n")
+    tree.write("util.h", "new\n")
+    tree.check.same("header", why(tree, "app"), "app <- util.o <- util.h changed\n")
+    tree.check.same("object", why(tree, "util.o"), "util.o <- util.h changed\n")
+    tree.check.same("source", why(tree, "util.h"), "util.h is a source\n")
+    tree.check.same("unknown", why(tree, "nothing"), "nothing is no target yet\n")
+
+
+def case_why_other_reasons(tree: Tree) -> None:
+    """redo-why tells the other reasons, too."""
+    tree.files(
+        a__do="redo-ifcreate b\necho a\n",
+        c__do="redo-always\necho c\n",
+        d__do="redo-ifchange c\necho d\n",
+        e__do="exit 1\n",
+        f__do="redo-ifchange e || echo f\n",
+        g__do="echo g\n",
+    )
+    tree.redo("a", "d", "f", "g")
+    tree.write("b", "")
+    tree.check.same("appeared", why(tree, "a"), "a <- b appeared\n")
+    tree.check.same("always", why(tree, "d"), "d <- c always\n")
+    tree.check.same("failed", why(tree, "e"), "e failed\n")
+    tree.write("g", "by hand\n")
+    tree.check.same("edited", why(tree, "g"), "g edited\n")
+
+
+def case_why_building(tree: Tree) -> None:
+    """While a target is built, that is the reason."""
+    tree.files(x__do=": >began\nwhile ! [ -e go ]; do sleep 0.01; done\n")
+    process = tree.start("redo", "x")
+    tree.until("began", tree.path("began").exists)
+    tree.check.same("building", why(tree, "x"), "x building\n")
+    tree.write("go", "")
+    tree.check.same("status", ended(process).status, 0)
+
+
+def case_why_json(tree: Tree) -> None:
+    """With --json it prints an object a line, which has the same as data."""
+    program_of_two(tree)
+    tree.write("util.h", "new\n")
+    objects = [json.loads(line) for line in why(tree, "--json", "app", "util.c").splitlines()]
+    wanted = [
+        {"target": "app", "reason": "changed", "chain": ["app", "util.o", "util.h"]},
+        {"target": "util.c", "reason": "a source", "chain": ["util.c"]},
+    ]
+    tree.check.same("objects", objects, wanted)
+
+
+def case_hello(tree: Tree) -> None:
+    """examples/hello is built, and again after an edit of its header, which redo-why tells."""
+    needs("cc")
+    for path in sorted((TOP / "examples/hello").glob("*.*")):
+        if path.suffix in (".do", ".c", ".h"):
+            shutil.copy(path, tree.folder)
+    tree.check.same("three .do files", len(list(tree.folder.glob("*.do"))), 3)
+    tree.check.same("built", tree.redo().err, "redo  all\nredo    hello\nredo      hello.o\n")
+    tree.check.same("hello", tree.run("./hello").out, "hello, world\n")
+    tree.write("greeting.h", '#define GREETING "hello again"\n')
+    tree.check.same("why", why(tree, "hello"), "hello <- hello.o <- greeting.h changed\n")
+    tree.redo()
+    tree.check.same("hello", tree.run("./hello").out, "hello again\n")

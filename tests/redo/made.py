@@ -1,0 +1,64 @@
+"""A tree of some hundred targets that is generated, and what has to be in it once it is built."""
+from dataclasses import dataclass
+
+from trees import Tree
+
+HEADER_DO = "%(ran)sredo-ifchange header.in\n(echo header; cat header.in)\n"
+OBJECT_DO = '%(ran)sredo-ifchange "$2.c" header.h\nsleep 0.0$((${#1} %% 3))\ncat "$2.c" header.h\n'
+GROUP_DO = '%(ran)sredo-ifchange "$2.list"\nredo-ifchange $(cat "$2.list")\ncat $(cat "$2.list")\n'
+ALL_DO = "%(ran)sredo-ifchange groups\nredo-ifchange $(cat groups)\ncat $(cat groups)\n"
+
+
+@dataclass
+class Made:
+    """`all` is made of groups, a group of objects, each of a source and a built header."""
+
+    tree: Tree
+    groups: int
+    objects: int
+    counted: bool = False
+
+    @property
+    def targets(self) -> list[str]:
+        """The names of all targets."""
+        objects = [f"{name}.o" for group in range(self.groups) for name in self.names(group)]
+        return ["all", "header.h", *[f"group{group}.a" for group in range(self.groups)], *objects]
+
+    def names(self, group: int) -> list[str]:
+        """The names of a group's objects, without what stands behind the dot."""
+        return [f"object{group}_{number}" for number in range(self.objects)]
+
+    def write(self, text: str) -> None:
+        """Writes the .do files, and sources that have this text in them."""
+        ran = {"ran": 'echo "$$" >>"ran.$1"\n' if self.counted else ""}
+        self.tree.write("header.h.do", HEADER_DO % ran)
+        self.tree.write("default.o.do", OBJECT_DO % ran)
+        self.tree.write("default.a.do", GROUP_DO % ran)
+        self.tree.write("all.do", ALL_DO % ran)
+        self.tree.write("groups", "".join(f"group{group}.a\n" for group in range(self.groups)))
+        self.edit(text)
+
+    def edit(self, text: str) -> None:
+        """Writes all sources anew."""
+        self.tree.write("header.in", text + "\n")
+        for group in range(self.groups):
+            names = self.names(group)
+            self.tree.write(f"group{group}.list", "".join(f"{name}.o\n" for name in names))
+            for name in names:
+                self.tree.write(f"{name}.c", f"{name} {text}\n")
+
+    def wanted(self, text: str) -> dict[str, str]:
+        """What each target has to hold, by name."""
+        found = {"header.h": f"header\n{text}\n"}
+        for group in range(self.groups):
+            for name in self.names(group):
+                found[f"{name}.o"] = f"{name} {text}\n" + found["header.h"]
+            found[f"group{group}.a"] = "".join(found[f"{name}.o"] for name in self.names(group))
+        found["all"] = "".join(found[f"group{group}.a"] for group in range(self.groups))
+        return found
+
+    def wrong(self, text: str) -> list[str]:
+        """The names of the targets that don't hold what they have to."""
+        return [
+            name for name, wanted in self.wanted(text).items() if self.tree.read(name) != wanted
+        ]
