@@ -1,0 +1,1 @@
+"""Pictures of a history: `redodb picture run|graph FILE`."""
