@@ -1,0 +1,40 @@
+"""`python3 -m redodb serve|record|picture ..`: the words of redodb that are written in Python."""
+
+import importlib
+import sys
+
+from . import __version__
+
+USAGE = """\
+usage: redodb serve [--top DIR] [--idle SECONDS]
+       redodb record ninja|make|depfiles DIR
+       redodb picture run|graph FILE
+       redodb WORD --help
+
+    serve     the server of a tree, which redo starts by itself
+    record    what another build tool knows of a tree, as a history
+    picture   what a history or a log tells, as a picture
+"""
+MODULES = {"serve": ".server.command", "record": ".record.main", "picture": ".picture.main"}
+"""Each word's module, which has a function main: the arguments behind the word, and the status."""
+
+
+def main(arguments: list[str]) -> int:
+    """Run the word. Return its status: 2 where there is no such word."""
+    word = arguments[0] if arguments else ""
+    if word in MODULES:
+        module = importlib.import_module(MODULES[word], "redodb")
+        status: int = module.main(arguments[1:])
+        return status
+    if arguments == ["--version"]:
+        print(f"redodb {__version__}")
+        return 0
+    if arguments in (["--help"], ["-h"]):
+        print(USAGE, end="")
+        return 0
+    print(USAGE, end="", file=sys.stderr)
+    return 2
+
+
+if __name__ == "__main__":
+    sys.exit(main(sys.argv[1:]))

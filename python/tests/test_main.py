@@ -1,0 +1,80 @@
+"""The words of `python3 -m redodb`, and how ./redodb passes them on."""
+
+import os
+import subprocess
+import sys
+import unittest
+
+import beside  # noqa: F401
+from redodb import __version__
+from redodb.__main__ import MODULES
+from trees import TOP
+
+
+def run(*words: str) -> tuple[int, str, str]:
+    """Return the status, standard output and standard error of a program."""
+    environment = {**os.environ, "PYTHONPATH": str(TOP / "python")}
+    ended = subprocess.run(words, env=environment, capture_output=True, text=True, check=False)
+    return ended.returncode, ended.stdout, ended.stderr
+
+
+def module(*words: str) -> tuple[int, str, str]:
+    return run(sys.executable, "-m", "redodb", *words)
+
+
+class Main(unittest.TestCase):
+    def test_help_and_version(self) -> None:
+        status, out, errors = module("--help")
+        self.assertEqual((status, errors), (0, ""))
+        for word in MODULES:
+            self.assertIn(f"\n    {word} ", out)
+        self.assertEqual(module("--version"), (0, f"redodb {__version__}\n", ""))
+
+    def test_no_such_word(self) -> None:
+        for words in ((), ("build",), ("--help", "record"), ("Record",)):
+            with self.subTest(words):
+                status, out, errors = module(*words)
+                self.assertEqual((status, out), (2, ""))
+                self.assertTrue(errors.startswith("usage: redodb serve"))
+
+    def test_each_word_has_help(self) -> None:
+        for word in MODULES:
+            status, out, errors = module(word, "--help")
+            self.assertEqual((status, errors), (0, ""))
+            self.assertTrue(out.startswith(f"usage: redodb {word}"))
+
+    def test_a_word_imports_its_own_module_alone(self) -> None:
+        for word in MODULES:
+            script = (
+                "import sys\n"
+                "from redodb.__main__ import main\n"
+                f"main(['{word}', '--help'])\n"
+                "print(*sorted(name for name in sys.modules if name.count('.') == 1"
+                " and name.startswith('redodb.')), file=sys.stderr)\n"
+                "print('asyncio' in sys.modules, file=sys.stderr)\n"
+            )
+            _, _, errors = run(sys.executable, "-c", script)
+            loaded, has_asyncio = errors.splitlines()
+            package = {each: "redodb." + MODULES[each].split(".")[1] for each in MODULES}
+            self.assertEqual(set(package.values()) & set(loaded.split(" ")), {package[word]})
+            self.assertEqual(has_asyncio, "False", word)
+
+
+class Script(unittest.TestCase):
+    def test_words_are_passed_on(self) -> None:
+        for word in MODULES:
+            self.assertEqual(run(str(TOP / "redodb"), word, "--help"), module(word, "--help"))
+
+    def test_status_and_arguments_are_passed_on(self) -> None:
+        status, out, errors = run(str(TOP / "redodb"), "picture", "run", "no such  file")
+        wanted = "redodb picture: no such  file: No such file or directory\n"
+        self.assertEqual((status, out, errors), (2, "", wanted))
+
+    def test_other_words_are_as_before(self) -> None:
+        for words in (("--help",), ("--version",), ("Record",), ("records",)):
+            with self.subTest(words):
+                self.assertEqual(run(str(TOP / "redodb"), *words), (2, "", "redodb: usage\n"))
+
+
+if __name__ == "__main__":
+    unittest.main()
