@@ -1,0 +1,56 @@
+#compdef redodb redodb-live redo redo-ifchange redo-ifcreate redo-log redo-whichdo redo-why redo-always redo-ood redo-sources redo-stamp redo-targets
+# Completion of redodb, redodb-live and the redo programs in zsh.
+
+_redodb_words() {
+    local -a words_of_redodb
+    words_of_redodb=(
+        'run:run session files side by side'
+        'replay:do a stored history again'
+        'serve:be the server of a tree'
+        'record:tell what another build tool knows of a tree'
+        'picture:draw a history'
+    )
+    _describe word words_of_redodb
+}
+
+_redo_targets() {
+    local -a names
+    names=(${(f)"$(redo-targets 2>/dev/null)"})
+    compadd -a names
+}
+
+_redodb_program() {
+    if (( CURRENT == 2 )); then
+        _redodb_words
+        return
+    fi
+    case $words[2] in
+        serve) _arguments '2:word:' '--top[top of the tree]:folder:_files -/' '--idle[seconds after the last client]:seconds:' '--help[print a summary]' ;;
+        record)
+            _arguments '2:word:' '3:kind:(ninja make depfiles)' '4:folder:_files -/' '--log[write a log]:log:_files' '*:goal:' ;;
+        picture)
+            _arguments '2:word:' '3:kind:(run graph)' '4:history:_files' '--lines[lines to show]:first-last:' \
+                '--targets[targets to show]:number:' '*:target:_redo_targets' ;;
+        *) _files ;;
+    esac
+}
+
+case $service in
+    redodb) _redodb_program ;;
+    redodb-live)
+        _arguments '--log[go on from this log]:log:_files' '--sync[sync each line]' '--salvage[cut a damaged log]' \
+            '--help[print a summary]' '--version[print the version]' ;;
+    redo)
+        _arguments '(-j --jobs)'{-j,--jobs=}'[scripts at once]:number:' '(-k --keep-going)'{-k,--keep-going}'[go on after a failure]' \
+            '--shuffle[build in random order]' '(-x --xtrace)'{-x,--xtrace}'[print commands]' \
+            '(-v --verbose)'{-v,--verbose}'[print lines of scripts]' '--no-log[keep no log]' '--no-color[no colours]' \
+            '--no-status[no progress]' '--help[print a summary]' '--version[print the version]' \
+            '*:target:{ _redo_targets; _files }' ;;
+    redo-why) _arguments '--json[print objects]' '--help[print a summary]' '--version[print the version]' '*:target:_redo_targets' ;;
+    redo-log)
+        _arguments '(-n --no-recurse)'{-n,--no-recurse}'[the log of the target alone]' '--no-color[no colours]' \
+            '--help[print a summary]' '--version[print the version]' '*:target:_redo_targets' ;;
+    redo-ifchange|redo-ifcreate|redo-whichdo)
+        _arguments '--help[print a summary]' '--version[print the version]' '*:target:{ _redo_targets; _files }' ;;
+    *) _arguments '--help[print a summary]' '--version[print the version]' ;;
+esac

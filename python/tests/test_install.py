@@ -1,0 +1,218 @@
+"""`./install PREFIX`, of a copy with stand-ins for the programs, and of the repository."""
+
+import os
+import shutil
+import subprocess
+import unittest
+from pathlib import Path
+
+import beside  # noqa: F401
+from redodb.places import find_program
+from trees import TOP, TreeTest, is_proved, program_answers
+
+COPIED = ["install", "redodb", "redodb-live", "bin", "completion", "man", "python/redodb"]
+STAND_IN = '#!/bin/sh\necho "program $*"\n'
+
+
+class InstallTest(TreeTest):
+    def setUp(self) -> None:
+        super().setUp()
+        self.prefix = self.top / "prefix"
+
+    def install(self, repository: Path, prefix: Path) -> tuple[int, str, str]:
+        run = subprocess.run(
+            [repository / "install", prefix],
+            cwd=self.top,
+            capture_output=True,
+            text=True,
+            check=False,
+        )
+        return run.returncode, run.stdout, run.stderr
+
+    def said(self, *words: str | Path, cwd: Path | None = None) -> str:
+        """Return what an installed program prints with nothing but the system on the path."""
+        kept = {
+            name: value
+            for name, value in os.environ.items()
+            if name not in ("PYTHONPATH", "REDODB_LIVE")
+        }
+        run = subprocess.run(
+            words,
+            cwd=cwd or self.top,
+            env={**kept, "PATH": os.defpath},
+            capture_output=True,
+            text=True,
+            stdin=subprocess.DEVNULL,
+            check=False,
+        )
+        self.assertEqual((run.returncode, run.stderr), (0, ""))
+        return run.stdout
+
+
+class InstallCopy(InstallTest):
+    def setUp(self) -> None:
+        super().setUp()
+        self.copy = self.top / "copy"
+        self.copy.mkdir()
+        for name in COPIED:
+            if (TOP / name).is_dir():
+                shutil.copytree(
+                    TOP / name, self.copy / name, ignore=shutil.ignore_patterns("__pycache__")
+                )
+            elif (TOP / name).exists():
+                shutil.copy2(TOP / name, self.copy / name)
+        self.write("copy/crates.txt", "")
+        self.age("copy/crates.txt", 10)
+        for crate in ("redo_cli", "redo_live_cli"):
+            self.write(f"copy/crates/{crate}/out/{crate}", STAND_IN).chmod(0o755)
+            self.write(f"copy/crates/{crate}/out/{crate}.sources", "crates.txt")
+        if program_answers():
+            shutil.copy2(
+                os.fsdecode(find_program() or b""),
+                self.copy / "crates/redo_live_cli/out/redo_live_cli",
+            )
+            os.utime(self.copy / "crates/redo_live_cli/out/redo_live_cli")
+
+    def installed(self) -> None:
+        self.assertEqual(self.install(self.copy, self.prefix), (0, "", ""))
+
+    def programs(self) -> list[str]:
+        return sorted(path.name for path in (self.prefix / "bin").iterdir())
+
+    def test_programs(self) -> None:
+        self.installed()
+        of_redo = [path.name for path in (TOP / "bin").glob("redo*")]
+        self.assertEqual(self.programs(), sorted(["redodb", "redodb-live", *of_redo]))
+        for name in self.programs():
+            self.assertTrue(os.access(self.prefix / "bin" / name, os.X_OK), name)
+            if name != "redodb":
+                self.assertEqual(
+                    self.said(self.prefix / "bin" / name, "--version").count("\n"), 1, name
+                )
+
+    def test_words_of_redodb(self) -> None:
+        self.installed()
+        redodb = self.prefix / "bin/redodb"
+        self.assertEqual(self.said(redodb, "replay", "a b"), "program replay a b\n")
+        self.assertEqual(self.said(redodb), "program \n")
+        for word in ("record", "picture", "serve"):
+            self.assertTrue(self.said(redodb, word, "--help").startswith(f"usage: redodb {word}"))
+
+    def test_by_a_symbolic_link_from_elsewhere(self) -> None:
+        self.installed()
+        os.symlink(self.prefix / "bin/redodb", self.top / "link")
+        self.assertEqual(self.said("../link", "replay", "x", cwd=self.copy), "program replay x\n")
+
+    def test_folder_can_be_moved(self) -> None:
+        self.installed()
+        self.prefix.rename(self.top / "moved")
+        self.assertEqual(self.said(self.top / "moved/bin/redodb", "run", "x"), "program run x\n")
+
+    @unittest.skipUnless(program_answers(), "wants redodb-live")
+    def test_record_asks_the_installed_program(self) -> None:
+        self.installed()
+        shutil.rmtree(self.copy)
+        self.write("tree/a.d", "a.o: a.c\n")
+        self.assertTrue(
+            self.said(self.prefix / "bin/redodb", "record", "depfiles", "tree").startswith(
+                "history "
+            )
+        )
+
+    @unittest.skipUnless(
+        program_answers() and (TOP / "bin/redo").exists(), "wants redodb-live and redo"
+    )
+    def test_redo_builds(self) -> None:
+        self.installed()
+        shutil.rmtree(self.copy)
+        self.write("tree/all.do", "redo-ifchange a\ncat a\n")
+        self.write("tree/a.do", "echo built\n")
+        environment = {"PATH": f"{self.prefix}/bin:{os.defpath}"}
+        run = subprocess.run(
+            ["redo"],
+            cwd=self.top / "tree",
+            env=environment,
+            capture_output=True,
+            text=True,
+            check=False,
+        )
+        self.assertEqual(
+            (run.returncode, (self.top / "tree/all").read_text()), (0, "built\n"), run.stderr
+        )
+
+    def test_manual_pages_and_completions(self) -> None:
+        self.installed()
+        share = self.prefix / "share"
+        for name in self.programs():
+            self.assertIn(".Sh NAME", (share / f"man/man1/{name}.1").read_text())
+            self.assertIn(name, (share / f"bash-completion/completions/{name}").read_text())
+            self.assertIn(name, (share / f"fish/vendor_completions.d/{name}.fish").read_text())
+        self.assertTrue((share / "man/man1/redodb-record.1").is_file())
+        self.assertTrue(
+            (share / "zsh/site-functions/_redodb").read_text().startswith("#compdef redodb ")
+        )
+
+    def test_again_in_place_of_an_earlier_one(self) -> None:
+        self.installed()
+        before = sorted(path.relative_to(self.prefix) for path in self.prefix.rglob("*"))
+        self.write("prefix/lib/redodb/python/redodb/old.py", "")
+        self.write("prefix/bin/other", "mine")
+        self.installed()
+        (self.prefix / "bin/other").unlink()
+        self.assertEqual(
+            sorted(path.relative_to(self.prefix) for path in self.prefix.rglob("*")), before
+        )
+
+    def test_package_is_compiled(self) -> None:
+        self.installed()
+        package = self.prefix / "lib/redodb/python/redodb"
+        modules = {path.stem for path in package.glob("*.py")}
+        self.assertEqual(
+            {path.name.split(".")[0] for path in (package / "__pycache__").glob("*.pyc")}, modules
+        )
+
+    def assert_not_proved(self, names: str) -> None:
+        line = f"install: {names}: not proved yet: ./prove proves and builds it\n"
+        self.assertEqual(self.install(self.copy, self.prefix), (2, "", line))
+        self.assertFalse(self.prefix.exists())
+
+    def test_nothing_is_proved(self) -> None:
+        shutil.rmtree(self.copy / "crates")
+        self.assert_not_proved("redodb and redodb-live")
+
+    def test_source_is_newer(self) -> None:
+        self.age("copy/crates.txt", -100)
+        self.assert_not_proved("redodb and redodb-live")
+
+    def test_one_program_is_missing(self) -> None:
+        (self.copy / "crates/redo_live_cli/out/redo_live_cli").unlink()
+        self.assert_not_proved("redodb-live")
+
+    def test_prefix_is_a_file(self) -> None:
+        self.write("prefix", "")
+        status, out, errors = self.install(self.copy, self.prefix)
+        self.assertEqual((status, out, errors.count("\n")), (2, "", 1))
+        self.assertRegex(errors, r"\Ainstall: .*/prefix/lib.*: Not a directory\n\Z")
+
+    def test_words(self) -> None:
+        for words, status in (("--help", 0), ("", 2), ("a b", 2), ("--prefix", 2)):
+            with self.subTest(words):
+                command = [str(self.copy / "install"), *words.split()]
+                run = subprocess.run(command, capture_output=True, text=True, check=False)
+                self.assertEqual(run.returncode, status)
+                self.assertIn("Usage: ./install PREFIX", run.stdout)
+
+
+@unittest.skipUnless(
+    is_proved("redo_cli") and is_proved("redo_live_cli"), "wants the proved programs"
+)
+class InstallRepository(InstallTest):
+    def test_proved_program_runs(self) -> None:
+        self.assertEqual(self.install(TOP, self.prefix), (0, "", ""))
+        history = TOP / "tests/worked/first.history"
+        verdict = self.said(self.prefix / "bin/redodb", "replay", history)
+        self.assertEqual(verdict, f"same {history.read_text().split()[1]}\n")
+
+
+if __name__ == "__main__":
+    unittest.main()
