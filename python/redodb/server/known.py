@@ -2,12 +2,16 @@
 from __future__ import annotations
 
 from collections.abc import Callable, Iterable
+from functools import partial
 
 from ..errors import BadName
 from ..names import ALWAYS, unescape
 from ..stamps import stamp_of
+from .expected import Expected
 
 Words = list[bytes]
+Learner = Callable[[Words, bytes], None]
+_Reader = Callable[[Words, bytes], Iterable[bytes]]
 
 
 class Known:
@@ -15,13 +19,15 @@ class Known:
 
     A line is SESSION COMMAND => REPLY. The lines of the log, and those that pass through the server
     behind it, are learnt in their order, by the function that `learners` has for the word of the
-    command.
+    command. Each is a reader, which returns the names of which something else is known now, and
+    what is expected of them behind it.
     """
 
     def __init__(self) -> None:
         self.stamps: dict[bytes, bytes | None] = {}
         self.building: set[bytes] = set()
-        self.learners: dict[bytes, Callable[[Words, bytes], None]] = {
+        self._expected = Expected()
+        self._readers: dict[bytes, _Reader] = {
             b"file": self._file,
             b"gone": self._gone,
             b"lock": self._spoken_of,
@@ -31,6 +37,9 @@ class Known:
             b"done": self._done,
             b"failed": self._failed,
         }
+        self.learners: dict[bytes, Learner] = {
+            word: partial(self._learn, reader) for word, reader in self._readers.items()
+        }
         self._log_read = 0
 
     def read_log(self, path: bytes) -> None:
@@ -38,6 +47,7 @@ class Known:
 
         A last line without LF is none.
         """
+        moved: dict[bytes, None] = {}
         try:
             with open(path, "rb") as log:
                 log.seek(self._log_read)
@@ -45,11 +55,14 @@ class Known:
                     if line[-1:] == b"\n":
                         self._log_read += len(line)
                         words = line.split(b" ")
-                        learner = self.learners.get(words[1])
-                        if learner is not None:
-                            learner(words, b"ok")
+                        reader = self._readers.get(words[1])
+                        if reader is not None:
+                            for name in reader(words, b"ok"):
+                                moved[name] = None
         except (FileNotFoundError, IndexError):
-            return  # there is none yet, or it is damaged, which redodb-live tells
+            pass  # there is none yet, or it is damaged, which redodb-live tells
+        for name in moved:
+            self._expect(name)
 
     def differing(self, names: Iterable[bytes] | None = None) -> list[bytes]:
         """Look at files, and return the commands that tell the database what differs from what it
@@ -60,56 +73,73 @@ class Known:
         no path has.
         """
         if names is None:
-            still = [name for name in self.stamps if name not in self.building]
-            return self._compare(still, strict=False)
-        return self._compare(dict.fromkeys(names), strict=True)
-
-    def _compare(self, names: Iterable[bytes], strict: bool) -> list[bytes]:
+            names = self._expected.suspects()
         commands = []
-        known = self.stamps
-        for name in names:
-            path = name
-            if strict or b"%" in name or name == ALWAYS:
-                if name == ALWAYS:
-                    continue
-                try:
-                    path = unescape(name)
-                except BadName:
-                    if strict:
-                        raise
-                    continue
-            stamp = stamp_of(path)
-            before = known.get(name)
-            if stamp is None:
-                if before is not None:
-                    commands.append(b"gone " + name)
-            elif before is None or stamp.encode() != before:
-                commands.append(b"file %b %b" % (name, stamp.encode()))
+        for name in dict.fromkeys(names):
+            if name != ALWAYS:
+                command = self._compared(name)
+                if command is not None:
+                    commands.append(command)
         return commands
 
-    def _file(self, words: Words, reply: bytes) -> None:
-        if reply == b"ok":
-            self.stamps[words[2]] = words[3]
+    def _compared(self, name: bytes) -> bytes | None:
+        """Return the command that tells the database of a file, or None where it knows. Raises
+        BadName."""
+        stamp = stamp_of(unescape(name))
+        before = self.stamps.get(name)
+        if stamp is None:
+            return None if before is None else b"gone " + name
+        after = stamp.encode()
+        return None if after == before else b"file %b %b" % (name, after)
 
-    def _gone(self, words: Words, reply: bytes) -> None:
-        if reply == b"ok":
-            self.stamps[words[2]] = None
+    def _learn(self, reader: _Reader, words: Words, reply: bytes) -> None:
+        for name in reader(words, reply):
+            self._expect(name)
 
-    def _spoken_of(self, words: Words, reply: bytes) -> None:
+    def _expect(self, name: bytes) -> None:
+        """Expect the file of a name to be what is known of it, unless it is building."""
+        if name in self.building:
+            self._expected.drop(name)
+        else:
+            self._expected.put(name, self.stamps.get(name))
+
+    def _file(self, words: Words, reply: bytes) -> Iterable[bytes]:
+        if reply != b"ok":
+            return ()
+        self.stamps[words[2]] = words[3]
+        return (words[2],)
+
+    def _gone(self, words: Words, reply: bytes) -> Iterable[bytes]:
+        if reply != b"ok":
+            return ()
+        self.stamps[words[2]] = None
+        return (words[2],)
+
+    def _spoken_of(self, words: Words, reply: bytes) -> Iterable[bytes]:
+        new: dict[bytes, bytes | None] = {}
         for name in words[2:]:
             if name == b"=>":
                 break
-            self.stamps.setdefault(name, None)
+            if name not in self.stamps:
+                new[name] = None
+        self.stamps.update(new)
+        return new
 
-    def _start(self, words: Words, reply: bytes) -> None:
-        if reply == b"ok":
-            self.building.add(words[2])
+    def _start(self, words: Words, reply: bytes) -> Iterable[bytes]:
+        if reply != b"ok":
+            return ()
+        self.building.add(words[2])
+        return (words[2],)
 
-    def _done(self, words: Words, reply: bytes) -> None:
-        if reply == b"ok":
-            self.stamps[words[2]] = None if words[3] == b"-" else words[3]
-            self.building.discard(words[2])
+    def _done(self, words: Words, reply: bytes) -> Iterable[bytes]:
+        if reply != b"ok":
+            return ()
+        self.stamps[words[2]] = None if words[3] == b"-" else words[3]
+        self.building.discard(words[2])
+        return (words[2],)
 
-    def _failed(self, words: Words, reply: bytes) -> None:
-        if reply == b"ok":
-            self.building.discard(words[2])
+    def _failed(self, words: Words, reply: bytes) -> Iterable[bytes]:
+        if reply != b"ok":
+            return ()
+        self.building.discard(words[2])
+        return (words[2],)
