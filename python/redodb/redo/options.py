@@ -1,5 +1,4 @@
 """The options of the programs, and what --help and --version say."""
-from typing import NamedTuple
 
 VERSION = "0.1.0"
 
@@ -84,17 +83,35 @@ class Usage(Exception):
     """The arguments are wrong; the text says how."""
 
 
-class Options(NamedTuple):
-    """The options of a run. `jobs` is None where none were asked for."""
+class Options:
+    """The options of a run. `jobs` is None where none were asked for.
 
-    targets: list[str]
-    jobs: int | None = None
-    keep_going: bool = False
-    shuffle: bool = False
-    shell: str = "-e"
-    log: bool = True
-    color: bool = True
-    status: bool = True
+    It is no NamedTuple, since the module `typing` takes longer to import than all else of a run in
+    which nothing is to be done.
+    """
+
+    def __init__(
+        self,
+        targets: list[str],
+        jobs: int | None = None,
+        keep_going: bool = False,
+        shuffle: bool = False,
+        shell: str = "-e",
+        log: bool = True,
+        color: bool = True,
+        status: bool = True,
+    ) -> None:
+        self.targets = targets
+        self.jobs = jobs
+        self.keep_going = keep_going
+        self.shuffle = shuffle
+        self.shell = shell
+        self.log = log
+        self.color = color
+        self.status = status
+
+    def __eq__(self, other: object) -> bool:
+        return isinstance(other, Options) and vars(self) == vars(other)
 
 
 LONG = {

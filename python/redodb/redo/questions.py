@@ -1,12 +1,16 @@
 """redo-ood, redo-targets, redo-sources and redo-whichdo."""
+from __future__ import annotations
+
 import os
-from typing import Callable
 
 from redodb import names
 from redodb.places import find_top
 from redodb.redo.options import Usage
 from redodb.redo.quick import connect, look
-from redodb.redo.rules import candidates
+
+TYPE_CHECKING = False
+if TYPE_CHECKING:
+    from collections.abc import Callable
 
 
 def print_paths(paths: list[bytes]) -> None:
@@ -57,6 +61,8 @@ def redo_whichdo(arguments: list[str]) -> int:
     """Prints the .do files of a target, up to the first that is there; 1 where none is."""
     if len(arguments) != 1:
         raise Usage("it takes one target")
+    from redodb.redo.rules import candidates
+
     folder, name = os.path.split(os.path.abspath(os.fsencode(arguments[0])))
     target = os.path.join(os.path.realpath(folder), name)
     here = os.path.realpath(b".")
