@@ -171,6 +171,20 @@ class Looking(ServedTree):
             ],
         )
 
+    def test_answers_in_turn_where_nothing_differs(self) -> None:
+        self.assertEqual(
+            self.one.talk("1 lock t", "2 look a", "3 start t", "4 look %", "5 done t -", "6 look t"),
+            ["1 granted 1", "2 ok 0", "3 ok", "4 fault bad-name", "5 ok", "6 ok 0"],
+        )
+
+    def test_waits_for_the_stamp_that_is_on_its_way(self) -> None:
+        self.write("t")
+        stamp = self.stamp("t")
+        self.assertEqual(
+            self.one.talk("1 lock t", "2 start t", f"3 done t {stamp}", "4 look t", "5 look"),
+            ["1 granted 1", "2 ok", "3 ok", "4 ok 0", "5 ok 0"],
+        )
+
     def test_goes_by_what_another_session_said(self) -> None:
         self.write("a")
         self.assertEqual(self.client().talk(f"1 file a {self.stamp('a')}"), ["1 ok"])

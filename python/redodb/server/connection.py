@@ -215,13 +215,17 @@ class Connection(asyncio.Protocol):
         self._answer_in_turn(number, b"fault not-waiting")
 
     def _look(self, number: bytes, words: list[bytes]) -> None:
-        self._hold(lambda: self._look_now(number, words))
+        """Look when all stamps are known; at all files when it is known too what is building."""
+        if words and self._live.knows_stamps():
+            self._look_now(number, words)
+        else:
+            self._hold(lambda: self._look_now(number, words))
 
     def _look_now(self, number: bytes, words: list[bytes]) -> None:
         try:
             commands = self._hub.known.differing(words or None)
         except BadName:
-            self.answer(number, b"fault bad-name")
+            self._answer_in_turn(number, b"fault bad-name")
         else:
             Look(self, number, commands).ask(self._live)
 

@@ -16,6 +16,7 @@ if TYPE_CHECKING:
 Take = Callable[[bytes, bytes], None]
 
 _GREETING = re.compile(rb"redodb-live \S+ restored [0-9]+\Z")
+_STAMPING = (b"file ", b"gone ", b"done ")
 
 
 class Live(asyncio.Protocol):
@@ -32,6 +33,7 @@ class Live(asyncio.Protocol):
         self._takers: deque[tuple[Take, bytes, bool]] = deque()
         self._out: list[bytes] = []
         self._asked = 0
+        self._stamped = 0
         self._afterwards: deque[tuple[int, Callable[[], None]]] = deque()
         self._rest = b""
         self._greeted = False
@@ -53,6 +55,8 @@ class Live(asyncio.Protocol):
         self._out.append(b"%d %b" % (session, request))
         self._takers.append((take, number, is_end))
         self._asked += 1
+        if request.startswith(_STAMPING):
+            self._stamped = self._asked
 
     def afterwards(self, call: Callable[[], None]) -> None:
         """Call when all that was asked so far is answered; at once where it is."""
@@ -60,6 +64,10 @@ class Live(asyncio.Protocol):
             self._afterwards.append((self._asked, call))
         else:
             call()
+
+    def knows_stamps(self) -> bool:
+        """Say whether all is answered that can give a file another stamp."""
+        return self._stamped <= self._asked - len(self._takers)
 
     def flush(self) -> None:
         """Write the lines that were gathered."""

@@ -20,7 +20,7 @@ class Look:
     def ask(self, live: Live) -> None:
         """Send the commands."""
         if not self._commands:
-            self._connection.answer(self._number, b"ok 0")
+            live.afterwards(lambda: self._connection.answer(self._number, b"ok 0"))
         for command in self._commands[:-1]:
             live.ask(self._connection.session, command, self._one, b"")
         for command in self._commands[-1:]:
