@@ -6,7 +6,7 @@ import os
 from redodb import names
 from redodb.places import find_top
 from redodb.redo.options import Usage
-from redodb.redo.quick import connect, look
+from redodb.redo.quick import connect, look_and_ask
 
 TYPE_CHECKING = False
 if TYPE_CHECKING:
@@ -36,8 +36,8 @@ def listed(question: bytes, arguments: list[str]) -> int:
     if top is None:
         return 0
     lines = connect(top)
-    look(lines)
-    found = lines.ask(question).split(b" ")[1:]
+    _, answers = look_and_ask(lines, [question])
+    found = answers[0].split(b" ")[1:]
     print_paths(relative_paths([name for name in found if name != names.ALWAYS], top))
     return 0
 

@@ -34,8 +34,9 @@ def start(options: Options, forced: bool, programs: bytes) -> int:
     targets = options.targets or (["all"] if forced else [])
     wanted = [names.name_of(os.fsencode(target), top) for target in targets]
     lines = connect(top)
-    always_is_told = look(lines)
-    if not forced and nothing_to_do(lines, wanted):
+    asked = [] if forced else questions(wanted)
+    always_is_told, answers = look_and_ask(lines, asked)
+    if not forced and nothing_to_do(answers, len(wanted)):
         return 0
     from redodb.redo.orchestrator import Call, run
 
@@ -43,12 +44,19 @@ def start(options: Options, forced: bool, programs: bytes) -> int:
     return run(call, lines)
 
 
-def nothing_to_do(lines: Lines, wanted: list[bytes]) -> bool:
-    """Returns whether all names are right: up to date, or sources."""
-    lines.ask_all([b"look " + name for name in wanted])
+def questions(wanted: list[bytes]) -> list[bytes]:
+    """Returns the requests whose answers say whether there is nothing to do.
+
+    The looks at names are for those that the server doesn't know yet.
+    """
     asked = [question + name for name in wanted for question in (b"why ", b"state ")]
-    answers = lines.ask_all(asked)
-    return all(is_right(*told) for told in zip(answers[::2], answers[1::2]))
+    return [*(b"look " + name for name in wanted), *asked]
+
+
+def nothing_to_do(answers: list[bytes], count: int) -> bool:
+    """Returns whether so many names are right: up to date, or sources."""
+    told = answers[count:]
+    return all(is_right(*both) for both in zip(told[::2], told[1::2]))
 
 
 def is_right(why: bytes, state: bytes) -> bool:
@@ -57,17 +65,18 @@ def is_right(why: bytes, state: bytes) -> bool:
     return why == b"clean" and (state.startswith(b"built ") or is_source)
 
 
-def look(lines: Lines) -> bool:
-    """Has the server look at all files that it knows.
+def look_and_ask(lines: Lines, asked: list[bytes]) -> tuple[bool, list[bytes]]:
+    """Has the server look at all files that it knows, and returns the answers to requests then.
 
     Where there are targets that are built in each run, they are out of date from now on, and the
-    answer is True.
+    first of the two is True.
     """
-    state = lines.ask_all([b"look", b"state " + names.ALWAYS])[1]
+    _, state, *answers = lines.ask_all([b"look", b"state " + names.ALWAYS, *asked])
     is_used = not state.endswith(b" -")
     if is_used:
-        lines.ask(b"file %s %s" % (names.ALWAYS, run_stamp()))
-    return is_used
+        told = b"file %s %s" % (names.ALWAYS, run_stamp())
+        _, *answers = lines.ask_all([told, *asked])
+    return is_used, answers
 
 
 def run_stamp() -> bytes:

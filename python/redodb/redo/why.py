@@ -7,7 +7,7 @@ from redodb.places import find_top
 from redodb.redo.options import Usage, targets_of
 from redodb.redo.printing import shown
 from redodb.redo.questions import print_paths
-from redodb.redo.quick import connect, look
+from redodb.redo.quick import connect, look_and_ask, questions
 from redodb.replies import NameState, Reason, State, read_state, read_why
 
 CLEAN = (UP_TO_DATE, NO_TARGET, SOURCE) = ("up to date", "no target yet", "a source")
@@ -72,11 +72,7 @@ def redo_why(arguments: list[str]) -> int:
         raise Usage("nothing was ever built here")
     wanted = [names.name_of(os.fsencode(target), top) for target in targets]
     lines = connect(top)
-    look(lines)
-    answers = lines.ask_all(
-        [b"look " + name for name in wanted]
-        + [question + name for name in wanted for question in (b"why ", b"state ")]
-    )[len(wanted) :]
+    answers = look_and_ask(lines, questions(wanted))[1][len(wanted) :]
     here = os.path.realpath(b".")
     causes = [cause_of(*told, top, here) for told in zip(wanted, answers[::2], answers[1::2])]
     print_paths([cause.json() if as_json else cause.line() for cause in causes])
