@@ -11,7 +11,14 @@ from redodb.places import find_program
 from trees import TOP, TreeTest, is_proved, program_answers
 
 COPIED = ["install", "redodb", "redodb-live", "bin", "completion", "man", "python/redodb"]
+BUILT = "crates/redo_live_cli/out/redo_live_cli"
 STAND_IN = '#!/bin/sh\necho "program $*"\n'
+
+
+def built_program() -> Path:
+    """Return the program itself: ./redodb-live is a script that runs it."""
+    program = Path(os.fsdecode(find_program() or b""))
+    return TOP / BUILT if program == TOP / "redodb-live" else program
 
 
 class InstallTest(TreeTest):
@@ -67,11 +74,8 @@ class InstallCopy(InstallTest):
             self.write(f"copy/crates/{crate}/out/{crate}", STAND_IN).chmod(0o755)
             self.write(f"copy/crates/{crate}/out/{crate}.sources", "crates.txt")
         if program_answers():
-            shutil.copy2(
-                os.fsdecode(find_program() or b""),
-                self.copy / "crates/redo_live_cli/out/redo_live_cli",
-            )
-            os.utime(self.copy / "crates/redo_live_cli/out/redo_live_cli")
+            shutil.copy2(built_program(), self.copy / BUILT)
+            os.utime(self.copy / BUILT)
 
     def installed(self) -> None:
         self.assertEqual(self.install(self.copy, self.prefix), (0, "", ""))
