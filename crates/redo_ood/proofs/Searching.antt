@@ -1,13 +1,12 @@
 -- A search along change rows, step by step.
-use Rattle.std.proofs.Common.{◌≡◌, ◌⊎◌, ◌↔◌, ◌∙◌, ℕ, ◌<◌, ◌≤◌, ◌+◌, true, false, List, [], ◌∷◌, ◌++◌, length, get_or, take, IsSome, refl, sym, ap, subst, inl, inr, arith, length-append, append_assoc}
-use Rattle.std.proofs.Math.ListN.{get_or-append, replicate, length-replicate}
-use Rattle.std.proofs.lemmas.Bool.{cases_lt, false≢true}
+use Rattle.std.proofs.Common.{◌≡◌, ◌⊎◌, ◌↔◌, ◌∙◌, ℕ, ◌<◌, ◌≤◌, ◌+◌, true, List, [], ◌∷◌, ◌++◌, length, get_or, take, IsSome, refl, sym, ap, subst, inl, inr, arith, length-append, append_assoc}
+use Rattle.std.proofs.Math.ListN.{get_or-append}
+use Rattle.std.proofs.lemmas.Bool.{cases_lt}
 use Rattle.std.proofs.lemmas.List.{get_or_default, length-set}
 use Rattle.std.specs.List.{Contains}
 use Rattle.redo_model.specs.State.{Records}
 use Rattle.redo_model.specs.OutOfDate.{IsTarget, HasReason, Depends}
 use Rattle.redo_model.proofs.Members.{contains_first, contains_none}
-use Rattle.redo_records.proofs.MorePlaces.{same_everywhere}
 use Rattle.redo_ood.specs.Marks.{Marked, IsMarked, IsQueued, with_name, size_of}
 use Rattle.redo_ood.specs.Search.{IsSearch, StepsBefore, Finds}
 use Rattle.redo_ood.proofs.Marking.{set_cases, one_more}
@@ -207,29 +206,25 @@ finds_behind P n from queue a b ps qs finds behind = elim finds [
   )
 ]
 
--- the queue of the search's first name alone
-pub one_name : (names t : ℕ) (m b : Marked)
-    → m ≡ record { marks = replicate names false; queue = [] }
-    → b ≡ with_name m t → b.queue ≡ t ∷ []
-one_name names t m b e f =
-    ap (λ (k : Marked). k.queue) f ∙ ap (λ (k : Marked). k.queue ++ t ∷ []) e
+none_in : (ns : List ℕ) → ((n : ℕ) → Contains ns n → ⊥) → ns ≡ []
+none_in [] none = refl
+none_in (n ∷ ns) none = absurd (none n (contains_first n ns))
 
-pub one_name_sized : (names t : ℕ) (m b : Marked)
-    → m ≡ record { marks = replicate names false; queue = [] } → b ≡ with_name m t
-    → size_of b ≡ names
-one_name_sized names t m b e f =
-    ap size_of f ∙ length-set m.marks t true ∙ ap size_of e ∙ length-replicate names false
+-- the queue of the search's first name alone
+pub one_name : (t : ℕ) (m b : Marked) → ((n : ℕ) → IsQueued m n → ⊥)
+    → b ≡ with_name m t → b.queue ≡ t ∷ []
+one_name t m b empty f =
+    ap (λ (k : Marked). k.queue) f ∙ ap (λ q. q ++ t ∷ []) (none_in m.queue empty)
+
+pub one_name_sized : (t : ℕ) (m b : Marked) → b ≡ with_name m t → size_of b ≡ size_of m
+one_name_sized t m b f = ap size_of f ∙ length-set m.marks t true
 
 -- the search begins at a name where nothing was marked
-pub search_at_first : (r : Records ℕ) (out : Marked) (names t : ℕ) (m b : Marked) (ps : List ℕ)
-    → m ≡ record { marks = replicate names false; queue = [] } → b ≡ with_name m t → ps ≡ 0 ∷ []
-    → IsSearch r (StepsBefore r out b.queue 0) 0 b ps
-search_at_first r out names t m b ps e f p =
-    let q = one_name names t m b e f in
-    let unmarked : (n : ℕ) → IsMarked m n → ⊥ = λ n on.
-    let off : get_or m.marks n false ≡ false =
-    ap (λ (k : Marked). get_or k.marks n false) e ∙ same_everywhere names n false in
-    false≢true (sym off ∙ on) in
+pub search_at_first : (r : Records ℕ) (out : Marked) (t : ℕ) (m b : Marked) (ps : List ℕ)
+    → ((n : ℕ) → IsMarked m n → ⊥) → ((n : ℕ) → IsQueued m n → ⊥) → b ≡ with_name m t
+    → ps ≡ 0 ∷ [] → IsSearch r (StepsBefore r out b.queue 0) 0 b ps
+search_at_first r out t m b ps unmarked empty f p =
+    let q = one_name t m b empty f in
     search_begun r (StepsBefore r out b.queue 0) t b ps (λ i n s. absurd (omega (arith, s.0))) q p
     (λ n on. elim (set_cases m.marks t n (subst (λ (k : Marked). IsMarked k n) f on)) [
       | inl before ↦ absurd (unmarked n before)

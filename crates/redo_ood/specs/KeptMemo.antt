@@ -12,7 +12,7 @@ pub record IsCleared (names : ℕ) (m : Marked) : Type 0 where
   pub unmarked : (t : ℕ) → IsMarked m t → ⊥
   pub empty : (t : ℕ) → IsQueued m t → ⊥
 
--- between two refreshes there is no region, and none of its names
+-- between two calls there is no region, and none of its names
 pub record KeepsMemo (inside : Inside) : Type 0 where
   pub region : IsCleared (size_of inside.out) inside.region
   pub outdated : IsCleared (size_of inside.out) inside.outdated

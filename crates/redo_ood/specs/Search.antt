@@ -2,7 +2,7 @@
 use Rattle.std.specs.Prelude.{◌≡◌, ◌⊎◌, ◌<◌, ◌≤◌, ◌+◌, ◌++◌, ◌∷◌, [], ℕ, List, length, slice_index}
 use Rattle.redo_model.specs.State.{Records}
 use Rattle.redo_model.specs.OutOfDate.{Depends}
-use Rattle.redo_ood.specs.Marks.{Marked, IsMarked, IsQueued, with_name}
+use Rattle.redo_ood.specs.Marks.{Marked, IsMarked, AreQueued, with_name}
 
 -- each place of the queue but the first has a parent, an earlier place whose name depends on its
 -- own; its depth is one more than its parent's, and no later place is less deep
@@ -27,7 +27,7 @@ pub record IsSearch (r : Records ℕ) (Looked : ℕ → ℕ → Type 0) (at : �
     (parents : List ℕ) : Type 0
   where
     pub tree : IsSearchTree r seen.queue parents
-    pub queued : (n : ℕ) → IsMarked seen n → IsQueued seen n
+    pub queued : AreQueued seen
     pub near : at < length seen.queue → (j : ℕ) → j < length seen.queue
         → tree.depth j ≤ tree.depth at + 1
     pub found : (i n : ℕ) → Looked i n → IsNear seen.queue tree.depth i n

@@ -35,7 +35,7 @@ fn push_if(targets: &mut Vec<u32>, t: u32, is_due: bool) -> Result<(), AllocErro
 #[derive(Drop)]
 pub struct Ood {
     out: Marks,
-    // where no refresh is under way, nothing is marked in these
+    // nothing is marked in these between two calls
     region: Marks,
     outdated: Marks,
 }
@@ -117,28 +117,32 @@ impl Ood {
         self.out.has(t)
     }
 
-    /// Why the target is out of date, where it is so and the memo is right. Takes no memory where it is up to date.
+    /// Why the target is out of date, where it is so and the memo is right. Looks at names that a chain of change rows
+    /// leads to, and takes memory for these alone; none where it is up to date.
     pub fn why(
-        &self,
+        &mut self,
         alloc: Global,
         records: &Records,
         rows: &DepRows,
         t: u32,
     ) -> Result<Option<Why>, AllocError>
-        requires target { t < memo_count self.now }
-        requires records { length records.now ≡ memo_count self.now }
-        requires rows { rows_count rows.now ≡ memo_count self.now }
-        requires right { IsRight self.now (with_rows records.now rows.now) }
+        requires target { t < memo_count self.old }
+        requires records { length records.now ≡ memo_count self.old }
+        requires rows { rows_count rows.now ≡ memo_count self.old }
+        requires right { IsRight self.old (with_rows records.now rows.now) }
+        ensures kept { self.new ≡ self.old }
         ensures why { IfOk result
             (λ found. TellsWhy (with_rows records.now rows.now) t (option_map why_of found)) }
         ensures below { IfOk result
-            (λ found. IfSome found (λ why. IsWhyBelow (memo_count self.now) (why_of why))) }
+            (λ found. IfSome found (λ why. IsWhyBelow (memo_count self.old) (why_of why))) }
         ensures up_to_date { (OutOfDate (with_rows records.now rows.now) t → ⊥) → IsOk result }
     {
         if !self.is(t) {
             return Ok(None);
         }
-        search(alloc, records, rows, &self.out, t)
+        let found = search(alloc, records, rows, &self.out, t, &mut self.region);
+        self.region.unmark_queue();
+        found
     }
 
     /// The out-of-date targets, by ascending number.

@@ -1,13 +1,13 @@
 //! A shortest chain of change rows from an out-of-date target to one with a reason of its own: a search, breadth first,
 //! through names that are out of date.
 
-ghost use Rattle.std.specs.Prelude.{◌≡◌, ◌<◌, ◌+◌, ◌++◌, ℕ, List, IsTrue, IfOk, IfSome, OnOk, length, slice_index, option_map};
+ghost use Rattle.std.specs.Prelude.{◌≡◌, ◌<◌, ◌+◌, ◌++◌, ℕ, List, IsTrue, IfOk, IfSome, OnOk, OnErr, length, slice_index, option_map};
 ghost use Rattle.redo_model.specs.Why.{TellsWhy};
 ghost use Rattle.redo_model.specs.Inside.Why.{IsWhyBelow};
 ghost use Rattle.redo_model.specs.OutOfDate.{OutOfDate};
 ghost use Rattle.redo_model.specs.Renaming.{AllBelow};
 ghost use Rattle.redo_rows.specs.Rows.{with_rows, rows_count};
-ghost use Rattle.redo_ood.specs.Marks.{IsMarked, size_of};
+ghost use Rattle.redo_ood.specs.Marks.{IsMarked, IsQueued, AreQueued, size_of};
 ghost use Rattle.redo_ood.specs.Meaning.{why_of};
 ghost use Rattle.redo_ood.specs.Search.{IsSearch, StepsBefore, Finds, IsWay};
 
@@ -37,8 +37,9 @@ fn find_if(
     parents: &mut Vec<u32>,
 ) -> Result<(), AllocError>
     requires { n < size_of seen.old }
-    ensures { OnOk result
+    ensures found { OnOk result
         (Finds (IsTrue is_due) n from seen.old parents.old.items seen.new parents.new.items) }
+    ensures kept { OnErr result (seen.new ≡ seen.old) }
 {
     if is_due && !seen.has(n) {
         parents.push(from)?;
@@ -63,7 +64,8 @@ fn find_needs(
     requires search { IsSearch (with_rows records.now rows.now)
         (StepsBefore (with_rows records.now rows.now) out.now seen.old.queue from) from
         seen.old parents.old.items }
-    ensures sized { OnOk result (size_of seen.new ≡ size_of seen.old) }
+    ensures sized { size_of seen.new ≡ size_of seen.old }
+    ensures queued { AreQueued seen.new }
     ensures behind { OnOk result ((ns : List ℕ) × (seen.new.queue ≡ seen.old.queue ++ ns)) }
     ensures search { OnOk result (IsSearch (with_rows records.now rows.now)
         (StepsBefore (with_rows records.now rows.now) out.now seen.new.queue (from + 1)) (from + 1)
@@ -104,34 +106,39 @@ fn way_to(
     Ok(way)
 }
 
-/// Why the target is out of date, where it is so. Takes memory for a mark on each name, and for each name that is found.
+/// Why the target is out of date, where it is so. Marks each name that is found, and takes memory for each.
 pub(crate) fn search(
     alloc: Global,
     records: &Records,
     rows: &DepRows,
     out: &Marks,
     t: u32,
+    seen: &mut Marks,
 ) -> Result<Option<Why>, AllocError>
     requires target { t < rows_count rows.now }
     requires records { length records.now ≡ rows_count rows.now }
     requires sized { size_of out.now ≡ rows_count rows.now }
     requires right { (n : ℕ) → OutOfDate (with_rows records.now rows.now) n → IsMarked out.now n }
+    requires seen { size_of seen.old ≡ rows_count rows.now }
+    requires unmarked { (n : ℕ) → IsMarked seen.old n → ⊥ }
+    requires empty { (n : ℕ) → IsQueued seen.old n → ⊥ }
+    ensures sized { size_of seen.new ≡ size_of seen.old }
+    ensures queued { AreQueued seen.new }
     ensures why { IfOk result
         (λ found. TellsWhy (with_rows records.now rows.now) t (option_map why_of found)) }
     ensures below { IfOk result
         (λ found. IfSome found (λ why. IsWhyBelow (rows_count rows.now) (why_of why))) }
 {
-    let mut seen = Marks::new(alloc, out.count())?;
     let mut parents = Vec::new(alloc);
-    seen.enter_new(t);
     parents.push(0)?;
+    seen.enter_new(t);
     let mut next = 0;
     'names: while next < seen.queue_len() {
         if let Some(reason) = own_reason(records, rows, seen.queued(next)) {
-            let names = way_to(alloc, &seen, &parents, next)?;
+            let names = way_to(alloc, seen, &parents, next)?;
             return Ok(Some(Why { names, reason }));
         }
-        find_needs(records, rows, out, next as u32, &mut seen, &mut parents)?;
+        find_needs(records, rows, out, next as u32, seen, &mut parents)?;
         next += 1;
     }
     Ok(None)

@@ -1,5 +1,5 @@
 -- What a session is told about a name is a step of a conversation, and each refusal has its cause.
-use Rattle.std.proofs.Common.{◌≡◌, ◌⊎◌, ℕ, List, ◌++◌, Some, None, Result, Ok, Err, inl, inr, ap, sym, ◌∙◌}
+use Rattle.std.proofs.Common.{◌≡◌, ◌⊎◌, ℕ, List, ◌++◌, Some, None, Result, Ok, Err, inl, inr, ◌∙◌}
 use Rattle.std.specs.Borrow.{Bor}
 use Rattle.std.specs.Prelude.{IsOkAnd, IsErrAnd}
 use Rattle.redo_model.specs.Names.{Text}
@@ -22,18 +22,21 @@ use Rattle.redo_talk.specs.Inside.Hearing.{known_of}
 use Rattle.redo_talk.proofs.Steps.{telling_step}
 
 -- what is read of a text that asks, and told, is a step
-pub told_step : (live : LiveState) (session : ℕ) (text said said' logged : Text)
+pub told_step : (live live' : LiveState) (session : ℕ) (text said said' logged : Text)
     (asked : Result (Inquiry × Bor Text) LineFault) → ReadsInquiry text asked
+    → live' ≡ live
     → IsOkAnd asked (λ about. (line : Text)
     × AnswersInquiry (state_in live) session about.0 about.1.now line × (said' ≡ said ++ line))
     → (heard : Text) → Asks heard session text
-    → (round : Round) × (round.heard ≡ heard) × IsStep (known_of live) (known_of live) round
+    → (round : Round) × (round.heard ≡ heard) × IsStep (known_of live) (known_of live') round
     × (said' ≡ said ++ round.said)
     × (logged ≡ logged ++ logged_of (state_in live) round.lines)
-told_step live session text said said' logged (Ok about) reads (line, tells, e) heard asks =
-    telling_step live live heard session text about.0 about.1.now line said said' logged asks
-    reads.0 reads.1 tells e
-told_step live session text said said' logged (Err fault) reads told heard asks = absurd told
+told_step live live' session text said said' logged (Ok about) reads same (line, tells, e) heard
+    asks =
+    telling_step live live' heard session text about.0 about.1.now line said said' logged asks
+    reads.0 reads.1 tells same e
+told_step live live' session text said said' logged (Err fault) reads same told heard asks =
+    absurd told
 
 -- why a text that asks is refused
 pub asked_cause : (names : List Text) (text : Text)

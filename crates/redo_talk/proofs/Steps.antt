@@ -150,11 +150,12 @@ module _ (old new : LiveState) (heard : Text) (session : ℕ) where
   -- something about a name that was told
   pub telling_step : (text : Text) (inquiry : Inquiry) (name line said said' logged : Text)
       → Asks heard session text → text ≡ inquiry_text_of inquiry name → inquiry_fault text ≡ None
-      → AnswersInquiry (state_in old) session inquiry name line → said' ≡ said ++ line
-      → (round : Round) × (round.heard ≡ heard) × IsStep (known_of old) (known_of old) round
+      → AnswersInquiry (state_in old) session inquiry name line → new ≡ old
+      → said' ≡ said ++ line
+      → (round : Round) × (round.heard ≡ heard) × IsStep (known_of old) (known_of new) round
       × (said' ≡ said ++ round.said)
       × (logged ≡ logged ++ logged_of (state_in old) round.lines)
-  telling_step text inquiry name line said said' logged asks is fits tells e = (
+  telling_step text inquiry name line said said' logged asks is fits tells same e = (
     record { heard = heard; lines = []; said = line },
     refl,
     inr (inr (inl (record {
@@ -164,8 +165,8 @@ module _ (old new : LiveState) (heard : Text) (session : ℕ) where
       asks = subst (Asks heard session) is asks;
       fits = subst (λ t. inquiry_fault t ≡ None) is fits;
       tells = tells;
-      same_names = refl;
-      same_state = refl;
+      same_names = ap (λ (live : LiveState). live.names) same;
+      same_state = ap state_in same;
       none = refl;
     }))),
     e,

@@ -50,13 +50,14 @@ fn keep(front: &mut Vec<u8>, bytes: &[u8])
 /// Tells a session what it asks about a name.
 fn tell(
     alloc: Global,
-    live: &Live,
+    live: &mut Live,
     session: u8,
     asked: Result<(Inquiry, &[u8]), LineFault>,
     said: &mut Vec<u8>,
 ) -> Result<(), Unanswered>
+    ensures kept { live.new ≡ live.old }
     ensures told { OnOk result (IsOkAnd asked.entry (λ about. (line : Text)
-        × AnswersInquiry (state_in live.now) session about.0 about.1.now line
+        × AnswersInquiry (state_in live.old) session about.0 about.1.now line
         × (said.new.items ≡ said.old.items ++ line))) }
     ensures untold { OnErr result (said.new.items ≡ said.old.items) }
     ensures cause { IfErr result (λ why. (why ≡ Unanswered.Memory)

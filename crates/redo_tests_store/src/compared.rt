@@ -67,7 +67,7 @@ impl Compared {
         let sort = self.ask(rt, alloc, session, command)?;
         self.ask(rt, alloc, 0, &Command::Ood)?;
         let t = self.redo.calls() / 2 % NAMES;
-        check_answers(rt, alloc, &self.redo, &self.plain, t)?;
+        check_answers(rt, alloc, &mut self.redo, &self.plain, t)?;
         Ok(sort)
     }
 

@@ -1,5 +1,5 @@
 //! Questions to the database, whose answers have to be those of the plain form of it.
-ghost use Rattle.std.specs.Prelude.{◌<◌};
+ghost use Rattle.std.specs.Prelude.{◌≡◌, ◌<◌};
 ghost use Rattle.redo_store.specs.Tables.{tables_count};
 ghost use Rattle.redo_tests_store.specs.declared.random.TheConstants.{NAMES};
 
@@ -73,11 +73,12 @@ fn check_deps(rt: &impl Abort, plain: &Plain, t: u32, deps: &Deps) {
 pub(crate) fn check_answers(
     rt: &impl Abort,
     alloc: Global,
-    redo: &Redo,
+    redo: &mut Redo,
     plain: &Plain,
     t: u32,
 ) -> Result<(), AllocError>
-    requires { t < tables_count redo.now }
+    requires { t < tables_count redo.old }
+    ensures { redo.new ≡ redo.old }
 {
     let why = redo.why(alloc, t)?;
     check_why(rt, plain, t, &why);

@@ -32,15 +32,16 @@ use std::alloc::{AllocError, Global};
 impl Live {
     /// Tells a session what it asks about a name: a line goes behind `said`.
     pub fn ask(
-        &self,
+        &mut self,
         alloc: Global,
         session: u8,
         inquiry: Inquiry,
         name: &[u8],
         said: &mut Vec<u8>,
     ) -> Result<(), AllocError>
+        ensures kept { self.new ≡ self.old }
         ensures told { OnOk result ((line : Text)
-            × AnswersInquiry (state_in self.now) session inquiry name.now line
+            × AnswersInquiry (state_in self.old) session inquiry name.now line
             × (said.new.items ≡ said.old.items ++ line)) }
         ensures untold { OnErr result (said.new.items ≡ said.old.items) }
     {
@@ -50,14 +51,15 @@ impl Live {
 
     /// The line that answers the question.
     fn line_told(
-        &self,
+        &mut self,
         alloc: Global,
         session: u8,
         inquiry: Inquiry,
         name: &[u8],
     ) -> Result<Vec<u8>, AllocError>
-        ensures { IfOk result (λ line.
-            AnswersInquiry (state_in self.now) session inquiry name.now line.items) }
+        ensures kept { self.new ≡ self.old }
+        ensures answers { IfOk result (λ line.
+            AnswersInquiry (state_in self.old) session inquiry name.now line.items) }
     {
         let mut line = Vec::new(alloc);
         put_number(&mut line, session as usize + 1)?;
@@ -87,14 +89,15 @@ impl Live {
 
     /// Writes the words that answer the question.
     fn put_answer(
-        &self,
+        &mut self,
         alloc: Global,
         inquiry: Inquiry,
         name: &[u8],
         line: &mut Vec<u8>,
     ) -> Result<(), AllocError>
-        ensures { OnOk result ((answer : Answer) × (inquiry_of answer ≡ inquiry)
-            × IsAnswer (state_in self.now) name.now answer
+        ensures kept { self.new ≡ self.old }
+        ensures answer { OnOk result ((answer : Answer) × (inquiry_of answer ≡ inquiry)
+            × IsAnswer (state_in self.old) name.now answer
             × (line.new.items
             ≡ line.old.items ++ flat_map after_space (answer_words name.now answer))) }
     {
@@ -112,11 +115,12 @@ impl Live {
     }
 
     /// Why the target is out of date, where it is so.
-    fn why(&self, alloc: Global, name: &[u8]) -> Result<Option<Why>, AllocError>
-        ensures why { IfOk result (λ found. TellsWhy (state_in self.now).records name.now
-            (option_map (why_at self.now.names) found)) }
+    fn why(&mut self, alloc: Global, name: &[u8]) -> Result<Option<Why>, AllocError>
+        ensures kept { self.new ≡ self.old }
+        ensures why { IfOk result (λ found. TellsWhy (state_in self.old).records name.now
+            (option_map (why_at self.old.names) found)) }
         ensures below { IfOk result
-            (λ found. IfSome found (λ why. IsWhyBelow (length self.now.names) (why_of why))) }
+            (λ found. IfSome found (λ why. IsWhyBelow (length self.old.names) (why_of why))) }
     {
         match self.known_number(name) {
             Some(t) => self.redo.why(alloc, t),

@@ -26,14 +26,16 @@ use redo_terms::{Command, FileStamp, Reply};
 use std::alloc::{AllocError, Global};
 
 impl Redo {
-    /// Why the target is out of date, where it is so. Takes no memory where it is up to date.
-    pub fn why(&self, alloc: Global, t: u32) -> Result<Option<Why>, AllocError>
-        requires { t < tables_count self.now }
+    /// Why the target is out of date, where it is so. Changes nothing, and looks at names that a chain of change rows
+    /// leads to. Takes memory for these alone, and none where it is up to date.
+    pub fn why(&mut self, alloc: Global, t: u32) -> Result<Option<Why>, AllocError>
+        requires { t < tables_count self.old }
+        ensures kept { self.new ≡ self.old }
         ensures why { IfOk result
-            (λ found. TellsWhy (tables_records self.now) t (option_map why_of found)) }
+            (λ found. TellsWhy (tables_records self.old) t (option_map why_of found)) }
         ensures below { IfOk result
-            (λ found. IfSome found (λ why. IsWhyBelow (tables_count self.now) (why_of why))) }
-        ensures up_to_date { (OutOfDate (tables_records self.now) t → ⊥) → IsOk result }
+            (λ found. IfSome found (λ why. IsWhyBelow (tables_count self.old) (why_of why))) }
+        ensures up_to_date { (OutOfDate (tables_records self.old) t → ⊥) → IsOk result }
     {
         self.store.why(alloc, t)
     }

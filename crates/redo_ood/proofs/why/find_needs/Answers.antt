@@ -33,7 +33,7 @@ loop-n-preserved c =
     let qs = c.find_if.new.parents.items in
     let from = c.args.from in
     let P = IsTrue c.needs_marked-is_due.result in
-    let finds = c.in_ok-find_if.ensures in
+    let finds = c.in_ok-find_if.ensures.found in
     let sized = c.loop-n.invariant.sized in
     let below : n < size_of a = below_at (size_of c.args.seen.now) (size_of a) names k 0
     (rw c.requires.sized c.of-n-items.ensures.below) c.loop-n-test.true sized in

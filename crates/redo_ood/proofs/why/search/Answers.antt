@@ -12,22 +12,20 @@ pub names-init : goal.names-init
 names-init c =
     let r = with_rows c.args.records.now c.args.rows.now in
     let t = c.args.t in
-    let m = c.in_ok-seen.seen in
+    let m = c.args.seen.now in
     let b = c.enter_new.new.self in
     let ps = c.push.new.self.items in
-    let names = c.count.result in
-    let e = c.in_ok-seen.ensures in
     let f = c.enter_new.ensures in
-    let q = one_name names t m b e f in
+    let q = one_name t m b c.requires.empty f in
     let one : length b.queue ≡ 1 = ap length q in
     let pushed : ps ≡ 0 ∷ [] =
     c.in_ok-push.ensures.items ∙ ap (λ xs. xs ++ 0 ∷ []) c.new-parents.ensures.items in
     record {
-      sized = one_name_sized names t m b e f ∙ c.count.ensures ∙ c.requires.sized;
+      sized = one_name_sized t m b f ∙ c.requires.seen;
       first = sym (ap (λ xs. get_or xs 0 0) q);
       done = omega arith;
       some = omega (arith, one);
-      search = search_at_first r c.args.out.now names t m b ps e f pushed;
+      search = search_at_first r c.args.out.now t m b ps c.requires.unmarked c.requires.empty f pushed;
       none = λ i before reason. absurd (omega (arith, before));
     }
 

@@ -6,8 +6,9 @@ use Rattle.redo_talk.proofs.hearing.heed.Goals as goal
 pub returns-in-Some-clause-step : goal.returns-in-Some-clause-step
 returns-in-Some-clause-step c =
     ok_then c.tell.result _ _ c.tell.ensures.told
-    (told_step c.args.live.now c.args.session c.args.text.now c.args.unsent.now.said.items
-    c.tell.new.said.items c.args.unsent.now.logged.items c.in-Some.asked c.in-Some.ensures)
+    (told_step c.args.live.now c.tell.new.live c.args.session c.args.text.now
+    c.args.unsent.now.said.items c.tell.new.said.items c.args.unsent.now.logged.items
+    c.in-Some.asked c.in-Some.ensures c.tell.ensures.kept)
 
 pub returns-in-None-clause-step : goal.returns-in-None-clause-step
 returns-in-None-clause-step c =

@@ -1,4 +1,4 @@
-use Rattle.std.proofs.Common.{◌≡◌, ◌++◌, OnOk, option_map, refl, sym, subst}
+use Rattle.std.proofs.Common.{◌≡◌, ◌∙◌, ◌++◌, OnOk, option_map, refl, sym, subst}
 use Rattle.std.specs.List.{flat_map}
 use Rattle.std.proofs.lemmas.Result.{on_ok_weaker}
 use Rattle.redo_model.specs.State.{target_state}
@@ -8,16 +8,16 @@ use Rattle.redo_live.specs.Inside.Asked.{deps_at, why_at}
 use Rattle.redo_live.specs.Inside.LiveState.{LiveState, state_in}
 use Rattle.redo_live.proofs.live.Live.put_answer.Goals as goal
 
-pub returns-in_ok-found-in-Why : goal.returns-in_ok-found-in-Why
-returns-in_ok-found-in-Why c =
+pub returns-in_ok-found-in-Why-clause-answer : goal.returns-in_ok-found-in-Why-clause-answer
+returns-in_ok-found-in-Why-clause-answer c =
     let live : LiveState = c.args.self.now in
     let old = c.args.line.now.items in
     let new = c.put_why.new.out.items in
     let found = c.in_ok-found-in-Why.found in
     let told = subst (λ (l : LiveState). OnOk c.put_why.result (new
     ≡ old ++ flat_map after_space
-    (why_words c.args.name.now (option_map (why_at l.names) found)))) c.self.view_is
-    c.put_why.ensures in
+    (why_words c.args.name.now (option_map (why_at l.names) found))))
+    (c.self.view_is ∙ c.why.ensures.kept) c.put_why.ensures in
     on_ok_weaker c.put_why.result (λ e. (
       Cause (option_map (why_at live.names) found),
       sym c.in-Why.is,
@@ -25,14 +25,14 @@ returns-in_ok-found-in-Why c =
       e,
     )) told
 
-pub returns-in_ok-deps-in-Deps : goal.returns-in_ok-deps-in-Deps
-returns-in_ok-deps-in-Deps c =
+pub returns-in_ok-deps-in-Deps-clause-answer : goal.returns-in_ok-deps-in-Deps-clause-answer
+returns-in_ok-deps-in-Deps-clause-answer c =
     let live : LiveState = c.args.self.now in
     let old = c.args.line.now.items in
     let new = c.put_deps.new.out.items in
     let deps = c.in_ok-deps-in-Deps.deps in
     let told = subst (λ (l : LiveState). OnOk c.put_deps.result
-    (new ≡ old ++ flat_map after_space (deps_words (deps_at l.names deps)))) c.self.view_is
+    (new ≡ old ++ flat_map after_space (deps_words (deps_at l.names deps)))) c.self-in-Deps.view_is
     c.put_deps.ensures in
     on_ok_weaker c.put_deps.result (λ e. (
       Rows (deps_at live.names deps),
@@ -41,8 +41,8 @@ returns-in_ok-deps-in-Deps c =
       e,
     )) told
 
-pub returns-in-State : goal.returns-in-State
-returns-in-State c =
+pub returns-in-State-clause-answer : goal.returns-in-State-clause-answer
+returns-in-State-clause-answer c =
     let st = state_in c.args.self.now in
     let name = c.args.name.now in
     on_ok_weaker c.put_state.result (λ e. (
