@@ -6,7 +6,7 @@ import unittest
 
 import beside  # noqa: F401
 from redodb.record.depfile import read_rules
-from trees import TreeTest, program_answers, record
+from trees import TreeTest, has_tools, record
 
 ODD = [
     "a:b.h",
@@ -48,7 +48,7 @@ class ReadRules(TreeTest):
                 self.assertEqual(read_rules(text), {})
 
 
-@unittest.skipUnless(shutil.which("gcc") and program_answers(), "wants gcc and redodb-live")
+@unittest.skipUnless(has_tools("gcc"), "wants gcc and redodb-live")
 class RecordDepfiles(TreeTest):
     def setUp(self) -> None:
         super().setUp()

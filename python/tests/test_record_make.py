@@ -2,11 +2,10 @@
 
 import os
 import re
-import shutil
 import unittest
 
 import beside  # noqa: F401
-from trees import TreeTest, program_answers, record
+from trees import AgreeTest, has_tools, record
 
 MAKEFILE = """\
 CFLAGS = -MMD -MP
@@ -49,17 +48,10 @@ FILES = {
 }
 
 
-def has_tools() -> bool:
-    return all(map(shutil.which, ("make", "gcc"))) and program_answers()
-
-
-@unittest.skipUnless(has_tools(), "wants make, gcc and redodb-live")
-class RecordMake(TreeTest):
-    def setUp(self) -> None:
-        super().setUp()
-        for name, text in FILES.items():
-            self.write(name, text)
-            self.age(name, 100)
+@unittest.skipUnless(has_tools("make", "gcc"), "wants make, gcc and redodb-live")
+class RecordMake(AgreeTest):
+    files = FILES
+    phony = {"all", "sub"}
 
     def built(self) -> None:
         self.run_tool("make")
@@ -69,12 +61,6 @@ class RecordMake(TreeTest):
         """Return what `make -n` would build."""
         lines = re.findall("# (.*) is built$", self.run_tool("make", "-n"), re.M)
         return {name for line in lines for name in ([line] if line == "a b.o" else line.split(" "))}
-
-    def assert_agrees(self, lines: list[str]) -> set[str]:
-        """What is out of date after this history is what make would build. Return it."""
-        wanted = self.wanted()
-        self.assertEqual(self.out_of_date(lines) - {"all", "sub"}, wanted)
-        return wanted
 
     def test_each_touched_source(self) -> None:
         self.built()

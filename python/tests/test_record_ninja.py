@@ -2,7 +2,6 @@
 
 import os
 import shlex
-import shutil
 import struct
 import unittest
 
@@ -10,7 +9,7 @@ import beside  # noqa: F401
 from redodb.record.graph import RecordError
 from redodb.record.manifest import read_manifest
 from redodb.record.ninja_logs import read_build_log, read_deps_log
-from trees import TreeTest, program_answers, record
+from trees import AgreeTest, has_tools, record
 
 MANIFEST = """\
 # a comment
@@ -81,17 +80,10 @@ build inner.txt: copy link.txt
 }
 
 
-def has_tools() -> bool:
-    return all(map(shutil.which, ("ninja", "gcc"))) and program_answers()
-
-
-@unittest.skipUnless(has_tools(), "wants ninja, gcc and redodb-live")
-class RecordNinja(TreeTest):
-    def setUp(self) -> None:
-        super().setUp()
-        for name, text in FILES.items():
-            self.write(name, text)
-            self.age(name, 100)
+@unittest.skipUnless(has_tools("ninja", "gcc"), "wants ninja, gcc and redodb-live")
+class RecordNinja(AgreeTest):
+    files = FILES
+    phony = {"all"}
 
     def built(self) -> None:
         self.run_tool("ninja")
@@ -106,12 +98,6 @@ class RecordNinja(TreeTest):
             if begin[:1] == "["
             for name in shlex.split(names)
         }
-
-    def assert_agrees(self, lines: list[str]) -> set[str]:
-        """What is out of date after this history is what ninja would build. Return it."""
-        wanted = self.wanted()
-        self.assertEqual(self.out_of_date(lines) - {"all"}, wanted)
-        return wanted
 
     def test_each_touched_source(self) -> None:
         self.built()

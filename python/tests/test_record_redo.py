@@ -1,12 +1,11 @@
 """redo goes on from the log that `redodb record --log` writes of a tree that ninja built."""
 
 import os
-import shutil
 import subprocess
 import unittest
 
 import beside  # noqa: F401
-from trees import TOP, TreeTest, program_answers, record
+from trees import TOP, TreeTest, has_tools, record
 
 MANIFEST = """\
 rule cc
@@ -32,7 +31,7 @@ FILES = {
 
 
 @unittest.skipUnless(
-    (TOP / "bin/redo").exists() and all(map(shutil.which, ("ninja", "gcc"))) and program_answers(),
+    (TOP / "bin/redo").exists() and has_tools("ninja", "gcc"),
     "wants redo, ninja, gcc and redodb-live",
 )
 class RecordForRedo(TreeTest):

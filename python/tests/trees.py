@@ -3,6 +3,7 @@
 import contextlib
 import io
 import os
+import shutil
 import subprocess
 import tempfile
 import unittest
@@ -25,6 +26,11 @@ def program_answers() -> bool:
     except ServerError:
         return False
     return True
+
+
+def has_tools(*tools: str) -> bool:
+    """Whether these tools and a redodb-live are there."""
+    return all(map(shutil.which, tools)) and program_answers()
 
 
 def is_proved(crate: str) -> bool:
@@ -107,6 +113,29 @@ class TreeTest(unittest.TestCase):
                 if database.ask(b"1 why " + name) != b"1 why %b => clean" % name
             }
         return {os.fsdecode(os.path.relpath(path_of(name, top), top)) for name in found}
+
+
+class AgreeTest(TreeTest):
+    """A tree of old files, of which a tool and a recorded history are to say the same."""
+
+    files: dict[str, str] = {}
+    phony: set[str] = set()
+
+    def setUp(self) -> None:
+        super().setUp()
+        for name, text in self.files.items():
+            self.write(name, text)
+            self.age(name, 100)
+
+    def wanted(self) -> set[str]:
+        """Return what the tool would build."""
+        raise NotImplementedError
+
+    def assert_agrees(self, lines: list[str]) -> set[str]:
+        """What is out of date after this history is what the tool would build. Return it."""
+        wanted = self.wanted()
+        self.assertEqual(self.out_of_date(lines) - self.phony, wanted)
+        return wanted
 
 
 def record(*words: str) -> tuple[int, str, str]:
