@@ -16,7 +16,7 @@ TYPE_CHECKING = False
 if TYPE_CHECKING:
     from collections.abc import Iterable
 
-_MOST_READ = 1 << 18
+_MOST_READ = 1 << 16
 _LONGEST_PATH = 100
 
 
@@ -101,6 +101,11 @@ class Lines:
 
     def _receive(self, deadline: float | None) -> bytes:
         """Return what comes next; b"" at the end. What is unsent goes out meanwhile."""
+        if deadline is None and not self._unsent:
+            try:
+                return self._socket.recv(_MOST_READ)
+            except ConnectionResetError:
+                return b""
         poll = select.poll()
         while True:
             poll.register(self._socket, select.POLLIN | (select.POLLOUT if self._unsent else 0))

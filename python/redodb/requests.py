@@ -30,6 +30,8 @@ class Request(Generic[Answer]):
 
     def result(self, answers: list[bytes]) -> Answer:
         """Return what the answers say. Raises RefusedError and FaultError."""
+        if len(answers) == 1:
+            return self.read(answers[0], self.lines[0])
         return self.join(
             [self.read(answer, line) for answer, line in zip(answers, self.lines, strict=True)]
         )
@@ -136,9 +138,13 @@ def _one(line: bytes, read: Callable[[bytes, bytes], Answer]) -> Request[Answer]
 
 def _chunks(command: bytes, names: Iterable[Name]) -> tuple[bytes, ...]:
     """Return lines of the command, with no more names and bytes than a line may have."""
+    words = [_name(name) for name in names]
+    whole = b" ".join([command, *words])
+    if 0 < len(words) <= _MOST_NAMES and len(whole) <= _MOST_BYTES:
+        return (whole,)
     lines = []
     line, count = command, 0
-    for name in map(_name, names):
+    for name in words:
         if count == _MOST_NAMES or count and len(line) + len(name) >= _MOST_BYTES:
             lines.append(line)
             line, count = command, 0

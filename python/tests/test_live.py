@@ -1,5 +1,4 @@
 """The conversation with redodb-live, by a stand-in that answers when it is told to."""
-import asyncio
 import socket
 import unittest
 from typing import cast
@@ -7,6 +6,7 @@ from typing import cast
 import beside  # noqa: F401
 from redodb.server.hub import Hub
 from redodb.server.live import Live
+from redodb.server.loop import Loop
 from redodb.server.program import Program
 from served import PATIENCE
 
@@ -19,16 +19,22 @@ class StandIn:
         self.end.settimeout(PATIENCE)
         self.learners: dict[bytes, object] = {}
         self.said: list[str] = []
-        self.ended = asyncio.Event()
+        self.ended = False
+        self.loop = Loop()
         self.live = Live(cast(Hub, self))
 
-    async def begin(self) -> None:
-        await self.live.start(cast(Program, self))
-        await self.answer("redodb-live 0.1.0 restored 0")
+    def begin(self) -> None:
+        self.live.start(cast(Program, self))
+        self.answer("redodb-live 0.1.0 restored 0")
 
-    async def answer(self, *lines: str) -> None:
+    def answer(self, *lines: str) -> None:
         self.end.sendall("".join(line + "\n" for line in lines).encode())
-        await asyncio.sleep(0.02)
+        self.wait()
+
+    def wait(self) -> None:
+        """Let the loop do what is to be done by now."""
+        self.loop.later(0.02, self.loop.stop)
+        self.loop.run()
 
     def take(self, number: bytes, reply: bytes) -> None:
         self.said.append(f"{number.decode()} {reply.decode()}")
@@ -47,7 +53,7 @@ class StandIn:
 
     def live_ended(self, message: str) -> None:
         self.said.append(message)
-        self.ended.set()
+        self.ended = True
 
     def flush(self) -> None:
         self.live.flush()
@@ -56,58 +62,59 @@ class StandIn:
         self.said.append(f"stuffed {stuffed}")
 
 
-class Conversation(unittest.IsolatedAsyncioTestCase):
-    async def asyncSetUp(self) -> None:
+class Conversation(unittest.TestCase):
+    def setUp(self) -> None:
         self.other = StandIn()
         self.live = self.other.live
         self.addCleanup(self.other.end.close)
 
-    async def asyncTearDown(self) -> None:
-        if not self.other.ended.is_set():
+    def tearDown(self) -> None:
+        if not self.other.ended:
             self.live.fail("over")
-            await self.other.ended.wait()
+            self.other.wait()
+        self.assertTrue(self.other.ended)
 
-    async def test_begins_with_the_greeting_and_keeps_what_was_asked_before(self) -> None:
+    def test_begins_with_the_greeting_and_keeps_what_was_asked_before(self) -> None:
         self.live.ask(1, b"lock a", self.other.take, b"5")
         self.live.flush()
-        await self.other.begin()
+        self.other.begin()
         self.assertEqual(self.other.asked(), "1 lock a\n")
-        await self.other.answer("1 lock a => granted 1")
+        self.other.answer("1 lock a => granted 1")
         self.assertEqual(self.other.said, ["ready", "5 granted 1"])
 
-    async def test_takes_the_answers_that_come_after_its_close(self) -> None:
-        await self.other.begin()
+    def test_takes_the_answers_that_come_after_its_close(self) -> None:
+        self.other.begin()
         self.live.ask(1, b"end", self.other.take, b"7", is_end=True)
         self.assertTrue(self.live.close())
         self.assertEqual(self.other.asked(), "1 end\n")
         self.assertEqual(self.other.asked(), "")
-        await self.other.answer("1 failed a => ok", "1 unlock a => ok", "1 end => ok")
+        self.other.answer("1 failed a => ok", "1 unlock a => ok", "1 end => ok")
         self.other.end.close()
-        await self.other.ended.wait()
+        self.other.wait()
         self.assertEqual(self.other.said, ["ready", "7 ok", "the end"])
         self.assertFalse(self.live.close())
 
-    async def test_calls_afterwards_when_all_before_is_answered(self) -> None:
-        await self.other.begin()
+    def test_calls_afterwards_when_all_before_is_answered(self) -> None:
+        self.other.begin()
         self.live.afterwards(lambda: self.other.said.append("at once"))
         self.live.ask(1, b"ood", self.other.take, b"1")
         self.live.ask(1, b"end", self.other.take, b"2", is_end=True)
         self.live.afterwards(lambda: self.other.said.append("after 2"))
         self.live.ask(1, b"oood", self.other.take, b"3")
         self.live.flush()
-        await self.other.answer("1 ood => ood a", "1 unlock a => ok")
+        self.other.answer("1 ood => ood a", "1 unlock a => ok")
         self.assertEqual(self.other.said[1:], ["at once", "1 ood a"])
-        await self.other.answer("1 end => ok", "1 fault unknown-command")
+        self.other.answer("1 end => ok", "1 fault unknown-command")
         self.assertEqual(self.other.said[3:], ["2 ok", "after 2", "3 fault unknown-command"])
 
-    async def test_ends_with_what_is_no_greeting(self) -> None:
-        await self.live.start(cast(Program, self.other))
-        await self.other.answer("hello")
-        await self.other.ended.wait()
+    def test_ends_with_what_is_no_greeting(self) -> None:
+        self.live.start(cast(Program, self.other))
+        self.other.answer("hello")
+        self.other.wait()
         self.assertEqual(self.other.said, ["killed", "not the greeting of redodb-live: b'hello'"])
 
-    async def test_says_when_the_program_does_not_read(self) -> None:
-        await self.other.begin()
+    def test_says_when_the_program_does_not_read(self) -> None:
+        self.other.begin()
         for _ in range(100):
             self.live.ask(1, b"state " + b"a" * 8000, self.other.take, b"1")
         self.live.flush()
@@ -115,6 +122,5 @@ class Conversation(unittest.IsolatedAsyncioTestCase):
         count = 0
         while count < 100 * 8009:
             count += len(self.other.asked())
-            await asyncio.sleep(0)
-        await asyncio.sleep(0.02)
+            self.other.wait()
         self.assertEqual(self.other.said, ["ready", "stuffed True", "stuffed False"])

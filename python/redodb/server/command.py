@@ -104,17 +104,12 @@ def _serve(taken: Taken, program: bytes, idle: float) -> int:
     except OSError:
         pass  # the hub tries again, and tells it
 
-    import asyncio
-
     from .hub import Hub
 
     def start() -> Program:
         return early.pop() if early else Program(program, taken.places.log)
 
-    async def serve() -> str:
-        return await Hub(taken, start, idle).run()
-
-    failure = asyncio.run(serve())
+    failure = Hub(taken, start, idle).run()
     taken.leave()
     if failure:
         print(f"redodb serve: {failure}", file=sys.stderr)

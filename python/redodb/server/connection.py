@@ -1,13 +1,14 @@
 """One client of the server."""
 from __future__ import annotations
 
-import asyncio
+import socket
 from collections.abc import Callable
 
 from ..errors import BadName
 from ..names import is_name
 from .groups import Groups
 from .look import Look
+from .stream import Owner, Stream
 from .waits import TOP_LEVEL, Wait
 
 TYPE_CHECKING = False
@@ -21,7 +22,7 @@ MOST_AHEAD = 512
 """So many lines are worked on before their answers are waited for, which bounds what is kept."""
 
 
-class Connection(asyncio.Protocol):
+class Connection(Owner):
     """The lines of one client, ID REQUEST, and the answers to them, ID ANSWER.
 
     Most requests go on to redodb-live as they are; those that `own` names are the server's.
@@ -29,19 +30,19 @@ class Connection(asyncio.Protocol):
     `flush`.
     """
 
-    def __init__(self, hub: Hub) -> None:
+    def __init__(self, hub: Hub, connected: socket.socket) -> None:
         self.session = 0
         self.groups = Groups()
         self._hub = hub
         self._live = hub.live
-        self._transport: asyncio.Transport | None = None
+        self._is_open = True
+        self._stream = Stream(hub.loop, connected, self)
         self._rest = b""
         self._skipping = False
         self._answers: list[bytes] = []
         self._waits: list[Wait] = []
         self._held = False
         self._stuffed = False
-        self._reading = True
         self._own: dict[bytes, Callable[[bytes, list[bytes]], None]] = {
             b"wait": self._wait,
             b"forget": self._forget,
@@ -67,47 +68,26 @@ class Connection(asyncio.Protocol):
 
     def close(self) -> None:
         """End the connection."""
-        if self._transport is not None:
-            self._transport.close()
+        self._stream.close()
 
     def answer(self, number: bytes, answer: bytes) -> None:
         """Answer the request with this number."""
         if not self._answers:
             self._hub.touched.append(self)
-        self._answers.append(number + b" " + answer)
+        self._answers.append(b"%b %b\n" % (number, answer))
 
     def flush(self) -> None:
         """Write the answers that were gathered."""
         answers, self._answers = self._answers, []
-        if answers and self._transport is not None:
-            answers.append(b"")
-            self._transport.write(b"\n".join(answers))
+        self._stream.write(b"".join(answers))
 
     def regulate(self) -> None:
         """Read from the client, unless it doesn't take its answers, or redodb-live its lines."""
-        reading = not (
-            self._stuffed
-            or self._held
-            or self._hub.stuffed
-            or not self.session
-            and len(self._rest) > LONGEST_LINE
-        )
-        transport = self._transport
-        if reading == self._reading or transport is None or transport.is_closing():
-            return
-        self._reading = reading
-        if reading:
-            transport.resume_reading()
-        else:
-            transport.pause_reading()
+        has_no_turn = not self.session and len(self._rest) > LONGEST_LINE
+        full = self._stuffed or self._held or self._hub.stuffed or has_no_turn
+        self._stream.read(not full)
 
-    def connection_made(self, transport: asyncio.BaseTransport) -> None:
-        assert isinstance(transport, asyncio.Transport)
-        self._transport = transport
-        self._hub.joined(self)
-        self._hub.flush()
-
-    def data_received(self, data: bytes) -> None:
+    def received(self, data: bytes) -> None:
         if self._skipping:
             end = data.find(b"\n")
             if end < 0:
@@ -117,10 +97,11 @@ class Connection(asyncio.Protocol):
         self._rest += data
         self._work()
         self._hub.flush()
-        self.regulate()
+        if not self.session:
+            self.regulate()
 
-    def connection_lost(self, error: Exception | None) -> None:
-        self._transport = None
+    def lost(self) -> None:
+        self._is_open = False
         self._rest = b""
         for wait in self._waits:
             self._hub.waits.give_up(wait)
@@ -128,20 +109,17 @@ class Connection(asyncio.Protocol):
         self._hub.left(self)
         self._hub.flush()
 
-    def pause_writing(self) -> None:
-        self._stuffed = True
-        self.regulate()
-
-    def resume_writing(self) -> None:
-        self._stuffed = False
-        self._work()
-        self._hub.flush()
+    def stuffed(self, much: bool) -> None:
+        self._stuffed = much
+        if not much:
+            self._work()
+            self._hub.flush()
         self.regulate()
 
     def _say(self, line: bytes) -> None:
         if not self._answers:
             self._hub.touched.append(self)
-        self._answers.append(line)
+        self._answers.append(line + b"\n")
 
     def _work(self) -> None:
         """Work on the whole lines that have come, as far as none has to wait for answers."""
@@ -173,12 +151,13 @@ class Connection(asyncio.Protocol):
 
         def release() -> None:
             self._held = False
-            if self._transport is not None:
+            if self._is_open:
                 call()
                 self._work()
                 self.regulate()
 
         self._held = True
+        self.regulate()
         self._live.afterwards(release)
 
     def _answer_in_turn(self, number: bytes, answer: bytes) -> None:
@@ -198,7 +177,7 @@ class Connection(asyncio.Protocol):
             self._waits.remove(wait)
             self.answer(number, answer)
 
-        wait = Wait(target, parent, self.session, answered, lambda: self._transport is not None)
+        wait = Wait(target, parent, self.session, answered, lambda: self._is_open)
         self._waits.append(wait)
         self._hub.waits.add(wait)
 

@@ -1,7 +1,6 @@
 """The server: its clients, the sessions that they have, and its end."""
 from __future__ import annotations
 
-import asyncio
 import heapq
 import signal
 from collections import deque
@@ -10,6 +9,7 @@ from collections.abc import Callable
 from .connection import Connection
 from .known import Known, Words
 from .live import Live
+from .loop import READABLE, Loop
 from .program import Program
 from .taking import Taken
 from .waits import Wait, Waits
@@ -20,6 +20,8 @@ _FIRST_CLIENT = 10.0
 _IN_USE = "in use"
 _TRIES = 100
 _PAUSE = 0.05
+_BREATH = 1.0
+_MOST_AT_ONCE = 100
 
 
 class Hub:
@@ -32,6 +34,7 @@ class Hub:
 
     def __init__(self, taken: Taken, start: Callable[[], Program], idle: float) -> None:
         self.known = Known()
+        self.loop = Loop()
         self.waits = Waits(self._lock, self._unlock)
         self.learners: dict[bytes, Callable[[Words, bytes], None]] = {
             **self.known.learners,
@@ -51,22 +54,17 @@ class Hub:
         self._free = list(range(1, SESSIONS + 1))
         self._connections: dict[Connection, None] = {}
         self._queue: deque[Connection] = deque()
-        self._timer: asyncio.TimerHandle | None = None
-        self._listening: asyncio.Server | None = None
-        self._ended = asyncio.Event()
+        self._timer = self.loop.later(max(idle, _FIRST_CLIENT), self.close)
 
-    async def run(self) -> str:
+    def run(self) -> str:
         """Serve until the end. Return what failed, or an empty text."""
-        loop = asyncio.get_running_loop()
         for number in (signal.SIGTERM, signal.SIGINT):
-            loop.add_signal_handler(number, self.close)
-        self._timer = loop.call_later(max(self._idle, _FIRST_CLIENT), self.close)
-        self._listening = await loop.create_unix_server(
-            lambda: Connection(self), sock=self._taken.listener, backlog=self._taken.BACKLOG
-        )
-        await self._start_live()
+            self.loop.on_signal(number, self.close)
+        self._taken.listener.setblocking(False)
+        self._listen(True)
+        self._start_live()
         self.known.read_log(self._taken.places.log)
-        await self._ended.wait()
+        self.loop.run()
         return self._failure
 
     def close(self) -> None:
@@ -75,12 +73,12 @@ class Hub:
             return
         self._closing = True
         self._taken.hide()
-        if self._listening is not None:
-            self._listening.close()
+        self._listen(False)
+        self._taken.listener.close()
         for connection in list(self._connections):
             connection.fail(self._failure or "the server was told to end")
         if self._failure or not self.live.close():
-            self._ended.set()
+            self.loop.stop()
 
     def live_ready(self) -> None:
         """Take it that redodb-live has read its log, and closed there what was left open."""
@@ -95,11 +93,10 @@ class Hub:
         well.
         """
         if self._closing:
-            self._ended.set()
+            self.loop.stop()
         elif not self._ready and message.endswith(_IN_USE) and self._tries < _TRIES:
             self._tries += 1
-            loop = asyncio.get_running_loop()
-            loop.call_later(_PAUSE, lambda: loop.create_task(self._start_live()))
+            self.loop.later(_PAUSE, self._start_live)
         elif not self._failure:
             self._failure = message
             self._told = bool(self._connections)
@@ -111,8 +108,7 @@ class Hub:
     def joined(self, connection: Connection) -> None:
         """Let a client in. One that comes at the end gets no word, and so takes the next server."""
         self._connections[connection] = None
-        if self._timer is not None:
-            self._timer.cancel()
+        self.loop.drop(self._timer)
         if self._closing and not self._failure:
             connection.close()
         elif self._failure:
@@ -142,22 +138,40 @@ class Hub:
     def flush(self) -> None:
         """Write what was gathered for redodb-live and for the clients."""
         self.live.flush()
-        touched, self.touched = self.touched, []
-        for connection in touched:
-            connection.flush()
+        if self.touched:
+            touched, self.touched = self.touched, []
+            for connection in touched:
+                connection.flush()
 
-    async def _start_live(self) -> None:
+    def _listen(self, wanted: bool) -> None:
+        """Let clients come from now on, or don't."""
+        listener = self._taken.listener
+        self.loop.watch(listener.fileno(), READABLE if wanted else 0, self._let_in)
+
+    def _let_in(self, _: int) -> None:
+        """Let all clients in that are waiting. Where there is no file for one, try again soon."""
+        for _ in range(_MOST_AT_ONCE):
+            try:
+                connected, _ = self._taken.listener.accept()
+            except (BlockingIOError, ConnectionAbortedError):
+                return
+            except OSError:
+                self._listen(False)
+                self.loop.later(_BREATH, lambda: self._listen(not self._closing))
+                return
+            self.joined(Connection(self, connected))
+            self.flush()
+
+    def _start_live(self) -> None:
         try:
-            await self.live.start(self._start())
+            self.live.start(self._start())
         except OSError as error:
             self.live_ended(f"redodb-live can't be started: {error}")
 
     def _end_later(self) -> None:
         """End in a while, if no client comes; at once where one was told of a failure."""
-        if self._timer is not None:
-            self._timer.cancel()
-        seconds = 0.0 if self._told else self._idle
-        self._timer = asyncio.get_running_loop().call_later(seconds, self.close)
+        self.loop.drop(self._timer)
+        self._timer = self.loop.later(0.0 if self._told else self._idle, self.close)
 
     def _welcome(self) -> None:
         """Give free sessions to those who wait for one."""

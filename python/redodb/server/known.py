@@ -54,7 +54,7 @@ class Known:
                 for line in log:
                     if line[-1:] == b"\n":
                         self._log_read += len(line)
-                        words = line.split(b" ")
+                        words = line.partition(b" => ")[0].split(b" ")
                         reader = self._readers.get(words[1])
                         if reader is not None:
                             for name in reader(words, b"ok"):
@@ -116,13 +116,9 @@ class Known:
         return (words[2],)
 
     def _spoken_of(self, words: Words, reply: bytes) -> Iterable[bytes]:
-        new: dict[bytes, bytes | None] = {}
-        for name in words[2:]:
-            if name == b"=>":
-                break
-            if name not in self.stamps:
-                new[name] = None
-        self.stamps.update(new)
+        new = set(words[2:]).difference(self.stamps)
+        for name in new:
+            self.stamps[name] = None
         return new
 
     def _start(self, words: Words, reply: bytes) -> Iterable[bytes]:

@@ -1,13 +1,12 @@
 """The conversation with redodb-live."""
 from __future__ import annotations
 
-import asyncio
-import re
 from collections import deque
 from collections.abc import Callable
 
 from .known import Words
 from .program import Program
+from .stream import Owner, Stream
 
 TYPE_CHECKING = False
 if TYPE_CHECKING:
@@ -15,11 +14,10 @@ if TYPE_CHECKING:
 
 Take = Callable[[bytes, bytes], None]
 
-_GREETING = re.compile(rb"redodb-live \S+ restored [0-9]+\Z")
 _STAMPING = (b"file ", b"gone ", b"done ")
 
 
-class Live(asyncio.Protocol):
+class Live(Owner):
     """The lines that are sent to redodb-live, and who takes the answer to each.
 
     redodb-live answers line by line, in order, so the line of takers says whose an answer is. Lines
@@ -35,24 +33,23 @@ class Live(asyncio.Protocol):
         self._asked = 0
         self._stamped = 0
         self._afterwards: deque[tuple[int, Callable[[], None]]] = deque()
-        self._rest = b""
+        self._rest: list[bytes] = []
         self._greeted = False
         self._closed = False
         self._failure = ""
         self._program: Program | None = None
-        self._transport: asyncio.Transport | None = None
+        self._stream: Stream | None = None
 
-    async def start(self, program: Program) -> None:
+    def start(self, program: Program) -> None:
         """Talk with a program that was started."""
         self._program = program
-        loop = asyncio.get_running_loop()
-        await loop.create_unix_connection(lambda: self, sock=program.socket)
+        self._stream = Stream(self._hub.loop, program.socket, self)
 
     def ask(
         self, session: int, request: bytes, take: Take, number: bytes, is_end: bool = False
     ) -> None:
         """Send a request of a session; take(number, reply) gets the reply. is_end is for `end`."""
-        self._out.append(b"%d %b" % (session, request))
+        self._out.append(b"%d %b\n" % (session, request))
         self._takers.append((take, number, is_end))
         self._asked += 1
         if request.startswith(_STAMPING):
@@ -71,20 +68,19 @@ class Live(asyncio.Protocol):
 
     def flush(self) -> None:
         """Write the lines that were gathered."""
-        if self._out and self._transport is not None and self._greeted and not self._closed:
+        if self._out and self._stream is not None and self._greeted and not self._closed:
             lines, self._out = self._out, []
-            lines.append(b"")
-            self._transport.write(b"\n".join(lines))
+            self._stream.write(b"".join(lines))
 
     def close(self) -> bool:
         """End the input of the program, which ends when it has answered all.
 
         Say whether it was there, so that its end will be told to the hub.
         """
-        if self._transport is None or self._transport.is_closing():
+        if self._stream is None or self._stream.is_closing:
             return False
         self.flush()
-        self._transport.write_eof()
+        self._stream.end()
         self._closed = True
         return True
 
@@ -93,18 +89,17 @@ class Live(asyncio.Protocol):
         self._failure = message
         if self._program is not None:
             self._program.kill()
-        if self._transport is not None:
-            self._transport.abort()
+        if self._stream is not None:
+            self._stream.abort()
 
-    def connection_made(self, transport: asyncio.BaseTransport) -> None:
-        assert isinstance(transport, asyncio.Transport)
-        self._transport = transport
-
-    def data_received(self, data: bytes) -> None:
-        lines = (self._rest + data).split(b"\n")
-        self._rest = lines.pop()
+    def received(self, data: bytes) -> None:
+        self._rest.append(data)
+        if b"\n" not in data:
+            return
+        lines = b"".join(self._rest).split(b"\n")
+        self._rest = [lines.pop()]
         if not self._greeted and lines:
-            if not _GREETING.match(lines[0]):
+            if not _is_greeting(lines[0]):
                 self.fail(f"not the greeting of redodb-live: {lines[0]!r}")
                 return
             del lines[0]
@@ -133,16 +128,16 @@ class Live(asyncio.Protocol):
             while afterwards and afterwards[0][0] <= self._asked - len(takers):
                 afterwards.popleft()[1]()
 
-    def eof_received(self) -> bool:
-        return False
-
-    def connection_lost(self, error: Exception | None) -> None:
-        self._transport = None
+    def lost(self) -> None:
+        self._stream = None
         assert self._program is not None
         self._hub.live_ended(self._failure or self._program.last_words())
 
-    def pause_writing(self) -> None:
-        self._hub.regulate(True)
+    def stuffed(self, much: bool) -> None:
+        self._hub.regulate(much)
 
-    def resume_writing(self) -> None:
-        self._hub.regulate(False)
+
+def _is_greeting(line: bytes) -> bool:
+    """Say whether a line is `redodb-live VERSION restored NUMBER`."""
+    words = line.split(b" ")
+    return len(words) == 4 and words[::2] == [b"redodb-live", b"restored"] and words[3].isdigit()

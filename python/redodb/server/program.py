@@ -2,10 +2,12 @@
 from __future__ import annotations
 
 import os
+import signal
 import socket
-import subprocess
+import time
 
 _LINGER = 5.0
+_PAUSE = 0.005
 
 
 class Program:
@@ -14,37 +16,54 @@ class Program:
     def __init__(self, program: bytes, log: bytes) -> None:
         """Start the program. Raises OSError where it can't be started."""
         self.socket, its = socket.socketpair()
-        with its:
-            try:
-                self._process = subprocess.Popen(
-                    [program, b"--log", log],
-                    stdin=its.fileno(),
-                    stdout=its.fileno(),
-                    stderr=subprocess.PIPE,
-                    start_new_session=True,
-                )
-            except OSError:
-                self.socket.close()
-                raise
+        self._errors, saying = os.pipe()
+        self._status: int | None = None
+        talks = [(os.POSIX_SPAWN_DUP2, its.fileno(), file) for file in (0, 1)]
+        try:
+            self._process = os.posix_spawn(
+                program,
+                [program, b"--log", log],
+                os.environ,
+                file_actions=[*talks, (os.POSIX_SPAWN_DUP2, saying, 2)],
+                setsid=True,
+                setsigdef=[signal.SIGPIPE, signal.SIGXFSZ],
+            )
+        except OSError:
+            self.socket.close()
+            os.close(self._errors)
+            raise
+        finally:
+            its.close()
+            os.close(saying)
 
     def kill(self) -> None:
         """Kill the program."""
-        assert self._process.stderr is not None
-        self._process.kill()
-        self._process.wait()
-        self._process.stderr.close()
+        if self._status is None:
+            os.kill(self._process, signal.SIGKILL)
+            self._wait()
 
     def last_words(self) -> str:
         """Wait for the end of the program, and return what it said of it."""
-        process = self._process
-        assert process.stderr is not None
+        status = self._wait()
+        os.set_blocking(self._errors, False)
         try:
-            status = process.wait(_LINGER)
-        except subprocess.TimeoutExpired:
-            process.kill()
-            status = process.wait()
-        with process.stderr as stderr:
-            os.set_blocking(stderr.fileno(), False)
-            said = (stderr.read() or b"").decode(errors="replace").strip()
+            said = os.read(self._errors, 1 << 16).decode(errors="replace").strip()
+        except BlockingIOError:
+            said = ""
+        os.close(self._errors)
         how = f"signal {-status}" if status < 0 else f"status {status}"
         return said.replace("\n", "; ") or f"redodb-live ended with {how}"
+
+    def _wait(self) -> int:
+        """Return the status of the program, which is about to end; one that lingers is killed."""
+        end = time.monotonic() + _LINGER
+        while self._status is None:
+            ended, status = os.waitpid(self._process, os.WNOHANG)
+            if ended:
+                self._status = os.waitstatus_to_exitcode(status)
+            elif time.monotonic() > end:
+                os.kill(self._process, signal.SIGKILL)
+                end += _LINGER
+            else:
+                time.sleep(_PAUSE)
+        return self._status

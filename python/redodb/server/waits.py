@@ -3,27 +3,34 @@ from __future__ import annotations
 
 from collections import deque
 from collections.abc import Callable
-from dataclasses import dataclass
 
 TOP_LEVEL = b"-"
 
 
-@dataclass(eq=False, slots=True)
 class Wait:
     """One request `wait TARGET PARENT` of a session.
 
     answer takes the answer, once. is_open says whether its session can still let go of a lock.
-    asking says that a `lock` for it is on its way; given_up, that nobody wants it any longer.
+    given_up says that nobody wants it any longer.
     """
 
-    target: bytes
-    parent: bytes
-    session: int
-    answer: Callable[[bytes], None]
-    is_open: Callable[[], bool]
-    asking: bool = False
-    given_up: bool = False
-    arrival: int = 0
+    __slots__ = ("target", "parent", "session", "answer", "is_open", "given_up", "arrival")
+
+    def __init__(
+        self,
+        target: bytes,
+        parent: bytes,
+        session: int,
+        answer: Callable[[bytes], None],
+        is_open: Callable[[], bool],
+    ) -> None:
+        self.target = target
+        self.parent = parent
+        self.session = session
+        self.answer = answer
+        self.is_open = is_open
+        self.given_up = False
+        self.arrival = 0
 
 
 class Waits:
@@ -51,11 +58,10 @@ class Waits:
         elif wait.target in self._lines:
             self._park(wait)
         else:
-            self._ask(wait)
+            self._lock(wait)
 
     def replied(self, wait: Wait, reply: bytes) -> None:
         """Take the reply to the `lock` of a wait."""
-        wait.asking = False
         if reply.startswith(b"granted "):
             self._take(wait, reply)
         elif reply.startswith(b"busy "):
@@ -86,10 +92,6 @@ class Waits:
             if not line:
                 del self._lines[wait.target]
 
-    def _ask(self, wait: Wait) -> None:
-        wait.asking = True
-        self._lock(wait)
-
     def _take(self, wait: Wait, reply: bytes) -> None:
         if not wait.given_up:
             self._granted[wait.target] = wait
@@ -114,7 +116,7 @@ class Waits:
     def _wake(self, target: bytes) -> None:
         line = self._lines.get(target)
         if line:
-            self._ask(line.popleft())
+            self._lock(line.popleft())
             if not line:
                 del self._lines[target]
 

@@ -1,0 +1,121 @@
+"""What the server waits for: its files, a moment, and the signals that end it.
+
+Each line of each build passes through the server twice. So there is nothing between epoll and the
+function that a file has.
+"""
+from __future__ import annotations
+
+import os
+import select
+import signal
+import time
+from collections.abc import Callable
+
+READABLE = select.EPOLLIN
+WRITABLE = select.EPOLLOUT
+
+_MOST_READY = 64
+
+
+class Timer:
+    """A call at a moment of time.monotonic()."""
+
+    __slots__ = ("moment", "call")
+
+    def __init__(self, moment: float, call: Callable[[], None]) -> None:
+        self.moment = moment
+        self.call = call
+
+
+class Loop:
+    """Calls the function of a file that is ready, and what was put off.
+
+    What a file is ready for may be out of date when its function is called: so no file may block.
+    """
+
+    def __init__(self) -> None:
+        self._epoll = select.epoll()
+        self._calls: dict[int, Callable[[int], None]] = {}
+        self._soon: list[Callable[[], None]] = []
+        self._timers: list[Timer] = []
+        self._signals: dict[int, Callable[[], None]] = {}
+        self._stopped = False
+
+    def watch(self, file: int, events: int, call: Callable[[int], None]) -> None:
+        """Call with what a file is ready for, whenever that is one of the events or its end.
+
+        Without events the file isn't watched any more.
+        """
+        if not events:
+            if self._calls.pop(file, None) is not None:
+                self._epoll.unregister(file)
+        elif file in self._calls:
+            self._epoll.modify(file, events)
+        else:
+            self._epoll.register(file, events)
+            self._calls[file] = call
+
+    def soon(self, call: Callable[[], None]) -> None:
+        """Call when what is going on now has returned."""
+        self._soon.append(call)
+
+    def later(self, seconds: float, call: Callable[[], None]) -> Timer:
+        """Call so many seconds from now, unless the timer is dropped."""
+        timer = Timer(time.monotonic() + seconds, call)
+        self._timers.append(timer)
+        return timer
+
+    def drop(self, timer: Timer) -> None:
+        """Call a timer off, where it is still to come."""
+        if timer in self._timers:
+            self._timers.remove(timer)
+
+    def on_signal(self, number: int, call: Callable[[], None]) -> None:
+        """Call when the process gets a signal."""
+        if not self._signals:
+            told, telling = os.pipe2(os.O_NONBLOCK | os.O_CLOEXEC)
+            signal.set_wakeup_fd(telling)
+            self.watch(told, READABLE, lambda _: self._take_signals(told))
+        self._signals[number] = call
+        signal.signal(number, _nothing)
+
+    def stop(self) -> None:
+        """Have `run` return."""
+        self._stopped = True
+
+    def run(self) -> None:
+        """Do what comes until the stop."""
+        calls, poll = self._calls, self._epoll.poll
+        while True:
+            if self._soon or self._timers:
+                self._do_the_rest()
+            if self._stopped:
+                self._stopped = False
+                return
+            for file, events in poll(self._left() if self._timers else None, _MOST_READY):
+                call = calls.get(file)
+                if call is not None:
+                    call(events)
+
+    def _left(self) -> float:
+        """Return the seconds to the first timer."""
+        return max(0.0, min(timer.moment for timer in self._timers) - time.monotonic())
+
+    def _do_the_rest(self) -> None:
+        """Call what was put off."""
+        now = time.monotonic()
+        for timer in [timer for timer in self._timers if timer.moment <= now]:
+            self._timers.remove(timer)
+            timer.call()
+        while self._soon:
+            soon, self._soon = self._soon, []
+            for call in soon:
+                call()
+
+    def _take_signals(self, told: int) -> None:
+        for number in os.read(told, 64):
+            self._signals[number]()
+
+
+def _nothing(number: int, frame: object) -> None:
+    """Let a signal do nothing but wake the loop."""
