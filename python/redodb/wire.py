@@ -9,6 +9,9 @@ from typing import Any
 from .errors import ProtocolError, RedodbError, ServerError
 
 
+_MOST_READ = 1 << 16
+
+
 class Batch:
     """Requests that were sent together, and their answers so far."""
 
@@ -26,10 +29,11 @@ class Batch:
             self.future.set_result(self._answers)
 
 
-class Wire(asyncio.Protocol):
+class Wire(asyncio.BufferedProtocol):
     """One connection to the server. Requests of one turn of the loop leave by one write.
 
-    `greeted` ends with the number of the session, or None where the server ended before.
+    `greeted` ends with the number of the session, or None where the server ended before. What is
+    read comes into one buffer, since a new one for each read would cost more than the read.
     """
 
     def __init__(self) -> None:
@@ -38,6 +42,7 @@ class Wire(asyncio.Protocol):
         self._number = 0
         self._waiting: dict[int, Batch] = {}
         self._out: list[bytes] = []
+        self._buffer = memoryview(bytearray(_MOST_READ))
         self._rest = b""
         self._error: RedodbError | None = None
         self._transport: asyncio.Transport | None = None
@@ -51,7 +56,7 @@ class Wire(asyncio.Protocol):
         connection.setblocking(False)
         await self._loop.create_unix_connection(lambda: self, sock=connection)
         if rest:
-            self.data_received(rest)
+            self._received(rest)
 
     def send(self, requests: Sequence[bytes]) -> asyncio.Future[list[bytes]]:
         """Send requests; the future ends with their answers."""
@@ -87,7 +92,13 @@ class Wire(asyncio.Protocol):
         assert isinstance(transport, asyncio.Transport)
         self._transport = transport
 
-    def data_received(self, data: bytes) -> None:
+    def get_buffer(self, sizehint: int) -> memoryview:
+        return self._buffer
+
+    def buffer_updated(self, nbytes: int) -> None:
+        self._received(bytes(self._buffer[:nbytes]))
+
+    def _received(self, data: bytes) -> None:
         lines = (self._rest + data).split(b"\n")
         self._rest = lines.pop()
         for line in lines:

@@ -1,6 +1,7 @@
 """Answers the programs that .do files call."""
 import asyncio
 import os
+import socket
 
 from redodb.errors import RedodbError, RefusedError
 from redodb import requests
@@ -13,6 +14,8 @@ from redodb.redo.link import check_done
 from redodb.redo.options import HELP, Usage, read, targets_of
 
 LONGEST_MESSAGE = 1 << 26
+BLOCK = 1 << 16
+BREATH = 0.1
 
 
 class Failure(Exception):
@@ -22,24 +25,69 @@ class Failure(Exception):
 class Answerer:
     """Does what the programs ask, for the builds of one run."""
 
-    def __init__(self, context: Context, ensurer: Ensurer) -> None:
+    def __init__(self, context: Context, ensurer: Ensurer, listener: socket.socket) -> None:
         self._context = context
         self._ensurer = ensurer
+        self._listener = listener
+        self._loop = asyncio.get_running_loop()
+        self._tasks: set[asyncio.Task[None]] = set()
+        listener.setblocking(False)
 
-    async def serve(self, reader: asyncio.StreamReader, writer: asyncio.StreamWriter) -> None:
+    def listen(self) -> None:
+        """Lets programs come from now on."""
+        self._loop.add_reader(self._listener.fileno(), self._let_in)
+
+    def close(self) -> None:
+        """Lets no program come any more."""
+        self._loop.remove_reader(self._listener.fileno())
+        self._listener.close()
+
+    def _let_in(self) -> None:
+        """Answers the programs that have come. Where no file is free for one, it waits a moment."""
+        while True:
+            try:
+                connection, _ = self._listener.accept()
+            except (BlockingIOError, ConnectionAbortedError):
+                return
+            except OSError:
+                self._loop.remove_reader(self._listener.fileno())
+                self._loop.call_later(BREATH, self.listen)
+                return
+            connection.setblocking(False)
+            task = self._loop.create_task(self._serve(connection))
+            self._tasks.add(task)
+            task.add_done_callback(self._tasks.discard)
+
+    async def _serve(self, connection: socket.socket) -> None:
         """Answers one program."""
         try:
-            length = int(await reader.readline())
-            if length > LONGEST_MESSAGE:
-                return
-            fields = (await reader.readexactly(length)).split(b"\0")[:-1]
+            fields = (await self._message(connection)).split(b"\0")[:-1]
             if len(fields) >= 3:
-                writer.write(await self._answer(fields))
-                await writer.drain()
-        except (ValueError, EOFError, ConnectionError):
+                await self._loop.sock_sendall(connection, await self._answer(fields))
+        except (ValueError, ConnectionError):
             pass
         finally:
-            writer.close()
+            connection.close()
+
+    async def _message(self, connection: socket.socket) -> bytes:
+        """Returns what a program asks. Raises ValueError where that isn't a message."""
+        begin = b""
+        while b"\n" not in begin and len(begin) < BLOCK:
+            begin += await self._block(connection, BLOCK)
+        length, _, body = begin.partition(b"\n")
+        blocks, left = [body], int(length) - len(body)
+        if not 0 <= left <= LONGEST_MESSAGE:
+            raise ValueError(f"a message of {left} bytes more")
+        while left:
+            blocks.append(await self._block(connection, min(left, BLOCK)))
+            left -= len(blocks[-1])
+        return b"".join(blocks)
+
+    async def _block(self, connection: socket.socket, most: int) -> bytes:
+        block = await self._loop.sock_recv(connection, most)
+        if not block:
+            raise ValueError("a message that isn't whole")
+        return block
 
     async def _answer(self, fields: list[bytes]) -> bytes:
         program, target, folder, *arguments = fields

@@ -107,17 +107,20 @@ class Orchestrator:
 
     async def _with_socket(self, context: Context, own_socket: bytes) -> int:
         ensurer = Ensurer(context)
-        answerer = Answerer(context, ensurer)
+        answerer = Answerer(context, ensurer, listening(own_socket))
+        answerer.listen()
         over = asyncio.Event()
-        async with await asyncio.start_unix_server(answerer.serve, sock=listening(own_socket)):
-            work = asyncio.create_task(self._work(context, ensurer))
-            tick = asyncio.create_task(self._tick(context))
-            work.add_done_callback(lambda _: over.set())
-            self._stopped.add_done_callback(lambda _: over.set())
-            context.link.lost.add_done_callback(lambda _: over.set())
-            await over.wait()
-            tick.cancel()
+        work = asyncio.create_task(self._work(context, ensurer))
+        tick = asyncio.create_task(self._tick(context))
+        work.add_done_callback(lambda _: over.set())
+        self._stopped.add_done_callback(lambda _: over.set())
+        context.link.lost.add_done_callback(lambda _: over.set())
+        await over.wait()
+        tick.cancel()
+        try:
             return await self._status(context, work)
+        finally:
+            answerer.close()
 
     async def _status(self, context: Context, work: asyncio.Task[bool]) -> int:
         """Ends the run, and returns its status, or a negative number of a signal."""
