@@ -179,6 +179,10 @@ class AsyncClient:
         """Give up a wait of this session. False where none waits, since it was answered."""
         return await self._do(requests.forget(target, parent))
 
+    async def made(self, target: Name) -> str | None:
+        """Return the stamp that the last `done` of a target gave, None where it gave none."""
+        return await self._do(requests.made(target))
+
     async def look(self, names: Iterable[Name] | None = None) -> int:
         """Have the server look at the files, and return how many differed from what was known."""
         return await self._do(requests.look(names))

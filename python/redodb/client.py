@@ -139,6 +139,21 @@ class Client(Commands):
         """
         return self._do(requests.forget(target, parent))
 
+    def made(self, target: Name) -> str | None:
+        """Return the stamp that the last `done` of a target gave, None where it gave none.
+
+        A target that is built, and whose file has another stamp now, was changed by hand.
+
+        >>> client.lock("a.o")
+        Granted(number=1)
+        >>> client.start("a.o")
+        >>> client.done("a.o", "1")
+        >>> client.file("a.o", "2")
+        >>> client.made("a.o")
+        '1'
+        """
+        return self._do(requests.made(target))
+
     def look(self, names: Iterable[Name] | None = None) -> int:
         """Have the server look at the files, and return how many differed from what was known.
 

@@ -171,6 +171,12 @@ def read_forget(answer: bytes, request: bytes) -> bool:
     return True
 
 
+def read_made(answer: bytes, request: bytes) -> str | None:
+    """Read `made STAMP`: None where a target was built without a file, or never."""
+    stamp = _rest(answer, b"made", request)
+    return None if stamp == b"-" else stamp.decode()
+
+
 def read_stale(answer: bytes, request: bytes) -> Names:
     """Read the answer to `ifchange`: the stale ones of its names, of which there may be none."""
     if answer == b"ok":

@@ -115,6 +115,10 @@ def forget(target: Name, parent: Name) -> Request[bool]:
     return _one(b"forget %b %b" % (_name(target), _parent(parent)), replies.read_forget)
 
 
+def made(target: Name) -> Request[str | None]:
+    return _one(b"made " + _name(target), replies.read_made)
+
+
 def look(names: Iterable[Name] | None) -> Request[int]:
     lines = (b"look",) if names is None else _chunks(b"look", names)
     return Request(lines, replies.read_count, sum)

@@ -37,7 +37,7 @@ class Examples(unittest.TestCase):
     def test_are_true(self) -> None:
         program_or_skip()
         first, second = run_examples(client), run_examples(commands)
-        self.assertEqual((first[0] + second[0], first[1] + second[1]), (len(COMMANDS) + 3, 0))
+        self.assertEqual((first[0] + second[0], first[1] + second[1]), (len(COMMANDS) + 4, 0))
 
 
 COMMANDS = (

@@ -42,6 +42,44 @@ class Looking(ServedTree):
         self.assertEqual(self.state("gone"), "idle lock - file -")
         self.assertEqual(len(self.log()), 6)
 
+    def test_is_not_needed_for_what_the_last_build_made(self) -> None:
+        self.assertEqual(
+            self.one.talk(
+                "1 made a",
+                "2 lock a",
+                "3 start a",
+                "4 done a 1",
+                "5 file a 2",
+                "6 start a",
+                "7 made a",
+                "8 failed a",
+                "9 lock b",
+                "10 start b",
+                "11 done b -",
+            ),
+            [
+                "1 made -",
+                "2 granted 1",
+                "3 ok",
+                "4 ok",
+                "5 ok",
+                "6 ok",
+                "7 made 1",
+                "8 ok",
+                "9 granted 1",
+                "10 ok",
+                "11 ok",
+            ],
+        )
+        self.assertEqual(
+            self.one.talk("1 made", "2 made a b", "3 made b", "4 made c"),
+            ["1 fault wrong-words", "2 fault wrong-words", "3 made -", "4 made -"],
+        )
+        self.one.close()
+        self.end_servers()
+        self.serve(idle=5)
+        self.assertEqual(self.client().talk("1 made a", "2 made b"), ["1 made 1", "2 made -"])
+
     def test_at_some_names_leaves_the_others(self) -> None:
         self.write("a")
         self.write("b")

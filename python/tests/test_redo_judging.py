@@ -29,24 +29,25 @@ class Judgement(unittest.TestCase):
         self.assertEqual(judged("idle", "folder"), Todo.BUILD)
 
     def test_of_targets_that_are_up_to_date(self) -> None:
-        for stamp in ("1", None):
-            self.assertEqual(judged("built", stamp), Todo.NOTHING)
-            self.assertEqual(judged("built", stamp, forced=True), Todo.BUILD)
+        for stamp, left in (("1", "1"), (None, "-")):
+            self.assertEqual(judged("built", stamp, left=left), Todo.NOTHING)
+            self.assertEqual(judged("built", stamp, forced=True, left=left), Todo.BUILD)
 
     def test_of_targets_with_a_reason_of_their_own(self) -> None:
         for why in ("changed T", "appeared T", "always T"):
-            self.assertEqual(judged("built", "1", why), Todo.BUILD)
+            self.assertEqual(judged("built", "1", why, left="1"), Todo.BUILD)
 
     def test_of_targets_that_need_one_with_a_reason(self) -> None:
-        self.assertEqual(judged("built", "1", "changed T U"), Todo.NEEDS)
-        self.assertEqual(judged("built", "1", "edited T U"), Todo.NEEDS)
-        self.assertEqual(judged("built", "1", "changed T U", forced=True), Todo.BUILD)
+        self.assertEqual(judged("built", "1", "changed T U", left="1"), Todo.NEEDS)
+        self.assertEqual(judged("built", "1", "edited T U", left="1"), Todo.NEEDS)
+        self.assertEqual(judged("built", "1", "changed T U", forced=True, left="1"), Todo.BUILD)
 
     def test_of_targets_that_were_changed_by_hand(self) -> None:
-        self.assertEqual(judged("built", "1", "edited T"), Todo.LEAVE)
-        self.assertEqual(judged("built", "1", "edited T", forced=True), Todo.LEAVE)
-        self.assertEqual(judged("built", None, "edited T"), Todo.BUILD)
-        self.assertEqual(judged("built", "folder", "edited T"), Todo.BUILD)
+        for reason in ("edited", "changed", "appeared", "always"):
+            self.assertEqual(judged("built", "2", f"{reason} T", left="1"), Todo.LEAVE)
+            self.assertEqual(judged("built", "2", f"{reason} T", True, left="-"), Todo.LEAVE)
+            self.assertEqual(judged("built", None, f"{reason} T", left="1"), Todo.BUILD)
+            self.assertEqual(judged("built", "folder", f"{reason} T", left="1"), Todo.BUILD)
 
     def test_of_targets_that_failed(self) -> None:
         self.assertEqual(judged("failed", "1", "failed T"), Todo.BUILD)

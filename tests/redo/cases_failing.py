@@ -29,6 +29,23 @@ def case_keep_going(tree: Tree) -> None:
     tree.check.same("begun", sorted(run.built), ["a", "b", "c", "d"])
 
 
+def case_failed_after_builds_without_log(tree: Tree) -> None:
+    """A target that failed, and whose file is of a build without a log, is built again."""
+    tree.files(a__do="redo-ifchange b stop\ntest ! -s stop\ncat b\n", b="1\n", stop="")
+    tree.redo("a")
+    tree.write("b", "22\n")
+    tree.redo("--no-log", "a")
+    tree.write("stop", "now\n")
+    tree.check.same("status", tree.run("redo", "--no-log", "a").status, 1)
+    tree.check.same("log", tree.run("redo-log", "a").status, 1)
+    tree.write("stop", "")
+    tree.redo("a")
+    tree.check.same("a", tree.read("a"), "22\n")
+    tree.write("b", "333\n")
+    tree.redo("a")
+    tree.check.same("a", tree.read("a"), "333\n")
+
+
 def case_caught_failure(tree: Tree) -> None:
     """A script can go on after a redo-ifchange that failed."""
     tree.files(

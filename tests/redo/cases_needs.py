@@ -165,6 +165,17 @@ def case_changed_by_hand(tree: Tree) -> None:
     tree.check.same("util.o", tree.read("util.o"), "by hand\n")
 
 
+def case_changed_by_hand_and_out_of_date(tree: Tree) -> None:
+    """It stays as well where what it was built from has changed, too."""
+    small_program(tree)
+    tree.redo("app")
+    tree.write("util.o", "by hand\n")
+    tree.write("util.c", "new\n")
+    run = tree.ifchange("app")
+    tree.check.has("warning", run.err, "util.o was changed by hand")
+    tree.check.same("app", (tree.read("app"), runs(tree)), ("by hand\nmain\n", (2, 1, 1)))
+
+
 def case_changed_by_hand_and_removed(tree: Tree) -> None:
     """Once such a file is removed, the target is built again."""
     small_program(tree)

@@ -2,7 +2,7 @@
 from dataclasses import dataclass
 
 from redodb.redo.builds import Asker, Build
-from redodb.redo.logs import MARK, Lines, Log
+from redodb.redo.logs import MARK, Lines, Log, forget
 from redodb.redo.printing import Terminal
 
 
@@ -34,6 +34,7 @@ class Display:
         Those names were built before, for this build; in the stored log they belong to it.
         """
         if not self._keeps_logs:
+            forget(self._top, build.name)
             self._terminal.begun(path, build.depth)
             return
         build.log = Log(self._top, build.name, build.stamp)

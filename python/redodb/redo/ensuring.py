@@ -11,6 +11,7 @@ from redodb.replies import (
     State,
     Why,
     read_deps,
+    read_made,
     read_state,
     read_wait,
     read_why,
@@ -26,10 +27,11 @@ from redodb.redo.tokens import Slot
 
 @dataclass
 class Found:
-    """What the database tells of a name whose lock is held."""
+    """What is known of a name whose lock is held; `made` is the stamp that its last `done` gave."""
 
     state: NameState
     why: Why | None
+    made: str | None
 
 
 @dataclass
@@ -156,9 +158,11 @@ class Ensurer:
         return found if was_free else await self._found(name)
 
     async def _found(self, name: bytes) -> Found:
-        asked = [b"look " + name, b"why " + name, b"state " + name]
-        _, why, state = await self._context.link.send(asked)
-        return Found(read_state(state, asked[2]), read_why(why, asked[1]))
+        asked = [question + name for question in (b"look ", b"why ", b"state ", b"made ")]
+        _, why, state, made = await self._context.link.send(asked)
+        return Found(
+            read_state(state, asked[2]), read_why(why, asked[1]), read_made(made, asked[3])
+        )
 
     async def _by_its_state(
         self, name: bytes, asker: Asker, slot: Slot, forced: bool, found: Found
@@ -202,7 +206,7 @@ class Ensurer:
 
     def _judge(self, name: bytes, forced: bool, found: Found) -> Todo:
         failed = found.state.state is State.FAILED
-        left = stamp_at_end(self._context.places.top, name) if failed else None
+        left = stamp_at_end(self._context.places.top, name) if failed else found.made or "-"
         return judge(found.state, found.why, forced, left)
 
     async def _was_left(self, name: bytes, found: Found) -> bool:

@@ -1,7 +1,7 @@
 """What is to be done about a target, by what the database knows of it."""
 import enum
 
-from redodb.replies import NameState, Reason, State, Why
+from redodb.replies import NameState, State, Why
 from redodb.stamps import FOLDER
 
 
@@ -18,17 +18,17 @@ class Todo(enum.Enum):
 def judge(state: NameState, why: Why | None, forced: bool, stamp_left: str | None) -> Todo:
     """Returns what is to be done.
 
-    `stamp_left` is what the file was when a failed build ended, where that is known.
-    redodb-live tells `edited` before all other reasons of a target that is built.
+    `stamp_left` is what the file was when the latest build ended, `-` where there was none; None
+    where that isn't known, which is only where it failed. Of several reasons to be out of date,
+    `why` may be any: so it doesn't say whether the file is what the build left.
     """
     is_file = state.stamp is not None and state.stamp != FOLDER
     if state.state is State.IDLE:
         return Todo.SOURCE if is_file else Todo.BUILD
+    if is_file and stamp_left not in (None, state.stamp):
+        return Todo.LEAVE
     if state.state is State.FAILED:
-        return Todo.LEAVE if is_file and stamp_left not in (None, state.stamp) else Todo.BUILD
+        return Todo.BUILD
     if why is None:
         return Todo.BUILD if forced else Todo.NOTHING
-    own = len(why.chain) == 1
-    if own and why.reason is Reason.EDITED and is_file:
-        return Todo.LEAVE
-    return Todo.BUILD if own or forced else Todo.NEEDS
+    return Todo.BUILD if forced or len(why.chain) == 1 else Todo.NEEDS

@@ -19,6 +19,14 @@ def log_path(top: bytes, name: bytes) -> bytes:
     return os.path.join(top, b".redo/logs", hashlib.sha256(name).hexdigest()[:40].encode())
 
 
+def forget(top: bytes, name: bytes) -> None:
+    """Removes the log of a name, where there is one: it is that of a build before the latest."""
+    try:
+        os.unlink(log_path(top, name))
+    except OSError:
+        pass
+
+
 class Log:
     """The log of a build that is going on.
 

@@ -46,6 +46,7 @@ class Connection(Owner):
         self._own: dict[bytes, Callable[[bytes, list[bytes]], None]] = {
             b"wait": self._wait,
             b"forget": self._forget,
+            b"made": self._made,
             b"look": self._look,
             b"group": self._group,
             b"ungroup": self._ungroup,
@@ -192,6 +193,15 @@ class Connection(Owner):
                 self._answer_in_turn(number, b"ok")
                 return
         self._answer_in_turn(number, b"fault not-waiting")
+
+    def _made(self, number: bytes, words: list[bytes]) -> None:
+        if len(words) != 1:
+            self._answer_in_turn(number, b"fault wrong-words")
+            return
+        made = self._hub.known.made
+        self._live.afterwards(
+            lambda: self.answer(number, b"made " + made.get(words[0], b"-"))
+        )
 
     def _look(self, number: bytes, words: list[bytes]) -> None:
         """Look when all stamps are known; at all files when it is known too what is building."""

@@ -15,7 +15,8 @@ _Reader = Callable[[Words, bytes], Iterable[bytes]]
 
 
 class Known:
-    """Each name's file stamp, and which names are building, after the lines that were learnt.
+    """Each name's file stamp, which names are building, and what the last `done` of each target
+    said, after the lines that were learnt.
 
     A line is SESSION COMMAND => REPLY. The lines of the log, and those that pass through the server
     behind it, are learnt in their order, by the function that `learners` has for the word of the
@@ -25,6 +26,7 @@ class Known:
 
     def __init__(self) -> None:
         self.stamps: dict[bytes, bytes | None] = {}
+        self.made: dict[bytes, bytes] = {}
         self.building: set[bytes] = set()
         self._expected = Expected()
         self._readers: dict[bytes, _Reader] = {
@@ -130,6 +132,7 @@ class Known:
     def _done(self, words: Words, reply: bytes) -> Iterable[bytes]:
         if reply != b"ok":
             return ()
+        self.made[words[2]] = words[3]
         self.stamps[words[2]] = None if words[3] == b"-" else words[3]
         self.building.discard(words[2])
         return (words[2],)
