@@ -1,22 +1,28 @@
 """A tree of some hundred targets that is generated, and what has to be in it once it is built."""
-from dataclasses import dataclass
+from collections.abc import Iterable
+from dataclasses import dataclass, field
 
 from trees import Tree
 
 HEADER_DO = "%(ran)sredo-ifchange header.in\n(echo header; cat header.in)\n"
-OBJECT_DO = '%(ran)sredo-ifchange "$2.c" header.h\nsleep 0.0$((${#1} %% 3))\ncat "$2.c" header.h\n'
+OBJECT_DO = '%(ran)sredo-ifchange "$2.c" header.h\ncat "$2.c" header.h\n'
 GROUP_DO = '%(ran)sredo-ifchange "$2.list"\nredo-ifchange $(cat "$2.list")\ncat $(cat "$2.list")\n'
 ALL_DO = "%(ran)sredo-ifchange groups\nredo-ifchange $(cat groups)\ncat $(cat groups)\n"
 
 
 @dataclass
 class Made:
-    """`all` is made of groups, a group of objects, each of a source and a built header."""
+    """`all` is made of groups, a group of objects, each of a source and a built header.
+
+    `text` is what the header has in it, and `texts` the sources of each group.
+    """
 
     tree: Tree
     groups: int
     objects: int
     counted: bool = False
+    text: str = ""
+    texts: dict[int, str] = field(default_factory=dict)
 
     @property
     def targets(self) -> list[str]:
@@ -40,25 +46,29 @@ class Made:
 
     def edit(self, text: str) -> None:
         """Writes all sources anew."""
+        self.text = text
         self.tree.write("header.in", text + "\n")
-        for group in range(self.groups):
+        self.edit_groups(range(self.groups), text)
+
+    def edit_groups(self, groups: Iterable[int], text: str) -> None:
+        """Writes the sources of some groups anew."""
+        for group in groups:
+            self.texts[group] = text
             names = self.names(group)
             self.tree.write(f"group{group}.list", "".join(f"{name}.o\n" for name in names))
             for name in names:
                 self.tree.write(f"{name}.c", f"{name} {text}\n")
 
-    def wanted(self, text: str) -> dict[str, str]:
+    def wanted(self) -> dict[str, str]:
         """What each target has to hold, by name."""
-        found = {"header.h": f"header\n{text}\n"}
+        found = {"header.h": f"header\n{self.text}\n"}
         for group in range(self.groups):
             for name in self.names(group):
-                found[f"{name}.o"] = f"{name} {text}\n" + found["header.h"]
+                found[f"{name}.o"] = f"{name} {self.texts[group]}\n" + found["header.h"]
             found[f"group{group}.a"] = "".join(found[f"{name}.o"] for name in self.names(group))
         found["all"] = "".join(found[f"group{group}.a"] for group in range(self.groups))
         return found
 
-    def wrong(self, text: str) -> list[str]:
+    def wrong(self) -> list[str]:
         """The names of the targets that don't hold what they have to."""
-        return [
-            name for name, wanted in self.wanted(text).items() if self.tree.read(name) != wanted
-        ]
+        return [name for name, wanted in self.wanted().items() if self.tree.read(name) != wanted]
