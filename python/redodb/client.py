@@ -196,8 +196,12 @@ class Client(Commands):
         self._do(requests.end())
 
     def _do(self, request: Request[Answer], timeout: float | None = None) -> Answer:
-        deadline = self._deadline(self.timeout if timeout is None else timeout)
-        return request.result(self._lines.ask_all(request.lines, deadline))
+        seconds = self.timeout if timeout is None else timeout
+        deadline = None if seconds is None else time.monotonic() + seconds
+        lines = request.lines
+        if len(lines) == 1:
+            return request.read(self._lines.ask(lines[0], deadline), lines[0])
+        return request.result(self._lines.ask_all(lines, deadline))
 
     @staticmethod
     def _deadline(timeout: float | None) -> float | None:

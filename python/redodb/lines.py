@@ -56,7 +56,13 @@ class Lines:
 
     def ask(self, request: bytes, deadline: float | None = None) -> bytes:
         """Return the answer to a request. Raises ServerError, TimeoutError."""
-        return self.ask_all((request,), deadline)[0]
+        self.number += 1
+        head = b"%d " % self.number
+        self._unsent += b"%b%b\n" % (head, request)
+        data = self._next(deadline)
+        if data.startswith(head) and data.find(b"\n") == len(data) - 1 and not self._rest:
+            return data[len(head) : -1]  # this answer, whole and alone, as it is nearly always
+        return self._answers(range(self.number, self.number + 1), data, deadline)[0]
 
     def ask_all(self, requests: Iterable[bytes], deadline: float | None = None) -> list[bytes]:
         """Return the answers to requests that are sent ahead, in their order. Raises as `ask`."""
@@ -64,16 +70,7 @@ class Lines:
         lines = [b"%d %b\n" % (number, request) for number, request in enumerate(requests, first)]
         self.number += len(lines)
         self._unsent += b"".join(lines)
-        answers: dict[int, bytes] = {}
-        wanted = range(first, self.number + 1)
-        while len(answers) < len(wanted):
-            self._send()
-            data = self._receive(deadline)
-            if not data:
-                self.close()
-                raise ServerError("the server has ended")
-            self._take(data, wanted, answers)
-        return [answers[number] for number in wanted]
+        return self._answers(range(first, self.number + 1), b"", deadline)
 
     def fileno(self) -> int:
         """Return the file descriptor of the connection."""
@@ -87,17 +84,32 @@ class Lines:
         """End the connection, and with it the session."""
         self._socket.close()
 
+    def _answers(self, wanted: range, data: bytes, deadline: float | None) -> list[bytes]:
+        """Return the answers to requests, of which some may be in the data that came."""
+        answers: dict[int, bytes] = {}
+        self._take(data, wanted, answers)
+        while len(answers) < len(wanted):
+            self._take(self._next(deadline), wanted, answers)
+        return [answers[number] for number in wanted]
+
+    def _next(self, deadline: float | None) -> bytes:
+        """Send, and return what comes next. Raises ServerError where that is the end."""
+        self._send()
+        data = self._receive(deadline)
+        if not data:
+            self.close()
+            raise ServerError("the server has ended")
+        return data
+
     def _send(self) -> None:
         """Send as much as goes without waiting."""
-        while self._unsent:
-            try:
-                sent = self._socket.send(self._unsent, MSG_DONTWAIT)
-            except BlockingIOError:
-                return
-            except (BrokenPipeError, ConnectionResetError):
-                self._unsent = b""
-                return
-            self._unsent = self._unsent[sent:]
+        try:
+            while self._unsent:
+                self._unsent = self._unsent[self._socket.send(self._unsent, MSG_DONTWAIT) :]
+        except BlockingIOError:
+            pass
+        except (BrokenPipeError, ConnectionResetError):
+            self._unsent = b""
 
     def _receive(self, deadline: float | None) -> bytes:
         """Return what comes next; b"" at the end. What is unsent goes out meanwhile."""

@@ -135,6 +135,9 @@ class NameState:
     stamp: str | None
 
 
+_NO_NAMES = Names(())
+
+
 def read_ok(answer: bytes, request: bytes) -> None:
     """Read `ok`. All functions here raise RefusedError and FaultError for such answers."""
     if answer != b"ok":
@@ -180,7 +183,7 @@ def read_made(answer: bytes, request: bytes) -> str | None:
 def read_stale(answer: bytes, request: bytes) -> Names:
     """Read the answer to `ifchange`: the stale ones of its names, of which there may be none."""
     if answer == b"ok":
-        return Names(())
+        return _NO_NAMES
     return Names(tuple(_rest(answer, b"stale", request).split(b" ")))
 
 

@@ -2,7 +2,6 @@
 from __future__ import annotations
 
 from collections.abc import Callable, Iterable
-from dataclasses import dataclass
 from typing import Generic, TypeVar
 
 from . import replies
@@ -20,18 +19,27 @@ _MOST_NAMES = 64
 _MOST_BYTES = 7_000
 
 
-@dataclass(frozen=True, slots=True)
 class Request(Generic[Answer]):
-    """The lines of a request. read reads the answer to each, and join makes one of several."""
+    """The lines of a request.
 
-    lines: tuple[bytes, ...]
-    read: Callable[[bytes, bytes], Answer]
-    join: Callable[[list[Answer]], Answer]
+    read reads the answer to each, which is the answer where there is one line; join makes one of
+    several, or of none.
+    """
+
+    __slots__ = ("lines", "read", "join")
+
+    def __init__(
+        self,
+        lines: tuple[bytes, ...],
+        read: Callable[[bytes, bytes], Answer],
+        join: Callable[[list[Answer]], Answer],
+    ) -> None:
+        self.lines = lines
+        self.read = read
+        self.join = join
 
     def result(self, answers: list[bytes]) -> Answer:
         """Return what the answers say. Raises RefusedError and FaultError."""
-        if len(answers) == 1:
-            return self.read(answers[0], self.lines[0])
         return self.join(
             [self.read(answer, line) for answer, line in zip(answers, self.lines, strict=True)]
         )

@@ -1,5 +1,6 @@
 """The conversation with redodb-live, by a stand-in that answers when it is told to."""
-import socket
+import os
+import select
 import unittest
 from typing import cast
 
@@ -15,12 +16,15 @@ class StandIn:
     """The program's end of the conversation, and the hub that is told of it."""
 
     def __init__(self) -> None:
-        self.socket, self.end = socket.socketpair()
-        self.end.settimeout(PATIENCE)
+        asked, self.writing = os.pipe()
+        self.reading, answers = os.pipe()
+        os.set_blocking(self.reading, False)
+        self._asked = open(asked, "rb", buffering=0)
+        self.answers = open(answers, "wb", buffering=0)
         self.learners: dict[bytes, object] = {}
         self.said: list[str] = []
         self.ended = False
-        self.loop = Loop()
+        self.loop = Loop(self.flush)
         self.live = Live(cast(Hub, self))
 
     def begin(self) -> None:
@@ -28,7 +32,7 @@ class StandIn:
         self.answer("redodb-live 0.1.0 restored 0")
 
     def answer(self, *lines: str) -> None:
-        self.end.sendall("".join(line + "\n" for line in lines).encode())
+        self.answers.write("".join(line + "\n" for line in lines).encode())
         self.wait()
 
     def wait(self) -> None:
@@ -40,7 +44,12 @@ class StandIn:
         self.said.append(f"{number.decode()} {reply.decode()}")
 
     def asked(self) -> str:
-        return self.end.recv(65536).decode()
+        ready, _, _ = select.select([self._asked], [], [], PATIENCE)
+        return self._asked.read(65536).decode() if ready else "nothing"
+
+    def close(self) -> None:
+        self._asked.close()
+        self.answers.close()
 
     def kill(self) -> None:
         self.said.append("killed")
@@ -66,7 +75,7 @@ class Conversation(unittest.TestCase):
     def setUp(self) -> None:
         self.other = StandIn()
         self.live = self.other.live
-        self.addCleanup(self.other.end.close)
+        self.addCleanup(self.other.close)
 
     def tearDown(self) -> None:
         if not self.other.ended:
@@ -89,7 +98,7 @@ class Conversation(unittest.TestCase):
         self.assertEqual(self.other.asked(), "1 end\n")
         self.assertEqual(self.other.asked(), "")
         self.other.answer("1 failed a => ok", "1 unlock a => ok", "1 end => ok")
-        self.other.end.close()
+        self.other.answers.close()
         self.other.wait()
         self.assertEqual(self.other.said, ["ready", "7 ok", "the end"])
         self.assertFalse(self.live.close())

@@ -12,7 +12,7 @@ from redodb.server.stream import FEW_UNSENT, MOST_UNSENT, Owner, Stream
 
 class Calls(unittest.TestCase):
     def setUp(self) -> None:
-        self.loop = Loop()
+        self.loop = Loop(lambda: None)
         self.said: list[str] = []
 
     def test_come_at_their_moments(self) -> None:
@@ -80,12 +80,17 @@ class Taker(Owner):
 
 class Streams(unittest.TestCase):
     def setUp(self) -> None:
-        self.loop = Loop()
+        self.loop = Loop(lambda: None)
         self.owner = Taker()
         mine, self.other = socket.socketpair()
         self.addCleanup(self.other.close)
-        self.addCleanup(mine.close)
-        self.stream = Stream(self.loop, mine, self.owner)
+        file = mine.detach()
+        self.stream = Stream(self.loop, file, file, self.owner)
+        self.addCleanup(self.abort)
+
+    def abort(self) -> None:
+        self.stream.abort()
+        self.turn()
 
     def turn(self) -> None:
         self.loop.later(0, self.loop.stop)
@@ -140,14 +145,25 @@ class Streams(unittest.TestCase):
         self.turn()
         self.assertEqual(self.owner.told, ["stuffed", "lost"])
 
-    def test_tell_their_end_and_read_on(self) -> None:
-        self.stream.write(b"x" * 1_000_000)
-        self.stream.end()
-        self.assertEqual(len(self.received()), 1_000_000)
-        self.other.sendall(b"answer")
+    def test_of_two_pipes_tell_their_end_and_read_on(self) -> None:
+        reading, answering = os.pipe()
+        asked, writing = os.pipe()
+        stream = Stream(self.loop, reading, writing, self.owner)
+        stream.write(b"x" * 100_000)
+        stream.end()
+        got = b""
+        while block := os.read(asked, 50_000):
+            got += block
+            self.turn()
+        self.assertEqual(len(got), 100_000)
+        os.write(answering, b"answer")
         self.turn()
         self.assertEqual(self.owner.taken, b"answer")
         self.assertNotIn("lost", self.owner.told)
+        os.close(answering)
+        self.turn()
+        self.assertEqual(self.owner.told[-1], "lost")
+        os.close(asked)
 
     def test_are_lost_once_where_the_other_side_ends(self) -> None:
         self.other.sendall(b"last")

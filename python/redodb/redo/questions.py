@@ -24,7 +24,7 @@ def relative_paths(found: list[bytes], top: bytes) -> list[bytes]:
     """Returns the paths of names from the working folder."""
     here = os.path.realpath(b".")
     if here == top:
-        return [names.unescape(name) for name in found]
+        return [names.unescape(name) if b"%" in name else name for name in found]
     return [os.path.relpath(names.path_of(name, top), here) for name in found]
 
 

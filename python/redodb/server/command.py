@@ -2,9 +2,11 @@
 from __future__ import annotations
 
 import os
+import signal
 import sys
 
 from ..places import Places, find_program, find_top
+from .loop import ENDING
 from .taking import Taken, take
 
 USAGE = "usage: redodb serve [--top DIR] [--idle SECONDS] [--detach]"
@@ -75,6 +77,7 @@ def main(words: list[str]) -> int:
     if program is None:
         print("redodb serve: redodb-live is not found", file=sys.stderr)
         return 2
+    signal.pthread_sigmask(signal.SIG_BLOCK, ENDING)  # until the hub can end in order
     try:
         taken = take(Places(top))
         if taken is None or options.detach and not _detached():

@@ -1,7 +1,6 @@
 """One client of the server."""
 from __future__ import annotations
 
-import socket
 from collections.abc import Callable
 
 from ..errors import BadName
@@ -30,13 +29,13 @@ class Connection(Owner):
     `flush`.
     """
 
-    def __init__(self, hub: Hub, connected: socket.socket) -> None:
+    def __init__(self, hub: Hub, file: int) -> None:
         self.session = 0
         self.groups = Groups()
         self._hub = hub
         self._live = hub.live
         self._is_open = True
-        self._stream = Stream(hub.loop, connected, self)
+        self._stream = Stream(hub.loop, file, file, self)
         self._rest = b""
         self._skipping = False
         self._answers: list[bytes] = []
@@ -97,7 +96,6 @@ class Connection(Owner):
             self._skipping = False
         self._rest += data
         self._work()
-        self._hub.flush()
         if not self.session:
             self.regulate()
 
@@ -108,13 +106,11 @@ class Connection(Owner):
             self._hub.waits.give_up(wait)
         self.groups.kill()
         self._hub.left(self)
-        self._hub.flush()
 
     def stuffed(self, much: bool) -> None:
         self._stuffed = much
         if not much:
             self._work()
-            self._hub.flush()
         self.regulate()
 
     def _say(self, line: bytes) -> None:

@@ -2,14 +2,13 @@
 from __future__ import annotations
 
 import heapq
-import signal
 from collections import deque
 from collections.abc import Callable
 
 from .connection import Connection
 from .known import Known, Words
 from .live import Live
-from .loop import READABLE, Loop
+from .loop import ENDING, READABLE, Loop
 from .program import Program
 from .taking import Taken
 from .waits import Wait, Waits
@@ -34,7 +33,7 @@ class Hub:
 
     def __init__(self, taken: Taken, start: Callable[[], Program], idle: float) -> None:
         self.known = Known()
-        self.loop = Loop()
+        self.loop = Loop(self.flush)
         self.waits = Waits(self._lock, self._unlock)
         self.learners: dict[bytes, Callable[[Words, bytes], None]] = {
             **self.known.learners,
@@ -58,7 +57,7 @@ class Hub:
 
     def run(self) -> str:
         """Serve until the end. Return what failed, or an empty text."""
-        for number in (signal.SIGTERM, signal.SIGINT):
+        for number in ENDING:
             self.loop.on_signal(number, self.close)
         self._taken.listener.setblocking(False)
         self._listen(True)
@@ -137,7 +136,8 @@ class Hub:
 
     def flush(self) -> None:
         """Write what was gathered for redodb-live and for the clients."""
-        self.live.flush()
+        while self.live.flush():
+            pass  # an answer may have led to another line
         if self.touched:
             touched, self.touched = self.touched, []
             for connection in touched:
@@ -159,8 +159,7 @@ class Hub:
                 self._listen(False)
                 self.loop.later(_BREATH, lambda: self._listen(not self._closing))
                 return
-            self.joined(Connection(self, connected))
-            self.flush()
+            self.joined(Connection(self, connected.detach()))
 
     def _start_live(self) -> None:
         try:

@@ -42,6 +42,8 @@ class Known:
         self.learners: dict[bytes, Learner] = {
             word: partial(self._learn, reader) for word, reader in self._readers.items()
         }
+        for word in (b"lock", b"ifchange", b"ifcreate"):
+            self.learners[word] = self._learn_names
         self._log_read = 0
 
     def read_log(self, path: bytes) -> None:
@@ -97,6 +99,11 @@ class Known:
     def _learn(self, reader: _Reader, words: Words, reply: bytes) -> None:
         for name in reader(words, reply):
             self._expect(name)
+
+    def _learn_names(self, words: Words, reply: bytes) -> None:
+        """Learn what most lines tell, which is nothing."""
+        if not self.stamps.keys() >= set(words[2:]):
+            self._learn(self._spoken_of, words, reply)
 
     def _expect(self, name: bytes) -> None:
         """Expect the file of a name to be what is known of it, unless it is building."""

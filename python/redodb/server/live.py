@@ -15,6 +15,8 @@ if TYPE_CHECKING:
 Take = Callable[[bytes, bytes], None]
 
 _STAMPING = (b"file ", b"gone ", b"done ")
+_FEW = 64
+_SESSIONS = [b"%d " % session for session in range(65)]
 
 
 class Live(Owner):
@@ -43,13 +45,13 @@ class Live(Owner):
     def start(self, program: Program) -> None:
         """Talk with a program that was started."""
         self._program = program
-        self._stream = Stream(self._hub.loop, program.socket, self)
+        self._stream = Stream(self._hub.loop, program.reading, program.writing, self)
 
     def ask(
         self, session: int, request: bytes, take: Take, number: bytes, is_end: bool = False
     ) -> None:
         """Send a request of a session; take(number, reply) gets the reply. is_end is for `end`."""
-        self._out.append(b"%d %b\n" % (session, request))
+        self._out.append(b"%b%b\n" % (_SESSIONS[session], request))
         self._takers.append((take, number, is_end))
         self._asked += 1
         if request.startswith(_STAMPING):
@@ -66,11 +68,21 @@ class Live(Owner):
         """Say whether all is answered that can give a file another stamp."""
         return self._stamped <= self._asked - len(self._takers)
 
-    def flush(self) -> None:
-        """Write the lines that were gathered."""
-        if self._out and self._stream is not None and self._greeted and not self._closed:
-            lines, self._out = self._out, []
-            self._stream.write(b"".join(lines))
+    def flush(self) -> bool:
+        """Write the lines that were gathered.
+
+        Few lines are answered at once: so wait for what comes, which is less than a turn of the
+        loop takes, and return True.
+        """
+        stream = self._stream
+        if not self._out or stream is None or not self._greeted or self._closed:
+            return False
+        lines, self._out = self._out, []
+        stream.write(b"".join(lines))
+        if len(lines) > _FEW or stream.unsent or stream.is_closing:
+            return False
+        stream.receive()
+        return True
 
     def close(self) -> bool:
         """End the input of the program, which ends when it has answered all.
@@ -93,11 +105,14 @@ class Live(Owner):
             self._stream.abort()
 
     def received(self, data: bytes) -> None:
-        self._rest.append(data)
-        if b"\n" not in data:
-            return
-        lines = b"".join(self._rest).split(b"\n")
-        self._rest = [lines.pop()]
+        if self._rest:
+            self._rest.append(data)
+            if b"\n" not in data:
+                return
+            data = b"".join(self._rest)
+        lines = data.split(b"\n")
+        rest = lines.pop()
+        self._rest = [rest] if rest else []
         if not self._greeted and lines:
             if not _is_greeting(lines[0]):
                 self.fail(f"not the greeting of redodb-live: {lines[0]!r}")
@@ -106,7 +121,6 @@ class Live(Owner):
             self._greeted = True
             self._hub.live_ready()
         self._give_out(lines)
-        self._hub.flush()
 
     def _give_out(self, lines: list[bytes]) -> None:
         """Learn from each answer, and hand it to its taker."""

@@ -14,6 +14,9 @@ from collections.abc import Callable
 READABLE = select.EPOLLIN
 WRITABLE = select.EPOLLOUT
 
+ENDING = (signal.SIGTERM, signal.SIGINT)
+"""The signals that end the server."""
+
 _MOST_READY = 64
 
 
@@ -28,12 +31,13 @@ class Timer:
 
 
 class Loop:
-    """Calls the function of a file that is ready, and what was put off.
+    """Calls the function of a file that is ready, and what was put off; at_rest before each wait.
 
     What a file is ready for may be out of date when its function is called: so no file may block.
     """
 
-    def __init__(self) -> None:
+    def __init__(self, at_rest: Callable[[], None]) -> None:
+        self._at_rest = at_rest
         self._epoll = select.epoll()
         self._calls: dict[int, Callable[[int], None]] = {}
         self._soon: list[Callable[[], None]] = []
@@ -71,13 +75,14 @@ class Loop:
             self._timers.remove(timer)
 
     def on_signal(self, number: int, call: Callable[[], None]) -> None:
-        """Call when the process gets a signal."""
+        """Call when the process gets a signal, or got it while it was blocked."""
         if not self._signals:
             told, telling = os.pipe2(os.O_NONBLOCK | os.O_CLOEXEC)
             signal.set_wakeup_fd(telling)
             self.watch(told, READABLE, lambda _: self._take_signals(told))
         self._signals[number] = call
         signal.signal(number, _nothing)
+        signal.pthread_sigmask(signal.SIG_UNBLOCK, [number])
 
     def stop(self) -> None:
         """Have `run` return."""
@@ -89,6 +94,9 @@ class Loop:
         while True:
             if self._soon or self._timers:
                 self._do_the_rest()
+            self._at_rest()
+            if self._soon:
+                continue
             if self._stopped:
                 self._stopped = False
                 return

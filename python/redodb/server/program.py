@@ -3,7 +3,6 @@ from __future__ import annotations
 
 import os
 import signal
-import socket
 import time
 
 _LINGER = 5.0
@@ -11,30 +10,32 @@ _PAUSE = 0.005
 
 
 class Program:
-    """A redodb-live, and the socket that is its standard input and output."""
+    """A redodb-live, and the pipes to its standard input and from its standard output."""
 
     def __init__(self, program: bytes, log: bytes) -> None:
         """Start the program. Raises OSError where it can't be started."""
-        self.socket, its = socket.socketpair()
-        self._errors, saying = os.pipe()
+        asked, self.writing = os.pipe()
+        self.reading, answers = os.pipe()
+        self._errors, errors = os.pipe()
         self._status: int | None = None
-        talks = [(os.POSIX_SPAWN_DUP2, its.fileno(), file) for file in (0, 1)]
+        its = (asked, answers, errors)
         try:
             self._process = os.posix_spawn(
                 program,
                 [program, b"--log", log],
                 os.environ,
-                file_actions=[*talks, (os.POSIX_SPAWN_DUP2, saying, 2)],
+                file_actions=[(os.POSIX_SPAWN_DUP2, file, at) for at, file in enumerate(its)],
                 setsid=True,
+                setsigmask=[],
                 setsigdef=[signal.SIGPIPE, signal.SIGXFSZ],
             )
         except OSError:
-            self.socket.close()
-            os.close(self._errors)
+            for file in (self.writing, self.reading, self._errors):
+                os.close(file)
             raise
         finally:
-            its.close()
-            os.close(saying)
+            for file in its:
+                os.close(file)
 
     def kill(self) -> None:
         """Kill the program."""
