@@ -4,19 +4,12 @@ ask what is out of date.
 Of each file there are a stamp and the runs in which it was checked, changed and failed; of each
 dependency, a row."""
 import os
-import sqlite3
 from collections.abc import Iterable
 from dataclasses import dataclass
 from pathlib import Path
 
-SCHEMA = """
-create table Files (name not null primary key, is_generated int, is_override int,
-                    checked_runid int, changed_runid int, failed_runid int, stamp, csum);
-create table Deps (target int, source int, mode not null, delete_me int,
-                   primary key (target, source));
-create index Deps_source on Deps (source);
-"""
-COLUMNS = "Files.rowid, name, is_generated, checked_runid, changed_runid, failed_runid, stamp, csum"
+from sqlite_rows import COLUMNS, SCHEMA, opened, record
+
 MISSING = "0"
 BUILT = 1
 
@@ -50,9 +43,7 @@ class Database:
 
     def __init__(self, file: Path, top: Path) -> None:
         self.top = str(top)
-        self.connection = sqlite3.connect(file, timeout=60)
-        self.connection.execute("pragma synchronous = off")
-        self.connection.execute("pragma journal_mode = WAL")
+        self.connection = opened(str(file))
         self.connection.executescript(SCHEMA)
 
     def add_tree(self, rows: dict[str, tuple[list[str], list[str]]]) -> None:
@@ -77,25 +68,8 @@ class Database:
         self.connection.commit()
 
     def record(self, target: str, names: list[str]) -> None:
-        """Notes dependencies as one redo-ifchange does: in a transaction of its own."""
-        number = self._number(target)
-        for name in names:
-            self.connection.execute(
-                "insert or replace into Deps (target, source, mode, delete_me)"
-                " values (?, ?, 'm', 0)",
-                [number, self._number(name)],
-            )
-        self.connection.commit()
-
-    def _number(self, name: str) -> int:
-        found = self.connection.execute(
-            f"select {COLUMNS} from Files where name = ?", [name]
-        ).fetchone()
-        if found is None:
-            self.connection.execute("insert into Files (name) values (?)", [name])
-            return self._number(name)
-        number: int = found[0]
-        return number
+        """Notes dependencies in one transaction."""
+        record(self.connection, target, names)
 
     def out_of_date(self) -> set[str]:
         """The targets that are there and out of date. What was found right is looked at once."""
