@@ -35,6 +35,7 @@ use Rattle.redo_live.specs.Inside.ClosingLines.{AreClosing, TakesNoRoom}
 use Rattle.redo_live.specs.Inside.Kept.{IsKept}
 use Rattle.redo_live.specs.Inside.Ordered.{AreSortedAgain}
 use Rattle.redo_live.specs.Inside.Told.{EndsSession}
+use Rattle.redo_live.specs.Inside.Withheld.{WouldEnd}
 use Rattle.redo_live.specs.Inside.Within.{IsStateWithin}
 use Rattle.redo_live.proofs.Answering.{renaming, orders, alike}
 use Rattle.redo_live.proofs.Closing.{all_closing, closing_by_name, few_lines, kept_then, left_texts, legal_numbers, lines_below}
@@ -175,6 +176,27 @@ module _ (names : List Text) (are : AreNames names) (tables : Tables)
         (legal_numbers names are (state_of tables) session kept.within kept.reached
         closing.targets below_names held_texts (tables_order tables))
 
+    named_lines : map (line_at names) lines
+        ≡ closing_lines_of session (named_state (numbering names) (state_of tables))
+        (map (text_at names) closing.targets)
+    named_lines =
+        sym (map-map (named_line (text_at names)) line_of lines)
+        ∙ ap (map (named_line (text_at names))) closing.lines_are
+        ∙ closing_by_name names are (state_of tables) session closing.targets below_names
+
+    pub would_end : WouldEnd (record { names = names; tables = tables }) session
+        (length (flat_map line_text_of (map (line_at names) lines) ++ end_text session))
+    would_end = record {
+      lines = map (line_at names) lines;
+      is = record {
+        targets = map (text_at names) closing.targets;
+        held = held_texts;
+        lines_are = named_lines;
+        left = refl;
+      };
+      size_is = refl;
+    }
+
     module _ (next : Tables)
         (left : state_of next
         ≡ left_by (tables_naming tables) (state_of tables) (map line_of lines))
@@ -200,23 +222,17 @@ module _ (names : List Text) (are : AreNames names) (tables : Tables)
             → EndsSession (record { names = names; tables = tables })
             (record { names = names; tables = next }) session said said_after logged logged_after
         ends said said_after logged logged_after says logs =
-            let named : map (line_at names) lines
-            ≡ closing_lines_of session (named_state (numbering names) (state_of tables))
-            (map (text_at names) closing.targets) =
-            sym (map-map (named_line (text_at names)) line_of lines)
-            ∙ ap (map (named_line (text_at names))) closing.lines_are
-            ∙ closing_by_name names are (state_of tables) session closing.targets below_names in
             record {
               lines = map (line_at names) lines;
               is = record {
                 targets = map (text_at names) closing.targets;
                 held = held_texts;
-                lines_are = named;
+                lines_are = named_lines;
                 left = ap (named_state (numbering names)) left_closing
                     ∙ left_texts names are (state_of tables) session kept.within kept.reached
                     closing.targets below_names held_texts (tables_order tables)
                     ∙ ap (left_by texts (named_state (numbering names) (state_of tables)))
-                    (sym named);
+                    (sym named_lines);
               };
               names = refl;
               calls = counted

@@ -17,7 +17,10 @@ use Rattle.redo_store.specs.Tables.{Tables, state_of, tables_records, tables_nam
 use Rattle.redo_live.specs.Inside.Answered.{logged_text}
 use Rattle.redo_live.specs.Inside.LiveState.{LiveState, state_in, calls_in}
 use Rattle.redo_live.specs.Inside.Kept.{IsKept}
-use Rattle.redo_live.specs.Inside.Told.{IsTold, IsObeyed, AnswersText}
+use Rattle.redo_live.specs.Inside.Told.{IsTold, IsObeyed, AnswersText, IsCause}
+use Rattle.redo_live.specs.Inside.Withheld.{WouldObey, IsUnobeyedFor, IsWithheldFor}
+use Rattle.redo_live.specs.declared.fault.Withheld.{Withheld}
+use Rattle.redo_live.specs.declared.fault.Withheld.TheVariants.{Unanswered, TooLong}
 use Rattle.redo_live.specs.declared.told.Told.{Told}
 use Rattle.redo_live.proofs.Answering.{renaming, now_answers}
 use Rattle.redo_live.proofs.Changing.{changes_by_name}
@@ -45,6 +48,38 @@ module _ (names : List Text) (are : AreNames names) (tables : Tables)
         changes_by_name (by_text names).order names are (tables_records tables)
         (reply_of told.reply) (reply_of told.line.reply) is.sorted
         (command_of told.line.command) asked_below
+
+    module _ (old : LiveState) (old_names : names ≡ old.names)
+        (old_state : state_of tables ≡ state_of old.tables)
+      where
+        before : named_state (numbering names) (state_of tables) ≡ state_in old
+        before =
+            ap (named_state (numbering names)) old_state
+            ∙ ap (λ (ns : List Text). named_state (numbering ns) (state_of old.tables)) old_names
+
+        told_command : (line_at names told.line).command
+            ≡ named_command (text_at old.names) command
+        told_command =
+            ap (named_command (text_at names)) is.command_is
+            ∙ ap (λ (ns : List Text). named_command (text_at ns) command) old_names
+
+        told_there : Answers texts (state_in old) session (line_at names told.line).command
+            (line_at names told.line).reply
+        told_there =
+            let line = line_at names told.line in
+            subst (λ (st : State Text). Answers texts st session line.command line.reply) before
+            (subst (λ (asked : Command ℕ). Answers texts
+            (named_state (numbering names) (state_of tables)) session
+            (named_command (text_at names) asked) line.reply) (sym is.command_is) told_answers)
+
+        pub would_obey : WouldObey old session command (length told.text.items)
+        would_obey = record {
+          line = line_at names told.line;
+          session_is = is.session_is;
+          command_is = told_command;
+          answers = told_there;
+          size_is = ap length is.text_is;
+        }
 
     module _ (next : Tables)
         (steps : state_of next
@@ -76,14 +111,11 @@ module _ (names : List Text) (are : AreNames names) (tables : Tables)
             logged logged_after
         obeyed old said said_after logged logged_after b old_names old_state old_calls changing
             says logs =
-            let here = named_state (numbering names) (state_of tables) in
             let line = line_at names told.line in
-            let before : here ≡ state_in old =
-            ap (named_state (numbering names)) old_state
-            ∙ ap (λ (ns : List Text). named_state (numbering ns) (state_of old.tables)) old_names in
+            let same = before old old_names old_state in
             let is_changing : b ≡ changes (state_in old).records line.command line.reply =
             changing ∙ sym told_changes
-            ∙ ap (λ (st : State Text). changes st.records line.command line.reply) before in
+            ∙ ap (λ (st : State Text). changes st.records line.command line.reply) same in
             let logged_is : cond b told.text.items [] ≡ logged_text (state_in old) line =
             ap (λ (w : Bool). cond w told.text.items []) is_changing
             ∙ ap (λ (t : Text). cond (changes (state_in old).records line.command line.reply) t [])
@@ -91,17 +123,12 @@ module _ (names : List Text) (are : AreNames names) (tables : Tables)
             record {
               line = line;
               session_is = is.session_is;
-              command_is = ap (named_command (text_at names)) is.command_is
-                  ∙ ap (λ (ns : List Text). named_command (text_at ns) command) old_names;
-              answers = subst (λ (st : State Text). Answers texts st session line.command line.reply)
-                  before
-                  (subst (λ (asked : Command ℕ). Answers texts here session
-                  (named_command (text_at names) asked) line.reply) (sym is.command_is)
-                  told_answers);
+              command_is = told_command old old_names old_state;
+              answers = told_there old old_names old_state;
               after_is = ap (named_state (numbering names)) steps
                   ∙ after_by_name (renaming names are) texts texts_are_names (tables_order tables)
                   (state_of tables) session (command_of told.line.command) asked_below
-                  ∙ ap (λ (st : State Text). after texts st session line.command) before;
+                  ∙ ap (λ (st : State Text). after texts st session line.command) same;
               told = record {
                 says = says ∙ ap (λ (t : Text). said ++ t) is.text_is;
                 logs = logs ∙ ap (λ (t : Text). logged ++ t) logged_is;
@@ -140,3 +167,27 @@ answered old mid new session text command said said_after logged logged_after sa
         calls = obeys.told.calls ∙ ap (λ (n : ℕ). n + 1) calls;
       };
     }
+
+-- what keeps the command from being obeyed keeps the text from being answered
+pub withheld : (old mid : LiveState) (session : ℕ) (text : Text) (command : Command ℕ)
+    (most : ℕ) (why : Withheld) → state_in mid ≡ state_in old
+    → IsCommandLine text (named_command (text_at mid.names) command)
+    → AddsNames old.names (named_command (text_at mid.names) command ∷ []) mid.names
+    → IsUnobeyedFor mid session command most why → IsWithheldFor old session text most why
+withheld old mid session text command most (Unanswered why) same is_line adds e =
+    subst (IsCause old text) (sym e) tt
+withheld old mid session text command most (TooLong size) same is_line adds (more, would) =
+    let line = would.line in (
+      more,
+      record {
+        line = line;
+        session_is = would.session_is;
+        said = subst (IsCommandLine text) (sym would.command_is) is_line;
+        names_after = mid.names;
+        named = subst (λ (asked : Command Text). AddsNames old.names (asked ∷ []) mid.names)
+            (sym would.command_is) adds;
+        answers = subst (λ (st : State Text). Answers texts st session line.command line.reply) same
+            would.answers;
+        size_is = would.size_is;
+      },
+    )

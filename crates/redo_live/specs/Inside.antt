@@ -3,6 +3,7 @@ pub mod Within
 pub mod Kept
 pub mod Ordered
 pub mod Told
+pub mod Withheld
 pub mod ClosingLines
 pub mod Answered
 pub mod Asked

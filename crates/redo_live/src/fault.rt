@@ -15,6 +15,16 @@ pub enum Unanswered {
     Fault(LineFault),
 }
 
+/// Why a command was not answered into the room that was given.
+#[derive(Clone, Copy, Debug, PartialEq, Eq, Error)]
+pub enum Withheld {
+    #[error("{0}")]
+    Unanswered(Unanswered),
+    /// What would be said has so many bytes, more than there is room for.
+    #[error("{0} bytes are too long")]
+    TooLong(usize),
+}
+
 impl From<AllocError> for Unanswered {
     ghost use Rattle.std.specs.Prelude.{◌≡◌};
     ghost use Rattle.redo_live.specs.declared.fault.Unanswered.TheVariants.{Memory};
@@ -37,5 +47,29 @@ impl From<ReadFault> for Unanswered {
             ReadFault::Memory => Unanswered::Memory,
             ReadFault::Line { line: _, fault } => Unanswered::Fault(fault),
         }
+    }
+}
+
+impl From<AllocError> for Withheld {
+    ghost use Rattle.std.specs.Prelude.{◌≡◌};
+    ghost use Rattle.redo_live.specs.declared.fault.Unanswered.TheVariants.{Memory};
+    ghost use Rattle.redo_live.specs.declared.fault.Withheld.TheVariants.{Unanswered};
+
+    ghost from_gives = { λ _ why. why ≡ Unanswered Memory };
+
+    fn from(_: AllocError) -> Withheld {
+        Withheld::Unanswered(Unanswered::Memory)
+    }
+}
+
+impl From<ReadFault> for Withheld {
+    ghost use Rattle.std.specs.Prelude.{◌≡◌};
+    ghost use Rattle.redo_live.specs.Inside.Told.{unread};
+    ghost use Rattle.redo_live.specs.declared.fault.Withheld.TheVariants.{Unanswered};
+
+    ghost from_gives = { λ fault why. why ≡ Unanswered (unread fault) };
+
+    fn from(fault: ReadFault) -> Withheld {
+        Withheld::Unanswered(Unanswered::from(fault))
     }
 }

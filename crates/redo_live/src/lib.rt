@@ -8,6 +8,6 @@ mod live;
 mod ordering;
 mod told;
 
-pub use fault::Unanswered;
+pub use fault::{Unanswered, Withheld};
 pub use laws::one_answer_a_line;
 pub use live::Live;

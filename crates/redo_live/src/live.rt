@@ -7,7 +7,7 @@ ghost use Rattle.redo_text.specs.Questions.{line_fault};
 ghost use Rattle.redo_store.specs.Stored.{has_room_for};
 ghost use Rattle.redo_store.specs.Tables.{tables_count};
 
-use crate::fault::Unanswered;
+use crate::fault::{Unanswered, Withheld};
 use crate::ordering::ordered;
 use crate::told::{Told, line_text, tell, text_if};
 use redo_names::{MOST_NAMES, Names};
@@ -50,6 +50,7 @@ impl Model for Live {
 impl Live {
     ghost use Rattle.redo_live.specs.Inside.LiveState.{state_in, calls_in, IsAsKnown, IsSameDatabase};
     ghost use Rattle.redo_live.specs.Inside.Told.{IsCause, IsTold, IsObeyed, AnswersText, TellsNothing};
+    ghost use Rattle.redo_live.specs.Inside.Withheld.{IsWithheldFor, IsUnobeyedFor};
 
     /// The empty database.
     pub fn new(alloc: Global) -> Result<Live, AllocError>
@@ -86,11 +87,44 @@ impl Live {
         ensures untold { OnErr result
             (TellsNothing said.old.items said.new.items logged.old.items logged.new.items) }
     {
+        match self.answer_within(alloc, session, text, usize::MAX, said, logged) {
+            Ok(()) => Ok(()),
+            Err(Withheld::Unanswered(why)) => Err(why),
+            // No line is longer than that.
+            Err(Withheld::TooLong(_)) => Err(Unanswered::Memory),
+        }
+    }
+
+    /// Answers a session's command as `answer` does, where its line has so many bytes at most. A longer one is not told,
+    /// and then nothing is done: the same command can be given again, with more room.
+    pub fn answer_within(
+        &mut self,
+        alloc: Global,
+        session: u8,
+        text: &[u8],
+        most: usize,
+        said: &mut Vec<u8>,
+        logged: &mut Vec<u8>,
+    ) -> Result<(), Withheld>
+        ensures answered { OnOk result (AnswersText self.old self.new session text.now
+            said.old.items said.new.items logged.old.items logged.new.items) }
+        ensures fits { OnOk result
+            (length said.new.items ≤ length said.old.items + most) }
+
+        // A fault is that of the line, and a line that is answered has none. Too long is what would be
+        // said, and it is told how long that is.
+        ensures cause { IfErr result (IsWithheldFor self.old session text.now most) }
+        ensures no_fault { OnOk result (line_fault self.old.names text.now ≡ None) }
+
+        ensures known { OnErr result (IsAsKnown self.old self.new) }
+        ensures untold { OnErr result
+            (TellsNothing said.old.items said.new.items logged.old.items logged.new.items) }
+    {
         if self.redo.calls() >= MOST_CALLS {
-            return Err(Unanswered::Worn);
+            return Err(Withheld::Unanswered(Unanswered::Worn));
         }
         let count = self.names.len();
-        match self.hear(alloc, session, text, said, logged) {
+        match self.hear(alloc, session, text, most, said, logged) {
             Ok(()) => Ok(()),
             Err(why) => {
                 self.names.keep_first(count);
@@ -105,14 +139,17 @@ impl Live {
         alloc: Global,
         session: u8,
         text: &[u8],
+        most: usize,
         said: &mut Vec<u8>,
         logged: &mut Vec<u8>,
-    ) -> Result<(), Unanswered>
+    ) -> Result<(), Withheld>
         requires names { AreNames self.old.names }
         requires calls { calls_in self.old < 4294836223 }
         ensures answered { OnOk result (AnswersText self.old self.new session text.now
             said.old.items said.new.items logged.old.items logged.new.items) }
-        ensures cause { IfErr result (IsCause self.old text.now) }
+        ensures fits { OnOk result
+            (length said.new.items ≤ length said.old.items + most) }
+        ensures cause { IfErr result (IsWithheldFor self.old session text.now most) }
         ensures kept { Extends self.old.names self.new.names }
         ensures known { OnErr result (IsSameDatabase self.old self.new) }
         ensures untold { OnErr result
@@ -122,7 +159,7 @@ impl Live {
         // This call says that they are names.
         let _ = self.names.len();
         let command = read?;
-        self.obey(alloc, session, command, said, logged)?;
+        self.obey(alloc, session, command, most, said, logged)?;
         Ok(())
     }
 
@@ -132,14 +169,19 @@ impl Live {
         alloc: Global,
         session: u8,
         command: Command,
+        most: usize,
         said: &mut Vec<u8>,
         logged: &mut Vec<u8>,
-    ) -> Result<(), AllocError>
+    ) -> Result<(), Withheld>
         requires below { IsBelow (length self.old.names) (command_of command) }
         requires names { AreNames self.old.names }
         requires calls { calls_in self.old < 4294836223 }
         ensures obeyed { OnOk result (IsObeyed self.old self.new session (command_of command)
             said.old.items said.new.items logged.old.items logged.new.items) }
+        ensures fits { OnOk result
+            (length said.new.items ≤ length said.old.items + most) }
+        ensures cause { IfErr result
+            (IsUnobeyedFor self.old session (command_of command) most) }
         ensures names { self.new.names ≡ self.old.names }
         ensures known { OnErr result (IsSameDatabase self.old self.new) }
         ensures untold { OnErr result
@@ -147,6 +189,10 @@ impl Live {
     {
         self.make_room(&command)?;
         let told = self.told(alloc, session, command)?;
+        let size = told.text.len();
+        if size > most {
+            return Err(Withheld::TooLong(size));
+        }
         let changes = self.redo.changes(&told.line.command, &told.reply);
         tell(said, &told.text, logged, text_if(changes, &told.text))?;
         self.redo.change(session, &told.line.command, &told.reply);

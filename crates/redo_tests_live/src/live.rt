@@ -1,5 +1,5 @@
 //! What is said to commands, worked out by hand from the rules.
-use redo_live::{Live, Unanswered};
+use redo_live::{Live, Unanswered, Withheld};
 use redo_text::{Inquiry, LineFault};
 use std::alloc::Global;
 use std::process::Abort;
@@ -112,6 +112,43 @@ fn end(rt: HostRuntime) -> Result<(), Fail> {
     assert!(rt;
         told(alloc, &mut live, 0, "lock c")?.as_slice() == b"1 lock c => busy 1\n".as_slice()
     );
+    Ok(())
+}
+
+/// What is too long is withheld and not done, so that it can be asked again with more room.
+#[test]
+fn too_long(rt: HostRuntime) -> Result<(), Fail> {
+    let alloc = rt.alloc();
+    let mut live = Live::new(alloc)?;
+    for (text, want) in [
+        ("lock a", "1 lock a => granted 1\n"),
+        ("start a", "1 start a => ok\n"),
+        ("ood", "1 ood => ood\n"),
+    ] {
+        let (mut said, mut logged) = (Vec::new(alloc), Vec::new(alloc));
+        let size = want.len();
+        for most in [0, size - 1] {
+            let answer = live.answer_within(
+                alloc,
+                0,
+                text.as_bytes(),
+                most,
+                &mut said,
+                &mut logged,
+            );
+            assert!(rt; answer == Err(Withheld::TooLong(size)), "{text}");
+            assert!(rt; said.is_empty() && logged.is_empty(), "{text}");
+        }
+        live.answer_within(alloc, 0, text.as_bytes(), size, &mut said, &mut logged)?;
+        assert!(rt; said.as_slice() == want.as_bytes(), "{text}");
+    }
+    let want = b"1 failed a => ok\n1 unlock a => ok\n1 end => ok\n".as_slice();
+    let (mut said, mut logged) = (Vec::new(alloc), Vec::new(alloc));
+    let answer = live.end_within(alloc, 0, want.len() - 1, &mut said, &mut logged);
+    assert!(rt; answer == Err(Withheld::TooLong(want.len())));
+    assert!(rt; said.is_empty() && logged.is_empty());
+    live.end_within(alloc, 0, want.len(), &mut said, &mut logged)?;
+    assert!(rt; said.as_slice() == want);
     Ok(())
 }
 

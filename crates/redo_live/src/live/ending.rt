@@ -1,5 +1,5 @@
 //! How a session ends.
-ghost use Rattle.std.specs.Prelude.{◌≡◌, ℕ, ◌+◌, ◌^◌, ◌<◌, ◌++◌, [], cond, length, map, IfOk, IfErr, OnOk, OnErr};
+ghost use Rattle.std.specs.Prelude.{◌≡◌, ℕ, ◌+◌, ◌^◌, ◌<◌, ◌≤◌, ◌++◌, [], cond, length, map, IfOk, IfErr, OnOk, OnErr};
 ghost use Rattle.std.specs.List.{AllByRecursion, flat_map};
 ghost use Rattle.redo_model.specs.Command as commands;
 ghost use Rattle.redo_model.specs.History.{LegalFrom, left_by};
@@ -12,7 +12,7 @@ ghost use Rattle.redo_history.specs.Recorded.{AreLinesBelow};
 ghost use Rattle.redo_live.specs.Inside.Ended.{end_text};
 ghost use Rattle.redo_live.specs.Inside.ClosingLines.{TakesNoRoom, letting};
 
-use crate::fault::Unanswered;
+use crate::fault::{Unanswered, Withheld};
 use crate::live::Live;
 use crate::ordering::sort;
 use crate::told::tell;
@@ -94,6 +94,7 @@ impl Live {
     ghost use Rattle.redo_live.specs.Inside.LiveState.{IsAsKnown};
     ghost use Rattle.redo_live.specs.Inside.ClosingLines.{AreClosing};
     ghost use Rattle.redo_live.specs.Inside.Told.{EndsSession, TellsNothing};
+    ghost use Rattle.redo_live.specs.Inside.Withheld.{IsUnendedFor};
     ghost use Rattle.redo_live.specs.declared.fault.Unanswered.TheVariants.{Memory};
 
     /// Lets go of all that a session holds. The lines of these commands go behind `said` and `logged`, and then goes
@@ -112,11 +113,41 @@ impl Live {
         ensures untold { OnErr result
             (TellsNothing said.old.items said.new.items logged.old.items logged.new.items) }
     {
+        match self.end_within(alloc, session, usize::MAX, said, logged) {
+            Ok(()) => Ok(()),
+            // No text is longer than that.
+            Err(_) => Err(Unanswered::Memory),
+        }
+    }
+
+    /// Ends a session as `end` does, where what is said has so many bytes at most. What is longer is not told, and then
+    /// nothing is done.
+    pub fn end_within(
+        &mut self,
+        alloc: Global,
+        session: u8,
+        most: usize,
+        said: &mut Vec<u8>,
+        logged: &mut Vec<u8>,
+    ) -> Result<(), Withheld>
+        ensures ended { OnOk result (EndsSession self.old self.new session
+            said.old.items said.new.items logged.old.items logged.new.items) }
+        ensures fits { OnOk result
+            (length said.new.items ≤ length said.old.items + most) }
+        ensures cause { IfErr result (IsUnendedFor self.old session most) }
+        ensures known { OnErr result (IsAsKnown self.old self.new) }
+        ensures untold { OnErr result
+            (TellsNothing said.old.items said.new.items logged.old.items logged.new.items) }
+    {
         let lines = self.closing_lines(alloc, session)?;
         // This call says that they are names.
         let _ = self.names.len();
         let kept = lines_text(alloc, &lines, &self.names)?;
         let text = with_end(alloc, session, &kept)?;
+        let size = text.len();
+        if size > most {
+            return Err(Withheld::TooLong(size));
+        }
         tell(said, &text, logged, &kept)?;
         close(&mut self.redo, &lines);
         Ok(())

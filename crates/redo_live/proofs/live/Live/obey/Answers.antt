@@ -1,13 +1,15 @@
-use Rattle.std.proofs.Common.{◌≡◌, ◌∙◌, ℕ, ◌<◌, ◌++◌, [], cond, List, length, sym, ap, subst}
+use Rattle.std.proofs.Common.{◌≡◌, ◌∙◌, ℕ, ◌<◌, ◌≤◌, ◌++◌, [], cond, List, length, sym, ap, subst, arith, rules, vec_len}
 use Rattle.redo_names.specs.Inside.Names.{AreNames}
 use Rattle.redo_model.specs.Names.{Text}
 use Rattle.redo_model.specs.Renaming.{IsBelow}
 use Rattle.redo_terms.specs.Meaning.{command_of}
-use Rattle.redo_store.specs.Tables.{state_of, calls_of}
+use Rattle.redo_store.specs.Tables.{state_of, calls_of, tables_count}
 use Rattle.redo_live.specs.Inside.LiveState.{LiveState, calls_in}
 use Rattle.redo_live.specs.Inside.Kept.{live_of}
 use Rattle.redo_live.specs.Inside.Told.{IsTold}
-use Rattle.redo_live.proofs.Obeying.{kept_after, obeyed}
+use Rattle.redo_live.specs.Inside.Withheld.{WouldObey}
+use Rattle.redo_live.proofs.Answering.{below_more}
+use Rattle.redo_live.proofs.Obeying.{kept_after, obeyed, would_obey}
 use Rattle.redo_live.proofs.live.Live.obey.Goals as goal
 
 pub invariant_of-self : goal.invariant_of-self
@@ -61,3 +63,56 @@ returns-clause-obeyed c =
     (c.in_ok-tell.ensures.logged
     ∙ ap (λ (t : Text). logged ++ t) (c.text_if.ensures
     ∙ ap (λ (t : Text). cond changes t []) c.deref-2.ensures.value))
+
+pub returns-then-size-most-clause-cause : goal.returns-then-size-most-clause-cause
+returns-then-size-most-clause-cause c =
+    let names = c.self.inside.names in
+    let tables = c.self.inside.redo in
+    let command = command_of c.args.command in
+    let told = c.in_ok-told.told in
+    let old_names : names ≡ c.args.self.now.names =
+    ap (λ (l : LiveState). l.names) c.self.view_is ∙ c.make_room.ensures.names in
+    let old_state : state_of tables ≡ state_of c.args.self.now.tables =
+    ap (λ (l : LiveState). state_of l.tables) c.self.view_is ∙ c.make_room.ensures.known.state in
+    let are : AreNames names = subst AreNames (sym old_names) c.requires.names in
+    let below : IsBelow (length names) command =
+    subst (λ (ns : List Text). IsBelow (length ns) command) (sym old_names) c.requires.below in
+    let is : IsTold (live_of c.self.inside) c.args.session command told =
+    subst (λ (l : LiveState). IsTold l c.args.session command told)
+    (sym c.self.view_is) c.in_ok-told.ensures in
+    let counted : vec_len told.text ≡ length told.text.items = search rules in (
+      omega (arith, c.if-size-most.true),
+      subst (WouldObey c.args.self.now c.args.session command) (sym (c.len-size.ensures ∙ counted))
+          (would_obey names are tables c.self.invariant.state c.args.session command below told is
+          c.args.self.now old_names old_state),
+    )
+
+pub changes-changes-requires : goal.changes-changes-requires
+changes-changes-requires c =
+    let names = c.self.inside.names in
+    let tables = c.self.inside.redo in
+    let command = command_of c.args.command in
+    let old_names : names ≡ c.args.self.now.names =
+    ap (λ (l : LiveState). l.names) c.self.view_is ∙ c.make_room.ensures.names in
+    let below : IsBelow (length names) command =
+    subst (λ (ns : List Text). IsBelow (length ns) command) (sym old_names) c.requires.below in
+    let few : length names ≤ tables_count tables =
+    subst (λ (l : LiveState). length l.names ≤ tables_count l.tables) (sym c.self.view_is)
+    c.in_ok-make_room.ensures.count in
+    subst (IsBelow (tables_count tables)) (sym c.in_ok-told.ensures.command_is)
+    (below_more (length names) (tables_count tables) command few below)
+
+pub change-requires-clause-numbers : goal.change-requires-clause-numbers
+change-requires-clause-numbers c =
+    let names = c.self.inside.names in
+    let tables = c.self.inside.redo in
+    let command = command_of c.args.command in
+    let old_names : names ≡ c.args.self.now.names =
+    ap (λ (l : LiveState). l.names) c.self.view_is ∙ c.make_room.ensures.names in
+    let below : IsBelow (length names) command =
+    subst (λ (ns : List Text). IsBelow (length ns) command) (sym old_names) c.requires.below in
+    let few : length names ≤ tables_count tables =
+    subst (λ (l : LiveState). length l.names ≤ tables_count l.tables) (sym c.self.view_is)
+    c.in_ok-make_room.ensures.count in
+    subst (IsBelow (tables_count tables)) (sym c.in_ok-told.ensures.command_is)
+    (below_more (length names) (tables_count tables) command few below)

@@ -1,5 +1,5 @@
 use Rattle.redo_text.proofs.FaultOrCommand.{no_fault_in_a_line}
-use Rattle.redo_live.proofs.live.Live.answer.Goals as goal
+use Rattle.redo_live.proofs.live.Live.answer_within.Goals as goal
 
 pub returns-in-Ok-clause-no_fault : goal.returns-in-Ok-clause-no_fault
 returns-in-Ok-clause-no_fault c =

@@ -1,4 +1,4 @@
-use Rattle.std.proofs.Common.{◌≡◌, ◌+◌, ◌^◌, ◌<◌, ◌++◌, List, length, map, sym, ap, ◌∙◌, subst}
+use Rattle.std.proofs.Common.{◌≡◌, ◌+◌, ◌^◌, ◌<◌, ◌++◌, List, length, map, sym, ap, ◌∙◌, subst, arith, rules, vec_len}
 use Rattle.std.specs.List.{AllByRecursion, flat_map}
 use Rattle.redo_model.specs.Names.{Text}
 use Rattle.redo_model.specs.History.{LegalFrom, left_by}
@@ -13,8 +13,9 @@ use Rattle.redo_live.specs.Inside.ClosingLines.{AreClosing, TakesNoRoom}
 use Rattle.redo_live.specs.Inside.Kept.{live_of}
 use Rattle.redo_live.specs.Inside.LiveState.{LiveState}
 use Rattle.redo_live.specs.Inside.Told.{EndsSession}
-use Rattle.redo_live.proofs.Ending.{close_below, close_calls, close_legal, close_room, ends, kept_end, told_below}
-use Rattle.redo_live.proofs.live.Live.end.Goals as goal
+use Rattle.redo_live.specs.Inside.Withheld.{WouldEnd}
+use Rattle.redo_live.proofs.Ending.{close_below, close_calls, close_legal, close_room, ends, kept_end, told_below, would_end}
+use Rattle.redo_live.proofs.live.Live.end_within.Goals as goal
 
 pub lines_text-requires : goal.lines_text-requires
 lines_text-requires c =
@@ -119,3 +120,27 @@ returns-clause-ended c =
     ∙ ap (λ (t : Text). t ++ end_text c.args.session) (c.deref-2.ensures.value ∙ kept)))
     (c.in_ok-tell.ensures.logged
     ∙ ap (λ (t : Text). logged ++ t) (c.deref-4.ensures.value ∙ kept)))
+
+pub returns-then-size-most-clause-cause : goal.returns-then-size-most-clause-cause
+returns-then-size-most-clause-cause c =
+    let lines = c.in_ok-lines.lines.items in
+    let names = c.self.inside.names in
+    let tables = c.self.inside.redo in
+    let closing : AreClosing (live_of c.self.inside) c.args.session (map line_of lines) =
+    subst (λ (l : LiveState). AreClosing l c.args.session (map line_of lines))
+    (sym c.self.view_is) c.in_ok-lines.ensures in
+    let kept : c.in_ok-kept.kept.items ≡ flat_map line_text_of (map (line_at names) lines) =
+    c.in_ok-kept.ensures
+    ∙ ap (λ (ls : List Line). flat_map line_text_of (map (line_at names) ls))
+    c.deref.ensures.value in
+    let text = c.in_ok-text.text in
+    let counted : vec_len text ≡ length text.items = search rules in
+    let size = c.len-size.ensures ∙ counted
+    ∙ ap length (c.in_ok-text.ensures
+    ∙ ap (λ (t : Text). t ++ end_text c.args.session) (c.deref-2.ensures.value ∙ kept)) in (
+      omega (arith, c.if-size-most.true),
+      subst (λ (l : LiveState). WouldEnd l c.args.session c.len-size.result) c.self.view_is
+          (subst (WouldEnd (live_of c.self.inside) c.args.session) (sym size)
+          (would_end names c.len.ensures.names tables c.self.invariant.state c.args.session lines
+          closing)),
+    )

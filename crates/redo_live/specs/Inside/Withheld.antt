@@ -1,0 +1,60 @@
+-- Why a command wasn't answered into the room that was given.
+use Rattle.std.specs.Prelude.{◌≡◌, ℕ, ◌<◌, List, [], ◌∷◌, ◌++◌, length}
+use Rattle.std.specs.List.{flat_map}
+use Rattle.redo_names.specs.Names.{text_at}
+use Rattle.redo_model.specs.Names.{Text, texts}
+use Rattle.redo_model.specs.Command.{Command}
+use Rattle.redo_model.specs.History.{Line, left_by}
+use Rattle.redo_model.specs.Renaming.{named_command}
+use Rattle.redo_model.specs.Step.{Answers}
+use Rattle.redo_text.specs.Grammar.{IsCommandLine, AddsNames}
+use Rattle.redo_history.specs.Histories.{line_text_of}
+use Rattle.redo_live.specs.Inside.Ended.{IsEnded, end_text}
+use Rattle.redo_live.specs.Inside.LiveState.{LiveState, state_in}
+use Rattle.redo_live.specs.Inside.Told.{IsCause}
+use Rattle.redo_live.specs.declared.fault.Unanswered.TheVariants.{Memory}
+use Rattle.redo_live.specs.declared.fault.Withheld.{Withheld}
+use Rattle.redo_live.specs.declared.fault.Withheld.TheVariants.{Unanswered, TooLong}
+
+-- the line that answers the session's command, over the names that its numbers stand for, has so
+-- many bytes
+pub record WouldObey (live : LiveState) (session : ℕ) (command : Command ℕ) (size : ℕ) : Type 0
+  where
+    pub line : Line Text
+    pub session_is : line.session ≡ session
+    pub command_is : line.command ≡ named_command (text_at live.names) command
+    pub answers : Answers texts (state_in live) session line.command line.reply
+    pub size_is : size ≡ length (line_text_of line)
+
+-- there was no memory, or that line is longer than what was given
+abbrev pub IsUnobeyedFor : LiveState → ℕ → Command ℕ → ℕ → Withheld → Type 0
+IsUnobeyedFor live session command most (Unanswered why) = why ≡ Memory
+IsUnobeyedFor live session command most (TooLong size) =
+    (most < size) × WouldObey live session command size
+
+-- the line that answers the session's text has so many bytes
+pub record WouldAnswer (live : LiveState) (session : ℕ) (text : Text) (size : ℕ) : Type 0 where
+  pub line : Line Text
+  pub session_is : line.session ≡ session
+  pub said : IsCommandLine text line.command
+  pub names_after : List Text
+  pub named : AddsNames live.names (line.command ∷ []) names_after
+  pub answers : Answers texts (state_in live) session line.command line.reply
+  pub size_is : size ≡ length (line_text_of line)
+
+-- the cause, or that line is longer than what was given
+abbrev pub IsWithheldFor : LiveState → ℕ → Text → ℕ → Withheld → Type 0
+IsWithheldFor live session text most (Unanswered why) = IsCause live text why
+IsWithheldFor live session text most (TooLong size) =
+    (most < size) × WouldAnswer live session text size
+
+-- what is said when the session ends has so many bytes
+pub record WouldEnd (live : LiveState) (session size : ℕ) : Type 0 where
+  pub lines : List (Line Text)
+  pub is : IsEnded (state_in live) (left_by texts (state_in live) lines) session lines
+  pub size_is : size ≡ length (flat_map line_text_of lines ++ end_text session)
+
+-- there was no memory, or that is longer than what was given
+abbrev pub IsUnendedFor : LiveState → ℕ → ℕ → Withheld → Type 0
+IsUnendedFor live session most (Unanswered why) = why ≡ Memory
+IsUnendedFor live session most (TooLong size) = (most < size) × WouldEnd live session size
