@@ -10,7 +10,7 @@ use Rattle.redo_text.specs.Questions.{words_of}
 use Rattle.redo_text.specs.Inside.Inquiries.{ReadsInquiry}
 use Rattle.redo_text.proofs.Inquired.{asked_of_command, asked_of_inquiry}
 use Rattle.redo_live.specs.Answers.{AnswersInquiry}
-use Rattle.redo_live.specs.Inside.LiveState.{LiveState, state_in}
+use Rattle.redo_live.specs.Inside.LiveState.{LiveState, IsAsKnown, state_in}
 use Rattle.redo_live.specs.Inside.Told.{IsCause}
 use Rattle.redo_live.specs.declared.fault.Unanswered.{Unanswered}
 use Rattle.redo_live.specs.declared.fault.Unanswered.TheVariants.{Memory, Worn, Fault}
@@ -24,7 +24,7 @@ use Rattle.redo_talk.proofs.Steps.{telling_step}
 -- what is read of a text that asks, and told, is a step
 pub told_step : (live live' : LiveState) (session : ℕ) (text said said' logged : Text)
     (asked : Result (Inquiry × Bor Text) LineFault) → ReadsInquiry text asked
-    → live' ≡ live
+    → IsAsKnown live live'
     → IsOkAnd asked (λ about. (line : Text)
     × AnswersInquiry (state_in live) session about.0 about.1.now line × (said' ≡ said ++ line))
     → (heard : Text) → Asks heard session text

@@ -4,6 +4,8 @@ pub mod LongLines
 pub mod Fronts
 pub mod Heeding
 pub mod Responding
+pub mod RoundTold
+pub mod Fronted
 pub mod Conversations
 pub mod Asking
 pub mod Steps

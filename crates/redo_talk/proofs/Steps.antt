@@ -21,7 +21,7 @@ use Rattle.redo_text.specs.Inquiries.{inquiry_text_of, inquiry_fault}
 use Rattle.redo_text.specs.declared.inquiries.Inquiry.{Inquiry}
 use Rattle.redo_live.specs.Answers.{AnswersInquiry}
 use Rattle.redo_live.specs.Inside.Answered.{logged_text}
-use Rattle.redo_live.specs.Inside.LiveState.{LiveState, state_in}
+use Rattle.redo_live.specs.Inside.LiveState.{LiveState, IsAsKnown, state_in}
 use Rattle.redo_live.specs.Inside.Told.{AnswersText, EndsSession}
 use Rattle.redo_live.specs.Lines.{lines_text_of}
 use Rattle.redo_talk.specs.Rounds.{Round, Asks, end_word, end_text_of}
@@ -55,7 +55,7 @@ changing_with s t more false st rest =
     ap (λ ls. okay_line s (Unlock t) ∷ ls) (rest (after texts st s (Unlock t)))
 
 -- each closing line changes something
-closing_changes : (s : ℕ) (plan : State Text) (ts : List Text) (st : State Text)
+pub closing_changes : (s : ℕ) (plan : State Text) (ts : List Text) (st : State Text)
     → changing_from texts st (closing_lines_of s plan ts) ≡ closing_lines_of s plan ts
 closing_changes s plan [] st = refl
 closing_changes s plan (t ∷ ts) st =
@@ -76,7 +76,7 @@ held_has names locks t s None is e = absurd cc
 held_has names locks t s (Some k) is e = number_has names t k is
 
 -- what a session holds are names that were spoken of
-held_are_known : (live : LiveState) (s : ℕ) (ts : List Text) → AreHeld texts s (state_in live) ts
+pub held_are_known : (live : LiveState) (s : ℕ) (ts : List Text) → AreHeld texts s (state_in live) ts
     → AreKnown live.names ts
 held_are_known live s ts held =
     all_members (λ t. has live.names t ≡ true) ts (λ t there.
@@ -150,7 +150,7 @@ module _ (old new : LiveState) (heard : Text) (session : ℕ) where
   -- something about a name that was told
   pub telling_step : (text : Text) (inquiry : Inquiry) (name line said said' logged : Text)
       → Asks heard session text → text ≡ inquiry_text_of inquiry name → inquiry_fault text ≡ None
-      → AnswersInquiry (state_in old) session inquiry name line → new ≡ old
+      → AnswersInquiry (state_in old) session inquiry name line → IsAsKnown old new
       → said' ≡ said ++ line
       → (round : Round) × (round.heard ≡ heard) × IsStep (known_of old) (known_of new) round
       × (said' ≡ said ++ round.said)
@@ -165,8 +165,8 @@ module _ (old new : LiveState) (heard : Text) (session : ℕ) where
       asks = subst (Asks heard session) is asks;
       fits = subst (λ t. inquiry_fault t ≡ None) is fits;
       tells = tells;
-      same_names = ap (λ (live : LiveState). live.names) same;
-      same_state = ap state_in same;
+      same_names = same.names;
+      same_state = same.state;
       none = refl;
     }))),
     e,

@@ -55,7 +55,7 @@ fn tell(
     asked: Result<(Inquiry, &[u8]), LineFault>,
     said: &mut Vec<u8>,
 ) -> Result<(), Unanswered>
-    ensures kept { live.new ≡ live.old }
+    ensures known { IsAsKnown live.old live.new }
     ensures told { OnOk result (IsOkAnd asked.entry (λ about. (line : Text)
         × AnswersInquiry (state_in live.old) session about.0 about.1.now line
         × (said.new.items ≡ said.old.items ++ line))) }

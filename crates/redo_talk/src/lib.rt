@@ -5,9 +5,11 @@ mod asked;
 mod conversing;
 mod fault;
 mod hearing;
+mod replying;
 mod talking;
 mod unsent;
 
 pub use conversing::converse;
 pub use fault::TalkFault;
+pub use replying::{Replied, reply};
 pub use talking::talk;

@@ -12,7 +12,7 @@ use std::alloc::Global;
 use std::io::Write;
 
 /// The line of a fault: a number of two digits, ` fault `, the longest word and an LF have room in it.
-type FaultLine = ArrayVec<u8, 32>;
+pub(crate) type FaultLine = ArrayVec<u8, 32>;
 
 /// So many bytes are sent without waiting for more.
 const MANY: usize = 65_536;
@@ -92,7 +92,7 @@ fn add(line: &mut FaultLine, bytes: &[u8])
 }
 
 /// The line of a fault. Takes no memory.
-fn fault_line(fault: Refusal) -> FaultLine
+pub(crate) fn fault_line(fault: Refusal) -> FaultLine
     requires { length fault.word.now ≤ 20 }
     ensures { result.items ≡ fault_text_of (decimal fault.number) fault.word.now }
 {

@@ -1,5 +1,6 @@
 //! Conversations that were worked out by hand from the rules.
-use redo_talk::converse;
+use redo_live::{Live, Withheld};
+use redo_talk::{Replied, converse, reply};
 use redo_whole::Watched;
 use std::alloc::{AllocError, Global};
 use std::test::Fail;
@@ -89,5 +90,41 @@ fn questions(rt: HostRuntime) -> Result<(), Fail> {
         3 fault wrong-words\n3 fault bad-name\n";
     assert!(rt; said.ends_with(told.as_bytes()));
     assert!(rt; said.len() == logged.len() + told.len() && said.starts_with(&logged));
+    Ok(())
+}
+
+/// Lines, what is said to them, how they are answered, and how many bytes of what is said are logged.
+const REPLIES: &[(&str, &str, Replied, usize)] = &[
+    ("1 lock a", "1 lock a => granted 1\n", Replied::Done, 22),
+    ("2 lock a", "2 lock a => busy 1\n", Replied::Done, 0),
+    ("1 start a", "1 start a => ok\n", Replied::Done, 16),
+    ("2 why a", "2 why a => building a a\n", Replied::Done, 0),
+    ("2 why -", "2 fault bad-name\n", Replied::Fault, 0),
+    ("3 now", "3 fault unknown-command\n", Replied::Fault, 0),
+    ("now", "0 fault bad-session\n", Replied::Fault, 0),
+    (
+        "1 end",
+        "1 failed a => ok\n1 unlock a => ok\n1 end => ok\n",
+        Replied::Done,
+        34,
+    ),
+];
+
+/// Each line is answered where there is room for the answer; with one byte less nothing is done.
+#[test]
+fn replies(rt: HostRuntime) -> Result<(), Fail> {
+    let alloc = rt.alloc();
+    let mut live = Live::new(alloc)?;
+    for (line, want, replied, to_log) in REPLIES {
+        let (mut said, mut logged) = (Vec::new(alloc), Vec::new(alloc));
+        let (line, size) = (line.as_bytes(), want.len());
+        let answer = reply(alloc, &mut live, line, size - 1, &mut said, &mut logged);
+        assert!(rt; answer == Err(Withheld::TooLong(size)), "{want}");
+        assert!(rt; said.is_empty() && logged.is_empty(), "{want}");
+        let answer = reply(alloc, &mut live, line, size, &mut said, &mut logged);
+        assert!(rt; answer == Ok(*replied), "{want}");
+        assert!(rt; said.as_slice() == want.as_bytes(), "{want}");
+        assert!(rt; said.starts_with(&logged) && logged.len() == *to_log, "{want}");
+    }
     Ok(())
 }

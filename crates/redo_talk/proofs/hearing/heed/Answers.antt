@@ -8,7 +8,7 @@ returns-in-Some-clause-step c =
     ok_then c.tell.result _ _ c.tell.ensures.told
     (told_step c.args.live.now c.tell.new.live c.args.session c.args.text.now
     c.args.unsent.now.said.items c.tell.new.said.items c.args.unsent.now.logged.items
-    c.in-Some.asked c.in-Some.ensures c.tell.ensures.kept)
+    c.in-Some.asked c.in-Some.ensures c.tell.ensures.known)
 
 pub returns-in-None-clause-step : goal.returns-in-None-clause-step
 returns-in-None-clause-step c =

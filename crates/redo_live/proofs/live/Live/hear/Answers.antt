@@ -6,7 +6,6 @@ use Rattle.redo_text.specs.Grammar.{AddsNames}
 use Rattle.redo_terms.specs.Inside.Meaning.{command_at}
 use Rattle.redo_store.specs.Tables.{state_of, calls_of}
 use Rattle.redo_live.specs.Inside.LiveState.{LiveState, state_in, calls_in}
-use Rattle.redo_live.specs.Inside.Withheld.{IsWithheldFor}
 use Rattle.redo_live.proofs.Answering.{state_kept}
 use Rattle.redo_live.proofs.Keeping.{IsKept-Extends}
 use Rattle.redo_live.proofs.Obeying.{answered, withheld}

@@ -1,0 +1,48 @@
+-- What is logged of a round is a front of what is said.
+use Rattle.std.proofs.Common.{◌≡◌, Bool, true, false, cond, [], ◌∷◌, ◌++◌, refl, sym, ap, ◌∙◌, append-nil, inl, inr}
+use Rattle.redo_model.specs.Names.{Text, texts}
+use Rattle.redo_model.specs.History.{Line}
+use Rattle.redo_model.specs.Changes.{changes, changing_from}
+use Rattle.redo_history.specs.Histories.{line_text_of}
+use Rattle.redo_live.specs.Lines.{lines_text_of}
+use Rattle.redo_talk.specs.Rounds.{Round, end_text_of}
+use Rattle.redo_talk.specs.Logs.{logged_of}
+use Rattle.redo_talk.specs.Inside.Replies.{LogsFront}
+use Rattle.redo_talk.specs.Inside.Steps.{Known, Answering, Ending, IsStep}
+use Rattle.redo_talk.proofs.Steps.{closing_changes}
+
+one_front : (line : Line Text) (b : Bool)
+    → (rest : Text) × (line_text_of line ≡ lines_text_of (cond b (line ∷ []) [] ++ []) ++ rest)
+one_front line true =
+    ([], sym (append-nil (line_text_of line ++ []) ∙ append-nil (line_text_of line)))
+one_front line false = (line_text_of line, refl)
+
+answering_front : (old new : Known) (round : Round) → Answering old new round
+    → LogsFront old.state round
+answering_front old new round is =
+    let line = is.line in
+    let (rest, e) = one_front line (changes old.state.records line.command line.reply) in (
+      rest,
+      is.said_is ∙ e ∙ ap (λ ls. logged_of old.state ls ++ rest) (sym is.lines_are),
+    )
+
+ending_front : (old new : Known) (round : Round) → Ending old new round → LogsFront old.state round
+ending_front old new round is =
+    let all : changing_from texts old.state round.lines ≡ round.lines =
+    ap (changing_from texts old.state) is.lines_are
+    ∙ closing_changes is.session old.state is.held old.state ∙ sym is.lines_are in (
+      end_text_of is.session,
+      is.said_is ∙ ap (λ ls. lines_text_of ls ++ end_text_of is.session) (sym all),
+    )
+
+-- where no line was made nothing is logged
+none_front : (old : Known) (round : Round) → round.lines ≡ [] → LogsFront old.state round
+none_front old round none =
+    (round.said, ap (λ ls. logged_of old.state ls ++ round.said) (sym none))
+
+pub logs_front : (old new : Known) (round : Round) → IsStep old new round
+    → LogsFront old.state round
+logs_front old new round (inl is) = answering_front old new round is
+logs_front old new round (inr (inl is)) = ending_front old new round is
+logs_front old new round (inr (inr (inl is))) = none_front old round is.none
+logs_front old new round (inr (inr (inr is))) = none_front old round is.none

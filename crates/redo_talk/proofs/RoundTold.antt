@@ -1,0 +1,245 @@
+-- What a line would be told where there is room for it.
+use Rattle.std.proofs.Common.{◌≡◌, ◌≢◌, ◌⊎◌, ℕ, ◌+◌, List, [], ◌∷◌, ◌++◌, refl, sym, ap, ◌∙◌, subst, append-nil, inl, inr, length, None}
+use Rattle.std.specs.Prelude.{codes, decimal}
+use Rattle.std.specs.List.{flat_map}
+use Rattle.redo_model.specs.Names.{Text, texts}
+use Rattle.redo_model.specs.Command.{names_in}
+use Rattle.redo_model.specs.History.{left_by}
+use Rattle.redo_model.specs.Step.{Answers, after}
+use Rattle.redo_text.specs.Grammar.{with_names}
+use Rattle.redo_text.specs.Inquiries.{inquiry_text_of, inquiry_fault, inquiry_in}
+use Rattle.redo_text.specs.Questions.{words_of}
+use Rattle.redo_text.specs.declared.inquiries.Inquiry.{Inquiry}
+use Rattle.redo_history.specs.Histories.{line_text_of}
+use Rattle.redo_live.specs.Answers.{AnswersInquiry}
+use Rattle.redo_live.specs.Inside.LiveState.{LiveState, state_in, IsAsKnown}
+use Rattle.redo_live.specs.Inside.Told.{AnswersText, EndsSession}
+use Rattle.redo_live.specs.Inside.Withheld.{WouldAnswer, WouldEnd, IsWithheldFor, IsUnendedFor}
+use Rattle.redo_live.specs.declared.fault.Unanswered.{Unanswered as Why}
+use Rattle.redo_live.specs.declared.fault.Unanswered.TheVariants.{Memory, Worn, Fault}
+use Rattle.redo_live.specs.declared.fault.Withheld.{Withheld}
+use Rattle.redo_live.specs.declared.fault.Withheld.TheVariants.{Unanswered, TooLong}
+use Rattle.redo_talk.specs.Rounds.{Round, Asks, HasNoSession, IsFaultWord, end_word, end_text_of, fault_text_of}
+use Rattle.redo_talk.specs.Inside.Sending.{IsRefusedFor, refusal_word_of}
+use Rattle.redo_talk.specs.Inside.Steps.{IsStep}
+use Rattle.redo_talk.specs.Inside.Hearing.{known_of}
+use Rattle.redo_talk.specs.Inside.Replies.{TellsRound, WouldTell, IsPutOffFor, IsUndoneFor, IsUnheededFor, IsUnsaidFor, IsUntoldFor}
+use Rattle.redo_talk.proofs.Fronted.{logs_front}
+use Rattle.redo_talk.proofs.Heeding.{command_cause}
+use Rattle.redo_talk.proofs.Steps.{answering_step, ending_step, telling_step, held_are_known}
+
+module _ (old : LiveState) (heard : Text) (session : ℕ) where
+  pub answered_round : (new : LiveState) (text said said' logged logged' : Text)
+      → AnswersText old new session text said said' logged logged' → Asks heard session text
+      → TellsRound (known_of old) (known_of new) heard said said' logged logged'
+  answered_round new text said said' logged logged' is asks =
+      let (round, is_heard, step, says, logs) =
+      answering_step old new heard session text said said' logged logged' asks is in
+      record {
+        round = round;
+        heard_is = is_heard;
+        step = step;
+        says = says;
+        logs = logs;
+        front = logs_front (known_of old) (known_of new) round step;
+      }
+
+  pub ended_round : (new : LiveState) (said said' logged logged' : Text)
+      → EndsSession old new session said said' logged logged' → Asks heard session end_word
+      → TellsRound (known_of old) (known_of new) heard said said' logged logged'
+  ended_round new said said' logged logged' is asks =
+      let (round, is_heard, step, says, logs) =
+      ending_step old new heard session said said' logged logged' asks is in
+      record {
+        round = round;
+        heard_is = is_heard;
+        step = step;
+        says = says;
+        logs = logs;
+        front = logs_front (known_of old) (known_of new) round step;
+      }
+
+  pub told_round : (new : LiveState) → IsAsKnown old new
+      → (text : Text) (inquiry : Inquiry) (name line said said' logged : Text)
+      → Asks heard session text → text ≡ inquiry_text_of inquiry name → inquiry_fault text ≡ None
+      → AnswersInquiry (state_in old) session inquiry name line → said' ≡ said ++ line
+      → TellsRound (known_of old) (known_of new) heard said said' logged logged
+  told_round new same text inquiry name line said said' logged asks is fits tells e =
+      let (round, is_heard, step, says, logs) =
+      telling_step old new heard session text inquiry name line said said' logged asks is fits
+      tells same e in
+      record {
+        round = round;
+        heard_is = is_heard;
+        step = step;
+        says = says;
+        logs = logs;
+        front = logs_front (known_of old) (known_of new) round step;
+      }
+
+  -- and what would be told
+  pub would_answer : (text : Text) (size : ℕ) → WouldAnswer old session text size
+      → Asks heard session text → WouldTell (known_of old) heard size
+  would_answer text size would asks =
+      let line = would.line in
+      let same = would.session_is in
+      record {
+        round = record { heard = heard; lines = line ∷ []; said = line_text_of line };
+        next = record {
+          names = would.names_after;
+          state = after texts (state_in old) session line.command;
+        };
+        heard_is = refl;
+        step = inl (record {
+          line = line;
+          text = text;
+          asks = subst (λ s. Asks heard s text) (sym same) asks;
+          says = would.said;
+          names_are = would.named.0
+              ∙ ap (with_names old.names) (append-nil (names_in line.command));
+          few_names = would.named.1;
+          answers = subst (λ s. Answers texts (state_in old) s line.command line.reply) (sym same)
+              would.answers;
+          state_is = ap (λ s. after texts (state_in old) s line.command) (sym same);
+          lines_are = refl;
+          said_is = refl;
+        });
+        size_is = would.size_is;
+      }
+
+  pub would_end : (size : ℕ) → WouldEnd old session size → Asks heard session end_word
+      → WouldTell (known_of old) heard size
+  would_end size would asks =
+      let lines = would.lines in record {
+        round = record {
+          heard = heard;
+          lines = lines;
+          said = flat_map line_text_of lines ++ end_text_of session;
+        };
+        next = record { names = old.names; state = left_by texts (state_in old) lines };
+        heard_is = refl;
+        step = inr (inl (record {
+          session = session;
+          asks = asks;
+          held = would.is.targets;
+          are_held = would.is.held;
+          known = held_are_known old session would.is.targets would.is.held;
+          names_are = refl;
+          state_is = refl;
+          lines_are = would.is.lines_are;
+          said_is = refl;
+        }));
+        size_is = would.size_is;
+      }
+
+  pub would_tell : (text : Text) (inquiry : Inquiry) (name line : Text) (size : ℕ)
+      → text ≡ inquiry_text_of inquiry name → inquiry_fault text ≡ None
+      → AnswersInquiry (state_in old) session inquiry name line → size ≡ length line
+      → Asks heard session text → WouldTell (known_of old) heard size
+  would_tell text inquiry name line size is fits tells e asks = record {
+    round = record { heard = heard; lines = []; said = line };
+    next = known_of old;
+    heard_is = refl;
+    step = inr (inr (inl (record {
+      session = session;
+      inquiry = inquiry;
+      name = name;
+      asks = subst (Asks heard session) is asks;
+      fits = subst (λ t. inquiry_fault t ≡ None) is fits;
+      tells = tells;
+      same_names = refl;
+      same_state = refl;
+      none = refl;
+    })));
+    size_is = e;
+  }
+
+-- the line of a fault, which names no session or has this cause
+abbrev IsFaultLine : List Text → Text → Text → Type 0
+IsFaultLine names heard line =
+    (HasNoSession heard × (line ≡ fault_text_of (codes "0") (codes "bad-session")))
+    ⊎ ((s : ℕ) × (text : Text) × (word : Text) × Asks heard s text × IsFaultWord names text word
+    × (line ≡ fault_text_of (decimal (s + 1)) word))
+
+module _ (old new : LiveState) (same : IsAsKnown old new) (heard line : Text)
+    (cause : IsFaultLine old.names heard line)
+  where
+    abbrev refused : Round
+    refused = record { heard = heard; lines = []; said = line }
+
+    refusing : IsStep (known_of old) (known_of new) refused
+    refusing = inr (inr (inr (record {
+      same_names = same.names;
+      same_state = same.state;
+      none = refl;
+      cause = cause;
+    })))
+
+    pub refused_round : (said said' logged logged' : Text) → said' ≡ said ++ line
+        → logged' ≡ logged
+        → TellsRound (known_of old) (known_of new) heard said said' logged logged'
+    refused_round said said' logged logged' says logs = record {
+      round = refused;
+      heard_is = refl;
+      step = refusing;
+      says = says;
+      logs = logs ∙ sym (append-nil logged);
+      front = (line, refl);
+    }
+
+    would_refuse : (size : ℕ) → size ≡ length line → WouldTell (known_of old) heard size
+    would_refuse size e = record {
+      round = refused;
+      next = known_of new;
+      heard_is = refl;
+      step = refusing;
+      size_is = e;
+    }
+
+    pub refusal_put_off : (most : ℕ) (why : Withheld) → IsUnsaidFor line most why
+        → IsPutOffFor (known_of old) heard most why
+    refusal_put_off most (Unanswered why) e = e
+    refusal_put_off most (TooLong size) (more, e) = (more, would_refuse size e)
+
+-- why a text was not heeded, and its fault
+pub undone_end : (live : LiveState) (session : ℕ) (text : Text) (most : ℕ) (why : Withheld)
+    → text ≡ end_word → IsUnendedFor live session most why → IsUndoneFor live session text most why
+undone_end live session text most (Unanswered why) is e = inr (inl (ap refusal_word_of e))
+undone_end live session text most (TooLong size) is (more, would) = (
+  more,
+  λ heard asks. would_end live heard session size would (subst (Asks heard session) is asks),
+)
+
+refused_for : (names : List Text) (text : Text) (why : Why) → text ≢ end_word
+    → IsRefusedFor names text why → IsFaultWord names text (refusal_word_of why)
+refused_for names text Memory other cause = inr (inl refl)
+refused_for names text Worn other cause = inr (inr refl)
+refused_for names text (Fault fault) other cause = inl (fault, other, cause, refl)
+
+pub undone : (live : LiveState) (session : ℕ) (text : Text) (most : ℕ) (why : Withheld)
+    → text ≢ end_word → IsUnheededFor live session text most why
+    → IsUndoneFor live session text most why
+undone live session text most (Unanswered why) other cause =
+    refused_for live.names text why other cause
+undone live session text most (TooLong size) other cause = cause
+
+pub unheeded_command : (live : LiveState) (session : ℕ) (text : Text) (most : ℕ) (why : Withheld)
+    → inquiry_in (words_of text) ≡ None → IsWithheldFor live session text most why
+    → IsUnheededFor live session text most why
+unheeded_command live session text most (Unanswered why) none cause =
+    command_cause live text why none cause
+unheeded_command live session text most (TooLong size) none (more, would) = (
+  more,
+  λ heard asks. would_answer live heard session text size would asks,
+)
+
+pub unheeded_inquiry : (live : LiveState) (session : ℕ) (text : Text) (most : ℕ)
+    (inquiry : Inquiry) (name : Text) (why : Withheld) → text ≡ inquiry_text_of inquiry name
+    → inquiry_fault text ≡ None → IsUntoldFor (state_in live) session inquiry name most why
+    → IsUnheededFor live session text most why
+unheeded_inquiry live session text most inquiry name (Unanswered why) is fits e =
+    subst (IsRefusedFor live.names text) (sym e) tt
+unheeded_inquiry live session text most inquiry name (TooLong size) is fits (more, told) = (
+  more,
+  λ heard asks. would_tell live heard session text inquiry name told.0 size is fits told.1 told.2 asks,
+)

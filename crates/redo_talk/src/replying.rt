@@ -1,0 +1,157 @@
+//! The answer to one line, into the room that is given.
+ghost use Rattle.std.specs.Prelude.{◌≡◌, ◌≤◌, ◌+◌, ◌++◌, length, decimal, IfErr, OnOk, OnErr};
+ghost use Rattle.redo_model.specs.Names.{Text};
+ghost use Rattle.redo_live.specs.Answers.{AnswersInquiry};
+ghost use Rattle.redo_live.specs.Inside.LiveState.{IsAsKnown, state_in};
+ghost use Rattle.redo_live.specs.Inside.Told.{TellsNothing};
+ghost use Rattle.redo_talk.specs.Rounds.{Asks, fault_text_of};
+ghost use Rattle.redo_talk.specs.Inside.Hearing.{known_of};
+ghost use Rattle.redo_talk.specs.Inside.Replies.{TellsRound, IsPutOffFor, IsUndoneFor, IsUnheededFor, IsUnsaidFor, IsUntoldFor};
+
+use crate::asked::asked;
+use crate::fault::Refusal;
+use crate::unsent::fault_line;
+use redo_live::{Live, Unanswered, Withheld};
+use redo_text::{Inquiry, read_inquiry};
+use std::alloc::Global;
+
+/// How a line was answered.
+#[derive(Clone, Copy, Debug, PartialEq, Eq)]
+pub enum Replied {
+    /// As it asked.
+    Done,
+    /// By its fault, which changes nothing.
+    Fault,
+}
+
+/// Tells a session what it asks about a name, in so many bytes at most.
+fn tell_within(
+    alloc: Global,
+    live: &mut Live,
+    session: u8,
+    inquiry: Inquiry,
+    name: &[u8],
+    most: usize,
+    said: &mut Vec<u8>,
+) -> Result<(), Withheld>
+    ensures told { OnOk result ((line : Text)
+        × AnswersInquiry (state_in live.old) session inquiry name.now line
+        × (said.new.items ≡ said.old.items ++ line)) }
+    ensures fits { OnOk result
+        (length said.new.items ≤ length said.old.items + most) }
+    ensures cause { IfErr result
+        (IsUntoldFor (state_in live.old) session inquiry name.now most) }
+    ensures known { IsAsKnown live.old live.new }
+    ensures untold { OnErr result (said.new.items ≡ said.old.items) }
+{
+    let before = said.len();
+    live.ask(alloc, session, inquiry, name, said)?;
+    let size = said.len() - before;
+    if size > most {
+        said.truncate(before);
+        return Err(Withheld::TooLong(size));
+    }
+    Ok(())
+}
+
+/// Does what a session says, where it doesn't say its end and so many bytes suffice for the answer.
+fn heed_within(
+    alloc: Global,
+    live: &mut Live,
+    session: u8,
+    text: &[u8],
+    most: usize,
+    said: &mut Vec<u8>,
+    logged: &mut Vec<u8>,
+) -> Result<(), Withheld>
+    ensures told { OnOk result ((heard : Text) → Asks heard session text.now
+        → TellsRound (known_of live.old) (known_of live.new) heard
+        said.old.items said.new.items logged.old.items logged.new.items) }
+    ensures fits { OnOk result
+        (length said.new.items ≤ length said.old.items + most) }
+    ensures cause { IfErr result (IsUnheededFor live.old session text.now most) }
+    ensures known { OnErr result (IsAsKnown live.old live.new) }
+    ensures untold { OnErr result
+        (TellsNothing said.old.items said.new.items logged.old.items logged.new.items) }
+{
+    match read_inquiry(text) {
+        Some(Ok((inquiry, name))) => tell_within(alloc, live, session, inquiry, name, most, said),
+        Some(Err(fault)) => Err(Withheld::Unanswered(Unanswered::Fault(fault))),
+        None => live.answer_within(alloc, session, text, most, said, logged),
+    }
+}
+
+/// Does what a session says, where so many bytes suffice for the answer.
+fn respond_within(
+    alloc: Global,
+    live: &mut Live,
+    session: u8,
+    text: &[u8],
+    most: usize,
+    said: &mut Vec<u8>,
+    logged: &mut Vec<u8>,
+) -> Result<(), Withheld>
+    ensures told { OnOk result ((heard : Text) → Asks heard session text.now
+        → TellsRound (known_of live.old) (known_of live.new) heard
+        said.old.items said.new.items logged.old.items logged.new.items) }
+    ensures fits { OnOk result
+        (length said.new.items ≤ length said.old.items + most) }
+    ensures cause { IfErr result (IsUndoneFor live.old session text.now most) }
+    ensures known { OnErr result (IsAsKnown live.old live.new) }
+    ensures untold { OnErr result
+        (TellsNothing said.old.items said.new.items logged.old.items logged.new.items) }
+{
+    if text == b"end".as_slice() {
+        return live.end_within(alloc, session, most, said, logged);
+    }
+    heed_within(alloc, live, session, text, most, said, logged)
+}
+
+/// Tells a fault in so many bytes at most.
+fn tell_refusal(fault: Refusal, most: usize, said: &mut Vec<u8>) -> Result<Replied, Withheld>
+    requires { length fault.word.now ≤ 20 }
+    ensures told { OnOk result (said.new.items
+        ≡ said.old.items ++ fault_text_of (decimal fault.number) fault.word.now) }
+    ensures fits { OnOk result
+        (length said.new.items ≤ length said.old.items + most) }
+    ensures cause { IfErr result
+        (IsUnsaidFor (fault_text_of (decimal fault.number) fault.word.now) most) }
+    ensures untold { OnErr result (said.new.items ≡ said.old.items) }
+{
+    let line = fault_line(fault);
+    let size = line.len();
+    if size > most {
+        return Err(Withheld::TooLong(size));
+    }
+    said.extend_from_slice(&line)?;
+    Ok(Replied::Fault)
+}
+
+/// Answers a line, without its LF, as a conversation does, where what is said to it has so many bytes at most. What is
+/// longer isn't told, and then nothing is done: the same line can be given again, with more room.
+pub fn reply(
+    alloc: Global,
+    live: &mut Live,
+    line: &[u8],
+    most: usize,
+    said: &mut Vec<u8>,
+    logged: &mut Vec<u8>,
+) -> Result<Replied, Withheld>
+    ensures told { OnOk result (TellsRound (known_of live.old) (known_of live.new) line.now
+        said.old.items said.new.items logged.old.items logged.new.items) }
+    ensures fits { OnOk result
+        (length said.new.items ≤ length said.old.items + most) }
+    ensures cause { IfErr result (IsPutOffFor (known_of live.old) line.now most) }
+    ensures known { OnErr result (IsAsKnown live.old live.new) }
+    ensures untold { OnErr result
+        (TellsNothing said.old.items said.new.items logged.old.items logged.new.items) }
+{
+    let Some((session, text)) = asked(line) else {
+        return tell_refusal(Refusal::no_session(), most, said);
+    };
+    match respond_within(alloc, live, session, text, most, said, logged) {
+        Ok(()) => Ok(Replied::Done),
+        Err(Withheld::Unanswered(why)) => tell_refusal(Refusal::of(session, why), most, said),
+        Err(Withheld::TooLong(size)) => Err(Withheld::TooLong(size)),
+    }
+}
