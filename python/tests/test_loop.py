@@ -25,6 +25,14 @@ class Calls(unittest.TestCase):
         self.assertGreaterEqual(time.monotonic() - began, 0.04)
         self.assertEqual(self.said, ["first", "second"])
 
+    def test_that_are_dropped_when_they_are_due_do_not_come(self) -> None:
+        self.loop.later(0, lambda: self.loop.drop(other))
+        other = self.loop.later(0.001, lambda: self.said.append("dropped"))
+        time.sleep(0.002)
+        self.loop.later(0.01, self.loop.stop)
+        self.loop.run()
+        self.assertEqual(self.said, [])
+
     def test_that_are_soon_come_before_the_wait(self) -> None:
         self.loop.soon(lambda: self.loop.soon(self.loop.stop))
         self.loop.run()

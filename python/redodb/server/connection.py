@@ -195,9 +195,7 @@ class Connection(Owner):
             self._answer_in_turn(number, b"fault wrong-words")
             return
         made = self._hub.known.made
-        self._live.afterwards(
-            lambda: self.answer(number, b"made " + made.get(words[0], b"-"))
-        )
+        self._live.afterwards(lambda: self.answer(number, b"made " + made.get(words[0], b"-")))
 
     def _look(self, number: bytes, words: list[bytes]) -> None:
         """Look when all stamps are known; at all files when it is known too what is building."""

@@ -113,8 +113,9 @@ class Loop:
         """Call what was put off."""
         now = time.monotonic()
         for timer in [timer for timer in self._timers if timer.moment <= now]:
-            self._timers.remove(timer)
-            timer.call()
+            if timer in self._timers:  # none before has dropped it
+                self._timers.remove(timer)
+                timer.call()
         while self._soon:
             soon, self._soon = self._soon, []
             for call in soon:
