@@ -1,6 +1,6 @@
-ghost use Rattle.std.specs.Prelude.{◌≡◌, IfErr, IfSome, OnOk, OnErr, false, true};
+ghost use Rattle.std.specs.Prelude.{◌≡◌, IfErr, IfSome, OnOk, OnErr, IsTrue, IsFalse};
 ghost use Rattle.std.specs.List.{flat_map};
-ghost use Rattle.redo_whole.specs.Watched.{is_faulted};
+ghost use Rattle.redo_whole.specs.Watched.{has_failed};
 ghost use Rattle.redo_whole.specs.Devices.{Writes, WritesNothing};
 ghost use Rattle.redo_job.specs.Lines.{file_name, text_line, history_line, replay_line, fault_line, said, said_of, in_line, status_of};
 
@@ -40,7 +40,7 @@ fn gathered(pieces: &[&str]) -> Option<ArrayVec<u8, LINE_ROOM>>
 fn write_pieces<W: Write>(err: &mut Watched<W>, pieces: &[&str]) -> Result<(), WriteFault>
     ensures written { OnOk result
         (Writes W.contents err.old err.new (flat_map (λ piece. piece.now) pieces.now)) }
-    ensures failed { OnErr result (is_faulted err.new ≡ true) }
+    ensures failed { OnErr result (IsTrue (has_failed err.old err.new)) }
 {
     if let Some(line) = gathered(pieces) {
         return write_whole(err, &line);
@@ -54,7 +54,7 @@ fn write_pieces<W: Write>(err: &mut Watched<W>, pieces: &[&str]) -> Result<(), W
 /// `redodb: TEXT`.
 fn say<W: Write>(err: &mut Watched<W>, text: &str) -> Result<(), WriteFault>
     ensures line { OnOk result (Writes W.contents err.old err.new (said text.now)) }
-    ensures failed { OnErr result (is_faulted err.new ≡ true) }
+    ensures failed { OnErr result (IsTrue (has_failed err.old err.new)) }
 {
     write_pieces(err, &["redodb: ", text, "\n"])
 }
@@ -62,7 +62,7 @@ fn say<W: Write>(err: &mut Watched<W>, text: &str) -> Result<(), WriteFault>
 /// `redodb: FILE: TEXT`.
 fn say_of_file<W: Write>(err: &mut Watched<W>, name: &str, text: &str) -> Result<(), WriteFault>
     ensures line { OnOk result (Writes W.contents err.old err.new (said_of name.now text.now)) }
-    ensures failed { OnErr result (is_faulted err.new ≡ true) }
+    ensures failed { OnErr result (IsTrue (has_failed err.old err.new)) }
 {
     write_pieces(err, &["redodb: ", name, ": ", text, "\n"])
 }
@@ -76,7 +76,7 @@ fn say_line<W: Write>(
 ) -> Result<(), WriteFault>
     ensures line { OnOk result
         (Writes W.contents err.old err.new (said_of name.now (in_line line word.now))) }
-    ensures failed { OnErr result (is_faulted err.new ≡ true) }
+    ensures failed { OnErr result (IsTrue (has_failed err.old err.new)) }
 {
     let mut digits = Buffer::new();
     let number = digits.format(line);
@@ -93,7 +93,7 @@ fn tell_text<W: Write>(
     fault: &TextFault,
 ) -> Result<(), WriteFault>
     ensures line { OnOk result (Writes W.contents err.old err.new (text_line files.now fault.now)) }
-    ensures failed { OnErr result (is_faulted err.new ≡ true) }
+    ensures failed { OnErr result (IsTrue (has_failed err.old err.new)) }
 {
     match fault {
         TextFault::Memory => say(err, "memory"),
@@ -115,7 +115,7 @@ fn tell_history<W: Write>(
     fault: HistoryFault,
 ) -> Result<(), WriteFault>
     ensures line { OnOk result (Writes W.contents err.old err.new (history_line files.now fault)) }
-    ensures failed { OnErr result (is_faulted err.new ≡ true) }
+    ensures failed { OnErr result (IsTrue (has_failed err.old err.new)) }
 {
     let name = name(files, 0);
     match fault {
@@ -135,7 +135,7 @@ fn tell_replay<W: Write>(
     fault: ReplayFault,
 ) -> Result<(), WriteFault>
     ensures line { OnOk result (Writes W.contents err.old err.new (replay_line files.now fault)) }
-    ensures failed { OnErr result (is_faulted err.new ≡ true) }
+    ensures failed { OnErr result (IsTrue (has_failed err.old err.new)) }
 {
     match fault {
         ReplayFault::Memory => say(err, "memory"),
@@ -150,7 +150,7 @@ fn tell_replay<W: Write>(
 fn tell<W: Write>(err: &mut Watched<W>, files: &[String], fault: &Fault) -> Result<(), WriteFault>
     ensures line { OnOk result
         (Writes W.contents err.old err.new (fault_line files.now fault.now)) }
-    ensures failed { OnErr result (is_faulted err.new ≡ true) }
+    ensures failed { OnErr result (IsTrue (has_failed err.old err.new)) }
 {
     match fault {
         Fault::Memory => say(err, "memory"),
@@ -172,8 +172,8 @@ pub fn finish<W: Write>(
     ensures status { result ≡ status_of answer.now }
     ensures silent { OnOk answer.now (WritesNothing W.contents err.old err.new) }
 
-    // The line is written wherever `err` notes no failure.
-    ensures line { IfErr answer.now (λ fault. is_faulted err.new ≡ false
+    // The line is written wherever no write of this call failed.
+    ensures line { IfErr answer.now (λ fault. IsFalse (has_failed err.old err.new)
         → Writes W.contents err.old err.new (fault_line files.now fault)) }
 {
     match answer {

@@ -40,16 +40,16 @@ WritesPart known before after =
     (verdict : declared.Verdict) × (sent : Text) × (rest : Text)
     × HasVerdict known verdict (sent ++ rest) × Appends before after sent
 
--- the cause of a fault: `known` are the input's bytes, where they are known, `faulted` says whether
--- a read failed, and `out_faulted` whether a write failed
+-- the cause of a fault: `known` are the input's bytes, where they are known, `failed` says whether
+-- a read failed, and `out_failed` whether a write failed
 abbrev pub IsCause : Option Text → Bool → Bool → ReplayFault → Type 0
-IsCause known faulted out_faulted Memory = ⊤
-IsCause known faulted out_faulted (History fault) =
+IsCause known failed out_failed Memory = ⊤
+IsCause known failed out_failed (History fault) =
     (fault ≢ history_faults.Memory)
     × IfSome known (λ input. (length input ≤ 1073741824) × IsHistoryFault input fault)
-IsCause known faulted out_faulted Device = IsTrue faulted
-IsCause known faulted out_faulted TooLong = IfSome known (λ input. 1073741824 < length input)
-IsCause known faulted out_faulted Write = IsTrue out_faulted
+IsCause known failed out_failed Device = IsTrue failed
+IsCause known failed out_failed TooLong = IfSome known (λ input. 1073741824 < length input)
+IsCause known failed out_failed Write = IsTrue out_failed
 
 -- the fault is one of a device: a read or a write failed
 abbrev pub IsDeviceFault : ReplayFault → Type 0

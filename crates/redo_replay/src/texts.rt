@@ -1,7 +1,7 @@
-ghost use Rattle.std.specs.Prelude.{◌≡◌, ◌≢◌, ◌↔◌, ◌⊎◌, List, true, false, IfSome, IfOk, IfErr, IsErrOf, IsErrAnd};
+ghost use Rattle.std.specs.Prelude.{◌≡◌, ◌≢◌, ◌↔◌, ◌⊎◌, List, false, IfSome, IfOk, IfErr, IsErrOf, IsErrAnd, IsTrue};
 ghost use Rattle.redo_model.specs.Names.{Text, texts};
 ghost use Rattle.redo_model.specs.History.{Line, Legal};
-ghost use Rattle.redo_whole.specs.Watched.{is_faulted};
+ghost use Rattle.redo_whole.specs.Watched.{failures_of, has_failed};
 ghost use Rattle.redo_whole.specs.Devices.{known_in, WritesNothing};
 ghost use Rattle.redo_history.specs.Inside.Recorded.{lines_of};
 ghost use Rattle.redo_replay.specs.Verdicts.{IsSame};
@@ -40,9 +40,9 @@ fn history_of<R: Read>(alloc: Global, input: &mut Watched<R>) -> Result<History,
     ensures same { (lines : List (Line Text)) → IsKnownAs (known_in R.remaining input.old) lines
         → IfOk result (λ history. lines_of history ≡ lines) }
     ensures cause { IfErr result
-        (IsCause (known_in R.remaining input.old) (is_faulted input.new) false) }
-    ensures flag { ¬ (IsErrAnd result IsDeviceFault)
-        → is_faulted input.new ≡ is_faulted input.old }
+        (IsCause (known_in R.remaining input.old) (has_failed input.old input.new) false) }
+    ensures others { ¬ (IsErrAnd result IsDeviceFault)
+        → failures_of input.new ≡ failures_of input.old }
 {
     let bytes = match read_whole(alloc, input, INPUT_LIMIT) {
         Ok(bytes) => bytes,
@@ -63,9 +63,9 @@ fn verdict_on_input<R: Read>(
     ensures same { (lines : List (Line Text)) → IsKnownAs (known_in R.remaining input.old) lines
         → IfOk result (λ judged. IsSame judged.0 ↔ Legal texts lines) }
     ensures cause { IfErr result
-        (IsCause (known_in R.remaining input.old) (is_faulted input.new) false) }
-    ensures flag { ¬ (IsErrAnd result IsDeviceFault)
-        → is_faulted input.new ≡ is_faulted input.old }
+        (IsCause (known_in R.remaining input.old) (has_failed input.old input.new) false) }
+    ensures others { ¬ (IsErrAnd result IsDeviceFault)
+        → failures_of input.new ≡ failures_of input.old }
 {
     let history = history_of(alloc, input)?;
     let verdict = replay(alloc, &history)?;
@@ -93,17 +93,16 @@ pub fn replay_text<R: Read, W: Write>(
 
     // Each fault has its cause.
     ensures cause { IfErr result (IsCause (known_in R.remaining input.old)
-        (is_faulted input.new) (is_faulted out.new)) }
+        (has_failed input.old input.new) (has_failed out.old out.new)) }
     ensures nothing_written { IfErr result (λ fault. fault ≢ ReplayFault.Write
         → WritesNothing W.contents out.old out.new) }
     ensures part_written { IsErrOf result ReplayFault.Write
         → WritesPart (known_in R.remaining input.old)
         (known_in W.contents out.old) (known_in W.contents out.new) }
 
-    // A device's fault is answered exactly where a read or a write failed.
-    ensures device { is_faulted input.old ≡ false → is_faulted out.old ≡ false
-        → (IsErrAnd result IsDeviceFault
-        ↔ ((is_faulted input.new ≡ true) ⊎ (is_faulted out.new ≡ true))) }
+    // A device's fault is answered exactly where a read or a write of this call failed.
+    ensures device { IsErrAnd result IsDeviceFault
+        ↔ (IsTrue (has_failed input.old input.new) ⊎ IsTrue (has_failed out.old out.new)) }
 {
     let (verdict, text) = verdict_on_input(alloc, input)?;
     match write_whole(out, &text) {

@@ -1,9 +1,7 @@
 -- Files that are accepted one after another.
-use Rattle.std.proofs.Common.{◌≡◌, ℕ, ◌+◌, ◌<◌, ◌≤◌, suc, Bool, false, Option, None, Result, Ok, Err, ◌⊎◌, inl, inr, List, [], ◌∷◌, ◌++◌, map, take, length, get_or, refl, sym, ap, ◌∙◌, subst, arith}
+use Rattle.std.proofs.Common.{◌≡◌, ℕ, ◌+◌, ◌<◌, suc, Bool, false, Option, None, Result, Ok, Err, ◌⊎◌, inl, inr, List, [], ◌∷◌, ◌++◌, map, take, length, get_or, refl, sym, ap, ◌∙◌, subst, arith}
 use Rattle.std.proofs.lemmas.List.{length-map, nil_from_length, take_more}
-use Rattle.std.specs.Prelude.{IfErr, IfOk, OnOk, Vec}
-use mathlib.Core.Logic.{dite}
-use native.Mathlib.Decide.{dec_lt}
+use Rattle.std.specs.Prelude.{IfErr}
 use Rattle.redo_names.specs.Inside.Names.{Extends}
 use Rattle.redo_model.specs.Names.{Text}
 use Rattle.redo_model.specs.Command as commands
@@ -124,22 +122,22 @@ files_more known initial files at d old new scripts script long within same x be
 
 -- the cause of a fault after the files are accepted
 pub IsCause-sessions : {X : Type 0} (result : Result X TextFault) (files : List (Option Text))
-    (faulted : List Bool) (scripts : List (List (commands.Item Text))) (names : List Text)
+    (failed : ℕ → Bool) (scripts : List (List (commands.Item Text))) (names : List Text)
     → AreAccepted [] files scripts names
     → (result ≡ Err TooManySessions → 64 < length scripts) → (result ≡ Err NoSession → scripts ≡ [])
     → IfErr result (λ fault. (fault ≡ Memory) ⊎ (fault ≡ NoSession) ⊎ (fault ≡ TooManySessions))
-    → IfErr result (IsCause files faulted false)
-IsCause-sessions (Ok x) files faulted scripts names are many none others = tt
-IsCause-sessions (Err Memory) files faulted scripts names are many none others = tt
-IsCause-sessions (Err TooManySessions) files faulted scripts names are many none others =
+    → IfErr result (IsCause files failed false)
+IsCause-sessions (Ok x) files failed scripts names are many none others = tt
+IsCause-sessions (Err Memory) files failed scripts names are many none others = tt
+IsCause-sessions (Err TooManySessions) files failed scripts names are many none others =
     (rw (AreAccepted-length [] files scripts names are) (many refl), (scripts, names, are))
-IsCause-sessions (Err NoSession) files faulted scripts names are many none others =
+IsCause-sessions (Err NoSession) files failed scripts names are many none others =
     nil_from_length files (AreAccepted-length [] files scripts names are ∙ ap length (none refl))
-IsCause-sessions (Err (Read file line fault)) files faulted scripts names are many none others =
+IsCause-sessions (Err (Read file line fault)) files failed scripts names are many none others =
     absurd (elim others [ inl e ↦ cc | inr (inl e) ↦ cc | inr (inr e) ↦ cc ])
-IsCause-sessions (Err Write) files faulted scripts names are many none others =
+IsCause-sessions (Err Write) files failed scripts names are many none others =
     absurd (elim others [ inl e ↦ cc | inr (inl e) ↦ cc | inr (inr e) ↦ cc ])
-IsCause-sessions (Err (Device file)) files faulted scripts names are many none others =
+IsCause-sessions (Err (Device file)) files failed scripts names are many none others =
     absurd (elim others [ inl e ↦ cc | inr (inl e) ↦ cc | inr (inr e) ↦ cc ])
-IsCause-sessions (Err (TooLong file)) files faulted scripts names are many none others =
+IsCause-sessions (Err (TooLong file)) files failed scripts names are many none others =
     absurd (elim others [ inl e ↦ cc | inr (inl e) ↦ cc | inr (inr e) ↦ cc ])

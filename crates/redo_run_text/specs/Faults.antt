@@ -1,5 +1,5 @@
 -- Why a run is refused: each fault with its cause.
-use Rattle.std.specs.Prelude.{◌≡◌, ℕ, ◌<◌, ◌≤◌, Bool, false, List, [], length, take, Option, None, IfSome, IsTrue, slice_index_or, ⊤}
+use Rattle.std.specs.Prelude.{◌≡◌, ℕ, ◌<◌, ◌≤◌, Bool, List, [], length, take, Option, None, IfSome, IsTrue, slice_index_or, ⊤}
 use Rattle.redo_model.specs.Names.{Text}
 use Rattle.redo_model.specs.Command.{Item}
 use Rattle.redo_text.specs.Faults.{IsFirstFault}
@@ -22,23 +22,23 @@ HasFaultyLine names line fault bytes =
 abbrev pub AreTooLong : Text → Type 0
 AreTooLong bytes = 67108864 < length bytes
 
--- the cause of a fault: `files` are the files' bytes, where they are known, `faulted` says of which
--- files a read failed, and `out_faulted` whether a write failed
-abbrev pub IsCause : List (Option Text) → List Bool → Bool → TextFault → Type 0
-IsCause files faulted out_faulted Memory = ⊤
-IsCause files faulted out_faulted (Read file line fault) =
+-- the cause of a fault: `files` are the files' bytes, where they are known, `failed` says of which
+-- files a read failed, and `out_failed` whether a write failed
+abbrev pub IsCause : List (Option Text) → (ℕ → Bool) → Bool → TextFault → Type 0
+IsCause files failed out_failed Memory = ⊤
+IsCause files failed out_failed (Read file line fault) =
     (names : List Text) × FilesBefore files file names
     × IfSome (slice_index_or files file None) (HasFaultyLine names line fault)
-IsCause files faulted out_faulted TooManySessions =
+IsCause files failed out_failed TooManySessions =
     (64 < length files)
     × ((scripts : List (List (Item Text))) × (names : List Text)
     × AreAccepted [] files scripts names)
-IsCause files faulted out_faulted NoSession = files ≡ []
-IsCause files faulted out_faulted Write =
-    ((scripts : List (List (Item Text))) × AreSessions files scripts) × IsTrue out_faulted
-IsCause files faulted out_faulted (Device file) =
-    (names : List Text) × FilesBefore files file names × IsTrue (slice_index_or faulted file false)
-IsCause files faulted out_faulted (TooLong file) =
+IsCause files failed out_failed NoSession = files ≡ []
+IsCause files failed out_failed Write =
+    ((scripts : List (List (Item Text))) × AreSessions files scripts) × IsTrue out_failed
+IsCause files failed out_failed (Device file) =
+    (names : List Text) × FilesBefore files file names × IsTrue (failed file)
+IsCause files failed out_failed (TooLong file) =
     (names : List Text) × FilesBefore files file names
     × IfSome (slice_index_or files file None) AreTooLong
 

@@ -1,19 +1,27 @@
 -- What is read from session files, one after another.
-use Rattle.std.specs.Prelude.{◌≡◌, ◌≤◌, Bool, List, [], ◌∷◌, length, map, Option, IfSome}
+use Rattle.std.specs.Prelude.{◌≡◌, ℕ, ◌≤◌, ◌==◌, Bool, not, List, [], ◌∷◌, length, map, Option, IfSome, slice_index_or}
 use Rattle.redo_model.specs.Names.{Text}
 use Rattle.redo_model.specs.Command.{Item}
 use Rattle.redo_text.specs.Grammar.{IsScript}
 use Rattle.redo_whole.specs.declared.watched.Watched.{Watched}
-use Rattle.redo_whole.specs.Watched.{is_faulted}
+use Rattle.redo_whole.specs.Watched.{failures_of}
 use Rattle.redo_whole.specs.Devices.{known_in}
 
 -- what each file has left, where it is known; `remaining` says it of a reader
 abbrev pub bytes_of_files : {R : Type 0} → (R → Option Text) → List (Watched R) → List (Option Text)
 bytes_of_files remaining files = map (known_in remaining) files
 
+-- how many reads of each file failed
+abbrev pub failures_of_files : {R : Type 0} → List (Watched R) → List ℕ
+failures_of_files files = map (λ file. failures_of file) files
+
+-- whether a read of this file failed on the way from the one count to the other
+abbrev pub failed_at : List ℕ → List ℕ → ℕ → Bool
+failed_at before after file = not (slice_index_or after file 0 == slice_index_or before file 0)
+
 -- of which files a read failed
-abbrev pub flags_of_files : {R : Type 0} → List (Watched R) → List Bool
-flags_of_files files = map (λ file. is_faulted file) files
+abbrev pub failed_files : {R : Type 0} → List (Watched R) → List (Watched R) → ℕ → Bool
+failed_files before after = failed_at (failures_of_files before) (failures_of_files after)
 
 -- the file's bytes, where they are known, are a script of these lines, with the names before
 -- and after it

@@ -1,10 +1,10 @@
 ghost use Rattle.std.specs.Prelude.{◌≡◌, ◌↔◌, ℕ, ◌<◌, false, [], length, map, IfOk, IfErr, IsErrAnd, OnErr};
 ghost use Rattle.redo_names.specs.Inside.Names.{Extends};
 ghost use Rattle.redo_terms.specs.Inside.Meaning.{item_at};
-ghost use Rattle.redo_whole.specs.Watched.{is_faulted};
+ghost use Rattle.redo_whole.specs.Watched.{failures_of, has_failed};
 ghost use Rattle.redo_whole.specs.Devices.{known_in};
 ghost use Rattle.redo_run_text.specs.Files.{IsAccepted, AreAccepted};
-ghost use Rattle.redo_run_text.specs.Files.{bytes_of_files, flags_of_files};
+ghost use Rattle.redo_run_text.specs.Files.{bytes_of_files, failures_of_files, failed_files};
 ghost use Rattle.redo_run_text.specs.Inside.Files.{scripts_at, IsScriptBelow, AreScriptsBelow};
 ghost use Rattle.redo_run_text.specs.Faults.{IsCause, IsDeviceFault};
 ghost use Rattle.redo_run_text.specs.Inside.Faults.{IsFileCause};
@@ -56,8 +56,9 @@ fn read_file<R: Read>(
     ensures below { IfOk result (IsScriptBelow names.new) }
     ensures kept { Extends names.old names.new }
     ensures cause { IfErr result (IsFileCause names.old
-        (known_in R.remaining file.old) (is_faulted file.new) at) }
-    ensures flag { ¬ (IsErrAnd result IsDeviceFault) → is_faulted file.new ≡ is_faulted file.old }
+        (known_in R.remaining file.old) (has_failed file.old file.new) at) }
+    ensures others { ¬ (IsErrAnd result IsDeviceFault)
+        → failures_of file.new ≡ failures_of file.old }
 {
     let text = match read_whole(alloc, file, FILE_LIMIT) {
         Ok(text) => text,
@@ -85,12 +86,12 @@ pub fn read_files<R: Read>(
 
     // Each fault has its cause; without a file there is none.
     ensures cause { IfErr result (IsCause
-        (bytes_of_files R.remaining files.old) (flags_of_files files.new) false) }
+        (bytes_of_files R.remaining files.old) (failed_files files.old files.new) false) }
     ensures some { OnErr result (0 < length files.old) }
 
-    // Only where a device failed, a file remembers that it did.
-    ensures flags { ¬ (IsErrAnd result IsDeviceFault)
-        → flags_of_files files.new ≡ flags_of_files files.old }
+    // Only where a device failed, a file counts a failure more.
+    ensures others { ¬ (IsErrAnd result IsDeviceFault)
+        → failures_of_files files.new ≡ failures_of_files files.old }
 {
     let mut scripts = Vec::new(alloc);
     for (at, file) in files.iter_mut().enumerate() {

@@ -48,32 +48,32 @@ no_read names (t ∷ ts) (s ∷ scripts) after (m, is, are) (suc k) less (b ∷ 
 module _ (texts : List Text) (scripts : List (List (Item Text))) (names : List Text)
     (some : 1 ≤ length (map Some texts)) (few : length (map Some texts) ≤ 64)
     (are : AreAccepted [] (map Some texts) scripts names) where
-  only_for : (flags : List Bool) (out : Bool) (fault : TextFault)
-      → IsCause (map Some texts) flags out fault → (fault ≡ Memory) ⊎ IsDeviceFault fault
-  only_for flags out Memory cause = inl refl
-  only_for flags out (Read file line fault) (middle, (less, (before, front)), cause) =
+  only_for : (failed : ℕ → Bool) (out : Bool) (fault : TextFault)
+      → IsCause (map Some texts) failed out fault → (fault ≡ Memory) ⊎ IsDeviceFault fault
+  only_for failed out Memory cause = inl refl
+  only_for failed out (Read file line fault) (middle, (less, (before, front)), cause) =
       let no = no_read [] texts scripts names are file less before middle front in
       let first =
       subst
       (λ (o : Option Text). IfSome o (λ bytes. (length bytes ≤ 67108864)
       × IsFirstFault middle bytes line fault)) no.1 cause in
       absurd (no.3 line fault first.1)
-  only_for flags out TooManySessions cause = let many = cause.0 in absurd (omega arith)
-  only_for flags out NoSession cause = let none = ap length cause in absurd (omega arith)
-  only_for flags out Write cause = inr tt
-  only_for flags out (Device file) cause = inr tt
-  only_for flags out (TooLong file) (middle, (less, (before, front)), cause) =
+  only_for failed out TooManySessions cause = let many = cause.0 in absurd (omega arith)
+  only_for failed out NoSession cause = let none = ap length cause in absurd (omega arith)
+  only_for failed out Write cause = inr tt
+  only_for failed out (Device file) cause = inr tt
+  only_for failed out (TooLong file) (middle, (less, (before, front)), cause) =
       let no = no_read [] texts scripts names are file less before middle front in
       let long =
       subst (λ (o : Option Text). IfSome o (λ bytes. 67108864 < length bytes)) no.1 cause in
       let short = no.2 in
       absurd (omega arith)
 
-pub refused_only : (files : List (Option Text)) (flags : List Bool) (out : Bool)
-    (fault : TextFault) → AreKnownSessions files → IsCause files flags out fault
+pub refused_only : (files : List (Option Text)) (failed : ℕ → Bool) (out : Bool)
+    (fault : TextFault) → AreKnownSessions files → IsCause files failed out fault
     → (fault ≡ Memory) ⊎ IsDeviceFault fault
-refused_only files flags out fault (texts, same, (scripts, (some, few, (names, are)))) cause =
+refused_only files failed out fault (texts, same, (scripts, (some, few, (names, are)))) cause =
     only_for texts scripts names (subst (λ (fs : List (Option Text)). 1 ≤ length fs) same some)
     (subst (λ (fs : List (Option Text)). length fs ≤ 64) same few)
-    (subst (λ (fs : List (Option Text)). AreAccepted [] fs scripts names) same are) flags out fault
-    (subst (λ (fs : List (Option Text)). IsCause fs flags out fault) same cause)
+    (subst (λ (fs : List (Option Text)). AreAccepted [] fs scripts names) same are) failed out fault
+    (subst (λ (fs : List (Option Text)). IsCause fs failed out fault) same cause)

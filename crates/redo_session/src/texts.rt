@@ -1,8 +1,8 @@
-ghost use Rattle.std.specs.Prelude.{◌≡◌, ◌≢◌, ◌↔◌, ◌⊎◌, ◌<◌, ◌≤◌, [], false, true, length, map, Any, All, IfOk, IfErr, OnOk, IsErrOf, IsErrAnd};
-ghost use Rattle.redo_whole.specs.Watched.{is_faulted};
+ghost use Rattle.std.specs.Prelude.{◌≡◌, ◌≢◌, ◌↔◌, ◌⊎◌, ℕ, ◌<◌, ◌≤◌, [], false, length, map, IfOk, IfErr, OnOk, IsErrOf, IsErrAnd, IsTrue};
+ghost use Rattle.redo_whole.specs.Watched.{has_failed};
 ghost use Rattle.redo_whole.specs.Devices.{known_in, WritesNothing};
 ghost use Rattle.redo_session.specs.Runs.{IsRunText, RunsAs, WritesRun, WritesPart, AreKnownSessions};
-ghost use Rattle.redo_run_text.specs.Files.{bytes_of_files, flags_of_files};
+ghost use Rattle.redo_run_text.specs.Files.{bytes_of_files, failures_of_files, failed_files};
 ghost use Rattle.redo_run_text.specs.Inside.Files.{scripts_at, AreScriptsBelow};
 ghost use Rattle.redo_run_text.specs.Faults.{IsCause, IsDeviceFault};
 
@@ -60,10 +60,10 @@ fn text_of_files<R: Read, T: Threads + Wait + Sync>(
     ensures text { IfOk result (λ text. RunsAs
         (bytes_of_files R.remaining files.old) text.items) }
     ensures cause { IfErr result (IsCause
-        (bytes_of_files R.remaining files.old) (flags_of_files files.new) false) }
+        (bytes_of_files R.remaining files.old) (failed_files files.old files.new) false) }
     ensures none { files.old ≡ [] → IsErrOf result TextFault.NoSession }
-    ensures flags { ¬ (IsErrAnd result IsDeviceFault)
-        → flags_of_files files.new ≡ flags_of_files files.old }
+    ensures others { ¬ (IsErrAnd result IsDeviceFault)
+        → failures_of_files files.new ≡ failures_of_files files.old }
 {
     let mut names = Names::new(alloc);
     let scripts = read_files(alloc, files, &mut names)?;
@@ -88,7 +88,7 @@ pub fn run_texts<R: Read, W: Write, T: Threads + Wait + Sync>(
 
     // Each fault has its cause, in the order of the work.
     ensures cause { IfErr result (IsCause (bytes_of_files R.remaining files.old)
-        (flags_of_files files.new) (is_faulted out.new)) }
+        (failed_files files.old files.new) (has_failed out.old out.new)) }
     ensures nothing_written { IfErr result (λ fault. fault ≢ TextFault.Write
         → WritesNothing W.contents out.old out.new) }
     ensures part_written { IsErrOf result TextFault.Write
@@ -99,10 +99,10 @@ pub fn run_texts<R: Read, W: Write, T: Threads + Wait + Sync>(
     ensures only { AreKnownSessions (bytes_of_files R.remaining files.old)
         → IfErr result (λ fault. (fault ≡ TextFault.Memory) ⊎ IsDeviceFault fault) }
 
-    // A device's fault is answered exactly where a read or a write failed.
-    ensures device { All (λ file. is_faulted file ≡ false) files.old → is_faulted out.old ≡ false
-        → (IsErrAnd result IsDeviceFault ↔ (Any (λ file. is_faulted file ≡ true) files.new
-        ⊎ (is_faulted out.new ≡ true))) }
+    // A device's fault is answered exactly where a read or a write of this call failed.
+    ensures device { IsErrAnd result IsDeviceFault
+        ↔ (((file : ℕ) × IsTrue (failed_files files.old files.new file))
+        ⊎ IsTrue (has_failed out.old out.new)) }
 {
     let text = text_of_files(rt, alloc, files)?;
     match write_whole(out, &text) {

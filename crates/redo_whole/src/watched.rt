@@ -1,36 +1,52 @@
-ghost use Rattle.std.specs.Prelude.{◌≡◌, ◌||◌, ◌≤◌, ◌<◌, [], false, length, take, is_none, is_err, IfNone, IfSome, MatchOption};
+ghost use Rattle.std.specs.Prelude.{◌≡◌, ◌==◌, ◌||◌, ◌≤◌, ◌<◌, [], not, length, take, is_none, is_err, IfNone, IfSome, MatchOption};
 ghost use Rattle.std.specs.Io.KnownBytes.{Consumes, Appends, Keeps, IsAtEnd};
-ghost use Rattle.redo_whole.specs.Watched.{is_faulted as fault_of, inner_of};
+ghost use Rattle.redo_whole.specs.Watched.{failures_of, has_failed, inner_of};
+ghost use Rattle.redo_whole.specs.Inside.Counts.{counted, is_faulted};
 
 use crate::whole::WriteFault;
 use std::io::{Read, Write};
 
-/// A reader or a writer that remembers whether it failed.
+/// A reader or a writer that counts its failures.
 ///
 /// It failed where a read, a write or a flush of it gave an error, or a write of some bytes took none.
 #[derive(Drop)]
 pub struct Watched<T> {
     inner: T,
-    is_faulted: bool,
+    failures: u64,
+}
+
+/// The count of failures after a call: one more where it failed. After the greatest comes 1, so that
+/// each failure changes the count, and none makes it 0.
+#[tactic(auto, using(crate::proofs::Counts::count_changes, crate::proofs::Counts::count_is_some))]
+fn counted(failed: bool, failures: u64) -> u64
+    ensures count { result ≡ counted failed failures }
+    ensures some { not (result == 0) ≡ (not (failures == 0) || failed) }
+    ensures another { not (result == failures) ≡ failed }
+{
+    if !failed {
+        return failures;
+    }
+    if failures == u64::MAX {
+        1
+    } else {
+        failures + 1
+    }
 }
 
 impl<T> Watched<T> {
     /// Watches a reader or a writer from here on.
     pub fn new(inner: T) -> Self
         ensures inner { inner_of result ≡ inner }
-        ensures flag { fault_of result ≡ false }
+        ensures count { failures_of result ≡ 0 }
     {
-        Watched {
-            inner,
-            is_faulted: false,
-        }
+        Watched { inner, failures: 0 }
     }
 
     /// Whether a call of it failed.
     pub fn faulted(&self) -> bool
-        ensures { result ≡ fault_of self.now }
+        ensures { result ≡ is_faulted self.now }
     {
-        self.is_faulted
+        self.failures != 0
     }
 }
 
@@ -44,10 +60,12 @@ impl<R: Read> Watched<R> {
             (λ n. n ≡ 0 → 0 < length buf.new → IsAtEnd (R.remaining (inner_of self.new))) }
         ensures failed { IfNone result (Keeps (R.remaining (inner_of self.old))
             (R.remaining (inner_of self.new))) }
-        ensures flag { fault_of self.new ≡ (fault_of self.old || is_none result) }
+        ensures count { failures_of self.new ≡ counted (is_none result) (failures_of self.old) }
+        ensures noted { has_failed self.old self.new ≡ is_none result }
+        ensures flag { is_faulted self.new ≡ (is_faulted self.old || is_none result) }
     {
         let given = self.inner.read(buf).ok();
-        self.is_faulted |= given.is_none();
+        self.failures = counted(given.is_none(), self.failures);
         given
     }
 }
@@ -61,20 +79,24 @@ impl<W: Write> Watched<W> {
             (Appends (W.contents (inner_of self.old)) (W.contents (inner_of self.new)) [])
             (λ n. Appends (W.contents (inner_of self.old)) (W.contents (inner_of self.new))
             (take n bytes.now)) }
-        ensures flag { fault_of self.new ≡ (fault_of self.old || is_none result) }
+        ensures count { failures_of self.new ≡ counted (is_none result) (failures_of self.old) }
+        ensures noted { has_failed self.old self.new ≡ is_none result }
+        ensures flag { is_faulted self.new ≡ (is_faulted self.old || is_none result) }
     {
         let taken = self.inner.write(bytes).ok().filter(|n| *n > 0);
-        self.is_faulted |= taken.is_none();
+        self.failures = counted(taken.is_none(), self.failures);
         taken
     }
 
     /// Has the writer pass on what it holds back.
     pub fn flush(&mut self) -> Result<(), WriteFault>
         ensures kept { Keeps (W.contents (inner_of self.old)) (W.contents (inner_of self.new)) }
-        ensures flag { fault_of self.new ≡ (fault_of self.old || is_err result) }
+        ensures count { failures_of self.new ≡ counted (is_err result) (failures_of self.old) }
+        ensures noted { has_failed self.old self.new ≡ is_err result }
+        ensures flag { is_faulted self.new ≡ (is_faulted self.old || is_err result) }
     {
         let flushed = self.inner.flush();
-        self.is_faulted |= flushed.is_err();
+        self.failures = counted(flushed.is_err(), self.failures);
         flushed.map_err(|_| WriteFault::Write)
     }
 }

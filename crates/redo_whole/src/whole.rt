@@ -1,7 +1,8 @@
 ghost use Rattle.std.specs.Prelude.{◌≡◌, ◌||◌, ◌↔◌, ◌≤◌, ◌<◌, false, true, length, is_err, IfOk, IfSome, OnOk, OnErr, IsErrOf};
 ghost use Rattle.std.specs.Io.KnownBytes.{Appends, IsAtEnd};
-ghost use Rattle.redo_whole.specs.Watched.{is_faulted, inner_of};
+ghost use Rattle.redo_whole.specs.Watched.{failures_of, has_failed, inner_of};
 ghost use Rattle.redo_whole.specs.Inside.Watched.{AppendsFront, ConsumesSome};
+ghost use Rattle.redo_whole.specs.Inside.Counts.{counted, is_faulted};
 ghost use Rattle.redo_whole.specs.declared.whole.WholeFault.TheVariants.{Memory};
 
 use crate::watched::Watched;
@@ -60,9 +61,11 @@ pub fn read_whole<R: Read>(
         → ConsumesSome (R.remaining (inner_of reader.old)) (R.remaining (inner_of reader.new))
         limit }
 
-    ensures device { IsErrOf result WholeFault.Device → is_faulted reader.new ≡ true }
+    // A failed device is answered exactly where a read of this call failed.
+    ensures device { IsErrOf result WholeFault.Device ↔ (has_failed reader.old reader.new ≡ true) }
     ensures others { ¬ (IsErrOf result WholeFault.Device)
-        → is_faulted reader.new ≡ is_faulted reader.old }
+        → failures_of reader.new ≡ failures_of reader.old }
+    ensures flag { IsErrOf result WholeFault.Device → is_faulted reader.new ≡ true }
 {
     let mut whole = Vec::new(alloc);
     let mut buf = [0u8; READ_BYTES];
@@ -88,8 +91,10 @@ pub fn write_whole<W: Write>(writer: &mut Watched<W>, bytes: &[u8]) -> Result<()
         (Appends (W.contents (inner_of writer.old)) (W.contents (inner_of writer.new)) bytes.now) }
     ensures front { OnErr result (AppendsFront (W.contents (inner_of writer.old))
         (W.contents (inner_of writer.new)) bytes.now) }
-    ensures write { is_faulted writer.old ≡ false
-        → (IsErrOf result WriteFault.Write ↔ (is_faulted writer.new ≡ true)) }
+
+    // A failed write is answered exactly where a write of this call failed.
+    ensures write { IsErrOf result WriteFault.Write ↔ (has_failed writer.old writer.new ≡ true) }
+    ensures count { failures_of writer.new ≡ counted (is_err result) (failures_of writer.old) }
     ensures flag { is_faulted writer.new ≡ (is_faulted writer.old || is_err result) }
 {
     let mut at = 0;

@@ -1,7 +1,7 @@
 use Rattle.std.proofs.Common.{◌≡◌, ◌∙◌, false, refl, sym, subst}
 use Rattle.std.proofs.lemmas.Result.{err_from_is_err_and}
 use Rattle.redo_model.specs.Names.{Text}
-use Rattle.redo_whole.specs.Watched.{is_faulted, inner_of}
+use Rattle.redo_whole.specs.Watched.{has_failed, inner_of}
 use Rattle.redo_history.specs.HistoryTexts.{IsHistory}
 use Rattle.redo_history.specs.HistoryFaults.{IsHistoryFault}
 use Rattle.redo_replay.proofs.Inputs.{whole_known, memory_alone, read_alone, IsCause-read}
@@ -23,7 +23,7 @@ returns-in_err-read_history-clause-cause g c =
     let is = subst (λ (input : Text). IsHistoryFault input fault) c.deref.ensures.value
     c.in_err-read_history.ensures.fault in
     let cause = IsCause-read (g.R.Read.remaining (inner_of c.args.input.now)) c.in-Ok.bytes.items
-    (is_faulted c.read_whole.new.reader) false fault c.in-Ok.ensures.whole c.in-Ok.ensures.few
+    (has_failed c.args.input.now c.read_whole.new.reader) false fault c.in-Ok.ensures.whole c.in-Ok.ensures.few
     is in
     let p = err_from_is_err_and c.from_residual.result c.from_residual.ensures.1 in
     rw (p.1, p.2) cause

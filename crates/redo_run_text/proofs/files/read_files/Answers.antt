@@ -1,7 +1,7 @@
 use Rattle.std.proofs.Common.{◌∙◌, arith}
 use Rattle.std.proofs.lemmas.Result.{err_from_is_err_and}
 use Rattle.std.proofs.Math.Seq.{map-set_same}
-use Rattle.redo_whole.specs.Watched.{is_faulted, inner_of}
+use Rattle.redo_whole.specs.Watched.{failures_of, inner_of}
 use Rattle.redo_run_text.proofs.Causes.{IsCause-read, shown_after}
 use Rattle.redo_run_text.specs.Inside.Files.{scripts_at}
 use Rattle.redo_run_text.proofs.Accepted.{AreScriptsBelow-append, files_more}
@@ -11,26 +11,26 @@ pub returns-in_err-script-clause-cause : goal.returns-in_err-script-clause-cause
 returns-in_err-script-clause-cause g c =
     let at = c.loop-at.at in
     let same = c.loop-at.invariant.later at (omega arith) in
-    let cause = IsCause-read (λ file. g.R.Read.remaining (inner_of file)) (λ file. is_faulted file)
+    let cause = IsCause-read (λ file. g.R.Read.remaining (inner_of file)) (λ file. failures_of file)
     c.args.files.now c.loop-at.files at c.index-files-at.result c.read_file.new.file
     c.loop-at.names (scripts_at c.loop-at.names c.loop-at.scripts.items) c.in_err-script.field-0.0
-    (omega arith) (omega arith) c.loop-at.invariant.accepted same
+    (omega arith) (omega arith) c.loop-at.invariant.accepted same c.loop-at.invariant.counts
     c.in_err-script.ensures.cause in
     let p = err_from_is_err_and c.from_residual.result c.from_residual.ensures.1 in
     rw (p.1, p.2) cause
 
-pub returns-in_err-script-clause-flags : goal.returns-in_err-script-clause-flags
-returns-in_err-script-clause-flags g c =
+pub returns-in_err-script-clause-others : goal.returns-in_err-script-clause-others
+returns-in_err-script-clause-others g c =
     let p = err_from_is_err_and c.from_residual.result c.from_residual.ensures.1 in
-    rw (p.1, p.2) (λ quiet. map-set_same (λ file. is_faulted file) c.loop-at.files c.loop-at.at
-    c.read_file.new.file c.index-files-at.result (c.in_err-script.ensures.flag quiet)
-    ∙ c.loop-at.invariant.flags)
+    rw (p.1, p.2) (λ quiet. map-set_same (λ file. failures_of file) c.loop-at.files c.loop-at.at
+    c.read_file.new.file c.index-files-at.result (c.in_err-script.ensures.others quiet)
+    ∙ c.loop-at.invariant.counts)
 
-pub returns-in_err-push-clause-flags : goal.returns-in_err-push-clause-flags
-returns-in_err-push-clause-flags g c quiet =
-    map-set_same (λ file. is_faulted file) c.loop-at.files c.loop-at.at c.read_file.new.file
-    c.index-files-at.result (c.in_ok-script.ensures.flag (λ none. none))
-    ∙ c.loop-at.invariant.flags
+pub returns-in_err-push-clause-others : goal.returns-in_err-push-clause-others
+returns-in_err-push-clause-others g c quiet =
+    map-set_same (λ file. failures_of file) c.loop-at.files c.loop-at.at c.read_file.new.file
+    c.index-files-at.result (c.in_ok-script.ensures.others (λ none. none))
+    ∙ c.loop-at.invariant.counts
 
 pub loop-at-preserved : goal.loop-at-preserved
 loop-at-preserved g c =
@@ -52,7 +52,7 @@ loop-at-preserved g c =
       below = rw c.in_ok-push.ensures.items below;
       later = λ k after. shown_after (λ file. g.R.Read.remaining (inner_of file)) c.loop-at.files at
           k c.read_file.new.file (omega arith) ∙ c.loop-at.invariant.later k (omega arith);
-      flags = map-set_same (λ file. is_faulted file) c.loop-at.files c.loop-at.at
-          c.read_file.new.file c.index-files-at.result (c.in_ok-script.ensures.flag (λ none. none))
-          ∙ c.loop-at.invariant.flags;
+      counts = map-set_same (λ file. failures_of file) c.loop-at.files c.loop-at.at
+          c.read_file.new.file c.index-files-at.result (c.in_ok-script.ensures.others (λ none. none))
+          ∙ c.loop-at.invariant.counts;
     }

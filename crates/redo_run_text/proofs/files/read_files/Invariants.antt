@@ -1,6 +1,6 @@
 use Rattle.std.proofs.Common.{◌≡◌, ◌≤◌, ℕ, None, [], take, get_or}
 use Rattle.redo_run_text.specs.Files.{AreAccepted}
-use Rattle.redo_run_text.specs.Files.{bytes_of_files, flags_of_files}
+use Rattle.redo_run_text.specs.Files.{bytes_of_files, failures_of_files}
 use Rattle.redo_run_text.specs.Inside.Files.{AreScriptsBelow, scripts_at}
 use Rattle.redo_run_text.proofs.files.read_files.Given as goal
 
@@ -12,5 +12,5 @@ invariant-loop-at g l =
       accepted : AreAccepted [] (take l.at all) (scripts_at l.names l.scripts.items) l.names;
       below : AreScriptsBelow l.names l.scripts.items;
       later : (k : ℕ) → l.at ≤ k → get_or here k None ≡ get_or all k None;
-      flags : flags_of_files l.files ≡ flags_of_files l.initial.files;
+      counts : failures_of_files l.files ≡ failures_of_files l.initial.files;
     }

@@ -1,28 +1,30 @@
 use Rattle.std.proofs.Common.{◌∙◌, false, map, sym, subst, inl, inr}
+use Rattle.std.proofs.lemmas.Bool.{both_ways}
 use Rattle.std.proofs.lemmas.Result.{err_from_is_err_and}
 use Rattle.redo_model.specs.Names.{Text}
-use Rattle.redo_whole.specs.Watched.{is_faulted, inner_of}
+use Rattle.redo_whole.specs.Watched.{failures_of, has_failed, inner_of}
 use Rattle.redo_session.specs.Runs.{RunsAs}
-use Rattle.redo_run_text.specs.Files.{bytes_of_files, flags_of_files}
+use Rattle.redo_run_text.specs.Files.{bytes_of_files, failures_of_files, failed_files}
 use Rattle.redo_session.proofs.NoFault.{refused_only}
-use Rattle.redo_session.proofs.Devices.{device_read, no_flag}
+use Rattle.redo_session.proofs.Devices.{device_read, is_same, none_failed}
 use Rattle.redo_session.proofs.texts.run_texts.Goals as goal
 
 pub returns-in_err-text-clause-device : goal.returns-in_err-text-clause-device
 returns-in_err-text-clause-device g c =
     let p = err_from_is_err_and c.from_residual.result c.from_residual.ensures.1 in
-    rw (p.1, p.2) (device_read (λ file. is_faulted file)
-    (map (λ file. g.R.Read.remaining (inner_of file)) c.args.files.now) c.args.files.now
-    c.text_of_files.new.files (is_faulted c.args.out.now) c.in_err-text.field-0.0
-    c.in_err-text.ensures.cause c.in_err-text.ensures.flags)
+    rw (p.1, p.2) (device_read (bytes_of_files g.R.Read.remaining c.args.files.now)
+    (failures_of_files c.args.files.now) (failures_of_files c.text_of_files.new.files)
+    (has_failed c.args.out.now c.args.out.now) c.in_err-text.field-0.0
+    c.in_err-text.ensures.cause c.in_err-text.ensures.others
+    (is_same (failures_of c.args.out.now)))
 
 pub returns-in-Ok-clause-device : goal.returns-in-Ok-clause-device
-returns-in-Ok-clause-device g c down out_down = (
+returns-in-Ok-clause-device g c = (
   λ no. absurd no,
   λ up. elim up [
-    | inl any ↦ no_flag (λ file. is_faulted file) c.args.files.now c.text_of_files.new.files down
-        (c.in_ok-text.ensures.flags (λ no. no)) any
-    | inr out_up ↦ absurd (let wrong = (c.in-Ok.ensures.write out_down).1 out_up in cc)
+    | inl any ↦ none_failed (failures_of_files c.args.files.now)
+        (failures_of_files c.text_of_files.new.files) (c.in_ok-text.ensures.others (λ no. no)) any
+    | inr failed ↦ absurd (let wrong = c.in-Ok.ensures.write.1 failed in cc)
   ],
 )
 
@@ -41,5 +43,5 @@ pub returns-in_err-text-clause-only : goal.returns-in_err-text-clause-only
 returns-in_err-text-clause-only g c known =
     let p = err_from_is_err_and c.from_residual.result c.from_residual.ensures.1 in
     rw (p.1, p.2) (refused_only (bytes_of_files g.R.Read.remaining c.args.files.now)
-    (flags_of_files c.text_of_files.new.files) false c.in_err-text.field-0.0 known
+    (failed_files c.args.files.now c.text_of_files.new.files) false c.in_err-text.field-0.0 known
     c.in_err-text.ensures.cause)

@@ -2,7 +2,7 @@ use Rattle.std.proofs.Common.{◌≡◌, ◌∙◌, [], length, map, sym, ap}
 use Rattle.std.proofs.lemmas.List.{length-map, nil_from_length}
 use Rattle.redo_terms.specs.Inside.Meaning.{item_at}
 use Rattle.redo_whole.specs.Watched.{inner_of}
-use Rattle.redo_run_text.specs.Files.{bytes_of_files, flags_of_files}
+use Rattle.redo_run_text.specs.Files.{bytes_of_files, failed_files}
 use Rattle.redo_run_text.specs.Inside.Files.{scripts_at}
 use Rattle.redo_run_text.proofs.Accepted.{IsCause-sessions, AreAccepted-length}
 use Rattle.redo_session.proofs.RunTexts.{runs_as}
@@ -23,11 +23,11 @@ returns g c =
       text = runs_as c.text_of_scripts.result files scripts names are told.text told.few
           told.none.1;
       cause = IsCause-sessions c.text_of_scripts.result files
-          (flags_of_files c.read_files.new.files)
+          (failed_files c.args.files.now c.read_files.new.files)
           (scripts_at names scripts) names are
           (λ is. rw length-map (told.many.0 is))
           (λ is. ap (scripts_at names) (nil_from_length scripts (told.none.0 is)))
           told.others;
       none = λ empty. told.none.1 (sym long ∙ ap length empty);
-      flags = λ quiet. c.in_ok-scripts.ensures.flags (λ no. no);
+      others = λ quiet. c.in_ok-scripts.ensures.others (λ no. no);
     }

@@ -1,6 +1,6 @@
 use Rattle.std.proofs.Common.{◌≡◌, ◌≤◌, ◌-◌, length}
 use Rattle.std.specs.Io.KnownBytes.{Consumes}
-use Rattle.redo_whole.specs.Watched.{is_faulted, inner_of}
+use Rattle.redo_whole.specs.Watched.{failures_of, inner_of}
 use Rattle.redo_whole.proofs.whole.read_whole.Given as goal
 
 abbrev pub invariant-loop-n : goal.invariant-loop-n
@@ -8,7 +8,7 @@ invariant-loop-n g l = record {
   so_far : Consumes (g.R.Read.remaining (inner_of l.initial.reader))
       (g.R.Read.remaining (inner_of l.reader)) l.whole.items;
   few : length l.whole.items ≤ l.limit;
-  flag : is_faulted l.reader ≡ is_faulted l.initial.reader;
+  count : failures_of l.reader ≡ failures_of l.initial.reader;
 }
 
 abbrev pub decreases-loop-n : goal.decreases-loop-n

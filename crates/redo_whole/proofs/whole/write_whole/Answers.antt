@@ -48,5 +48,5 @@ loop-at-preserved g c =
       so_far = subst (λ (front : List ℕ). Appends (g.W.Write.contents (inner_of c.args.writer.now))
           (g.W.Write.contents (inner_of c.write.new.self)) front) joined sent;
       within = search rules;
-      flag = grind (arith, common_steps);
+      count = grind (arith, common_steps);
     }

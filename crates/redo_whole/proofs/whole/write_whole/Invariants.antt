@@ -1,6 +1,6 @@
 use Rattle.std.proofs.Common.{◌≡◌, ◌≤◌, ◌-◌, length, take}
 use Rattle.std.specs.Io.KnownBytes.{Appends}
-use Rattle.redo_whole.specs.Watched.{is_faulted, inner_of}
+use Rattle.redo_whole.specs.Watched.{failures_of, inner_of}
 use Rattle.redo_whole.proofs.whole.write_whole.Given as goal
 
 abbrev pub invariant-loop-at : goal.invariant-loop-at
@@ -8,7 +8,7 @@ invariant-loop-at g l = record {
   so_far : Appends (g.W.Write.contents (inner_of l.initial.writer))
       (g.W.Write.contents (inner_of l.writer)) (take l.at l.bytes);
   within : l.at ≤ length l.bytes;
-  flag : is_faulted l.writer ≡ is_faulted l.initial.writer;
+  count : failures_of l.writer ≡ failures_of l.initial.writer;
 }
 
 abbrev pub decreases-loop-at : goal.decreases-loop-at
