@@ -119,23 +119,24 @@ joint-of p log v plan h fits all = (
   placed_told p log plan h,
 )
 
+-- a history over the names is one over the numbers
+pub over_numbers : (p : PlanOf) (lines : List Line) → IsPlan p → IsHistoryOf p lines
+    → IsLegalOfPlan (naming_of p) (script_of p) lines
+over_numbers p lines plan h = record {
+  of_plan = h.of_plan;
+  placed = h.placed;
+  legal =
+      (legal_by_name (numbering_is_renaming p.names plan.names.distinct) texts texts_are_names
+      (naming_of p).order (record { alike = λ k m a b. refl }) (map line_of lines) h.below).1
+      (subst (Legal texts) (sym (map_map line_of (named_line (text_at p.names)) lines)) h.legal);
+  few = no_script p plan;
+  below = below_most p plan (map line_of lines) h.below;
+}
+
 -- two histories with the same row words leave the same records
 pub words_fix : (p : PlanOf) (one other : List Line) → IsPlan p → IsHistoryOf p one
     → IsHistoryOf p other → words_of p one ≡ words_of p other
     → records_left (naming_of p) one ≡ records_left (naming_of p) other
 words_fix p one other plan a b same =
-    joint.words_fix (by_text_is_naming p.names) (script_of p) one other (at one a) (at other b) same
-  where
-    at : (lines : List Line) → IsHistoryOf p lines
-        → IsLegalOfPlan (naming_of p) (script_of p) lines
-    at lines h = record {
-      of_plan = h.of_plan;
-      placed = h.placed;
-      legal =
-          (legal_by_name (numbering_is_renaming p.names plan.names.distinct) texts texts_are_names
-          (naming_of p).order (record { alike = λ k m a b. refl }) (map line_of lines) h.below).1
-          (subst (Legal texts) (sym (map_map line_of (named_line (text_at p.names)) lines))
-          h.legal);
-      few = no_script p plan;
-      below = below_most p plan (map line_of lines) h.below;
-    }
+    joint.words_fix (by_text_is_naming p.names) (script_of p) one other
+    (over_numbers p one plan a) (over_numbers p other plan b) same

@@ -30,5 +30,6 @@ pub mod Told
 pub mod Own
 pub mod Briefs
 pub mod Ended
-pub mod Running
+pub mod RowsLeft
+mod Running
 pub mod Sessions

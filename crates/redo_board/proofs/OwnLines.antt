@@ -11,6 +11,7 @@ use Rattle.redo_model.specs.Closing as closing
 use Rattle.redo_model.specs.Closing.{closing_of}
 use Rattle.redo_model.specs.Inside.Room.{is_lock, is_failed, locks_in, starts_in, room_of}
 use Rattle.redo_model.specs.Journals.{Numbered, numbered, next_of, IsJournal, IsJournalAfter}
+use Rattle.redo_model.specs.Inside.Journals.{IsOfPlan}
 use Rattle.redo_model.proofs.JournalRoom.{ClosingsOkay, journal_room, numbers_fit}
 use Rattle.redo_model.proofs.Letting.{closing_held}
 use Rattle.redo_model.proofs.Nexts.{next_past_script}
@@ -70,15 +71,20 @@ module _ (p : PlanOf) (plan : IsPlan p) where
   all_okay [] tell = tt
   all_okay (line ∷ lines) tell = (tell.0.okay, all_okay lines tell.1)
 
+  pub own_of : (log : List Line) → IsOfPlan (naming_of p) (script_of p) log
+      → AllTell (by_text_is_naming p.names) (script_of p) log
+      → AllByRecursion (RowAsked p plan) log → (s : ℕ) → IsOwn p s (part_of s log)
+  own_of log of_plan tell asked s = record {
+    journal = of_plan.journals s;
+    okay = parts_all (λ u line. length (script_of p u) ≤ line.number → line.reply ≡ Okay) log
+        (all_okay log tell) s;
+    rows = parts_all (λ u line. RowIs (script_of p u) line) log (rows_are log tell asked) s;
+  }
+
   pub own_told : (log : List Line) → IsLegal p start log → (s : ℕ) → IsOwn p s (part_of s log)
-  own_told log legal s =
-      let tell = all_told p log plan legal in record {
-        journal = (of_plan_told p log plan legal).journals s;
-        okay = parts_all (λ u line. length (script_of p u) ≤ line.number → line.reply ≡ Okay) log
-            (all_okay log tell) s;
-        rows = parts_all (λ u line. RowIs (script_of p u) line) log
-            (rows_are log tell (rows_asked p plan start log (start-sound p) legal)) s;
-      }
+  own_told log legal =
+      own_of log (of_plan_told p log plan legal) (all_told p log plan legal)
+      (rows_asked p plan start log (start-sound p) legal)
 
 module _ (p : PlanOf) (s : ℕ) where
   pub own_rows : (lines : List Line) → IsOwn p s lines

@@ -1,12 +1,15 @@
 //! What the board keeps while sessions work on it.
 
 ghost use Rattle.atomic_table.specs.Table.{State};
-ghost use Rattle.std.specs.Prelude.{◌≡◌, List};
+ghost use Rattle.std.specs.Prelude.{◌≡◌, ℕ, ◌<◌, List, Some, length};
+ghost use Rattle.redo_model.specs.Placed.{part_of, rows_in};
+ghost use Rattle.redo_model.specs.Journals.{Numbered};
 ghost use Rattle.redo_joint.specs.ByRows.{records_left};
 ghost use Rattle.redo_journal.specs.Plans.{PlanOf, IsPlan};
-ghost use Rattle.redo_board.specs.Core.{Line};
+ghost use Rattle.redo_board.specs.Core.{Line, row};
 ghost use Rattle.redo_board.specs.Histories.{IsHistoryOf, Runs, words_of};
-ghost use Rattle.redo_board.specs.Rows.{naming_of};
+ghost use Rattle.redo_board.specs.Plays.{next, own_way};
+ghost use Rattle.redo_board.specs.Rows.{naming_of, rows_of};
 ghost use Rattle.redo_board.specs.Rule.{Orderly};
 ghost use Rattle.redo_board.specs.Views.{ViewOf};
 
@@ -24,4 +27,14 @@ pub fn words_fix_the_state()
         IsPlan p → IsHistoryOf p one → IsHistoryOf p other →
         words_of p one ≡ words_of p other →
         records_left (naming_of p) one ≡ records_left (naming_of p) other }
+{}
+
+/// No row is ever wanting: where what a session does next is on a row, a history of the plan has
+/// filled fewer rows than the board has.
+#[tactic(auto, using(crate::proofs::RowsLeft::row_left))]
+pub fn no_row_is_wanting()
+    ensures { (p : PlanOf) (lines : List Line) (s : ℕ) (n : Numbered ℕ) →
+        IsPlan p → IsHistoryOf p lines → s < length p.scripts →
+        next p s (part_of s lines) ≡ Some n → own_way (part_of s lines) n.command ≡ row →
+        rows_in lines < rows_of p }
 {}

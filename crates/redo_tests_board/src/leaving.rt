@@ -60,6 +60,16 @@ const AFTER_ONE_CLOSING: Left = Left {
     history: "history 4\n1 lock t => granted 1\n1 start t => ok\n1 failed t => ok\n2 lock t => busy 1\n",
 };
 
+/// A closing command and a session that loses each row before fill all rows of the board, of which
+/// the plan has three: two for the `start`, and one for the `file`.
+const IN_THE_LAST_ROW: Left = Left {
+    files: ["lock t\nstart t\n", "file a 1\n"],
+    steps: [3, 1],
+    rows: 3,
+    tries: [2, 3],
+    history: "history 4\n1 lock t => granted 1\n1 start t => ok\n1 failed t => ok\n2 file a 1 => ok\n",
+};
+
 /// The sessions leave after so many steps: the number of filled rows, and the journals.
 fn leave_apart(
     rt: &impl Abort,
@@ -122,7 +132,12 @@ fn check_left(rt: &impl Abort, alloc: Global, left: &Left) -> Result<(), AllocEr
 
 #[test]
 fn leaves_in_the_middle(rt: HostRuntime) -> Result<(), AllocError> {
-    for left in &[IN_THE_MIDDLE, AFTER_ITS_LINES, AFTER_ONE_CLOSING] {
+    for left in &[
+        IN_THE_MIDDLE,
+        AFTER_ITS_LINES,
+        AFTER_ONE_CLOSING,
+        IN_THE_LAST_ROW,
+    ] {
         check_left(&rt, rt.alloc(), left)?;
     }
     Ok(())
