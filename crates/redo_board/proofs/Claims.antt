@@ -70,6 +70,11 @@ module _ (p : PlanOf) (s : St) (o : Orderly p s) (id t : ℕ) (j : List Line) (s
       ∙ o.claims v h
       ∙ sym (each v ∙ ap (λ b. cond b m (claim_of c₁.state.locks v)) (ne_eqb u v ne)))
 
+  -- no claim changes the seats' word
+  first-word : (m : ℕ)
+      → get_or (set s.words (rows_of p + 1 + u) m) 0 0 ≡ get_or s.words 0 0
+  first-word m = get_or-set_other s.words (rows_of p + 1 + u) 0 m 0 (λ q. omega arith)
+
   -- no claim changes a row
   same-rows : (m : ℕ) (l : Line) → (done p c₁ l).rows ≡ c₁.rows → (r : ℕ) → r < rows_of p
       → get_or (set s.words (rows_of p + 1 + u) m) (r + 1) 0 ≡ get_or (done p c₁ l).rows r 0
@@ -149,6 +154,7 @@ module _ (p : PlanOf) (s : St) (o : Orderly p s) (id t : ℕ) (j : List Line) (s
         placing.placed p s o id t j seen also me is-session n is-next reply₁ answer₁ b₁ seen
         (begins₁ it₁ rows₁) (set s.words (rows_of p + 1 + u) (bit_or n₁ 1))
         (length-set s.words (rows_of p + 1 + u) (bit_or n₁ 1))
+        (first-word (bit_or n₁ 1))
         (same-rows (bit_or n₁ 1) it₁ rows₁)
         (claim-words (bit_or n₁ 1) (done p c₁ it₁).state.locks (λ v.
         ap (λ (k : Locks ℕ). claim_of k v) (claim-locks p c₁ t x₁ u g₁.1)
@@ -210,6 +216,7 @@ module _ (p : PlanOf) (s : St) (o : Orderly p s) (id t : ℕ) (j : List Line) (s
         placing.placed p s o id t j seen also me is-session n is-next Okay answer₂ tt seen
         (begins₁ it₂ rows₂) (set s.words (rows_of p + 1 + u) (n₁ + 1))
         (length-set s.words (rows_of p + 1 + u) (n₁ + 1))
+        (first-word (n₁ + 1))
         (same-rows (n₁ + 1) it₂ rows₂)
         (claim-words (n₁ + 1) (done p c₁ it₂).state.locks (λ v.
         ap (λ (k : Locks ℕ). claim_of k v) (free-locks p c₁ t x₁ u g₂.1)

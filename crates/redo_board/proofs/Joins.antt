@@ -1,15 +1,18 @@
 -- Seats that look, are split and meet.
 use Rattle.std.proofs.Common.{◌≡◌, ◌≢◌, ℕ, zero, suc, ◌⊎◌, ltb, cond, List, [], ◌∷◌, ◌++◌, length, set, Bool, true, false, refl, sym, ap, ◌∙◌, subst, inl, inr, ⊎_elim}
+use Rattle.std.proofs.lemmas.Bool.{cases_Bool}
+use mathlib.Core.Logic.{dite}
 use mathlib.Core.Option.{some, none, some-injective, some-ne-none}
+use native.Mathlib.Decide.{ℕ_discrete}
 use lib.ListN.{get_elem?}
 use Rattle.atomic_table.specs.Table.{step, keeps, Allows, Splits, Joins}
-use Rattle.atomic_table.proofs.Lists.{at_set, at_snoc}
+use Rattle.atomic_table.proofs.Lists.{at_set, at_snoc, at_longer, at_last, set_else}
 use Rattle.redo_journal.specs.Plans.{PlanOf}
 use Rattle.redo_board.specs.Core.{Line, row_words}
 use Rattle.redo_board.specs.Views.{Part, ViewOf, view, nobody}
-use Rattle.redo_board.specs.Rule.{HasPart, Fits, Apart, AllFit, Orderly, below, from, left_of, right_of, met, longer}
+use Rattle.redo_board.specs.Rule.{HasPart, Fits, Apart, AllStand, AllFit, Orderly, below, from, left_of, right_of, met, longer}
 use Rattle.redo_board.specs.Plays.{looked}
-use Rattle.redo_board.proofs.Kept.{kept, fits_set, apart_set, begins_longer}
+use Rattle.redo_board.proofs.Kept.{kept, fits_set, apart_set, set_there, begins_longer}
 
 -- a load on the seat word
 pub looks : (p : PlanOf) (slots id i : ℕ) (v : ViewOf) (c : List (ℕ × Unit {0})) → v.plan ≡ p
@@ -29,7 +32,7 @@ looks p slots id i v c same =
       w,
       keeps,
       tt,
-      kept v.plan s o id i v w me (λ u h has. (h, has)) g,
+      kept v.plan s o id i v w me (λ u h has. (h, has)) (λ u h has. (h, has)) g,
       (
         record { now = refl; log = o.log; plan = o.plan; legal = o.legal; before = f; fits = g },
         refl,
@@ -69,6 +72,78 @@ has_from m (x ∷ xs) s j h = ⊎_elim
     (λ (q : (ltb x.0 m ≡ true) × HasPart (from m xs) s j). let a = has_from m xs s j q.1 in
     (inr a.0, a.1))
     (has_right (ltb x.0 m) x (from m xs) (from m xs) s j h)
+
+-- each session of a view is on one side of a cut
+into_left : (b : Bool) (x : Part) (xs ys : List Part) (s : ℕ) (j : List Line)
+    → ((b ≡ true) × ((x.0 ≡ s) × (x.1 ≡ j))) ⊎ (HasPart xs s j × HasPart ys s j)
+    → HasPart (cond b (x ∷ xs) ys) s j
+into_left true x xs ys s j (inl here) = inl here.1
+into_left true x xs ys s j (inr later) = inr later.0
+into_left false x xs ys s j (inl here) = absurd (let e = here.0 in cc)
+into_left false x xs ys s j (inr later) = later.1
+
+into_right : (b : Bool) (x : Part) (xs ys : List Part) (s : ℕ) (j : List Line)
+    → ((b ≡ false) × ((x.0 ≡ s) × (x.1 ≡ j))) ⊎ (HasPart xs s j × HasPart ys s j)
+    → HasPart (cond b ys (x ∷ xs)) s j
+into_right true x xs ys s j (inl here) = absurd (let e = here.0 in cc)
+into_right true x xs ys s j (inr later) = later.1
+into_right false x xs ys s j (inl here) = inl here.1
+into_right false x xs ys s j (inr later) = inr later.0
+
+is_below : (m : ℕ) (ps : List Part) (s : ℕ) (j : List Line) → ltb s m ≡ true → HasPart ps s j
+    → HasPart (below m ps) s j
+is_below m [] s j side h = h
+is_below m (x ∷ xs) s j side (inl here) =
+    into_left (ltb x.0 m) x (below m xs) (below m xs) s j
+    (inl (ap (λ n. ltb n m) here.0 ∙ side, here))
+is_below m (x ∷ xs) s j side (inr later) =
+    let rest = is_below m xs s j side later in
+    into_left (ltb x.0 m) x (below m xs) (below m xs) s j (inr (rest, rest))
+
+is_from : (m : ℕ) (ps : List Part) (s : ℕ) (j : List Line) → ltb s m ≡ false → HasPart ps s j
+    → HasPart (from m ps) s j
+is_from m [] s j side h = h
+is_from m (x ∷ xs) s j side (inl here) =
+    into_right (ltb x.0 m) x (from m xs) (from m xs) s j
+    (inl (ap (λ n. ltb n m) here.0 ∙ side, here))
+is_from m (x ∷ xs) s j side (inr later) =
+    let rest = is_from m xs s j side later in
+    into_right (ltb x.0 m) x (from m xs) (from m xs) s j (inr (rest, rest))
+
+-- and so each session stands in a view after the cut
+stand_cut : (n : ℕ) (views : List ViewOf) (id m : ℕ) (v : ViewOf) → get_elem? views id ≡ some v
+    → AllStand n views → AllStand n (set views id (left_of m v) ++ right_of m v ∷ [])
+stand_cut n views id m v me stand t less =
+    let (k, u, j, at, has) = stand t less in
+    let lefts : List ViewOf = set views id (left_of m v) in
+    let right : ViewOf = right_of m v in
+    dite (ℕ_discrete k id)
+    (λ e.
+    let same : u ≡ v = some-injective u v (sym at ∙ ap (get_elem? views) e ∙ me) in
+    let here : HasPart v.parts t j = subst (λ (x : ViewOf). HasPart x.parts t j) same has in
+    elim (cases_Bool (ltb t m)) [
+      | inl low ↦ (
+        id,
+        left_of m v,
+        j,
+        at_longer lefts (right ∷ []) id (left_of m v) (set_there views id v (left_of m v) me),
+        is_below m v.parts t j low here,
+      )
+      | inr high ↦ (
+        length lefts,
+        right,
+        j,
+        at_last lefts right (length lefts) refl,
+        is_from m v.parts t j high here,
+      )
+    ])
+    (λ ne. (
+      k,
+      u,
+      j,
+      at_longer lefts (right ∷ []) k u (set_else views id k (left_of m v) ne ∙ at),
+      has,
+    ))
 
 -- a new view at the end, whose sessions are of none of the others
 apart_push : (views : List ViewOf) (w : ViewOf) → Apart views
@@ -118,6 +193,7 @@ splits p id m v s o me =
       plan = o.plan;
       legal = o.legal;
       wide = o.wide;
+      seat = o.seat;
       rows = o.rows;
       claims = o.claims;
       fits =
@@ -136,6 +212,7 @@ splits p id m v s o me =
           (λ (q : (n ≢ id) × (get_elem? s.views n ≡ some u)). q.0
           (o.apart n id u v t j h q.1 me hu b.0))
           (at_set s.views id n (left_of m v) u e));
+      stand = stand_cut (length p.scripts) s.views id m v me o.stand;
     }
   where
     off : true ≡ false → ⊥
@@ -146,6 +223,52 @@ has_append : (xs ys : List Part) (s : ℕ) (j : List Line) → HasPart (xs ++ ys
 has_append [] ys s j h = inr h
 has_append (x ∷ xs) ys s j h =
     ⊎_elim (λ a. inl (inl a)) (λ a. ⊎_elim (λ b. inl (inr b)) inr (has_append xs ys s j a)) h
+
+has_first : (xs ys : List Part) (s : ℕ) (j : List Line) → HasPart xs s j → HasPart (xs ++ ys) s j
+has_first [] ys s j h = absurd h
+has_first (x ∷ xs) ys s j (inl here) = inl here
+has_first (x ∷ xs) ys s j (inr later) = inr (has_first xs ys s j later)
+
+has_second : (xs ys : List Part) (s : ℕ) (j : List Line) → HasPart ys s j → HasPart (xs ++ ys) s j
+has_second [] ys s j h = h
+has_second (x ∷ xs) ys s j h = inr (has_second xs ys s j h)
+
+-- each session stands in a view after two have met
+stand_met : (n : ℕ) (views : List ViewOf) (id other : ℕ) (v u : ViewOf) → (other ≡ id → ⊥)
+    → get_elem? views id ≡ some v → get_elem? views other ≡ some u → AllStand n views
+    → AllStand n (set (set views id (met v u)) other nobody)
+stand_met n views id other v u away me their stand t less =
+    let (k, x, j, at, has) = stand t less in
+    let met_there : get_elem? (set (set views id (met v u)) other nobody) id ≡ some (met v u) =
+    set_else (set views id (met v u)) other id nobody (λ e. away (sym e))
+    ∙ set_there views id v (met v u) me in
+    dite (ℕ_discrete k other)
+    (λ e.
+    let same : x ≡ u = some-injective x u (sym at ∙ ap (get_elem? views) e ∙ their) in (
+      id,
+      met v u,
+      j,
+      met_there,
+      has_second v.parts u.parts t j
+          (subst (λ (y : ViewOf). HasPart y.parts t j) same has),
+    ))
+    (λ no. dite (ℕ_discrete k id)
+    (λ e.
+    let same : x ≡ v = some-injective x v (sym at ∙ ap (get_elem? views) e ∙ me) in (
+      id,
+      met v u,
+      j,
+      met_there,
+      has_first v.parts u.parts t j
+          (subst (λ (y : ViewOf). HasPart y.parts t j) same has),
+    ))
+    (λ ne. (
+      k,
+      x,
+      j,
+      set_else (set views id (met v u)) other k nobody no ∙ set_else views id k (met v u) ne ∙ at,
+      has,
+    )))
 
 pub meets : (p : PlanOf) (id : ℕ) (v : ViewOf) (other : ℕ) (u : ViewOf)
     → Joins (Orderly p) id v other u (met v u) nobody
@@ -174,6 +297,7 @@ meets p id v other u s o me away there =
       plan = o.plan;
       legal = o.legal;
       wide = o.wide;
+      seat = o.seat;
       rows = o.rows;
       claims = o.claims;
       fits =
@@ -181,6 +305,7 @@ meets p id v other u s o me away there =
           (λ k x ne e. fits_set p o.log s.views id w (λ n y ne' e'. o.fits n y e') both k x e)
           none-left;
       apart = joined s.views o.apart me their;
+      stand = stand_met (length p.scripts) s.views id other v u away me their o.stand;
     }
   where
     joined : (views : List ViewOf) → Apart views → get_elem? views id ≡ some v

@@ -1,18 +1,18 @@
 -- Views that fit a history, and what a step of one seat leaves of the others.
-use Rattle.std.proofs.Common.{◌≡◌, ◌≢◌, ℕ, ◌+◌, ◌<◌, ◌≤◌, eqb, ltb, cond, List, [], ◌∷◌, ◌++◌, length, get_or, set, true, false, refl, sym, ap, ◌∙◌, subst, ⊎_elim, arith, length-append, eq-eqb, ne_eqb, append_assoc}
+use Rattle.std.proofs.Common.{◌≡◌, ◌≢◌, ℕ, zero, suc, ◌+◌, ◌<◌, ◌≤◌, eqb, ltb, cond, List, [], ◌∷◌, ◌++◌, length, get_or, set, true, false, refl, sym, ap, ◌∙◌, subst, ⊎_elim, arith, length-append, eq-eqb, ne_eqb, append_assoc}
 use Rattle.std.proofs.lemmas.List.{get_or_past, append-nil, set-get_or}
 use mathlib.Core.Logic.{dite}
-use mathlib.Core.Option.{some}
+use mathlib.Core.Option.{some, some-injective, some-ne-none}
 use native.Mathlib.Decide.{ℕ_discrete, dec_lt}
 use lib.ListN.{get_elem?}
 use prog.Atomic.{either}
 use Rattle.atomic_table.specs.Table.{State}
-use Rattle.atomic_table.proofs.Lists.{at_set}
+use Rattle.atomic_table.proofs.Lists.{at_set, set_else}
 use Rattle.redo_journal.specs.Plans.{PlanOf}
 use Rattle.redo_board.specs.Rows.{rows_of}
 use Rattle.redo_board.specs.Core.{Line, Core, start, after_all, row_words, Begins}
 use Rattle.redo_board.specs.Views.{ViewOf}
-use Rattle.redo_board.specs.Rule.{HasPart, Fits, Apart, AllFit, Orderly, longer}
+use Rattle.redo_board.specs.Rule.{HasPart, Fits, Apart, AllStand, AllFit, Orderly, longer}
 use Rattle.redo_joint.proofs.Own.{push_other}
 use Rattle.redo_board.proofs.Parts.{after-push, grows}
 use Rattle.redo_board.proofs.Bounds.{words_name}
@@ -103,20 +103,41 @@ apart_set views id v w me within apart i k x y t j h ei ek hx hy =
     let b = back k y h ek hy in
     apart i k a.0 b.0 t a.1 b.1 a.2 b.2 a.3 b.3
 
+-- a view that is there is another then
+pub set_there : (views : List ViewOf) (id : ℕ) (v w : ViewOf) → get_elem? views id ≡ some v
+    → get_elem? (set views id w) id ≡ some w
+set_there [] id v w at = absurd (some-ne-none v (sym at))
+set_there (x ∷ views) zero v w at = refl
+set_there (x ∷ views) (suc id) v w at = set_there views id v w at
+
+-- each session stands in a view still, where the new one has the sessions of the old one
+pub stand_set : (n : ℕ) (views : List ViewOf) (id : ℕ) (v w : ViewOf)
+    → get_elem? views id ≡ some v → Within v w → AllStand n views → AllStand n (set views id w)
+stand_set n views id v w me within stand t less =
+    let (k, u, j, at, has) = stand t less in
+    dite (ℕ_discrete k id)
+    (λ e.
+    let same : u ≡ v = some-injective u v (sym at ∙ ap (get_elem? views) e ∙ me) in
+    let new = within t j (subst (λ (x : ViewOf). HasPart x.parts t j) same has) in
+    (id, w, new.0, set_there views id v w me, new.1))
+    (λ ne. (k, u, j, set_else views id k w ne ∙ at, has))
+
 -- a step that adds nothing to the history
 pub kept : (p : PlanOf) (s : St) (o : Orderly p s) (id i : ℕ) (v w : ViewOf)
-    → get_elem? s.views id ≡ some v → Within w v → Fits p o.log w
+    → get_elem? s.views id ≡ some v → Within w v → Within v w → Fits p o.log w
     → Orderly p (board (set s.words i (get_or s.words i 0)) (set s.views id w) s)
-kept p s o id i v w me within fits =
+kept p s o id i v w me within covers fits =
     subst (λ ws. Orderly p (board ws (set s.views id w) s)) (sym (set-get_or s.words i 0)) (record {
       log = o.log;
       plan = o.plan;
       legal = o.legal;
       wide = o.wide;
+      seat = o.seat;
       rows = o.rows;
       claims = o.claims;
       fits = fits_set p o.log s.views id w (λ k u ne e. o.fits k u e) fits;
       apart = apart_set s.views id v w me within o.apart;
+      stand = stand_set (length p.scripts) s.views id v w me covers o.stand;
     })
 
 -- a row that was seen is filled

@@ -27,7 +27,7 @@ use Rattle.redo_board.proofs.Held.{holds_alike, builds_alike}
 use Rattle.redo_board.proofs.Orders.{by_text_is_naming}
 use Rattle.redo_board.proofs.Parts.{after-push, legal-push, own-part}
 use Rattle.redo_board.proofs.Sound.{Sound, sound}
-use Rattle.redo_board.proofs.Kept.{St, board, fits_other, fits_set, apart_set, begins_done}
+use Rattle.redo_board.proofs.Kept.{St, board, fits_other, fits_set, apart_set, stand_set, begins_done}
 
 module _ (p : PlanOf) (s : St) (o : Orderly p s) (id t : ℕ) (j : List Line) (seen also : List ℕ)
     (me : get_elem? s.views id ≡ some (view p ((t, j) ∷ []) seen also))
@@ -123,16 +123,18 @@ module _ (p : PlanOf) (s : St) (o : Orderly p s) (id t : ℕ) (j : List Line) (s
       }
 
       pub placed : (ws : List ℕ) → length ws ≡ length s.words
+          → get_or ws 0 0 ≡ get_or s.words 0 0
           → ((r : ℕ) → r < rows_of p → get_or ws (r + 1) 0 ≡ get_or (done p core it).rows r 0)
           →
           ((u : ℕ) → u < length p.names
           → get_or ws (rows_of p + 1 + u) 0 ≡ claim_of (done p core it).state.locks u)
           → Orderly p (board ws (set s.views id w') s)
-      placed ws long rows claims = record {
+      placed ws long first rows claims = record {
         log = log';
         plan = o.plan;
         legal = legal';
         wide = long ∙ o.wide;
+        seat = first ∙ o.seat;
         rows = λ r h. rows r h ∙ ap (λ (c : Core). get_or c.rows r 0) (sym core');
         claims = λ u h. claims u h ∙ ap (λ (c : Core). claim_of c.state.locks u) (sym core');
         fits =
@@ -147,6 +149,11 @@ module _ (p : PlanOf) (s : St) (o : Orderly p s) (id t : ℕ) (j : List Line) (s
             (λ u h has. ⊎_elim (λ (q : (t ≡ u) × (j ++ it ∷ [] ≡ h)). (j, inl (q.0, refl)))
             (λ none. absurd none) has)
             o.apart;
+        stand =
+            stand_set (length p.scripts) s.views id (view p ((t, j) ∷ []) seen also) w' me
+            (λ u h has. ⊎_elim (λ (q : (t ≡ u) × (j ≡ h)). (j ++ it ∷ [], inl (q.0, refl)))
+            (λ none. absurd none) has)
+            o.stand;
       }
 
       pub goes : (is_row it.place ≡ true → (done p core it).rows ≡ seen')

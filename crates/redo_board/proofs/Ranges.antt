@@ -1,5 +1,5 @@
 -- Fresh seats: ranges of sessions, and how they are cut.
-use Rattle.std.proofs.Common.{◌≡◌, ◌≢◌, ℕ, zero, suc, ◌+◌, ◌-◌, ◌<◌, ◌≤◌, cond, lt-ltb, le-ltb, List, [], ◌∷◌, ◌++◌, length, get_or, refl, sym, ap, ◌∙◌, subst, ⊎_elim, arith}
+use Rattle.std.proofs.Common.{◌≡◌, ◌≢◌, ℕ, zero, suc, ◌+◌, ◌-◌, ◌<◌, ◌≤◌, cond, lt-ltb, le-ltb, List, [], ◌∷◌, ◌++◌, length, get_or, refl, sym, ap, ◌∙◌, subst, inl, inr, ⊎_elim, arith}
 use Rattle.std.proofs.lemmas.List.{get_or_past}
 use mathlib.Core.Logic.{dite}
 use mathlib.Core.Option.{some, some-injective, some-ne-none}
@@ -18,6 +18,11 @@ use Rattle.redo_board.proofs.Kept.{St}
 has_range : (n k s : ℕ) (j : List Line) → HasPart (range n k) s j → j ≡ []
 has_range n zero s j h = absurd h
 has_range n (suc k) s j h = ⊎_elim (λ (q : (n ≡ s) × ([] ≡ j)). sym q.1) (has_range (n + 1) k s j) h
+
+has_all : (n k s : ℕ) → n ≤ s → s < n + k → HasPart (range n k) s []
+has_all n zero s from below = absurd (omega arith)
+has_all n (suc k) s from below = dite (ℕ_discrete n s) (λ e. inl (e, refl))
+    (λ ne. inr (has_all (n + 1) k s (omega arith) (omega arith)))
 
 pub range_fits : (p : PlanOf) (n k : ℕ) → Fits p [] (view p (range n k) [] [])
 range_fits p n k =
@@ -90,10 +95,13 @@ opens p words plan long zeros = record {
   plan = plan;
   legal = tt;
   wide = long;
+  seat = zeros 0;
   rows = λ r h. zeros (r + 1);
   claims = λ t h. zeros (rows_of p + 1 + t);
   fits = only;
   apart = λ i k v w t j h ei ek hx hy. alone i k v w ei ek;
+  stand =
+      λ t less. (0, first_view p, [], refl, has_all 0 (length p.scripts) t (omega arith) (omega arith));
 }
   where
     only : AllFit p [] (first_view p ∷ [])

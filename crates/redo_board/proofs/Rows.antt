@@ -128,7 +128,8 @@ module _ (p : PlanOf) (s : St) (o : Orderly p s) (id t : ℕ) (j : List Line) (s
   won =
       placing.placed p s o id t j seen also me is-session n is-next reply answer says.1
       (seen ++ w₀ ∷ []) row-begins (set s.words (length seen + 1) w₀)
-      (length-set s.words (length seen + 1) w₀) row-words row-claims
+      (length-set s.words (length seen + 1) w₀)
+      (get_or-set_other s.words (length seen + 1) 0 w₀ 0 (λ q. omega arith)) row-words row-claims
 
   goes-here : Goes (lone p t j seen also) t j (row_line (lone p t j seen also) t n reply)
       (seen ++ w₀ ∷ []) v₀
@@ -181,7 +182,8 @@ module _ (p : PlanOf) (s : St) (o : Orderly p s) (id t : ℕ) (j : List Line) (s
     v₁,
     keeps,
     tt,
-    kept p s o id (length seen + 1) (lone p t j seen also) v₁ me (λ u h has. (h, has)) fits₁,
+    kept p s o id (length seen + 1) (lone p t j seen also) v₁ me (λ u h has. (h, has))
+        (λ u h has. (h, has)) fits₁,
     (
       (λ e. absurd (some-there e)),
       (λ _.
@@ -250,7 +252,7 @@ passes p slots id t r j seen also c at near =
       keeps,
       tt,
       kept p s o id (length seen + 1) (lone p t j seen also) (lone p t j seen also) me
-          (λ u h has. (h, has)) (o.fits id (lone p t j seen also) me),
+          (λ u h has. (h, has)) (λ u h has. (h, has)) (o.fits id (lone p t j seen also) me),
       ((λ _. refl), (λ ne. absurd (ne zero-there)), refl),
     ))
     (λ some-there. passed-by p s o id t j seen also c me within some-there
@@ -278,6 +280,6 @@ misses p slots id r w v c saw near =
       v,
       keeps,
       tt,
-      kept p s o id (r + 1) v v me (λ u h has. (h, has)) f,
+      kept p s o id (r + 1) v v me (λ u h has. (h, has)) (λ u h has. (h, has)) f,
       (some-there, refl, refl),
     ))

@@ -46,9 +46,11 @@ module _ (p : PlanOf) (s : State (Unit {0}) ViewOf) (o : Orderly p s) where
   runs = record {
     lines = o.log;
     history = history-of p o.log o.plan o.legal;
+    seat = o.seat;
     rows = row-at;
     claims = claim-word-at;
     parts = λ id v at. (o.fits id v at).own;
     seen = λ id v at. seen-of p o.log v.seen o.plan o.legal (o.fits id v at).seen;
     apart = o.apart;
+    stand = o.stand;
   }

@@ -17,7 +17,7 @@ use Rattle.redo_journal.specs.Plans.{PlanOf, script_of}
 use Rattle.redo_board.specs.Rows.{naming_of, rows_of}
 use Rattle.redo_board.specs.Core.{Line, Begins}
 use Rattle.redo_board.specs.Views.{Part, ViewOf}
-use Rattle.redo_board.specs.Rule.{HasPart, Apart}
+use Rattle.redo_board.specs.Rule.{HasPart, Apart, AllStand}
 
 -- the line as the history has it, over the names
 abbrev pub at_names : PlanOf → Line → histories.Line Text
@@ -52,10 +52,11 @@ pub record EndsWith (p : PlanOf) (own : List Line) (seen : List ℕ) (line : Lin
 
 -- the running rule in the words of the definitions: there is one legal placed history of the plan
 -- whose words are the table's, in which each seat's lines are whole parts, and of whose row words
--- each seat has seen a beginning; each session stands in one seat
+-- each seat has seen a beginning; each session stands in exactly one seat, and the seats' word is 0
 pub record Runs (p : PlanOf) (s : State (Unit {0}) ViewOf) : Type 0 where
   pub lines : List Line
   pub history : IsHistoryOf p lines
+  pub seat : slice_index s.words 0 ≡ 0
   pub rows : (r : ℕ) → r < rows_of p
       → slice_index s.words (r + 1) ≡ slice_index (words_of p lines) r
   pub claims : (t : ℕ) → t < length p.names
@@ -64,3 +65,4 @@ pub record Runs (p : PlanOf) (s : State (Unit {0}) ViewOf) : Type 0 where
   pub seen : (id : ℕ) (v : ViewOf) → get_elem? s.views id ≡ some v
       → Begins (words_of p lines) v.seen
   pub apart : Apart s.views
+  pub stand : AllStand (length p.scripts) s.views

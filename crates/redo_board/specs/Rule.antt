@@ -25,6 +25,13 @@ Apart views =
     (i k : ℕ) (v w : ViewOf) (t : ℕ) (j h : List Line) → get_elem? views i ≡ some v
     → get_elem? views k ≡ some w → HasPart v.parts t j → HasPart w.parts t h → i ≡ k
 
+-- and each of so many sessions stands in one
+abbrev pub AllStand : ℕ → List ViewOf → Type 0
+AllStand sessions views =
+    (t : ℕ) → t < sessions
+    → (id : ℕ) × (v : ViewOf) × (j : List Line)
+    × (get_elem? views id ≡ some v) × HasPart v.parts t j
+
 abbrev pub AllFit : PlanOf → List Line → List ViewOf → Type 0
 AllFit p log views = (id : ℕ) (v : ViewOf) → get_elem? views id ≡ some v → Fits p log v
 
@@ -34,11 +41,13 @@ pub record Orderly (p : PlanOf) (s : State (Unit {0}) ViewOf) : Type 0 where
   pub plan : IsPlan p
   pub legal : IsLegal p start log
   pub wide : length s.words ≡ rows_of p + 1 + length p.names
+  pub seat : slice_index s.words 0 ≡ 0
   pub rows : (r : ℕ) → r < rows_of p → slice_index s.words (r + 1) ≡ slice_index (row_words p log) r
   pub claims : (t : ℕ) → t < length p.names
       → slice_index s.words (rows_of p + 1 + t) ≡ claim_of (after_all p start log).state.locks t
   pub fits : AllFit p log s.views
   pub apart : Apart s.views
+  pub stand : AllStand (length p.scripts) s.views
 
 -- what a seat is told: a legal history that its view fits
 pub record Told (v : ViewOf) : Type 0 where

@@ -1,6 +1,6 @@
 ghost use Rattle.std.specs.Prelude.{◌≡◌, ℕ, ◌<◌, ◌++◌, []};
-ghost use Rattle.redo_board.specs.Rule.{left_of, right_of};
-ghost use Rattle.redo_board.specs.Shown.{plan_of, first_of, end_of, parts_of};
+ghost use Rattle.redo_board.specs.Rule.{left_of, right_of, longer};
+ghost use Rattle.redo_board.specs.Shown.{plan_of, first_of, end_of, parts_of, seen_at};
 ghost use Rattle.redo_board.specs.Kept.{IsBoardOf, SitsAt, IsFresh, IsFreshOf};
 ghost use Rattle.redo_board.specs.Outcomes.{Together};
 
@@ -63,14 +63,15 @@ impl Seat {
         )
     }
 
-    /// One seat for the sessions of both. It is fresh where both are, and the sessions of the first
-    /// end where those of the other begin.
+    /// One seat for the sessions of both, which has seen the more of what they saw. It is fresh where
+    /// both are, and the sessions of the first end where those of the other begin.
     pub fn meet(self, other: Seat, board: &Board) -> Seat
         requires board { IsBoardOf (plan_of board.now) board.now }
         requires first { SitsAt (plan_of board.now) board.now self }
         requires second { SitsAt (plan_of board.now) board.now other }
         ensures belongs { SitsAt (plan_of board.now) board.now result }
         ensures parts { parts_of result ≡ parts_of self ++ parts_of other }
+        ensures seen { seen_at result ≡ longer (seen_at self) (seen_at other) }
         ensures fresh { (from middle below : ℕ) → IsFreshOf from middle self
             → IsFreshOf middle below other → IsFreshOf from below result }
         ensures together { Together (plan_of board.now) result self other }

@@ -60,6 +60,12 @@ returns-clause-together c =
       seen = words c.load.new.seat.me.0.seen look.fits.seen;
     }
 
+pub returns-clause-seen : goal.returns-clause-seen
+returns-clause-seen c =
+    let e = c.join_seat.ensures.2 in
+    ap (λ (x : ViewOf). x.seen) c.load.ensures.2.0.now
+    ∙ (λ i. longer ((e i).0.seen) ((e i).0.also))
+
 pub returns-clause-fresh : goal.returns-clause-fresh
 returns-clause-fresh c = λ first middle below a b.
     let s = c.args.self in
