@@ -44,7 +44,7 @@ impl Board {
     }
 
     /// The number of filled rows.
-    pub fn close(self, seat: Seat) -> usize
+    pub fn close(self, seat: Seat) -> u32
         requires belongs { IsBoardOf (plan_of self) self × SitsAt (plan_of self) self seat }
         requires all { IsForAll (plan_of self) seat }
         ensures { Closes (plan_of self) seat result }
@@ -56,11 +56,13 @@ impl Board {
             filled += 1;
         }
         closed.free();
-        filled
+        filled as u32
     }
 
-    // The words are those of one legal joint order of what all sessions did.
-    fn last_words(self, seat: Seat) -> Closed<(), Global>
+    /// The words of the board at its end, for the caller to read and to free: that of the seats, which
+    /// is 0, that of each row, and that of each name's claim. They are those of one legal joint order
+    /// of what all sessions did.
+    pub fn last_words(self, seat: Seat) -> Closed<(), Global>
         requires belongs { IsBoardOf (plan_of self) self × SitsAt (plan_of self) self seat }
         requires all { IsForAll (plan_of self) seat }
         ensures words { AreLastWords (plan_of self) (parts_of seat) (slots_items result.words) }

@@ -10,6 +10,7 @@ mod seat;
 mod view;
 mod worker;
 
+pub use atomic_table::Closed;
 pub use board::Board;
 pub use gate::{Gate, Open};
 pub use laws::{no_row_is_wanting, the_rule_runs, words_fix_the_state};

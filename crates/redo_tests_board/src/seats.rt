@@ -34,5 +34,5 @@ pub(crate) fn close(board: Board, _plan: &Plan, seat: Seat) -> usize
     requires board { IsBoardOf _plan.now board }
     requires seat { HasFrom _plan.now board 0 (length _plan.now.scripts) seat }
 {
-    board.close(seat)
+    board.close(seat) as usize
 }

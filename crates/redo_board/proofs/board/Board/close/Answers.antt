@@ -5,6 +5,7 @@ use native.Mathlib.Decide.{ℕ_discrete, dec_lt}
 use Rattle.redo_model.specs.Placed.{rows_in}
 use Rattle.redo_board.specs.Rows.{rows_of}
 use Rattle.redo_board.proofs.Ranges.{at_get}
+use Rattle.redo_board.proofs.Totals.{few_rows}
 use Rattle.redo_board.proofs.board.Board.close.Goals as goal
 use Rattle.redo_board.proofs.board.Board.close.Goals.{then-loop-filled-test+else-word-ne0, else-loop-filled-test}
 
@@ -18,6 +19,14 @@ loop-filled-preserved c =
           (λ e. c.if-word-ne0.true (sym here ∙ ap (λ x. get_or ws (x + 1) 0) (sym e) ∙ z))
           (λ ne. c.loop-filled.invariant.1 r (omega arith) z),
     )
+
+-- so few rows can be counted in 32 bits
+pub overflow_cast-result : goal.overflow_cast-result
+overflow_cast-result c =
+    let a = c.loop-filled.invariant.0 in
+    let b = c.requires.belongs.0.rows in
+    let d = few_rows c.args.self.table.shared.key c.requires.belongs.0.plan in
+    omega arith
 
 pub returns : goal.returns
 returns c =
