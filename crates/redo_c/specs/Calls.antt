@@ -1,0 +1,61 @@
+-- What the calls answer, and what they leave.
+use Rattle.std.specs.Prelude.{◌≡◌, ◌⊎◌, ℕ, ◌<◌, ◌++◌, [], drop, length}
+use Rattle.redo_model.specs.Names.{Text}
+use Rattle.redo_model.specs.State.{empty}
+use Rattle.redo_live.specs.Inside.LiveState.{LiveState, IsAsKnown, state_in}
+use Rattle.redo_log.specs.Restores.{IsRestored, DiffersAt, HasTooMany}
+use Rattle.redo_log.specs.declared.restoring.Restored.{Restored}
+use Rattle.redo_talk.specs.Rounds.{Round}
+use Rattle.redo_talk.specs.Logs.{logged_of}
+use Rattle.redo_talk.specs.Inside.Hearing.{known_of}
+use Rattle.redo_talk.specs.Inside.Replies.{LogsFront, WouldTell}
+use Rattle.redo_talk.specs.Inside.Steps.{Known, IsStep}
+use Rattle.redo_c.specs.declared.answering.Told.{Told}
+use Rattle.redo_c.specs.declared.calls.Counts.{Counts}
+use Rattle.redo_c.specs.declared.held.Held.{Held}
+use Rattle.redo_c.specs.declared.held.Held.TheVariants.{Closed, Open}
+
+-- the line was heard; what is said stands in front in the room, and a front of that is to be logged
+pub record TellsInto (old new : Known) (heard room room_after : Text) (told : Told) : Type 0 where
+  pub round : Round
+  pub heard_is : round.heard ≡ heard
+  pub step : IsStep old new round
+  pub size_is : told.size ≡ length round.said
+  pub room_is : room_after ≡ round.said ++ drop told.size room
+  pub logged_is : told.logged ≡ length (logged_of old.state round.lines)
+  pub front : LogsFront old.state round
+
+-- by the status: it was told; or the room is too little, or there was no memory, and then nothing
+-- was done
+abbrev pub Answers : ℕ → LiveState → LiveState → Text → Text → Text → Told → Type 0
+Answers status old new heard room room_after told =
+    (((status ≡ 0) ⊎ (status ≡ 1))
+    × TellsInto (known_of old) (known_of new) heard room room_after told)
+    ⊎ (IsAsKnown old new × (room_after ≡ room)
+    × (((status ≡ 2) × (length room < told.size) × WouldTell (known_of old) heard told.size)
+    ⊎ ((status ≡ 3) × (told.size ≡ 0) × (told.logged ≡ 0))))
+
+-- a database is open there, and answers; or none is
+abbrev pub AnswersAt : ℕ → Held → Held → Text → Text → Text → Told → Type 0
+AnswersAt status (Open old) now heard room room_after told =
+    (new : LiveState) × (now ≡ Open new) × Answers status old new heard room room_after told
+AnswersAt status Closed now heard room room_after told =
+    (status ≡ 6) × (now ≡ Closed) × (room_after ≡ room)
+
+-- an empty database is open there; or there was no memory, and nothing was done
+abbrev pub Opens : ℕ → Held → Held → Type 0
+Opens status held now =
+    ((status ≡ 0)
+    × ((live : LiveState) × (now ≡ Open live) × (live.names ≡ []) × (state_in live ≡ empty)))
+    ⊎ ((status ≡ 3) × (now ≡ held))
+
+-- the log's lines were done again, and the database is open there; or the log has a fault, or there
+-- was no memory, and nothing was done
+abbrev pub Restores : ℕ → Held → Held → Text → Counts → Type 0
+Restores status held now log counts =
+    ((status ≡ 0) × ((restored : Restored) × IsRestored log restored × (now ≡ Open restored.live)
+    × (counts.lines ≡ restored.lines) × (counts.bytes ≡ restored.bytes) × (counts.line ≡ 0)))
+    ⊎ ((now ≡ held)
+    × ((status ≡ 3)
+    ⊎ (((status ≡ 4) × DiffersAt log counts.line counts.lines counts.bytes)
+    ⊎ ((status ≡ 5) × HasTooMany log))))

@@ -1,0 +1,59 @@
+ghost use Rattle.std.specs.Prelude.{◌≡◌, ◌≤◌, ◌++◌, drop, length};
+ghost use Rattle.redo_c.specs.Calls.{Answers};
+
+use crate::status::{FAULT, MEMORY, OK, TOO_SMALL};
+use redo_live::{Live, Withheld};
+use redo_talk::{Replied, reply};
+use std::alloc::Global;
+
+/// How long an answer is.
+#[repr(C)]
+#[derive(Clone, Copy)]
+pub struct Told {
+    /// So many bytes are said, or would be where the room is too little.
+    pub size: usize,
+    /// So many of them, from the first on, are to be logged.
+    pub logged: usize,
+}
+
+/// Puts bytes in front of the room.
+fn put(bytes: &[u8], room: &mut [u8])
+    requires { length bytes.now ≤ length room.old }
+    ensures { room.new ≡ bytes.now ++ drop (length bytes.now) room.old }
+{
+    room[..bytes.len()].copy_from_slice(bytes);
+}
+
+/// Answers a line into the room.
+pub(crate) fn answer(
+    alloc: Global,
+    live: &mut Live,
+    line: &[u8],
+    room: &mut [u8],
+    told: &mut Told,
+) -> u32
+    ensures { Answers result live.old live.new line.now room.old room.new told.new }
+{
+    let (mut said, mut logged) = (Vec::new(alloc), Vec::new(alloc));
+    match reply(alloc, live, line, room.len(), &mut said, &mut logged) {
+        Ok(replied) => {
+            put(&said, room);
+            told.size = said.len();
+            told.logged = logged.len();
+            match replied {
+                Replied::Done => OK,
+                Replied::Fault => FAULT,
+            }
+        }
+        Err(Withheld::TooLong(size)) => {
+            told.size = size;
+            told.logged = 0;
+            TOO_SMALL
+        }
+        Err(Withheld::Unanswered(_)) => {
+            told.size = 0;
+            told.logged = 0;
+            MEMORY
+        }
+    }
+}

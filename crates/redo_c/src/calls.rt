@@ -1,0 +1,99 @@
+//! What the library exports. What a call needs besides its clauses is the caller's to see to: that pointers and lengths
+//! are those of memory that nobody else uses meanwhile.
+ghost use Rattle.std.specs.Prelude.{◌≡◌};
+ghost use Rattle.redo_c.specs.Calls.{AnswersAt, Opens, Restores};
+ghost use Rattle.redo_c.specs.declared.held.Held.TheVariants.{Closed};
+
+use crate::answering::{Told, answer};
+use crate::handle::Handle;
+use crate::held::Held;
+use crate::status::{DIFFERS, MEMORY, MISUSE, OK, WORN};
+use redo_live::Live;
+use redo_log::{RestoreFault, Restored, restore};
+use std::alloc::Global;
+use std::mem::size_of;
+
+/// How many bytes of memory the caller gives a handle.
+#[unsafe(no_mangle)]
+pub extern "C" fn redo_c_room() -> usize {
+    size_of::<Held>()
+}
+
+/// Opens an empty database.
+#[unsafe(no_mangle)]
+pub extern "C" fn redo_c_open(alloc: Global, handle: &mut Handle) -> u32
+    ensures { Opens result handle.old.held handle.new.held }
+{
+    match Live::new(alloc) {
+        Ok(live) => {
+            handle.replace(Held::Open(live));
+            OK
+        }
+        Err(_) => MEMORY,
+    }
+}
+
+/// What of a log was restored, or stands before the line that differs.
+#[repr(C)]
+pub struct Counts {
+    pub lines: usize,
+    pub bytes: usize,
+    /// The number of the line that differs, else 0.
+    pub line: usize,
+}
+
+/// Opens a database as a log leaves it.
+#[unsafe(no_mangle)]
+pub extern "C" fn redo_c_restore(
+    alloc: Global,
+    handle: &mut Handle,
+    log: &[u8],
+    counts: &mut Counts,
+) -> u32
+    ensures { Restores result handle.old.held handle.new.held log.now counts.new }
+{
+    match restore(alloc, log) {
+        Ok(Restored { live, lines, bytes }) => {
+            counts.lines = lines;
+            counts.bytes = bytes;
+            counts.line = 0;
+            handle.replace(Held::Open(live));
+            OK
+        }
+        Err(RestoreFault::Memory) => MEMORY,
+        Err(RestoreFault::Worn) => WORN,
+        Err(RestoreFault::Differs { line, lines, bytes }) => {
+            counts.lines = lines;
+            counts.bytes = bytes;
+            counts.line = line;
+            DIFFERS
+        }
+    }
+}
+
+/// Answers a line into the room.
+#[unsafe(no_mangle)]
+pub extern "C" fn redo_c_answer(
+    alloc: Global,
+    handle: &mut Handle,
+    line: &[u8],
+    room: &mut [u8],
+    told: &mut Told,
+) -> u32
+    ensures { AnswersAt result handle.old.held handle.new.held line.now room.old room.new told.new }
+{
+    let Held::Open(mut live) = handle.replace(Held::Closed) else {
+        return MISUSE;
+    };
+    let status = answer(alloc, &mut live, line, room, told);
+    handle.replace(Held::Open(live));
+    status
+}
+
+/// Closes the database, where one is open.
+#[unsafe(no_mangle)]
+pub extern "C" fn redo_c_close(handle: &mut Handle)
+    ensures { handle.new.held ≡ Closed }
+{
+    handle.replace(Held::Closed);
+}

@@ -1,0 +1,44 @@
+ghost use Rattle.std.specs.Prelude.{◌≡◌};
+ghost use Rattle.std.specs.Borrow.{full_share, sem};
+ghost use Rattle.std.specs.Ptr.{lies_at, room_at};
+ghost use Rattle.redo_c.specs.contracts.held.Held.{the_row};
+ghost use Rattle.redo_c.specs.declared.held.Held.{Held};
+ghost use Rattle.redo_c.specs.declared.held.Held.TheVariants.{Closed};
+
+use crate::held::Held;
+use std::marker::Model;
+
+/// Where the caller's memory for a database begins, and what lies there.
+#[repr(C)]
+pub struct Handle {
+    at: *mut u8,
+    pub ghost held: { Held } by { the_row.coded },
+}
+
+impl Model for Handle {
+    ghost also_owns = { λ h. lies_at the_row full_share h.at h.held };
+}
+
+impl Handle {
+    /// Puts a value there, and hands out what lay there.
+    pub(crate) fn replace(&mut self, held: Held) -> Held
+        ensures { (result ≡ self.old.held) × (self.new.held ≡ held) }
+    {
+        let at = self.at as *mut Held;
+        unsafe {
+            let old = at.read();
+            at.write(held);
+            old
+        }
+    }
+}
+
+/// Makes the caller's memory fit for a handle: no database is open there.
+#[unsafe(no_mangle)]
+pub unsafe extern "C" fn redo_c_place(at: *mut u8)
+    requires* { sem 𝓛 (room_at the_row at) }
+    ensures* { sem 𝓛 (lies_at the_row full_share at Closed) }
+{
+    let place = at as *mut Held;
+    place.write(Held::Closed);
+}
