@@ -1,5 +1,5 @@
 -- Counts and faults: a device's fault is answered exactly where a count is another than before.
-use Rattle.std.proofs.Common.{◌≡◌, ℕ, zero, suc, Bool, true, false, not, ◌==◌, Option, List, get_or, refl, sym, ap, ◌∙◌, subst, eq-eqb, ◌⊎◌, inl, inr}
+use Rattle.std.proofs.Common.{◌≡◌, ℕ, Bool, false, not, ◌==◌, Option, List, get_or, refl, sym, subst, eq-eqb, ◌⊎◌, inl, inr}
 use Rattle.std.specs.Prelude.{IsTrue, ◌↔◌}
 use Rattle.std.proofs.lemmas.Bool.{both_ways, not_from_true}
 use Rattle.redo_model.specs.Names.{Text}

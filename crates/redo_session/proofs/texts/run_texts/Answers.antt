@@ -1,8 +1,7 @@
-use Rattle.std.proofs.Common.{◌∙◌, false, map, sym, subst, inl, inr}
-use Rattle.std.proofs.lemmas.Bool.{both_ways}
+use Rattle.std.proofs.Common.{◌∙◌, false, sym, subst, inl, inr}
 use Rattle.std.proofs.lemmas.Result.{err_from_is_err_and}
 use Rattle.redo_model.specs.Names.{Text}
-use Rattle.redo_whole.specs.Watched.{failures_of, has_failed, inner_of}
+use Rattle.redo_whole.specs.Watched.{failures_of, has_failed}
 use Rattle.redo_session.specs.Runs.{RunsAs}
 use Rattle.redo_run_text.specs.Files.{bytes_of_files, failures_of_files, failed_files}
 use Rattle.redo_session.proofs.NoFault.{refused_only}
