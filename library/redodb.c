@@ -1,0 +1,128 @@
+/* The C side of libredodb: it tells null pointers and lengths that can't be, which Rattle can't, and calls redo_c. */
+#include "redodb.h"
+
+#include <stdint.h>
+#include <stdlib.h>
+
+#define EXPORTED __attribute__((visibility("default")))
+
+/* `Handle` of crates/redo_c: where the memory of a database begins. */
+typedef struct handle {
+    unsigned char *at;
+} handle;
+
+/* `Told` of crates/redo_c. */
+typedef struct told {
+    size_t size;
+    size_t logged;
+} told;
+
+struct redodb {
+    handle handle;
+};
+
+/* The calls of crates/redo_c. A slice is a pointer, which is never null, and a length. */
+size_t redo_c_room(void);
+void redo_c_place(unsigned char *at);
+uint32_t redo_c_open(handle *handle);
+uint32_t redo_c_restore(handle *handle, const unsigned char *log, size_t size, redodb_restored *restored);
+uint32_t redo_c_answer(handle *handle, const unsigned char *line, size_t length, unsigned char *room, size_t most,
+                       told *told);
+void redo_c_close(handle *handle);
+
+/* Memory for a database, in which none is open yet; or null. */
+static redodb *make(void) {
+    redodb *database = malloc(sizeof *database);
+    if (database == NULL) return NULL;
+    database->handle.at = malloc(redo_c_room());
+    if (database->handle.at == NULL) {
+        free(database);
+        return NULL;
+    }
+    redo_c_place(database->handle.at);
+    return database;
+}
+
+static void unmake(redodb *database) {
+    free(database->handle.at);
+    free(database);
+}
+
+EXPORTED int redodb_open(redodb **database) {
+    if (database == NULL) return REDODB_MISUSE;
+    *database = NULL;
+    redodb *made = make();
+    if (made == NULL) return REDODB_MEMORY;
+    int status = (int)redo_c_open(&made->handle);
+    if (status != REDODB_OK) {
+        unmake(made);
+        return status;
+    }
+    *database = made;
+    return REDODB_OK;
+}
+
+EXPORTED int redodb_restore(redodb **database, const void *log, size_t size, redodb_restored *restored) {
+    redodb_restored told = {0, 0, 0};
+    if (restored != NULL) *restored = told;
+    if (database == NULL) return REDODB_MISUSE;
+    *database = NULL;
+    if (size > PTRDIFF_MAX || (log == NULL && size > 0)) return REDODB_MISUSE;
+    redodb *made = make();
+    if (made == NULL) return REDODB_MEMORY;
+    unsigned char nothing = 0;
+    int status = (int)redo_c_restore(&made->handle, log == NULL ? &nothing : log, size, &told);
+    if (restored != NULL) *restored = told;
+    if (status != REDODB_OK) {
+        unmake(made);
+        return status;
+    }
+    *database = made;
+    return REDODB_OK;
+}
+
+/* Whether two places have a byte in common. */
+static int overlap(const void *one, size_t size, const void *other, size_t length) {
+    uintptr_t first = (uintptr_t)one, second = (uintptr_t)other;
+    return size > 0 && length > 0 && (first < second ? second - first < size : first - second < length);
+}
+
+EXPORTED int redodb_answer(redodb *database, const char *line, size_t length, char *room, size_t most, size_t *size,
+                           size_t *logged) {
+    told told = {0, 0};
+    unsigned char no_line = 0, no_room = 0;
+    int status = REDODB_MISUSE;
+    if (database != NULL && (line != NULL || length == 0) && (room != NULL || most == 0) && length <= PTRDIFF_MAX
+        && most <= PTRDIFF_MAX && !overlap(line, length, room, most))
+        status = (int)redo_c_answer(&database->handle, line == NULL ? &no_line : (const unsigned char *)line, length,
+                                    room == NULL ? &no_room : (unsigned char *)room, most, &told);
+    if (size != NULL) *size = told.size;
+    if (logged != NULL) *logged = told.logged;
+    return status;
+}
+
+EXPORTED int redodb_close(redodb **database) {
+    if (database == NULL) return REDODB_MISUSE;
+    if (*database == NULL) return REDODB_OK;
+    redo_c_close(&(*database)->handle);
+    unmake(*database);
+    *database = NULL;
+    return REDODB_OK;
+}
+
+EXPORTED const char *redodb_status_text(int status) {
+    switch (status) {
+    case REDODB_OK: return "done";
+    case REDODB_FAULT: return "the line has a fault";
+    case REDODB_TOO_SMALL: return "the answer is longer than the room";
+    case REDODB_MEMORY: return "out of memory";
+    case REDODB_DIFFERS: return "the bytes are no log";
+    case REDODB_WORN: return "the log has too many lines";
+    case REDODB_MISUSE: return "a null pointer, a length that is too large, or a line in the room for its answer";
+    default: return "unknown status";
+    }
+}
+
+EXPORTED const char *redodb_version(void) { return "0.1.0"; }
+
+EXPORTED unsigned redodb_abi(void) { return REDODB_ABI; }
