@@ -1,4 +1,5 @@
-"""A build-dependency database for redo: names, stamps, the server of a tree, and its clients.
+"""A build-dependency database for redo: names, stamps, the server of a tree, its clients,
+and a database of one's own process.
 
 What this module exports is imported when it is first used, so that a program that needs one part
 starts fast.
@@ -7,12 +8,13 @@ TYPE_CHECKING = False
 if TYPE_CHECKING:
     from . import errors, replies
     from .aio import AsyncClient
+    from ._native import Database
     from .client import Client
 
 __version__ = "0.1.0"
-__all__ = ["AsyncClient", "Client", "__version__", "errors", "replies"]
+__all__ = ["AsyncClient", "Client", "Database", "__version__", "errors", "replies"]
 
-_HOMES = {"Client": "client", "AsyncClient": "aio"}
+_HOMES = {"Client": "client", "AsyncClient": "aio", "Database": "_native"}
 _MODULES = ("errors", "replies")
 
 

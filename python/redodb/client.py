@@ -11,7 +11,7 @@ from .commands import Commands
 from .errors import ServerError
 from .lines import Lines
 from .places import find_top
-from .replies import Deps, Forgotten, Granted, NameState, Ring, Why
+from .replies import Forgotten, Granted, Ring
 from .requests import TOP_LEVEL, Answer, Name, Request
 
 
@@ -80,30 +80,6 @@ class Client(Commands):
         [b'ok', b'granted 1', b'idle lock 1 file 1']
         """
         return self._lines.ask_all(asked, self._deadline(self.timeout))
-
-    def why(self, target: Name) -> Why | None:
-        """Return why the target is out of date; None where it isn't.
-
-        >>> client.why("a.o") is None
-        True
-        """
-        return self._do(requests.why(target))
-
-    def deps(self, target: Name) -> Deps:
-        """Return the rows of a target.
-
-        >>> client.deps("a.o")
-        Deps(changed=(), created=(), always=False)
-        """
-        return self._do(requests.deps(target))
-
-    def state(self, name: Name) -> NameState:
-        """Return how it stands with a name.
-
-        >>> client.state("a.o")
-        NameState(state=<State.IDLE: 'idle'>, builder=None, holder=None, stamp=None)
-        """
-        return self._do(requests.state(name))
 
     def wait(
         self, target: Name, parent: Name = TOP_LEVEL, timeout: float | None = None
@@ -183,17 +159,6 @@ class Client(Commands):
         >>> client.ungroup(999999998)
         """
         self._do(requests.ungroup(number))
-
-    def end(self) -> None:
-        """Fail what this session builds, and let go of what it holds. The session goes on.
-
-        >>> client.lock("a.o")
-        Granted(number=1)
-        >>> client.end()
-        >>> client.state("a.o").holder is None
-        True
-        """
-        self._do(requests.end())
 
     def _do(self, request: Request[Answer], timeout: float | None = None) -> Answer:
         seconds = self.timeout if timeout is None else timeout

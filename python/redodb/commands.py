@@ -1,16 +1,17 @@
-"""The commands of the database, as methods of the plain client."""
+"""The commands and questions of the database, as methods of the plain client and of Database."""
 from __future__ import annotations
 
 from abc import ABC, abstractmethod
 from collections.abc import Iterable
 
 from . import requests
-from .replies import Busy, Granted, Names
+from .replies import Busy, Deps, Granted, Names, NameState, Why
 from .requests import Answer, Name, Request
 
 
 class Commands(ABC):
-    """A method for each command. What they raise is said at client.Client."""
+    """A method for each command and question. What they raise is said at client.Client and
+    _native.Database."""
 
     @abstractmethod
     def _do(self, request: Request[Answer], timeout: float | None = None) -> Answer:
@@ -159,3 +160,38 @@ class Commands(ABC):
         False
         """
         return self._do(requests.sources())
+
+    def why(self, target: Name) -> Why | None:
+        """Return why the target is out of date; None where it isn't.
+
+        >>> client.why("a.o") is None
+        True
+        """
+        return self._do(requests.why(target))
+
+    def deps(self, target: Name) -> Deps:
+        """Return the rows of a target.
+
+        >>> client.deps("a.o")
+        Deps(changed=(), created=(), always=False)
+        """
+        return self._do(requests.deps(target))
+
+    def state(self, name: Name) -> NameState:
+        """Return how it stands with a name.
+
+        >>> client.state("a.o")
+        NameState(state=<State.IDLE: 'idle'>, builder=None, holder=None, stamp=None)
+        """
+        return self._do(requests.state(name))
+
+    def end(self) -> None:
+        """Fail what this session builds, and let go of what it holds. The session goes on.
+
+        >>> client.lock("a.o")
+        Granted(number=1)
+        >>> client.end()
+        >>> client.state("a.o").holder is None
+        True
+        """
+        self._do(requests.end())

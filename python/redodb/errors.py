@@ -45,5 +45,9 @@ class ServerError(RedodbError):
     """The server can't be reached or has ended; the text says why, as far as it is known."""
 
 
+class LibraryError(RedodbError):
+    """The library can't be loaded, or a call of it failed; the text says why."""
+
+
 class ProtocolError(RedodbError):
     """The server sent what is no answer of its language."""

@@ -77,3 +77,19 @@ def find_program() -> bytes | None:
         if os.path.isfile(program) and os.access(program, os.X_OK):
             return program
     return None
+
+
+def find_library() -> bytes | None:
+    """Return the path of libredodb.so, or None.
+
+    It is $REDODB_LIBRARY, else that of the installation or repository that this package is in.
+    """
+    chosen = os.environb.get(b"REDODB_LIBRARY")
+    if chosen:
+        return os.path.abspath(chosen)
+    home = os.path.dirname(package_folder())
+    for folder in (os.path.dirname(home), home + b"/library/out"):
+        library = folder + b"/libredodb.so"
+        if os.path.isfile(library):
+            return library
+    return None
