@@ -10,8 +10,9 @@ import beside  # noqa: F401
 from redodb.places import find_program
 from trees import TOP, TreeTest, is_proved, program_answers
 
-COPIED = ["install", "redodb", "redodb-live", "bin", "completion", "man", "python/redodb"]
+COPIED = ["install", "redodb", "redodb-live", "bin", "completion", "man", "include", "python/redodb"]
 BUILT = "crates/redo_live_cli/out/redo_live_cli"
+PACKAGES = "lib/redodb/python"
 STAND_IN = '#!/bin/sh\necho "program $*"\n'
 
 
@@ -174,6 +175,19 @@ class InstallCopy(InstallTest):
         self.assertEqual(
             {path.name.split(".")[0] for path in (package / "__pycache__").glob("*.pyc")}, modules
         )
+
+    def test_library(self) -> None:
+        names = ["include/redodb.h", "lib/libredodb.a", "lib/libredodb.so"]
+        self.installed()
+        self.assertFalse(any((self.prefix / name).exists() for name in names))
+        for name in ("libredodb.a", "libredodb.so"):
+            self.write(f"copy/library/out/{name}", name)
+        self.installed()
+        self.assertTrue(all((self.prefix / name).is_file() for name in names))
+        finds = "from redodb.places import find_library; print(find_library().decode())"
+        program = ("python3", "-c", f"import sys; sys.path.insert(0, {PACKAGES!r}); {finds}")
+        found = self.said(*program, cwd=self.prefix)
+        self.assertEqual(Path(found.strip()), self.prefix / "lib/libredodb.so")
 
     def assert_not_proved(self, names: str) -> None:
         line = f"install: {names}: not proved yet: ./prove proves and builds it\n"
