@@ -46,18 +46,6 @@ fn session_of(line: &[u8]) -> Option<(u8, &[u8])> {
     (1..=64).contains(&session).then_some((session, text))
 }
 
-fn lets_through(reply: Reply) -> bool {
-    !matches!(
-        reply,
-        Reply::Busy(_)
-            | Reply::NotLocked
-            | Reply::Building
-            | Reply::NotBuilding
-            | Reply::Itself
-            | Reply::Exists(_)
-    )
-}
-
 impl Database {
     pub fn new() -> Database {
         let (text, digests): (&[u8], &[[u8; 20]]) = (&[], &[]);
@@ -107,7 +95,7 @@ impl Database {
         printer.put_reply(reply, &store.listed);
         printer.put("\n");
         *said = printer.text;
-        is_change && lets_through(reply)
+        is_change && reply.lets_through()
     }
 
     // a command that was read from a line, whose text was said already from there on

@@ -68,6 +68,21 @@ pub enum Reply {
     Exists(u32),
 }
 
+impl Reply {
+    // whether a guarded line behind it is done
+    pub fn lets_through(self) -> bool {
+        !matches!(
+            self,
+            Reply::Busy(_)
+                | Reply::NotLocked
+                | Reply::Building
+                | Reply::NotBuilding
+                | Reply::Itself
+                | Reply::Exists(_)
+        )
+    }
+}
+
 #[derive(Clone, Copy)]
 pub struct Line {
     pub session: u8,

@@ -6,6 +6,7 @@
 //                                            each in turn changes and changes back
 mod bits;
 mod graph;
+#[allow(dead_code)]
 mod lines;
 mod memo;
 mod mixes;

@@ -1,61 +1,78 @@
 // Sessions side by side in plain Rust, to measure against: one database under one Mutex, and a thread for each session.
-// It reads session files, does their commands, and prints the run text, as the program does.
-// Usage: rival FILE...
-mod database;
+// It reads session files, does their commands and the closing ones, and prints the run text, as the program does. The
+// database is that of bench/replay, with the same memo; with --search it has none, and searches.
+// Usage: rival [--search] FILE...
+#[path = "../memo/bits.rs"]
+mod bits;
+#[path = "../memo/graph.rs"]
+mod graph;
+#[path = "../memo/lines.rs"]
+#[allow(dead_code)]
+mod lines;
+#[path = "../memo/memo.rs"]
+mod memo;
+#[path = "../memo/names.rs"]
+mod names;
+#[path = "../memo/printing.rs"]
 mod printing;
 mod reading;
+#[path = "../memo/rows.rs"]
+#[allow(dead_code)]
+mod rows;
+mod run_text;
+mod search;
+mod sessions;
 mod sha1;
+#[path = "../memo/store.rs"]
+#[allow(dead_code)]
+mod store;
 
-use database::{Database, Reply};
-use printing::Printer;
-use reading::{Command, Reader, Texts};
-use std::io::{stdout, BufWriter};
-use std::sync::Mutex;
-use std::thread;
+use reading::{Reader, Script};
+use run_text::RunText;
+use search::Search;
+use sessions::done_by;
+use std::fs::File;
+use std::io::Read;
+use std::ops::Range;
+use store::Store;
 
-// the database, and the sessions whose commands it did, in order
-struct Shared {
-    database: Database,
-    history: Vec<u8>,
-}
-
-fn replies_of(shared: &Mutex<Shared>, session: u8, script: &[Command]) -> Vec<Reply> {
-    let mut replies = Vec::with_capacity(script.len());
-    for command in script {
-        let mut held = shared.lock().expect("no panic");
-        let reply = held.database.call(session, command);
-        held.history.push(session);
-        drop(held);
-        replies.push(reply);
+// the texts of all files, one after the other, and where each is
+fn texts_of(files: &[String]) -> Result<(Vec<u8>, Vec<Range<usize>>), String> {
+    let mut text = Vec::new();
+    let mut places = Vec::new();
+    for file in files {
+        let from = text.len();
+        let read = File::open(file).and_then(|mut file| file.read_to_end(&mut text));
+        read.map_err(|error| format!("{file}: {error}"))?;
+        places.push(from..text.len());
     }
-    replies
+    Ok((text, places))
 }
 
-fn run(names: &Texts, scripts: &[Vec<Command>]) -> (Vec<u8>, Vec<Vec<Reply>>) {
-    let history = Vec::with_capacity(scripts.iter().map(Vec::len).sum());
-    let shared = Mutex::new(Shared { database: Database::new(names), history });
-    let replies = thread::scope(|scope| {
-        let start = |(session, script)| {
-            let shared = &shared;
-            scope.spawn(move || replies_of(shared, session as u8, script))
-        };
-        let threads: Vec<_> = scripts.iter().map(Vec::as_slice).enumerate().map(start).collect();
-        threads.into_iter().map(|thread| thread.join().expect("no panic")).collect()
-    });
-    (shared.into_inner().expect("no panic").history, replies)
+fn run(files: &[String], has_memo: bool) -> Result<(), String> {
+    if !(1..=64).contains(&files.len()) {
+        return Err("usage: rival [--search] FILE...".to_string());
+    }
+    let (text, places) = texts_of(files)?;
+    let mut reader = Reader::new(&text);
+    let mut scripts: Vec<Script> = Vec::new();
+    for (file, place) in files.iter().zip(places) {
+        scripts.push(reader.script(place).ok_or(format!("{file}: a faulty line"))?);
+    }
+    let sorted = reader.names.sorted();
+    let done = if has_memo {
+        done_by(Store::new(&text, &reader.digests, sorted), &reader, &scripts)
+    } else {
+        done_by(Search::new(&reader.digests, &sorted), &reader, &scripts)
+    };
+    let printed = RunText::new(&reader).put(&done, &scripts);
+    printed.map_err(|error| error.to_string())
 }
 
 fn main() -> Result<(), String> {
-    let mut reader = Reader::default();
-    let mut scripts = Vec::new();
-    for file in std::env::args().skip(1) {
-        let text = std::fs::read(&file).map_err(|error| format!("{file}: {error}"))?;
-        scripts.push(reader.script(&text).ok_or(format!("{file}: a faulty line"))?);
+    let words: Vec<String> = std::env::args().skip(1).collect();
+    match words.split_first() {
+        Some((word, files)) if word == "--search" => run(files, false),
+        _ => run(&words, true),
     }
-    if !(1..=64).contains(&scripts.len()) {
-        return Err("usage: rival FILE...".to_string());
-    }
-    let (history, replies) = run(&reader.names, &scripts);
-    let mut printer = Printer { out: BufWriter::new(stdout().lock()), reader: &reader };
-    printer.run(&history, &scripts, &replies).map_err(|error| error.to_string())
 }

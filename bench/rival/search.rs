@@ -1,30 +1,14 @@
-// The database, for one session at a time.
-use crate::reading::{Command, Texts};
-use crate::sha1::sha1;
+// The database without a memo.
+use crate::lines::{Command, Listing, Part, Reply, Stamp};
+use crate::sessions::Database;
 use std::collections::HashMap;
-
-pub enum Reply {
-    Okay,
-    Granted(u32),
-    Busy(u32),
-    Stale(Vec<u32>),
-    Stamped([u8; 20]),
-    Ood(Vec<u32>),
-    Targets(Vec<u32>),
-    Sources(Vec<u32>),
-    NotLocked,
-    Building,
-    NotBuilding,
-    Itself,
-    Exists(u32),
-}
 
 #[derive(Clone, Copy, PartialEq)]
 enum Mark {
     Digest([u8; 20]),
     Builds(u32),
     Pending,
-    File(u32),
+    File(Stamp),
     Absent,
 }
 
@@ -39,10 +23,10 @@ enum State {
 
 #[derive(Clone, Default)]
 struct Known {
-    file: Option<u32>,
+    file: Option<Stamp>,
     state: State,
     builds: u32,
-    done: Option<u32>,
+    done: Option<Stamp>,
     digest: Option<[u8; 20]>,
     holder: Option<u8>,
     grants: u32,
@@ -65,7 +49,8 @@ impl Known {
     }
 }
 
-pub struct Database {
+pub struct Search<'a> {
+    digests: &'a [[u8; 20]],
     known: Vec<Known>,
     // the place of each name in the order of the names' bytes
     ranks: Vec<u32>,
@@ -74,18 +59,20 @@ pub struct Database {
     // the names that the search met: those with this turn
     met: Vec<u32>,
     turn: u32,
+    // the names that the latest reply lists
+    listed: Vec<u32>,
 }
 
-impl Database {
-    pub fn new(names: &Texts) -> Database {
-        let count = names.list.len();
-        let mut order: Vec<u32> = (0..count as u32).collect();
-        order.sort_unstable_by_key(|n| names.text(*n));
+impl<'a> Search<'a> {
+    // over names whose numbers are sorted by the names' bytes
+    pub fn new(digests: &'a [[u8; 20]], sorted: &[u32]) -> Search<'a> {
+        let count = sorted.len();
         let mut ranks = vec![0; count];
-        for (rank, n) in order.iter().enumerate() {
-            ranks[*n as usize] = rank as u32;
+        for (rank, n) in (0..).zip(sorted) {
+            ranks[*n as usize] = rank;
         }
-        Database { known: vec![Known::default(); count], ranks, targets: Vec::new(), met: vec![0; count], turn: 0 }
+        let (targets, listed) = (Vec::new(), Vec::new());
+        Search { digests, known: vec![Known::default(); count], ranks, targets, met: vec![0; count], turn: 0, listed }
     }
 
     fn at(&self, n: u32) -> &Known {
@@ -237,7 +224,7 @@ impl Database {
         }
     }
 
-    fn done(&mut self, t: u32, stamp: Option<u32>) {
+    fn done(&mut self, t: u32, stamp: Option<Stamp>) {
         let known = self.at_mut(t);
         known.state = State::Built;
         known.builds += 1;
@@ -245,59 +232,74 @@ impl Database {
         known.done = stamp;
     }
 
-    fn refusal(&self, session: u8, command: &Command) -> Option<Reply> {
-        let is_building = |t: u32| matches!(self.at(t).state, State::Building(_));
+    fn refusal(&self, session: u8, command: Command, lists: &[u32]) -> Option<Reply> {
         match command {
-            Command::Unlock(t) | Command::Start(t) if self.at(*t).holder != Some(session) => Some(Reply::NotLocked),
-            Command::Unlock(t) | Command::Start(t) if is_building(*t) => Some(Reply::Building),
+            Command::Unlock(t) | Command::Start(t) if self.at(t).holder != Some(session) => Some(Reply::NotLocked),
+            Command::Unlock(t) | Command::Start(t) if self.is_building(t) => Some(Reply::Building),
             Command::IfChange(t, _)
             | Command::IfCreate(t, _)
             | Command::Always(t)
             | Command::Stamp(t, _)
             | Command::Done(t, _)
             | Command::Failed(t)
-                if self.at(*t).state != State::Building(session) =>
+                if self.at(t).state != State::Building(session) =>
             {
                 Some(Reply::NotBuilding)
             }
-            Command::IfChange(t, names) | Command::IfCreate(t, names) if names.contains(t) => Some(Reply::Itself),
+            Command::IfChange(t, names) | Command::IfCreate(t, names) if names.of(lists).contains(&t) => {
+                Some(Reply::Itself)
+            }
             Command::IfCreate(_, names) => {
-                let found = names.iter().find(|n| self.at(**n).file.is_some())?;
+                let found = names.of(lists).iter().find(|n| self.at(**n).file.is_some())?;
                 Some(Reply::Exists(*found))
             }
             _ => None,
         }
     }
 
-    pub fn call(&mut self, session: u8, command: &Command) -> Reply {
-        if let Some(refusal) = self.refusal(session, command) {
+    fn list(&mut self, listing: Listing, names: Vec<u32>) -> Reply {
+        self.listed = names;
+        Reply::Listed(listing, Part { at: 0, len: self.listed.len() as u32 })
+    }
+}
+
+impl Database for Search<'_> {
+    fn listed(&self) -> &[u32] {
+        &self.listed
+    }
+
+    fn is_building(&self, target: u32) -> bool {
+        matches!(self.at(target).state, State::Building(_))
+    }
+
+    fn call(&mut self, session: u8, command: Command, lists: &[u32]) -> Reply {
+        if let Some(refusal) = self.refusal(session, command, lists) {
             return refusal;
         }
         match command {
-            Command::File(n, stamp) => self.at_mut(*n).file = Some(*stamp),
-            Command::Gone(n) => self.at_mut(*n).file = None,
-            Command::Lock(t) => return self.lock(session, *t),
-            Command::Unlock(t) => self.at_mut(*t).holder = None,
-            Command::Start(t) => self.start(session, *t),
+            Command::File(n, stamp) => self.at_mut(n).file = Some(stamp),
+            Command::Gone(n) => self.at_mut(n).file = None,
+            Command::Lock(t) => return self.lock(session, t),
+            Command::Unlock(t) => self.at_mut(t).holder = None,
+            Command::Start(t) => self.start(session, t),
             Command::IfChange(t, names) => {
-                let stale = self.stale(names);
-                self.put_changes(*t, names);
+                let stale = self.stale(names.of(lists));
+                self.put_changes(t, names.of(lists));
                 if !stale.is_empty() {
-                    return Reply::Stale(stale);
+                    return self.list(Listing::Stale, stale);
                 }
             }
-            Command::IfCreate(t, names) => self.put_created(*t, names),
-            Command::Always(t) => self.at_mut(*t).always = true,
-            Command::Stamp(t, content) => {
-                let digest = sha1(content);
-                self.at_mut(*t).digest = Some(digest);
+            Command::IfCreate(t, names) => self.put_created(t, names.of(lists)),
+            Command::Always(t) => self.at_mut(t).always = true,
+            Command::Stamp(t, digest) => {
+                self.at_mut(t).digest = Some(self.digests[digest as usize]);
                 return Reply::Stamped(digest);
             }
-            Command::Done(t, stamp) => self.done(*t, *stamp),
-            Command::Failed(t) => self.at_mut(*t).state = State::Failed,
-            Command::Ood => return Reply::Ood(self.ood()),
-            Command::Targets => return Reply::Targets(self.targets()),
-            Command::Sources => return Reply::Sources(self.sources()),
+            Command::Done(t, stamp) => self.done(t, stamp),
+            Command::Failed(t) => self.at_mut(t).state = State::Failed,
+            Command::Ood => return self.list(Listing::Ood, self.ood()),
+            Command::Targets => return self.list(Listing::Targets, self.targets()),
+            Command::Sources => return self.list(Listing::Sources, self.sources()),
         }
         Reply::Okay
     }
