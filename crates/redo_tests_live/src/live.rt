@@ -127,7 +127,7 @@ fn too_long(rt: HostRuntime) -> Result<(), Fail> {
     ] {
         let (mut said, mut logged) = (Vec::new(alloc), Vec::new(alloc));
         let size = want.len();
-        for most in [0, size - 1] {
+        for most in [0, size.saturating_sub(1)] {
             let answer = live.answer_within(
                 alloc,
                 0,
@@ -144,7 +144,13 @@ fn too_long(rt: HostRuntime) -> Result<(), Fail> {
     }
     let want = b"1 failed a => ok\n1 unlock a => ok\n1 end => ok\n".as_slice();
     let (mut said, mut logged) = (Vec::new(alloc), Vec::new(alloc));
-    let answer = live.end_within(alloc, 0, want.len() - 1, &mut said, &mut logged);
+    let answer = live.end_within(
+        alloc,
+        0,
+        want.len().saturating_sub(1),
+        &mut said,
+        &mut logged,
+    );
     assert!(rt; answer == Err(Withheld::TooLong(want.len())));
     assert!(rt; said.is_empty() && logged.is_empty());
     live.end_within(alloc, 0, want.len(), &mut said, &mut logged)?;

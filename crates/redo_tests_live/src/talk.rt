@@ -118,13 +118,17 @@ fn replies(rt: HostRuntime) -> Result<(), Fail> {
     for (line, want, replied, to_log) in REPLIES {
         let (mut said, mut logged) = (Vec::new(alloc), Vec::new(alloc));
         let (line, size) = (line.as_bytes(), want.len());
-        let answer = reply(alloc, &mut live, line, size - 1, &mut said, &mut logged);
+        let most = size.saturating_sub(1);
+        let answer = reply(alloc, &mut live, line, most, &mut said, &mut logged);
         assert!(rt; answer == Err(Withheld::TooLong(size)), "{want}");
         assert!(rt; said.is_empty() && logged.is_empty(), "{want}");
         let answer = reply(alloc, &mut live, line, size, &mut said, &mut logged);
         assert!(rt; answer == Ok(*replied), "{want}");
         assert!(rt; said.as_slice() == want.as_bytes(), "{want}");
-        assert!(rt; said.starts_with(&logged) && logged.len() == *to_log, "{want}");
+        assert!(rt;
+            said.starts_with(&logged) && logged.len() == *to_log,
+            "{want}"
+        );
     }
     Ok(())
 }
