@@ -7,6 +7,7 @@ import shutil
 import subprocess
 import unittest
 import xml.etree.ElementTree as ET
+from pathlib import Path
 
 import beside  # noqa: F401
 from redodb.conversation import Conversation
@@ -16,6 +17,7 @@ from redodb.picture.told import Line, read_lines
 from trees import TreeTest, program_answers
 
 SVG = "{http://www.w3.org/2000/svg}"
+PICTURES = Path(__file__).resolve().parent.parent.parent / "docs/pictures"
 HISTORY = """\
 history 25
 1 file a.c 10 => ok
@@ -487,6 +489,26 @@ class TargetGraph(PictureTest):
         self.assertEqual((run.returncode, run.stderr), (0, ""))
         titles = {title.text for title in ET.fromstring(run.stdout).iter(SVG + "title")}
         self.assertLessEqual({"app", "a.o", "a.o->app"}, titles)
+
+
+class PicturesOfTheDocs(unittest.TestCase):
+    """The pictures of docs/TOOLS.md are those of the log beside them."""
+
+    LOG = str(PICTURES / "log")
+
+    def test_run(self) -> None:
+        wanted = PICTURES.joinpath("run.svg").read_text()
+        self.assertEqual(picture("run", self.LOG), (0, wanted, ""))
+
+    @unittest.skipUnless(program_answers(), "wants redodb-live")
+    def test_graph(self) -> None:
+        nodes, edges = parsed(picture("graph", self.LOG, "app")[1])
+        titles = {
+            title.text for title in ET.parse(PICTURES / "graph.svg").iter(SVG + "title")
+        } - {"redodb"}
+        self.assertEqual(titles, {*nodes, *(f"{below}->{above}" for below, above in edges)})
+        bold = {edge for edge, attributes in edges.items() if "bold" in attributes.get("style", "")}
+        self.assertEqual(bold, {("main.o", "app"), ("util.h", "main.o")})
 
 
 STATEMENT = re.compile(
