@@ -2,6 +2,7 @@
 from __future__ import annotations
 
 from collections.abc import Callable, Iterable
+from functools import lru_cache
 from typing import Generic, TypeVar
 
 from . import replies
@@ -17,6 +18,7 @@ TOP_LEVEL = b"-"
 
 _MOST_NAMES = 64
 _MOST_BYTES = 7_000
+_MOST_KEPT = 1 << 16  # as many names as a tree has at most
 
 
 class Request(Generic[Answer]):
@@ -150,7 +152,7 @@ def _one(line: bytes, read: Callable[[bytes, bytes], Answer]) -> Request[Answer]
 
 def _chunks(command: bytes, names: Iterable[Name]) -> tuple[bytes, ...]:
     """Return lines of the command, with no more names and bytes than a line may have."""
-    words = [_name(name) for name in names]
+    words = list(map(_name, names))
     whole = b" ".join([command, *words])
     if 0 < len(words) <= _MOST_NAMES and len(whole) <= _MOST_BYTES:
         return (whole,)
@@ -177,7 +179,9 @@ def _parent(name: Name) -> bytes:
     return TOP_LEVEL if name in (TOP_LEVEL, TOP_LEVEL.decode()) else _name(name)
 
 
+@lru_cache(_MOST_KEPT)
 def _name(name: Name) -> bytes:
+    """Return a name as bytes. The names of a build come again and again, so they are kept."""
     name = name.encode() if isinstance(name, str) else name
     if not is_name(name):
         raise BadName(f"not a name of the database: {name!r}")
