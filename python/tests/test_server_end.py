@@ -87,6 +87,13 @@ class End(ServedTree):
             self.assertEqual(server.wait(PATIENCE), 1)
             self.assertEqual(log.read_bytes(), before)
 
+    def test_by_a_log_that_is_a_folder_is_told(self) -> None:
+        self.places.make()
+        os.mkdir(self.places.log)
+        server = self.serve(idle=60)
+        self.assertRegex(self.raw().line(), r"\A0 failed redodb-live: .*/log: cannot open\Z")
+        self.assertEqual(server.wait(PATIENCE), 1)
+
     def test_by_a_full_disk_is_told_and_what_was_answered_is_kept(self) -> None:
         full = self.script("trap '' XFSZ\nulimit -f 1\nexec PROGRAM \"$@\"\n")
         server = self.serve(idle=60, program=full)

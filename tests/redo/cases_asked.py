@@ -97,6 +97,7 @@ def case_whichdo_of_nothing(tree: Tree) -> None:
     tree.check.same(
         "all", (run.status, run.out.splitlines()), (1, ["../" * depth + path for path in wanted])
     )
+    tree.check.same("no name", tree.run("redo-whichdo", "").status, 2)
 
 
 def why(tree: Tree, *words: str) -> str:

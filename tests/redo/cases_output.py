@@ -116,6 +116,16 @@ def case_folder_as_target(tree: Tree) -> None:
     tree.check.same("left over", tree.left_over(), [])
 
 
+def case_folder_that_is_there(tree: Tree) -> None:
+    """A folder that no build made is a target where a rule matches: its script may fill it."""
+    tree.files(default__dir__do='mkdir -p "$1"\ntouch "$1/made"\n')
+    for program in ("redo", "redo-ifchange"):
+        name = f"{program}.dir"
+        tree.path(name).mkdir()
+        tree.check.same("status", tree.run(program, name).status, 0)
+        tree.check.same(name, os.listdir(tree.path(name)), ["made"])
+
+
 def case_old_files_of_a_killed_build(tree: Tree) -> None:
     """What a build that was killed left beside its target doesn't get into the next one."""
     tree.files(x__do='echo new >>"$3"\n', x__redo__tmp="old\n", x__redo__out="old\n")

@@ -214,7 +214,7 @@ class Ensurer:
 
         Then it has no row, not even on a .do file.
         """
-        if found.state.stamp is None or found.why is not None:
+        if found.state.state is not State.BUILT or found.state.stamp is None or found.why:
             return False
         request = b"deps " + name
         deps = read_deps((await self._context.link.send([request]))[0], request)

@@ -59,7 +59,7 @@ def redo_sources(arguments: list[str]) -> int:
 
 def redo_whichdo(arguments: list[str]) -> int:
     """Prints the .do files of a target, up to the first that is there; 1 where none is."""
-    if len(arguments) != 1:
+    if len(arguments) != 1 or not arguments[0]:
         raise Usage("it takes one target")
     from redodb.redo.rules import candidates
 

@@ -63,8 +63,8 @@ class Known:
                         if reader is not None:
                             for name in reader(words, b"ok"):
                                 moved[name] = None
-        except (FileNotFoundError, IndexError):
-            pass  # there is none yet, or it is damaged, which redodb-live tells
+        except (FileNotFoundError, IsADirectoryError, PermissionError, IndexError):
+            pass  # there is none yet, or it is none, which redodb-live tells
         for name in moved:
             self._expect(name)
 
