@@ -59,7 +59,8 @@ class Lines:
         self.number += 1
         head = b"%d " % self.number
         self._unsent += b"%b%b\n" % (head, request)
-        data = self._next(deadline)
+        self._send()
+        data = self._receive(deadline)
         if data.startswith(head) and data.find(b"\n") == len(data) - 1 and not self._rest:
             return data[len(head) : -1]  # this answer, whole and alone, as it is nearly always
         return self._answers(range(self.number, self.number + 1), data, deadline)[0]
