@@ -1,6 +1,8 @@
 """The programs that ask and build nothing, and redo-why."""
 import json
+import re
 import shutil
+from textwrap import dedent
 
 from trees import TOP, Tree, ended, needs
 
@@ -159,16 +161,33 @@ def case_why_json(tree: Tree) -> None:
     tree.check.same("objects", objects, wanted)
 
 
-def case_hello(tree: Tree) -> None:
-    """examples/hello is built, and again after an edit of its header, which redo-why tells."""
+def copy_hello(tree: Tree) -> None:
+    """Copies examples/hello into the tree."""
     needs("cc")
     for path in sorted((TOP / "examples/hello").glob("*.*")):
         if path.suffix in (".do", ".c", ".h"):
             shutil.copy(path, tree.folder)
     tree.check.same("three .do files", len(list(tree.folder.glob("*.do"))), 3)
+
+
+def case_hello(tree: Tree) -> None:
+    """examples/hello is built, and again after an edit of its header, which redo-why tells."""
+    copy_hello(tree)
     tree.check.same("built", tree.redo().err, "redo  all\nredo    hello\nredo      hello.o\n")
     tree.check.same("hello", tree.run("./hello").out, "hello, world\n")
     tree.write("greeting.h", '#define GREETING "hello again"\n')
     tree.check.same("why", why(tree, "hello"), "hello <- hello.o <- greeting.h changed\n")
     tree.redo()
     tree.check.same("hello", tree.run("./hello").out, "hello again\n")
+
+
+def case_readme(tree: Tree) -> None:
+    """The first screen of README.md shows what its commands print."""
+    copy_hello(tree)
+    section = (TOP / "README.md").read_text().partition("**With redo.**")[2].partition("|")[0]
+    blocks = [dedent(block) for block in re.findall("(?:    .*\n)+", section)]
+    tree.check.same("commands and what they print", len(blocks), 6)
+    for commands, printed in zip(blocks[::2], blocks[1::2]):
+        here = [line for line in commands.splitlines() if not line.startswith(("cd ", "export "))]
+        run = tree.run("sh", "-ec", "\n".join(here))
+        tree.check.same(str(here), (run.status, run.out + run.err), (0, printed))
