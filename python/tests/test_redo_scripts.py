@@ -121,6 +121,7 @@ class Statuses(unittest.TestCase):
     def test_have_words(self) -> None:
         self.assertEqual(how_it_ended(3), b"status 3")
         self.assertEqual(how_it_ended(-9), b"killed by SIGKILL")
+        self.assertEqual(how_it_ended(-40), b"killed by signal 40")
 
 
 if __name__ == "__main__":

@@ -164,9 +164,12 @@ class Processes:
 
 def how_it_ended(status: int) -> bytes:
     """Returns a status in words; a negative one is that of a signal."""
-    if status < 0:
+    if status >= 0:
+        return b"status %d" % status
+    try:
         return b"killed by " + signal.Signals(-status).name.encode()
-    return b"status %d" % status
+    except ValueError:
+        return b"killed by signal %d" % -status
 
 
 def settle(
