@@ -5,14 +5,13 @@ import signal
 import subprocess
 import sys
 import threading
-import time
 
 import beside  # noqa: F401
 from redodb import Client
 from redodb.errors import ServerError
 from redodb.places import package_folder
 from redodb.replies import Granted
-from served import PATIENCE, ServedTree
+from served import PATIENCE, ServedTree, eventually
 
 BUILDER = """
 import random, sys, time
@@ -40,12 +39,14 @@ class Together(ServedTree):
 
     def test_builders_exclude_each_other(self) -> None:
         self.serve(idle=5)
+        watcher = self.client()
         folder = os.path.join(self.top, "held")
         os.mkdir(folder)
         chance = random.Random(37)
         builders = {seed: self.builder(seed, folder) for seed in range(6)}
         for seed in range(6, 26):
-            time.sleep(0.05)
+            enough = len(self.log()) + 10
+            self.assertTrue(eventually(lambda: len(self.log()) >= enough))
             victim = chance.choice(list(builders))
             builders[victim].send_signal(signal.SIGKILL)
             builders.pop(victim).wait(PATIENCE)
@@ -53,7 +54,6 @@ class Together(ServedTree):
         for builder in builders.values():
             builder.send_signal(signal.SIGKILL)
             builder.wait(PATIENCE)
-        watcher = self.client()
         for number in range(5):
             watcher.send(f"{number} wait t{number} -")
         self.assertEqual(sorted(line.split()[1] for line in watcher.lines(5)), ["granted"] * 5)
