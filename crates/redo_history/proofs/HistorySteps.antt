@@ -30,7 +30,7 @@ pub record IsReadSoFar (input : Text) (count : ℕ) (lines : List Line) (names :
   pub read : AreLinesOf texts (map (line_at names) lines) names
   pub parts : input ≡ header_of count ++ flat_map ended texts ++ left
 
-flat_map_push : {X : Type 0} (f : X → Text) (xs : List X) (x : X)
+pub flat_map_push : {X : Type 0} (f : X → Text) (xs : List X) (x : X)
     → flat_map f (xs ++ x ∷ []) ≡ flat_map f xs ++ f x
 flat_map_push f xs x = flat_map-append f xs (x ∷ []) ∙ ap (λ (l : Text). flat_map f xs ++ l)
     (append-nil (f x))
@@ -43,14 +43,14 @@ names_push (first ∷ lines) line = ap (λ (l : List Text). names_in_line first 
     (names_push lines line)
     ∙ sym (append_assoc (names_in_line first) (flat_map names_in_line lines) (names_in_line line))
 
-texts_count : (texts : List Text) (lines : List (histories.Line Text)) → AreHistoryLines texts lines
+pub texts_count : (texts : List Text) (lines : List (histories.Line Text)) → AreHistoryLines texts lines
     → length texts ≡ length lines
 texts_count [] [] each = refl
 texts_count [] (line ∷ lines) each = absurd each
 texts_count (text ∷ texts) [] each = absurd each
 texts_count (text ∷ texts) (line ∷ lines) each = omega (arith, texts_count texts lines each.1)
 
-each_more : (texts : List Text) (lines : List (histories.Line Text)) (text : Text)
+pub each_more : (texts : List Text) (lines : List (histories.Line Text)) (text : Text)
     (line : histories.Line Text)
     → AreHistoryLines texts lines → IsHistoryLine text line
     → AreHistoryLines (texts ++ text ∷ []) (lines ++ line ∷ [])
@@ -60,10 +60,10 @@ each_more (first ∷ texts) [] text line each is = absurd each
 each_more (first ∷ texts) (other ∷ lines) text line each is =
     (each.0, each_more texts lines text line each.1 is)
 
-ended_cut : (left text after : Text) → left ≡ text ++ 10 ∷ after → left ≡ ended text ++ after
+pub ended_cut : (left text after : Text) → left ≡ text ++ 10 ∷ after → left ≡ ended text ++ after
 ended_cut left text after cut = cut ∙ sym (append_assoc text (10 ∷ []) after)
 
-lines_named : (lines : List (histories.Line Text)) (line : histories.Line Text)
+pub lines_named : (lines : List (histories.Line Text)) (line : histories.Line Text)
     (names new : List Text) → AreNamesOf lines names → AddsLineNames names line new
     → AreNamesOf (lines ++ line ∷ []) new
 lines_named lines line names new are adds = (

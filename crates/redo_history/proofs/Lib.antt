@@ -1,8 +1,10 @@
 pub mod CommandsSaid
 pub mod CutLogs
 pub mod CutOnce
+pub mod Decided
 pub mod Digests
 pub mod DistinctNames
+pub mod FaultOrHistory
 pub mod FreeWords
 pub mod Grants
 pub mod HistoryLines
@@ -14,6 +16,7 @@ pub mod LineParts
 pub mod LinesFit
 pub mod MoreNames
 pub mod NoFault
+pub mod OneFault
 pub mod OneHistory
 pub mod ReadOnly
 pub mod RecordedLines

@@ -18,6 +18,7 @@ use Rattle.redo_history.specs.HistoryFaults.{IsCutAtArrow, arrow, HasBadSession,
 use Rattle.redo_history.specs.declared.fault.HistoryFault.{HistoryFault}
 use Rattle.redo_history.specs.declared.fault.HistoryFault.TheVariants.{Memory, BadHeader, Cut, BadSession, BadLine, BadReply}
 use Rattle.redo_history.proofs.CutOnce.{without_from, one_cut_at_space, one_cut_at_arrow}
+use Rattle.redo_history.proofs.HistorySteps.{texts_count}
 use Rattle.redo_history.proofs.HistoryLines.{line_parts, session_is_without, line_is_one, command_cut, one_end, one_header, lines_front, IsFront}
 
 -- what is left of a history begins with a line, whose names fit
@@ -43,13 +44,6 @@ room_for before line after names is =
     (sym is) ∙ with_names-append names (names_in_line line) (flat_map names_in_line after) in
     subst (λ (l : List Text). length (with_names names (names_in_line line)) ≤ length l) (sym all)
     (with_names-longer (with_names names (names_in_line line)) (flat_map names_in_line after))
-
-same_length : (texts : List Text) (lines : List (Line Text)) → AreHistoryLines texts lines
-    → length texts ≡ length lines
-same_length [] [] each = refl
-same_length [] (line ∷ lines) each = absurd each
-same_length (text ∷ texts) [] each = absurd each
-same_length (text ∷ texts) (line ∷ lines) each = omega (arith, same_length texts lines each.1)
 
 next_of_front : (lines all : List (Line Text)) (left rest : Text) (names before : List Text)
     → names ≡ with_names [] (flat_map names_in_line all) → length names ≤ 65536
@@ -90,7 +84,7 @@ next_line input names lines number before left is up =
     (sym (append_assoc (header_of (length lines)) (flat_map ended is.texts) is.rest) ∙ sym is.parts
     ∙ up.parts ∙ append_assoc (header_of up.count) (flat_map ended up.texts) left) in
     let counted : length lines ≡ up.count = header.0 in
-    let long : length up.texts ≡ length up.lines = same_length up.texts up.lines up.read.each in
+    let long : length up.texts ≡ length up.lines = texts_count up.texts up.lines up.read.each in
     let short : length up.lines < length lines = omega (arith, up.within, up.counted) in
     let front = lines_front up.texts is.texts up.lines lines left is.rest up.read.each is.read.each
     (omega arith) (sym header.1) in
@@ -118,15 +112,15 @@ good_line input names lines number before text is up =
       room = next.room;
     }
 
+pub has_end : (text more : Text) → Contains (ended text ++ more) 10
+has_end [] more = (0, omega arith, refl)
+has_end (b ∷ text) more = let k = has_end text more in (suc k.0, omega arith, k.2)
+
 no_cut : (input : Text) (names : List Text) (lines : List (Line Text)) → IsHistory input names lines
     → ¬ (IsHistoryFault input Cut)
 no_cut input names lines is fault =
     let next = next_line input names lines fault.0 fault.1 fault.2 is fault.3 in
-    fault.4 (subst (λ (t : Text). Contains t 10) (sym next.parts) (ends next.text next.more))
-  where
-    ends : (text more : Text) → Contains (ended text ++ more) 10
-    ends [] more = (0, omega arith, refl)
-    ends (b ∷ text) more = let k = ends text more in (suc k.0, omega arith, k.2)
+    fault.4 (subst (λ (t : Text). Contains t 10) (sym next.parts) (has_end next.text next.more))
 
 no_bad_session : (names : List Text) (text : Text) → IsGood names text → ¬ (HasBadSession text)
 no_bad_session names text good bad =

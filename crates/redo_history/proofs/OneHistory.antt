@@ -9,13 +9,13 @@ use Rattle.redo_history.specs.Histories.{ended, header_of}
 use Rattle.redo_history.specs.HistoryTexts.{IsHistory, AreNamesOf, names_in_line}
 use Rattle.redo_history.proofs.HistoryLines.{one_header, lines_front}
 
-same_lines : (a b others : List (Line Text)) → length a ≡ length b → b ≡ a ++ others → a ≡ b
+pub same_lines : (a b others : List (Line Text)) → length a ≡ length b → b ≡ a ++ others → a ≡ b
 same_lines a b others long whole =
     let none : others ≡ [] =
     nil_from_length others (omega (arith, ap length whole, length-append a others)) in
     sym (append-nil a) ∙ ap (λ (l : List (Line Text)). a ++ l) (sym none) ∙ sym whole
 
-same_names : (n m : List Text) (a b : List (Line Text)) → a ≡ b → AreNamesOf a n → AreNamesOf b m
+pub same_names : (n m : List Text) (a b : List (Line Text)) → a ≡ b → AreNamesOf a n → AreNamesOf b m
     → n ≡ m
 same_names n m a b lines p q =
     p.0 ∙ ap (λ (l : List (Line Text)). with_names [] (flat_map names_in_line l)) lines ∙ sym q.0

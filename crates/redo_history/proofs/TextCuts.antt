@@ -189,7 +189,7 @@ no_arrow_past rest at none here k back lt e =
     let other = λ (b : Text) (is : drop (at - 1) rest ≡ arrow ++ b). here b (omega arith) is in
     no_arrow_more rest (at - 1) none other k back (omega arith) e
 
-after_front : (rest front back : Text) → rest ≡ front ++ arrow ++ back
+pub after_front : (rest front back : Text) → rest ≡ front ++ arrow ++ back
     → drop (length front) rest ≡ arrow ++ back
 after_front rest front back e = ap (drop (length front)) (e ∙ append_assoc front arrow back)
     ∙ drop-append_seam front (arrow ++ back)

@@ -1,6 +1,6 @@
 //! What holds of the texts of histories.
 
-ghost use Rattle.std.specs.Prelude.{◌≡◌, ◌<◌, ◌≤◌, ◌^◌, ◌++◌, List, [], length, map};
+ghost use Rattle.std.specs.Prelude.{◌≡◌, ◌≢◌, ◌⊎◌, ◌<◌, ◌≤◌, ◌^◌, ◌++◌, List, [], length, map};
 ghost use Rattle.std.specs.List.{AllByRecursion, flat_map};
 ghost use Rattle.redo_model.specs.Names.{Text, texts};
 ghost use Rattle.redo_model.specs.Command.{names_in};
@@ -51,4 +51,13 @@ pub fn one_history()
 pub fn no_fault()
     ensures { (input : Text) (names : List Text) (lines : List (Line Text)) (fault : HistoryFault) →
         IsHistory input names lines → IsHistoryFault input fault → fault ≡ HistoryFault.Memory }
+{}
+
+/// A text begins with a history, or it has a fault other than want of memory, and it has no two.
+pub fn fault_or_history()
+    ensures either { (input : Text)
+        → ((names : List Text) × (lines : List (Line Text)) × IsHistory input names lines)
+        ⊎ ((fault : HistoryFault) × (fault ≢ HistoryFault.Memory) × IsHistoryFault input fault) }
+    ensures one { (input : Text) (a b : HistoryFault) → a ≢ HistoryFault.Memory
+        → b ≢ HistoryFault.Memory → IsHistoryFault input a → IsHistoryFault input b → a ≡ b }
 {}

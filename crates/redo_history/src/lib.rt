@@ -13,7 +13,8 @@ pub use cuts::{cut_at, cut_at_arrow, cut_at_space};
 pub use fault::HistoryFault;
 pub use history::{History, MOST_LINES};
 pub use laws::{
-    history_reads_back, legal_history_reads_back, legal_lines_fit, no_fault, one_history,
+    fault_or_history, history_reads_back, legal_history_reads_back, legal_lines_fit, no_fault,
+    one_history,
 };
 pub use logs::{cut_lines, one_cut};
 pub use printed::{history_text, put_answer, put_line, put_number};
