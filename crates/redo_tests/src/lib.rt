@@ -1,6 +1,8 @@
-//! The tests of names, of texts, and of runs whose readers and writers fail.
+//! The tests of words, of names, of texts, and of runs whose readers and writers fail.
 #![tactic(auto)]
 
+#[cfg(test)]
+mod asked;
 #[cfg(test)]
 mod devices;
 #[cfg(test)]

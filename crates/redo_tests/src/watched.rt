@@ -117,6 +117,23 @@ fn runs_by_a_failing_writer(rt: HostRuntime) -> Result<(), Fail> {
     Ok(())
 }
 
+/// What one empty file's run leaves where there is room for ten bytes: the history, and no session.
+#[test]
+fn run_of_nothing_by_a_failing_writer(rt: HostRuntime) -> Result<(), Fail> {
+    let alloc = rt.alloc();
+    for fails in [true, false] {
+        let mut device = FailingWriter::new(alloc, 10, fails);
+        let mut out = Watched::new(&mut device);
+        let mut files = [Watched::new(b"".as_slice())];
+        let run = run_texts(&rt, alloc, &mut files, &mut out);
+        assert!(rt; matches!(run, Err(TextFault::Write)));
+        assert!(rt; out.faulted() && !files[0].faulted());
+        assert!(rt; device.writes == 2);
+        assert!(rt; device.taken.as_slice() == b"history 0\n".as_slice());
+    }
+    Ok(())
+}
+
 /// The second of three files fails at its second read. The file after it is not read, and nothing is
 /// written.
 #[test]

@@ -9,7 +9,9 @@ use crate::plans::plan_of;
 use crate::seats::close;
 use crate::threads::journals_of;
 use crate::told::tell;
-use crate::worked::{BROKEN_OFF, BROKEN_OFF_HISTORY, COMMON_PATH, COMMON_PATH_HISTORY, LOST_TRY};
+use crate::worked::{
+    BROKEN_OFF, BROKEN_OFF_HISTORY, COMMON_PATH, COMMON_PATH_HISTORY, FILES, LOST_TRY,
+};
 use crate::workers::{MOST_STEPS, work};
 use redo_board::{Board, Open, Seat};
 use redo_command::Line;
@@ -254,4 +256,21 @@ fn check_ran<R: Threads + Wait + Abort + Sync>(
 fn run_with_each_request_refused(rt: HostRuntime) -> Result<(), RunFault> {
     let plan = planned(&rt, rt.alloc(), &TWO_SESSIONS)?;
     check_ran(&rt, rt.alloc(), &plan)
+}
+
+/// The run of the plan's two sessions has two lines, and replays.
+fn check_two<R: Threads + Wait + Abort + Sync>(
+    rt: &R,
+    alloc: Global,
+    plan: &Plan,
+) -> Result<(), RunFault> {
+    let left = ran_again(rt, alloc, plan)?;
+    assert!(rt; left.0.history.len() == 2);
+    Ok(replays_again(rt, alloc, &left.1, 2)?)
+}
+
+#[test]
+fn two_threads_with_each_request_refused(rt: HostRuntime) -> Result<(), RunFault> {
+    let plan = planned(&rt, rt.alloc(), &FILES)?;
+    check_two(&rt, rt.alloc(), &plan)
 }

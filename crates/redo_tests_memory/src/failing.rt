@@ -184,19 +184,51 @@ fn run_with<R: Threads + Wait + Sync>(
     }
 }
 
-/// A run of two files. The first or the second, whose reader is faulty, is read so many bytes at once; the other is
-/// empty.
+/// A session file, the first or the second of two, of which the other is empty, and their run text.
+#[derive(Clone, Copy)]
+struct Given {
+    bytes: &'static [u8],
+    file: usize,
+    text: &'static [u8],
+}
+
+const FIRST: Given = Given {
+    bytes: FILE,
+    file: 0,
+    text: FIRST_TEXT,
+};
+
+const SECOND: Given = Given {
+    bytes: FILE,
+    file: 1,
+    text: SECOND_TEXT,
+};
+
+const COMMON_PATH: Given = Given {
+    bytes: b"file a.c 10\nlock a.o\nstart a.o\nifchange a.o a.c\ndone a.o 20\nunlock a.o\n\
+        ood\ntargets\nsources\n",
+    file: 1,
+    text: b"history 9\n2 file a.c 10 => ok\n2 lock a.o => granted 1\n2 start a.o => ok\n\
+        2 ifchange a.o a.c => ok\n2 done a.o 20 => ok\n2 unlock a.o => ok\n2 ood => ood\n\
+        2 targets => targets a.o\n2 sources => sources a.c\nsession 1 0\nsession 2 9\n\
+        file a.c 10 => ok\nlock a.o => granted 1\nstart a.o => ok\nifchange a.o a.c => ok\n\
+        done a.o 20 => ok\nunlock a.o => ok\nood => ood\ntargets => targets a.o\n\
+        sources => sources a.c\n",
+};
+
+/// A run of two files, of which the one that isn't empty is read so many bytes at once by a faulty
+/// reader.
 fn run_over<R: Threads + Wait + Sync>(
     rt: &R,
     alloc: Global,
-    file: usize,
+    given: &Given,
     most: usize,
     fault: Fault,
 ) -> Ran {
-    let faulty = reader(FILE, most, fault);
+    let faulty = reader(given.bytes, most, fault);
     let other = reader(b"", 1, NEVER);
     let writer = writer(alloc, ALL, NEVER);
-    if file == 0 {
+    if given.file == 0 {
         run_with(rt, alloc, faulty, other, writer)
     } else {
         run_with(rt, alloc, other, faulty, writer)
@@ -207,31 +239,30 @@ fn is_device(fault: &Option<TextFault>, file: usize) -> bool {
     matches!(fault, Some(TextFault::Device { file: at }) if *at == file)
 }
 
-/// Whether the run failed by the reader of this file, or not at all.
-fn is_run_read(done: &Ran, file: usize, fails: bool) -> bool {
-    let is_first = file == 0;
-    let right = if is_first { FIRST_TEXT } else { SECOND_TEXT };
-    let want = if fails { b"".as_slice() } else { right };
+/// Whether the run failed by the reader of the file that isn't empty, or not at all.
+fn is_run_read(done: &Ran, given: &Given, fails: bool) -> bool {
+    let is_first = given.file == 0;
+    let want = if fails { b"".as_slice() } else { given.text };
     done.first_faulted == (fails && is_first)
         && done.second_faulted == (fails && !is_first)
         && !done.output_faulted
         && done.fault.is_some() == fails
-        && is_device(&done.fault, file) == fails
+        && is_device(&done.fault, given.file) == fails
         && done.writer.taken.as_slice() == want
 }
 
-/// Runs of two files, of which this one is read in so many reads.
+/// Runs of two files, of which the one that isn't empty is read in so many reads.
 fn run_reads<R: Threads + Wait + Abort + Sync>(
     rt: &R,
     alloc: Global,
-    file: usize,
+    given: &Given,
     most: usize,
     reads: usize,
 ) {
     for number in 0..count_of_faults(reads) {
         let fault = fault(number);
-        let done = run_over(rt, alloc, file, most, fault);
-        assert!(rt; is_run_read(&done, file, fault.at < reads));
+        let done = run_over(rt, alloc, given, most, fault);
+        assert!(rt; is_run_read(&done, given, fault.at < reads));
     }
 }
 
@@ -260,10 +291,17 @@ fn run_writes<R: Threads + Wait + Abort + Sync>(rt: &R, alloc: Global, most: usi
 
 #[test]
 fn runs_of_failing_readers(rt: HostRuntime) {
-    for file in [0, 1] {
-        run_reads(&rt, rt.alloc(), file, 1, FILE.len() + 1);
-        run_reads(&rt, rt.alloc(), file, ALL, 2);
+    for given in [FIRST, SECOND] {
+        run_reads(&rt, rt.alloc(), &given, 1, FILE.len() + 1);
+        run_reads(&rt, rt.alloc(), &given, ALL, 2);
     }
+}
+
+/// The common path is the second of two files: its 91 bytes are read in three reads, and a fourth
+/// one finds the end.
+#[test]
+fn runs_of_a_failing_second_reader(rt: HostRuntime) {
+    run_reads(&rt, rt.alloc(), &COMMON_PATH, 32, 4);
 }
 
 #[test]
