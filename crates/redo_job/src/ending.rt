@@ -7,8 +7,10 @@ ghost use Rattle.redo_job.specs.Lines.{file_name, text_line, history_line, repla
 use crate::fault::Fault;
 use arrayvec::ArrayVec;
 use itoa::Buffer;
-use redo_command::{TextFault, Watched, WriteFault, fault_word, write_whole};
+use redo_command::TextFault;
 use redo_replay::{HistoryFault, ReplayFault, Verdict};
+use redo_text::fault_word;
+use redo_whole::{Watched, WriteFault, write_whole};
 use std::io::Write;
 
 /// A line of at most this many bytes is written at once: a name of 4,096 has room in it.

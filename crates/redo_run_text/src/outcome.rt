@@ -1,5 +1,5 @@
-use redo_command::Line;
 use redo_journal::Journal;
+use redo_terms::Line;
 
 /// What a run left: one history of all sessions, and what each session did.
 #[derive(Debug, Drop)]

@@ -12,10 +12,11 @@ ghost use Rattle.redo_history.specs.Recorded.{AreLinesBelow};
 ghost use Rattle.redo_run_text.specs.Inside.Printed.{part_in, closing_lines_of, ArePrinted};
 
 use crate::outcome::Outcome;
-use redo_command::{Item, Line, Reply, put_item, put_reply};
 use redo_history::{history_text, put_answer, put_number};
 use redo_journal::Plan;
 use redo_names::Names;
+use redo_terms::{Item, Line, Reply};
+use redo_text::{put_item, put_reply};
 use std::alloc::{AllocError, Global};
 
 /// Where the session's first line stands from here on; past all lines where there is none.

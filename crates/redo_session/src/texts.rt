@@ -8,10 +8,12 @@ ghost use Rattle.redo_run_text.specs.Faults.{IsCause, IsDeviceFault};
 
 use crate::runs::run;
 use redo_board::{Open, Plan};
-use redo_command::{Script, TextFault, Watched, WriteFault, write_whole};
+use redo_command::TextFault;
 use redo_journal::PlanFault;
 use redo_names::Names;
 use redo_run_text::{read_files, run_text};
+use redo_terms::Script;
+use redo_whole::{Watched, WriteFault, write_whole};
 use std::alloc::Global;
 use std::io::{Read, Write};
 use std::sync::Wait;
