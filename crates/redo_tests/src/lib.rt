@@ -12,6 +12,8 @@ mod lines;
 #[cfg(test)]
 mod names;
 #[cfg(test)]
+mod shared;
+#[cfg(test)]
 mod texts;
 #[cfg(test)]
 mod watched;

@@ -22,8 +22,6 @@ mod outcomes;
 #[cfg(test)]
 mod plans;
 #[cfg(test)]
-mod random;
-#[cfg(test)]
 mod refusals;
 #[cfg(test)]
 mod schedules;
@@ -31,8 +29,6 @@ mod schedules;
 mod seats;
 #[cfg(test)]
 mod threads;
-#[cfg(test)]
-mod told;
 #[cfg(test)]
 mod whole_runs;
 #[cfg(test)]

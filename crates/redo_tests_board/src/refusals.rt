@@ -8,7 +8,6 @@ use crate::outcomes::{have_tried, ran};
 use crate::plans::plan_of;
 use crate::seats::close;
 use crate::threads::journals_of;
-use crate::told::tell;
 use crate::worked::{
     BROKEN_OFF, BROKEN_OFF_HISTORY, COMMON_PATH, COMMON_PATH_HISTORY, FILES, LOST_TRY,
 };
@@ -17,6 +16,7 @@ use redo_board::{Board, Open, Seat};
 use redo_command::Line;
 use redo_journal::{Journal, Plan};
 use redo_session::{Outcome, RunFault};
+use redo_testing::tell;
 use std::alloc::{AllocError, Global};
 use std::process::Abort;
 use std::sync::Wait;

@@ -4,9 +4,9 @@ ghost use Rattle.redo_board.specs.Shown.{first_of, end_of, session_of};
 ghost use Rattle.redo_board.specs.Kept.{IsBoardOf, SitsAt, IsFresh, WorksAt};
 ghost use Rattle.redo_tests_board.specs.Workers.{HasFrom};
 
-use crate::told::tell;
 use redo_board::{Board, Gate, Seat, Worker};
 use redo_journal::{Journal, Place, Plan};
+use redo_testing::tell;
 use std::alloc::{AllocError, Global};
 use std::process::Abort;
 

@@ -1,5 +1,5 @@
 //! Damage to texts: bytes that are changed, cut, repeated and inserted.
-use crate::random::Random;
+use redo_testing::Random;
 use std::alloc::{AllocError, Global};
 
 /// Texts to be inserted.
@@ -88,6 +88,14 @@ fn repeated(alloc: Global, text: &[u8], times: usize) -> Result<Vec<u8>, AllocEr
     Ok(out)
 }
 
+/// One of these numbers.
+fn one_of(random: &mut Random, numbers: &[usize]) -> usize {
+    match numbers.len() {
+        0 => 0,
+        count => numbers[random.below(count)],
+    }
+}
+
 /// A text to be inserted: a byte, or one of the pieces.
 fn piece(alloc: Global, random: &mut Random) -> Result<Vec<u8>, AllocError> {
     if random.below(3) == 0 {
@@ -123,7 +131,7 @@ pub(crate) fn damaged(
             text,
             to,
             to,
-            &repeated(alloc, all, random.one_of(&TIMES))?,
+            &repeated(alloc, all, one_of(random, &TIMES))?,
         ),
         9 => spliced(alloc, text, other, other, all),
         10 => {
@@ -142,9 +150,7 @@ fn stretched(
     from: usize,
     to: usize,
 ) -> Result<Vec<u8>, AllocError> {
-    let more = random
-        .one_of(&LENGTHS)
-        .saturating_sub(to.saturating_sub(from));
+    let more = one_of(random, &LENGTHS).saturating_sub(to.saturating_sub(from));
     let last = part(text, from, to).last().copied().unwrap_or(b'#');
     spliced(alloc, text, to, to, &Vec::from_elem(alloc, last, more)?)
 }
@@ -156,7 +162,7 @@ pub(crate) fn badly_damaged(
     text: &[u8],
 ) -> Result<Vec<u8>, AllocError> {
     let mut out = damaged(alloc, random, text)?;
-    for _ in 0..random.one_of(&[0, 0, 1, 2]) {
+    for _ in 0..one_of(random, &[0, 0, 1, 2]) {
         out = damaged(alloc, random, &out)?;
     }
     Ok(out)
@@ -209,8 +215,11 @@ pub(crate) fn one_damaged(
     random: &mut Random,
     texts: &[Vec<u8>],
 ) -> Result<Vec<u8>, AllocError> {
-    match texts.get(random.below(texts.len())) {
-        Some(text) => badly_damaged(alloc, random, text),
-        None => Ok(Vec::new(alloc)),
+    match texts.len() {
+        0 => Ok(Vec::new(alloc)),
+        count => {
+            let at = random.below(count);
+            badly_damaged(alloc, random, &texts[at])
+        }
     }
 }

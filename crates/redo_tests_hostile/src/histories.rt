@@ -1,9 +1,9 @@
 //! Damaged histories.
 use crate::damage::{as_history, one_damaged, with_header};
 use crate::judged::judge_history;
-use crate::random::Random;
 use crate::seeds::{files, histories};
 use crate::tally::Tally;
+use redo_testing::Random;
 use std::test::Fail;
 
 /// Each history has the verdict, or the fault, that the plain reader gives.

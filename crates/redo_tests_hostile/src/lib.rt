@@ -8,8 +8,6 @@ mod histories;
 #[cfg(test)]
 mod judged;
 #[cfg(test)]
-mod random;
-#[cfg(test)]
 mod seeds;
 #[cfg(test)]
 mod sessions;

@@ -1,9 +1,9 @@
 //! Damaged session files.
 use crate::damage::{badly_damaged, one_damaged, with_guards};
 use crate::judged::judge_file;
-use crate::random::Random;
 use crate::seeds::{files, long_file};
 use crate::tally::Tally;
+use redo_testing::Random;
 use std::test::Fail;
 
 /// Each file runs, and its history replays, or it has the fault that the plain reader names. Every

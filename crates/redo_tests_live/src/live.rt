@@ -28,17 +28,30 @@ const COMMON_PATH: &[(u8, &str, &str, bool)] = &[
     (0, "ood", "1 ood => ood a.o\n", false),
 ];
 
-/// Each line is said, and logged where it changes something.
+/// A line is said, and logged where it changes something.
+fn check_logged(
+    rt: &impl Abort,
+    alloc: Global,
+    live: &mut Live,
+    line: (u8, &str, &str, bool),
+) -> Result<(), Fail> {
+    let (session, text, want, is_logged) = line;
+    let (mut said, mut logged) = (Vec::new(alloc), Vec::new(alloc));
+    live.answer(alloc, session, text.as_bytes(), &mut said, &mut logged)?;
+    assert!(rt; said.as_slice() == want.as_bytes(), "{text}");
+    assert!(rt;
+        logged.is_empty() != is_logged && said.starts_with(&logged),
+        "{text}"
+    );
+    assert!(rt; logged.is_empty() || logged.len() == said.len(), "{text}");
+    Ok(())
+}
+
 #[test]
 fn common_path(rt: HostRuntime) -> Result<(), Fail> {
-    let alloc = rt.alloc();
-    let mut live = Live::new(alloc)?;
-    for (session, text, want, is_logged) in COMMON_PATH {
-        let (mut said, mut logged) = (Vec::new(alloc), Vec::new(alloc));
-        live.answer(alloc, *session, text.as_bytes(), &mut said, &mut logged)?;
-        assert!(rt; said.as_slice() == want.as_bytes(), "{text}");
-        let kept = if *is_logged { want.as_bytes() } else { &[] };
-        assert!(rt; logged.as_slice() == kept, "{text}");
+    let mut live = Live::new(rt.alloc())?;
+    for line in COMMON_PATH {
+        check_logged(&rt, rt.alloc(), &mut live, *line)?;
     }
     Ok(())
 }
@@ -48,6 +61,28 @@ fn told(alloc: Global, live: &mut Live, session: u8, text: &str) -> Result<Vec<u
     let (mut said, mut logged) = (Vec::new(alloc), Vec::new(alloc));
     live.answer(alloc, session, text.as_bytes(), &mut said, &mut logged)?;
     Ok(said)
+}
+
+/// Sessions' commands, and what is said to them.
+type Lines = &'static [(u8, &'static str, &'static str)];
+
+fn check_line(
+    rt: &impl Abort,
+    alloc: Global,
+    live: &mut Live,
+    line: (u8, &str, &str),
+) -> Result<(), Fail> {
+    let (session, text, want) = line;
+    let said = told(alloc, live, session, text)?;
+    assert!(rt; said.as_slice() == want.as_bytes(), "{text}");
+    Ok(())
+}
+
+fn check_lines(rt: &impl Abort, alloc: Global, live: &mut Live, lines: Lines) -> Result<(), Fail> {
+    for line in lines {
+        check_line(rt, alloc, live, *line)?;
+    }
+    Ok(())
 }
 
 /// Names that don't fit are refused, and take no place.
@@ -88,31 +123,44 @@ fn faults(rt: HostRuntime) -> Result<(), Fail> {
     Ok(())
 }
 
+/// A session ends, and this is said and logged.
+fn check_end(
+    rt: &impl Abort,
+    alloc: Global,
+    live: &mut Live,
+    want: &str,
+    to_log: &str,
+) -> Result<(), Fail> {
+    let (mut said, mut logged) = (Vec::new(alloc), Vec::new(alloc));
+    live.end(alloc, 0, &mut said, &mut logged)?;
+    assert!(rt; said.as_slice() == want.as_bytes() && logged.as_slice() == to_log.as_bytes());
+    Ok(())
+}
+
+const BEFORE_THE_END: Lines = &[
+    (0, "lock b", "1 lock b => granted 1\n"),
+    (0, "start b", "1 start b => ok\n"),
+    (0, "lock a", "1 lock a => granted 1\n"),
+    (1, "lock c", "2 lock c => granted 1\n"),
+];
+
+const AFTER_THE_END: Lines = &[
+    (1, "lock b", "2 lock b => granted 2\n"),
+    (0, "lock c", "1 lock c => busy 1\n"),
+];
+
 /// A session that ends lets go of what it holds, in the order of the texts, and others hold what they held.
 #[test]
 fn end(rt: HostRuntime) -> Result<(), Fail> {
-    let alloc = rt.alloc();
+    let (alloc, closings) = (
+        rt.alloc(),
+        "1 unlock a => ok\n1 failed b => ok\n1 unlock b => ok\n",
+    );
     let mut live = Live::new(alloc)?;
-    for text in ["lock b", "start b", "lock a"] {
-        told(alloc, &mut live, 0, text)?;
-    }
-    told(alloc, &mut live, 1, "lock c")?;
-    let (mut said, mut logged) = (Vec::new(alloc), Vec::new(alloc));
-    live.end(alloc, 0, &mut said, &mut logged)?;
-    assert!(rt;
-        said.as_slice()
-            == b"1 unlock a => ok\n1 failed b => ok\n1 unlock b => ok\n1 end => ok\n".as_slice()
-    );
-    assert!(rt;
-        logged.as_slice() == b"1 unlock a => ok\n1 failed b => ok\n1 unlock b => ok\n".as_slice()
-    );
-    assert!(rt;
-        told(alloc, &mut live, 1, "lock b")?.as_slice() == b"2 lock b => granted 2\n".as_slice()
-    );
-    assert!(rt;
-        told(alloc, &mut live, 0, "lock c")?.as_slice() == b"1 lock c => busy 1\n".as_slice()
-    );
-    Ok(())
+    check_lines(&rt, alloc, &mut live, BEFORE_THE_END)?;
+    let want = format!(in alloc; "{closings}1 end => ok\n")?;
+    check_end(&rt, alloc, &mut live, &want, closings)?;
+    check_lines(&rt, alloc, &mut live, AFTER_THE_END)
 }
 
 /// What is too long is withheld and not done, so that it can be asked again with more room.

@@ -12,9 +12,13 @@ mod failing;
 #[cfg(test)]
 mod histories;
 #[cfg(test)]
+mod lines;
+#[cfg(test)]
 mod names;
 #[cfg(test)]
 mod runs;
+#[cfg(test)]
+mod stores;
 #[cfg(test)]
 mod told;
 #[cfg(test)]

@@ -1,14 +1,11 @@
-//! Calls that are tried once more, and how it is said that they were told of a refusal.
+//! Calls that are tried once more where they are told of a refusal.
 use std::alloc::Global;
 use std::process::Abort;
 
-/// How many bytes are asked for where it is said that a call was told of a refusal.
-const MARK: usize = 54_321;
-
 /// Says that a call was told of a refusal, and demands what has to hold then.
 pub(crate) fn tell(rt: &impl Abort, alloc: Global, stands: bool) {
-    let mark: Result<Vec<u8>, _> = Vec::with_capacity(alloc, MARK);
-    assert!(rt; stands && mark.is_ok());
+    let is_heard = redo_testing::tell(alloc);
+    assert!(rt; stands && is_heard);
 }
 
 /// The value of a call. Where it is told of a refusal, these conditions hold, and the next try gives the value.

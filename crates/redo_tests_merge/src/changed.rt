@@ -1,7 +1,7 @@
 //! Journals with other places.
-use crate::random::Random;
 use crate::told::{Answer, Told, copied};
 use redo_journal::Place;
+use redo_testing::Random;
 use std::alloc::{AllocError, Global};
 
 /// How many ways there are to change one line.

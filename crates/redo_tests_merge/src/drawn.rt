@@ -1,11 +1,12 @@
 //! Plans that are drawn, and what their sessions were told in an order that was drawn.
 ghost use Rattle.std.specs.Prelude.{◌<◌};
 
-use crate::plans::{command_at, plan_of};
-use crate::random::Random;
+use crate::commands::command_at;
+use crate::plans::plan_of;
 use crate::told::{Answer, Told};
 use redo_command::Command;
 use redo_journal::{Place, Plan};
+use redo_testing::Random;
 use std::alloc::{AllocError, Global};
 use std::process::Abort;
 

@@ -4,9 +4,9 @@ ghost use Rattle.std.specs.Prelude.{◌<◌, length};
 use crate::cases::{Tally, check};
 use crate::changed::{exchange, with_change, with_fronts};
 use crate::drawn::{Drawn, draw};
-use crate::random::Random;
 use crate::rules::{Standing, is_placed};
 use crate::told::{copied, count_of};
+use redo_testing::Random;
 use std::alloc::{AllocError, Global};
 use std::process::Abort;
 

@@ -8,6 +8,10 @@ mod changed;
 #[cfg(test)]
 mod closing;
 #[cfg(test)]
+mod closings;
+#[cfg(test)]
+mod commands;
+#[cfg(test)]
 mod drawn;
 #[cfg(test)]
 mod exhaustive;
@@ -19,8 +23,6 @@ mod merging;
 mod orders;
 #[cfg(test)]
 mod plans;
-#[cfg(test)]
-mod random;
 #[cfg(test)]
 mod rules;
 #[cfg(test)]

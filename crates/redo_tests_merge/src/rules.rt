@@ -1,5 +1,5 @@
 //! The rules of places, written once more: by what stands so far, a place may come next or may not.
-use crate::plans::command_at;
+use crate::commands::command_at;
 use crate::told::{Answer, Told};
 use redo_command::Command;
 use redo_journal::{Place, Plan};

@@ -1,5 +1,5 @@
 //! Journals, as the tests make them.
-use crate::plans::command_at;
+use crate::commands::command_at;
 use redo_command::{Command, Kind, Line, Refusal, Reply};
 use redo_journal::{Entry, Journal, Place, Plan};
 use std::alloc::{AllocError, Global};

@@ -4,7 +4,7 @@ ghost use Rattle.std.specs.Prelude.{◌<◌, IfOk};
 ghost use Rattle.redo_model.specs.Renaming.{AllBelow, IsBelow};
 ghost use Rattle.redo_terms.specs.Meaning.{command_of};
 
-use crate::random::{NAMES, Random};
+use crate::commands::{Commands, NAMES};
 use redo_command::{Command, FileStamp};
 use std::alloc::{AllocError, Global};
 
@@ -17,18 +17,18 @@ const MISSING: u32 = NAMES - 1;
 /// How many commands a build has.
 pub(crate) const STEPS: u32 = 8;
 
-fn source(random: &mut Random) -> u32
+fn source(drawn: &mut Commands) -> u32
     ensures { result < NAMES }
 {
-    TARGETS + random.below(NAMES - TARGETS)
+    TARGETS + drawn.below(NAMES - TARGETS)
 }
 
 /// A source has a file, or none: for the most part, what it had before.
-fn source_file(random: &mut Random) -> Command
+fn source_file(drawn: &mut Commands) -> Command
     ensures { IsBelow NAMES (command_of result) }
 {
-    let n = source(random);
-    let stamp = match random.below(16) {
+    let n = source(drawn);
+    let stamp = match drawn.below(16) {
         0 => None,
         1 | 2 => FileStamp::new(b"2"),
         _ if n == MISSING => None,
@@ -42,52 +42,52 @@ fn source_file(random: &mut Random) -> Command
 
 /// A name that the target is to need: the next target, so that there are chains and a ring; one of two popular
 /// targets; a source; or any name.
-fn needed_name(random: &mut Random, t: u32) -> u32
+fn needed_name(drawn: &mut Commands, t: u32) -> u32
     requires { t < NAMES }
     ensures { result < NAMES }
 {
-    match random.below(16) {
+    match drawn.below(16) {
         0..=7 => (t + 1) % TARGETS,
-        8..=11 => random.below(2),
-        12 | 13 => source(random),
-        _ => random.name(),
+        8..=11 => drawn.below(2),
+        12 | 13 => source(drawn),
+        _ => drawn.name(),
     }
 }
 
-fn needed_names(random: &mut Random, alloc: Global, t: u32) -> Result<Vec<u32>, AllocError>
+fn needed_names(drawn: &mut Commands, alloc: Global, t: u32) -> Result<Vec<u32>, AllocError>
     requires { t < NAMES }
     ensures { IfOk result (λ names. AllBelow NAMES names.items) }
 {
-    Ok(match random.below(2) {
-        0 => vec![in alloc; needed_name(random, t)]?,
-        _ => vec![in alloc; needed_name(random, t), needed_name(random, t)]?,
+    Ok(match drawn.below(2) {
+        0 => vec![in alloc; needed_name(drawn, t)]?,
+        _ => vec![in alloc; needed_name(drawn, t), needed_name(drawn, t)]?,
     })
 }
 
 /// The same content, for the most part.
-fn content(random: &mut Random, alloc: Global) -> Result<Vec<u8>, AllocError> {
-    match random.below(32) {
+fn content(drawn: &mut Commands, alloc: Global) -> Result<Vec<u8>, AllocError> {
+    match drawn.below(32) {
         0 => Vec::from_slice(alloc, b"abd"),
         _ => Vec::from_slice(alloc, b"abc"),
     }
 }
 
 /// What comes just before the end of a build.
-fn last_words(random: &mut Random, alloc: Global, t: u32) -> Result<Command, AllocError>
+fn last_words(drawn: &mut Commands, alloc: Global, t: u32) -> Result<Command, AllocError>
     requires { t < NAMES }
     ensures { IfOk result (λ command. IsBelow NAMES (command_of command)) }
 {
-    Ok(match random.below(32) {
+    Ok(match drawn.below(32) {
         0 => Command::Always(t),
         1 => Command::Failed(t),
         2..=8 => Command::IfCreate(t, vec![in alloc; MISSING]?),
-        _ => source_file(random),
+        _ => source_file(drawn),
     })
 }
 
 /// The command of this step of a build of the target; once in a while, any command on it.
 pub(crate) fn step_command(
-    random: &mut Random,
+    drawn: &mut Commands,
     alloc: Global,
     t: u32,
     step: u32,
@@ -95,16 +95,16 @@ pub(crate) fn step_command(
     requires { t < NAMES }
     ensures { IfOk result (λ command. IsBelow NAMES (command_of command)) }
 {
-    if random.below(64) == 0 {
-        return random.command(alloc, t);
+    if drawn.below(64) == 0 {
+        return drawn.command(alloc, t);
     }
     Ok(match step {
         0 => Command::Lock(t),
         1 => Command::Start(t),
-        2 | 3 => Command::IfChange(t, needed_names(random, alloc, t)?),
-        4 => Command::Stamp(t, content(random, alloc)?),
-        5 => last_words(random, alloc, t)?,
+        2 | 3 => Command::IfChange(t, needed_names(drawn, alloc, t)?),
+        4 => Command::Stamp(t, content(drawn, alloc)?),
+        5 => last_words(drawn, alloc, t)?,
         6 => Command::Done(t, FileStamp::new(b"1")),
-        _ => source_file(random),
+        _ => source_file(drawn),
     })
 }

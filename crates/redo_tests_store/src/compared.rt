@@ -3,10 +3,10 @@ ghost use Rattle.std.specs.Prelude.{◌≡◌, length, IfOk};
 ghost use Rattle.redo_store.specs.Tables.{tables_count};
 ghost use Rattle.redo_model.specs.Renaming.{IsBelow};
 ghost use Rattle.redo_terms.specs.Meaning.{command_of};
-ghost use Rattle.redo_tests_store.specs.declared.random.TheConstants.{NAMES};
+ghost use Rattle.redo_tests_store.specs.declared.commands.TheConstants.{NAMES};
 
+use crate::commands::NAMES;
 use crate::questions::check_answers;
-use crate::random::NAMES;
 use crate::search::search;
 use crate::sorts::{Sort, sort_of};
 use redo_command::{Command, Reply};

@@ -2,8 +2,8 @@
 ghost use Rattle.std.specs.Prelude.{◌≡◌, ◌<◌, length};
 
 use crate::builds::{STEPS, TARGETS, step_command};
+use crate::commands::{Commands, NAMES, owner};
 use crate::compared::{Compared, all_names};
-use crate::random::{NAMES, Random, owner};
 use crate::search::search;
 use crate::shapes::shapes_in;
 use redo_names::Names;
@@ -39,16 +39,16 @@ fn count_if(is_met: bool, count: &mut u32) {
 }
 
 /// The target to build next: for the most part, one that was never built or has to be built again.
-fn next_target(random: &mut Random, plain: &Plain) -> u32
+fn next_target(drawn: &mut Commands, plain: &Plain) -> u32
     ensures { result < NAMES }
 {
     for _ in 0..3 {
-        let t = random.below(TARGETS);
+        let t = drawn.below(TARGETS);
         if !plain.is_target(t) || plain.has_reason(t) {
             return t;
         }
     }
-    random.below(TARGETS)
+    drawn.below(TARGETS)
 }
 
 /// Whether three names or more are in the first list, and not in the second.
@@ -78,13 +78,13 @@ fn obey(
     rt: &impl Abort,
     alloc: Global,
     compared: &mut Compared,
-    random: &mut Random,
+    drawn: &mut Commands,
     t: u32,
     step: u32,
 ) -> Result<(), AllocError>
     requires { t < NAMES }
 {
-    let command = step_command(random, alloc, t, step)?;
+    let command = step_command(drawn, alloc, t, step)?;
     compared.call(rt, alloc, owner(t), &command)?;
     Ok(())
 }
@@ -94,7 +94,7 @@ fn build(
     rt: &impl Abort,
     alloc: Global,
     compared: &mut Compared,
-    random: &mut Random,
+    drawn: &mut Commands,
     t: u32,
     met: &mut Met,
 ) -> Result<(), AllocError>
@@ -102,7 +102,7 @@ fn build(
 {
     for step in 0..STEPS {
         let before = search(&compared.plain);
-        obey(rt, alloc, compared, random, t, step)?;
+        obey(rt, alloc, compared, drawn, t, step)?;
         let after = search(&compared.plain);
         count_if(are_many_lost(&after, &before), &mut met.spread);
         count_if(are_many_lost(&before, &after), &mut met.settled);
@@ -122,10 +122,10 @@ fn compare(
     requires { length names.now ≡ NAMES }
 {
     let mut compared = Compared::new(alloc, names)?;
-    let mut random = Random::new(u64::from(seed));
+    let mut drawn = Commands::new(u64::from(seed));
     for _ in 0..BUILDS {
-        let t = next_target(&mut random, &compared.plain);
-        build(rt, alloc, &mut compared, &mut random, t, met)?;
+        let t = next_target(&mut drawn, &compared.plain);
+        build(rt, alloc, &mut compared, &mut drawn, t, met)?;
     }
     Ok(())
 }

@@ -4,6 +4,8 @@
 #[cfg(test)]
 mod builds;
 #[cfg(test)]
+mod commands;
+#[cfg(test)]
 mod compared;
 #[cfg(test)]
 mod dense;
@@ -13,8 +15,6 @@ mod digests;
 mod oracle;
 #[cfg(test)]
 mod questions;
-#[cfg(test)]
-mod random;
 #[cfg(test)]
 mod records;
 #[cfg(test)]

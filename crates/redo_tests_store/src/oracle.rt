@@ -1,8 +1,8 @@
-//! The database against its plain form and the slow search, over commands drawn at random.
+//! The database against its plain form and the slow search, over commands drawn at drawn.
 ghost use Rattle.std.specs.Prelude.{◌≡◌, ◌<◌, ◌≤◌, length};
 
+use crate::commands::{Commands, NAMES};
 use crate::compared::{Compared, all_names};
-use crate::random::{NAMES, Random};
 use crate::sorts::Sort;
 use redo_command::Kind;
 use redo_names::Names;
@@ -52,16 +52,16 @@ fn draw(
     rt: &impl Abort,
     alloc: Global,
     compared: &mut Compared,
-    random: &mut Random,
+    drawn: &mut Commands,
     targets: u32,
     tally: &mut Tally,
 ) -> Result<(), AllocError>
     requires some { 0 < targets }
     requires few { targets ≤ NAMES }
 {
-    let t = random.target(targets);
-    let session = random.session(t);
-    let command = random.command(alloc, t)?;
+    let t = drawn.target(targets);
+    let session = drawn.session(t);
+    let command = drawn.command(alloc, t)?;
     let sort = compared.call(rt, alloc, session, &command)?;
     tally.note(command.kind(), sort);
     Ok(())
@@ -78,13 +78,13 @@ fn compare(
     requires { length names.now ≡ NAMES }
 {
     let mut compared = Compared::new(alloc, names)?;
-    let mut random = Random::new(u64::from(seed));
+    let mut drawn = Commands::new(u64::from(seed));
     for _ in 0..COMMANDS {
         draw(
             rt,
             alloc,
             &mut compared,
-            &mut random,
+            &mut drawn,
             1 + seed % NAMES,
             tally,
         )?;

@@ -1,9 +1,9 @@
 //! Questions to the database, whose answers have to be those of the plain form of it.
 ghost use Rattle.std.specs.Prelude.{◌≡◌, ◌<◌};
 ghost use Rattle.redo_store.specs.Tables.{tables_count};
-ghost use Rattle.redo_tests_store.specs.declared.random.TheConstants.{NAMES};
+ghost use Rattle.redo_tests_store.specs.declared.commands.TheConstants.{NAMES};
 
-use crate::random::NAMES;
+use crate::commands::NAMES;
 use crate::shapes::lengths_from;
 use redo_ood::{Reason, Why};
 use redo_plain::Plain;

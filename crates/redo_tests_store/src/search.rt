@@ -1,5 +1,5 @@
 //! What is out of date, by the definition: searched for anew at each question, and nothing is kept.
-use crate::random::NAMES;
+use crate::commands::NAMES;
 use crate::shapes::lengths_from;
 use redo_plain::Plain;
 

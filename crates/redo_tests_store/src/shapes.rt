@@ -1,7 +1,7 @@
 //! Shapes in the graph of the change rows.
 ghost use Rattle.std.specs.Prelude.{◌<◌};
 
-use crate::random::NAMES;
+use crate::commands::NAMES;
 use redo_plain::Plain;
 
 /// Which shapes there are.

@@ -4,6 +4,7 @@ ghost use Rattle.redo_model.specs.Renaming.{AllBelow, IsBelow};
 ghost use Rattle.redo_terms.specs.Meaning.{command_of};
 
 use redo_command::{Command, FileStamp};
+use redo_testing::Random;
 use std::alloc::{AllocError, Global};
 
 /// How many names the commands speak of, and how many sessions ask them.
@@ -16,23 +17,17 @@ pub(crate) fn owner(t: u32) -> u8 {
     (t % SESSIONS) as u8
 }
 
-/// A generator of numbers: the state moves on by a fixed step, and each number is the state, mixed.
+/// Commands that are drawn at random.
 #[derive(Drop)]
-pub(crate) struct Random {
-    state: u64,
+pub(crate) struct Commands {
+    random: Random,
 }
 
-impl Random {
-    pub(crate) fn new(seed: u64) -> Random {
-        Random { state: seed }
-    }
-
-    fn number(&mut self) -> u64 {
-        self.state = self.state.wrapping_add(0x9e37_79b9_7f4a_7c15);
-        let mut mixed = self.state;
-        mixed = (mixed ^ (mixed >> 30)).wrapping_mul(0xbf58_476d_1ce4_e5b9);
-        mixed = (mixed ^ (mixed >> 27)).wrapping_mul(0x94d0_49bb_1331_11eb);
-        mixed ^ (mixed >> 31)
+impl Commands {
+    pub(crate) fn new(seed: u64) -> Commands {
+        Commands {
+            random: Random::new(seed),
+        }
     }
 
     /// A number below the count.
@@ -40,7 +35,7 @@ impl Random {
         requires { 0 < count }
         ensures { result < count }
     {
-        (self.number() % u64::from(count)) as u32
+        self.random.below(count as usize) as u32
     }
 
     pub(crate) fn name(&mut self) -> u32

@@ -1,0 +1,25 @@
+use redo_command::{TextFault, Watched};
+use redo_journal::Plan;
+use redo_names::Names;
+use redo_run_text::read_files;
+use std::alloc::{AllocError, Global};
+
+/// The files, to be read.
+fn readers<'a>(alloc: Global, files: &[&'a str]) -> Result<Vec<Watched<&'a [u8]>>, AllocError> {
+    let mut readers = Vec::new(alloc);
+    for file in files {
+        readers.push(Watched::new(file.as_bytes()))?;
+    }
+    Ok(readers)
+}
+
+/// The plan of sessions that have these files; none where a file is faulty, or there is none or too many.
+pub fn planned(alloc: Global, files: &[&str]) -> Result<Option<Plan>, AllocError> {
+    let mut readers = readers(alloc, files)?;
+    let mut names = Names::new(alloc);
+    match read_files(alloc, &mut readers, &mut names) {
+        Ok(scripts) => Ok(Plan::new(scripts, names).ok()),
+        Err(TextFault::Memory) => Err(AllocError),
+        Err(_) => Ok(None),
+    }
+}
