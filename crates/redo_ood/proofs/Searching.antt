@@ -8,7 +8,7 @@ use Rattle.redo_model.specs.State.{Records}
 use Rattle.redo_model.specs.OutOfDate.{IsTarget, HasReason, Depends}
 use Rattle.redo_model.proofs.Members.{contains_first, contains_none}
 use Rattle.redo_ood.specs.Marks.{Marked, IsMarked, IsQueued, with_name, size_of}
-use Rattle.redo_ood.specs.Search.{IsSearch, StepsBefore, Finds}
+use Rattle.redo_ood.specs.Search.{IsSearch, StepsBefore, Finds, HaveNoReason}
 use Rattle.redo_ood.proofs.Marking.{set_cases, one_more}
 use Rattle.redo_ood.proofs.SearchTree.{search_with_name}
 
@@ -232,22 +232,31 @@ search_at_first r out t m b ps unmarked empty f p =
           (subst (Contains (t ∷ [])) (sym here) (contains_first t []))
     ])
 
--- none of the names looked at has a reason, the one at this place included
-pub none_more : (r : Records ℕ) (queue longer ns : List ℕ) (at : ℕ) → at < length queue
-    → longer ≡ queue ++ ns → ((i : ℕ) → i < at → HasReason r (get_or queue i 0) → ⊥)
-    → (HasReason r (get_or queue at 0) → ⊥)
-    → (i : ℕ) → i < at + 1 → HasReason r (get_or longer i 0) → ⊥
-none_more r queue longer ns at in' behind none here i before reason =
-    let below : i < length queue = omega (arith, before, in') in
+-- none of the names has a reason, the one at this place included
+pub none_here : (r : Records ℕ) (queue : List ℕ) (from at : ℕ) → HaveNoReason r queue from at
+    → (HasReason r (get_or queue at 0) → ⊥) → HaveNoReason r queue from (at + 1)
+none_here r queue from at none here i past before reason = elim (cases_lt i at) [
+  | inl earlier ↦ none i past earlier reason
+  | inr later ↦
+      let e : i ≡ at = omega (arith, later, before) in
+      here (subst (λ k. HasReason r (get_or queue k 0)) e reason)
+]
+
+-- none of the names before a place has a reason, and none from there up to another
+pub none_before : (r : Records ℕ) (queue : List ℕ) (from to : ℕ)
+    → HaveNoReason r queue 0 from → HaveNoReason r queue from to → HaveNoReason r queue 0 to
+none_before r queue from to none more i past before reason = elim (cases_lt i from) [
+  | inl earlier ↦ none i past earlier reason
+  | inr later ↦ more i later before reason
+]
+
+-- and still none where more names are found
+pub none_still : (r : Records ℕ) (queue longer ns : List ℕ) → longer ≡ queue ++ ns
+    → HaveNoReason r queue 0 (length queue) → HaveNoReason r longer 0 (length queue)
+none_still r queue longer ns behind none i past before reason =
     let same : get_or longer i 0 ≡ get_or queue i 0 =
-    ap (λ q. get_or q i 0) behind ∙ get_or-append queue ns 0 i below in
-    let was = subst (HasReason r) same reason in
-    elim (cases_lt i at) [
-      | inl earlier ↦ none i earlier was
-      | inr past ↦
-          let e : i ≡ at = omega (arith, past, before) in
-          here (subst (λ k. HasReason r (get_or queue k 0)) e was)
-    ]
+    ap (λ q. get_or q i 0) behind ∙ get_or-append queue ns 0 i before in
+    none i past before (subst (HasReason r) same reason)
 
 pub first_kept : (queue whole ns : List ℕ) → 0 < length queue → whole ≡ queue ++ ns
     → get_or whole 0 0 ≡ get_or queue 0 0

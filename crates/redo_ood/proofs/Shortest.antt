@@ -34,20 +34,21 @@ module _ (r : Records ℕ) (queue parents : List ℕ) (tree : IsSearchTree r que
       subst (λ m. Chain (Depends r) (HasReason r) m ns) name (way_chains reason ns i rest),
     )
 
--- none of the places before one has a reason, and all steps from these to names that are out of
--- date were looked at
-module _ (r : Records ℕ) (out seen : Marked) (parents : List ℕ) (at : ℕ)
+-- all steps from the places before `at` to names that are out of date were looked at, and none of
+-- the names before `place`, which isn't before `at`, has a reason
+module _ (r : Records ℕ) (out seen : Marked) (parents : List ℕ) (at place : ℕ)
     (right : (n : ℕ) → OutOfDate r n → IsMarked out n)
     (search : IsSearch r (StepsBefore r out seen.queue at) at seen parents)
-    (none : (i : ℕ) → i < at → HasReason r (get_or seen.queue i 0) → ⊥)
+    (ahead : at ≤ place)
+    (none : (i : ℕ) → i < place → HasReason r (get_or seen.queue i 0) → ⊥)
   where
-    -- then no chain from a place to a reason is shorter than the way from there to this place
-    no_shorter : at < length seen.queue → (ns : List ℕ) (i : ℕ) → i < length seen.queue
+    -- then no chain from a place to a reason is shorter than the way from there to `place`
+    no_shorter : place < length seen.queue → (ns : List ℕ) (i : ℕ) → i < length seen.queue
         → Chain (Depends r) (HasReason r) (get_or seen.queue i 0) ns
-        → search.tree.depth at ≤ search.tree.depth i + length ns
-    no_shorter in' [] i here chain = elim (cases_lt i at) [
+        → search.tree.depth place ≤ search.tree.depth i + length ns
+    no_shorter in' [] i here chain = elim (cases_lt i place) [
       | inl before ↦ absurd (none i before chain)
-      | inr past ↦ omega (arith, search.tree.rising at i past here)
+      | inr past ↦ omega (arith, search.tree.rising place i past here)
     ]
     no_shorter in' (n ∷ ns) i here chain = elim (cases_lt i at) [
       | inl before ↦
@@ -55,13 +56,16 @@ module _ (r : Records ℕ) (out seen : Marked) (parents : List ℕ) (at : ℕ)
           let rest : Chain (Depends r) (HasReason r) (get_or seen.queue near.0 0) ns =
           subst (λ m. Chain (Depends r) (HasReason r) m ns) (sym near.2) chain.1 in
           omega (arith, no_shorter in' ns near.0 near.1 rest, near.3)
-      | inr past ↦ omega (arith, search.tree.rising at i past here)
+      | inr past ↦
+          let one : search.tree.depth place ≤ search.tree.depth at + 1 =
+          search.near (omega (arith, ahead, in')) place in' in
+          omega (arith, one, search.tree.rising at i past here)
     ]
 
     -- and at the queue's end there is no chain
     no_chain : length seen.queue ≤ at → (ns : List ℕ) (i : ℕ) → i < length seen.queue
         → Chain (Depends r) (HasReason r) (get_or seen.queue i 0) ns → ⊥
-    no_chain end [] i here chain = none i (omega (arith, here, end)) chain
+    no_chain end [] i here chain = none i (omega (arith, here, end, ahead)) chain
     no_chain end (n ∷ ns) i here chain =
         let before : i < at = omega (arith, here, end) in
         let near = search.found i n (before, chain.0, right n (ns, chain.1)) in
@@ -69,23 +73,23 @@ module _ (r : Records ℕ) (out seen : Marked) (parents : List ℕ) (at : ℕ)
         (subst (λ m. Chain (Depends r) (HasReason r) m ns) (sym near.2) chain.1)
 
     module _ (t : ℕ) (first : t ≡ get_or seen.queue 0 0) where
-      pub way_explains : at < length seen.queue → (reason : Reason ℕ)
-          → IsReason r (get_or seen.queue at 0) reason → (ns : List ℕ)
-          → IsWay seen.queue parents 0 at ns
+      pub way_explains : place < length seen.queue → (reason : Reason ℕ)
+          → IsReason r (get_or seen.queue place 0) reason → (ns : List ℕ)
+          → IsWay seen.queue parents 0 place ns
           → Explains r t (record { names = ns; reason = reason })
       way_explains in' reason is ns way =
           let tree = search.tree in
-          let own = reason_holds r (get_or seen.queue at 0) reason is in
-          let deeper = way_deeper r seen.queue parents tree at ns 0 way in
+          let own = reason_holds r (get_or seen.queue place 0) reason is in
+          let deeper = way_deeper r seen.queue parents tree place ns 0 way in
           record {
             chain = subst (λ m. Chain (Depends r) (HasReason r) m ns) (sym first)
-                (way_chains r seen.queue parents tree at own ns 0 way);
+                (way_chains r seen.queue parents tree place own ns 0 way);
             shortest = λ names chain.
                 let there = subst (λ m. Chain (Depends r) (HasReason r) m names) first chain in
                 let some : 0 < length seen.queue = omega (arith, in') in
                 omega (arith, no_shorter in' names 0 some there, deeper, tree.first);
             reason = subst (λ m. IsReason r m reason)
-                (sym (ap (λ m. end_of m ns) first ∙ way_ends r seen.queue parents tree at ns 0 way))
+                (sym (ap (λ m. end_of m ns) first ∙ way_ends r seen.queue parents tree place ns 0 way))
                 is;
           }
 

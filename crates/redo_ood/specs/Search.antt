@@ -1,7 +1,8 @@
 -- How far a search along change rows has come that began at a target.
 use Rattle.std.specs.Prelude.{◌≡◌, ◌⊎◌, ◌<◌, ◌≤◌, ◌+◌, ◌++◌, ◌∷◌, [], ℕ, List, length, slice_index}
 use Rattle.redo_model.specs.State.{Records}
-use Rattle.redo_model.specs.OutOfDate.{Depends}
+use Rattle.redo_model.specs.OutOfDate.{HasReason, Depends}
+use Rattle.redo_model.specs.Why.{Reason, IsReason}
 use Rattle.redo_ood.specs.Marks.{Marked, IsMarked, AreQueued, with_name}
 
 -- each place of the queue but the first has a parent, an earlier place whose name depends on its
@@ -41,6 +42,20 @@ abbrev pub Finds : Type 0 → ℕ → ℕ → Marked → List ℕ → Marked →
 Finds P n from old parents new parents_after =
     ((new ≡ old) × (parents_after ≡ parents) × (P → IsMarked old n))
     ⊎ (P × (new ≡ with_name old n) × (parents_after ≡ parents ++ from ∷ []))
+
+-- no name at a place from one up to another has a reason of its own
+abbrev pub HaveNoReason : Records ℕ → List ℕ → ℕ → ℕ → Type 0
+HaveNoReason r queue from to =
+    (i : ℕ) → from ≤ i → i < to → HasReason r (slice_index queue i) → ⊥
+
+-- of the places from one on, this is the first whose name has a reason of its own
+pub record IsFirstReason (r : Records ℕ) (queue : List ℕ) (from place : ℕ)
+    (reason : Reason ℕ) : Type 0
+  where
+    pub past : from ≤ place
+    pub within : place < length queue
+    pub none : HaveNoReason r queue from place
+    pub own : IsReason r (slice_index queue place) reason
 
 -- the names after place `from` on the way to place `to`: each stands at a place whose parent is the
 -- place before it

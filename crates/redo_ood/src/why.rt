@@ -1,15 +1,15 @@
 //! A shortest chain of change rows from an out-of-date target to one with a reason of its own: a search, breadth first,
 //! through names that are out of date.
 
-ghost use Rattle.std.specs.Prelude.{◌≡◌, ◌<◌, ◌+◌, ◌++◌, ℕ, List, IsTrue, IfOk, IfSome, OnOk, OnErr, length, slice_index, option_map};
+ghost use Rattle.std.specs.Prelude.{◌≡◌, ◌<◌, ◌+◌, ◌++◌, ℕ, List, IsTrue, IfOk, IfSome, MatchOption, OnOk, OnErr, length, slice_index, option_map};
 ghost use Rattle.redo_model.specs.Why.{TellsWhy};
-ghost use Rattle.redo_model.specs.Inside.Why.{IsWhyBelow};
+ghost use Rattle.redo_model.specs.Inside.Why.{IsReasonBelow, IsWhyBelow};
 ghost use Rattle.redo_model.specs.OutOfDate.{OutOfDate};
 ghost use Rattle.redo_model.specs.Renaming.{AllBelow};
 ghost use Rattle.redo_rows.specs.Rows.{with_rows, rows_count};
 ghost use Rattle.redo_ood.specs.Marks.{IsMarked, IsQueued, AreQueued, size_of};
-ghost use Rattle.redo_ood.specs.Meaning.{why_of};
-ghost use Rattle.redo_ood.specs.Search.{IsSearch, StepsBefore, Finds, IsWay};
+ghost use Rattle.redo_ood.specs.Meaning.{reason_of, why_of};
+ghost use Rattle.redo_ood.specs.Search.{IsSearch, StepsBefore, Finds, IsWay, HaveNoReason, IsFirstReason};
 
 use crate::derive::needs_marked;
 use crate::marks::Marks;
@@ -81,6 +81,33 @@ fn find_needs(
     Ok(())
 }
 
+// A place of the queue, and the reason of its own that the name there has.
+#[derive(Clone, Copy)]
+struct Found {
+    place: usize,
+    reason: Reason,
+}
+
+// The first place from this one on whose name has a reason of its own.
+fn first_reason(records: &Records, rows: &DepRows, seen: &Marks, from: usize) -> Option<Found>
+    requires records { length records.now ≡ rows_count rows.now }
+    requires sized { size_of seen.now ≡ rows_count rows.now }
+    ensures first { MatchOption result
+        (HaveNoReason (with_rows records.now rows.now) seen.now.queue from
+        (length seen.now.queue))
+        (λ found. IsFirstReason (with_rows records.now rows.now) seen.now.queue from found.place
+        (reason_of found.reason)) }
+    ensures below { IfSome result
+        (λ found. IsReasonBelow (rows_count rows.now) (reason_of found.reason)) }
+{
+    for place in from..seen.queue_len() {
+        if let Some(reason) = own_reason(records, rows, seen.queued(place)) {
+            return Some(Found { place, reason });
+        }
+    }
+    None
+}
+
 // The names on the way from the queue's first place, whose name is left out, to this one.
 fn way_to(
     alloc: Global,
@@ -132,12 +159,16 @@ pub(crate) fn search(
     let mut parents = Vec::new(alloc);
     parents.push(0)?;
     seen.enter_new(t);
+    let mut tested = 0;
     let mut next = 0;
     'names: while next < seen.queue_len() {
-        if let Some(reason) = own_reason(records, rows, seen.queued(next)) {
-            let names = way_to(alloc, seen, &parents, next)?;
+        // the names that were found last are tested before more are looked for
+        if let Some(found) = first_reason(records, rows, seen, tested) {
+            let names = way_to(alloc, seen, &parents, found.place)?;
+            let reason = found.reason;
             return Ok(Some(Why { names, reason }));
         }
+        tested = seen.queue_len();
         find_needs(records, rows, out, next as u32, seen, &mut parents)?;
         next += 1;
     }

@@ -1,8 +1,7 @@
-use Rattle.std.proofs.Common.{◌≡◌, ◌<◌, ◌≤◌, ◌-◌, ℕ, length, get_or}
-use Rattle.redo_model.specs.OutOfDate.{HasReason}
+use Rattle.std.proofs.Common.{◌≡◌, ◌<◌, ◌≤◌, ◌-◌, length, get_or}
 use Rattle.redo_rows.specs.Rows.{with_rows, rows_count}
 use Rattle.redo_ood.specs.Marks.{size_of}
-use Rattle.redo_ood.specs.Search.{IsSearch, StepsBefore}
+use Rattle.redo_ood.specs.Search.{IsSearch, StepsBefore, HaveNoReason}
 use Rattle.redo_ood.proofs.why.search.Given as goal
 
 abbrev pub invariant-names : goal.invariant-names
@@ -10,10 +9,11 @@ invariant-names l =
     let r = with_rows l.records l.rows in record {
       sized : size_of l.seen ≡ rows_count l.rows;
       first : l.t ≡ get_or l.seen.queue 0 0;
-      done : l.next ≤ length l.seen.queue;
+      done : l.next ≤ l.tested;
+      tested : l.tested ≤ length l.seen.queue;
       some : 0 < length l.seen.queue;
       search : IsSearch r (StepsBefore r l.out l.seen.queue l.next) l.next l.seen l.parents.items;
-      none : (i : ℕ) → i < l.next → HasReason r (get_or l.seen.queue i 0) → ⊥;
+      none : HaveNoReason r l.seen.queue 0 l.tested;
     }
 
 abbrev pub decreases-names : goal.decreases-names
