@@ -1,5 +1,5 @@
 -- A search along change rows, step by step.
-use Rattle.std.proofs.Common.{◌≡◌, ◌⊎◌, ◌↔◌, ◌∙◌, ℕ, ◌<◌, ◌≤◌, ◌+◌, true, List, [], ◌∷◌, ◌++◌, length, get_or, take, IsSome, refl, sym, ap, subst, inl, inr, arith, length-append, append_assoc}
+use Rattle.std.proofs.Common.{◌≡◌, ◌⊎◌, ◌↔◌, ◌∙◌, ℕ, ◌<◌, ◌≤◌, ◌+◌, true, List, [], ◌∷◌, ◌++◌, length, get_or, take, Option, IsSome, refl, sym, ap, subst, inl, inr, arith, length-append, append_assoc}
 use Rattle.std.proofs.Math.ListN.{get_or-append}
 use Rattle.std.proofs.lemmas.Bool.{cases_lt}
 use Rattle.std.proofs.lemmas.List.{get_or_default, length-set}
@@ -126,15 +126,13 @@ module _ (r : Records ℕ) (out : Marked) (queue : List ℕ) (at t : ℕ) (in' :
         (λ i m s. elim s [ inl before ↦ before | inr w ↦ absurd (contains_none m w.1) ]) search
 
     -- one more row of t was looked at
-    pub partly_more : (names : List ℕ) (k : ℕ) (a b : Marked) (ps qs ns : List ℕ) (P : Type 0)
-        → k < length names → get_or names k 0 < size_of a → a.queue ≡ queue ++ ns
-        → IsTarget r t
-        → P ↔ (IsSome (r.rows.change t (get_or names k 0)) × IsMarked out (get_or names k 0))
-        → Finds P (get_or names k 0) at a ps b qs
+    pub partly_more : (names : List ℕ) (k n : ℕ) (a b : Marked) (ps qs ns : List ℕ) (P : Type 0)
+        → k < length names → get_or names k 0 ≡ n → n < size_of a → a.queue ≡ queue ++ ns
+        → IsTarget r t → P ↔ (IsSome (r.rows.change t n) × IsMarked out n)
+        → Finds P n at a ps b qs
         → IsSearch r (StepsPartly r out queue at t (take k names)) at a ps
         → IsSearch r (StepsPartly r out queue at t (take (k + 1) names)) at b qs
-    partly_more names k a b ps qs ns P in'' below behind target due finds search =
-        let n = get_or names k 0 in
+    partly_more names k n a b ps qs ns P in'' named below behind target due finds search =
         let L : ℕ → ℕ → Type 0 = StepsPartly r out queue at t (take k names) in
         let longer : at < length a.queue =
         omega (arith, in', ap length behind, length-append queue ns) in
@@ -148,14 +146,10 @@ module _ (r : Records ℕ) (out : Marked) (queue : List ℕ) (at t : ℕ) (in' :
           | inl before ↦ inl (inl before)
           | inr w ↦ elim ((one_more names k 0 m in'').0 w.1) [
             | inl earlier ↦ inl (inr (w.0, earlier, w.2, w.3))
-            | inr now ↦ inr (
-              w.0,
-              now,
-              due.1 (
-                subst (λ u. IsSome (r.rows.change t u)) now w.2,
-                subst (IsMarked out) now w.3,
-              ),
-            )
+            | inr now ↦
+                let here : m ≡ n = now ∙ named in
+                let row = subst (λ u. IsSome (r.rows.change t u)) here w.2 in
+                inr (w.0, here, due.1 (row, subst (IsMarked out) here w.3))
           ]
         ])
         (one_more_step r P L n at a b ps qs below longer (partly_before (take k names)) depends
@@ -186,6 +180,15 @@ module _ (r : Records ℕ) (out : Marked) (queue : List ℕ) (at t : ℕ) (in' :
               let step = subst (λ u. Depends r u m) stands s.1 in
               inr (e, all step.0 m step.1, step.1, s.2)
         ]) search) longer
+
+-- what is due for a row is so for a name that is the same
+pub due_at : {X : Type 0} (P : Type 0) (out : Marked) (row other : Option X) (n m : ℕ)
+    → row ≡ other → n ≡ m → P ↔ (IsSome other × IsMarked out m)
+    → P ↔ (IsSome row × IsMarked out n)
+due_at P out row other n m e f due = (
+  λ p. (subst IsSome (sym e) (due.0 p).0, subst (IsMarked out) (sym f) (due.0 p).1),
+  λ w. due.1 (subst IsSome e w.0, subst (IsMarked out) f w.1),
+)
 
 pub finds_sized : (P : Type 0) (n from : ℕ) (a b : Marked) (ps qs : List ℕ)
     → Finds P n from a ps b qs → size_of b ≡ size_of a

@@ -11,15 +11,14 @@ use crate::marks::Marks;
 use crate::reason::has_reason;
 use crate::region::{is_target, spread};
 use redo_records::Records;
-use redo_rows::DepRows;
+use redo_rows::{DepRows, Seat};
 
-/// Whether the target has a change row on the name, and the name is marked.
-pub(crate) fn needs_marked(rows: &DepRows, marks: &Marks, t: u32, n: u32) -> bool
-    requires target { t < rows_count rows.now }
-    requires name { n < size_of marks.now }
-    ensures { IsTrue result ↔ (IsSome ((rows_of rows.now).change t n) × IsMarked marks.now n) }
+/// Whether the seat has a change row, and its name is marked.
+pub(crate) fn needs_marked(seat: &Seat, marks: &Marks) -> bool
+    requires { seat.now.name < size_of marks.now }
+    ensures { IsTrue result ↔ (IsSome seat.now.change × IsMarked marks.now seat.now.name) }
 {
-    marks.has(n) && rows.change_of(t, n).is_some()
+    marks.has(seat.name()) && seat.has_change()
 }
 
 // Whether the target has a change row on a marked name.
@@ -29,8 +28,8 @@ fn needs_any_marked(rows: &DepRows, marks: &Marks, t: u32) -> bool
     ensures { IsTrue result
         ↔ ((n : ℕ) × IsSome ((rows_of rows.now).change t n) × IsMarked marks.now n) }
 {
-    for &n in rows.of(t) {
-        if needs_marked(rows, marks, t, n) {
+    for seat in rows.seats_of(t) {
+        if needs_marked(seat, marks) {
             return true;
         }
     }

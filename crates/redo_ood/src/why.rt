@@ -73,9 +73,9 @@ fn find_needs(
 {
     let t = seen.queued(from as usize);
     if is_target(records, t) {
-        for &n in rows.of(t) {
-            let is_due = needs_marked(rows, out, t, n);
-            find_if(n, from, is_due, seen, parents)?;
+        for seat in rows.seats_of(t) {
+            let is_due = needs_marked(seat, out);
+            find_if(seat.name(), from, is_due, seen, parents)?;
         }
     }
     Ok(())

@@ -9,4 +9,5 @@ pub mod Rises
 pub mod SeatEdits
 pub mod Seats
 pub mod Told
+pub mod Walked
 pub mod Writing

@@ -1,5 +1,5 @@
 -- Which news the seats of a target tell, by their places.
-use Rattle.std.proofs.Common.{◌≡◌, ◌≢◌, refl, ℕ, ◌<◌, Bool, true, false, List, length, get_or, sym, ap, subst, ◌∙◌, ◌⊎◌, inl, inr, Option, Some, None, IfSome, IsSome, MatchOption, ◌↔◌, IsTrue, not}
+use Rattle.std.proofs.Common.{◌≡◌, ◌≢◌, refl, ℕ, ◌<◌, Bool, true, false, List, length, get_or, sym, subst, ◌∙◌, ◌⊎◌, inl, inr, Option, Some, None, IfSome, IsSome, MatchOption, ◌↔◌, IsTrue, not}
 use Rattle.std.proofs.lemmas.Bool.{false≢true}
 use Rattle.std.proofs.lemmas.Option.{none-some, same_Some}
 use Rattle.redo_model.specs.State.{Cell, Records, Mark}
@@ -9,10 +9,8 @@ use Rattle.redo_rows.specs.Target.{Ascending, blank}
 use Rattle.redo_rows.specs.News.{known, name_of, IsNews, HasAppeared, HasChanged, HasNews, SomeNews, IsNewsOf, IsNewsIn}
 use Rattle.redo_rows.specs.declared.news.News.{News}
 use Rattle.redo_rows.specs.declared.news.News.TheVariants.{Appeared, Changed}
-use Rattle.redo_rows.specs.Numbers.{NumberList}
-use Rattle.redo_rows.specs.Kept.{IsKept}
-use Rattle.redo_rows.proofs.Inverses.{found_target}
-use Rattle.redo_rows.proofs.Listed.{name_below}
+use Rattle.redo_rows.specs.Kept.{has_change, has_created}
+use Rattle.redo_rows.proofs.Inverses.{seated_row}
 use Rattle.redo_rows.proofs.Seats.{seat_found, seat_there, nothing_stands}
 
 -- the name of a seat has one
@@ -84,38 +82,28 @@ news_at cells targets t (Some (Appeared n)) is = is
 news_at cells targets t (Some (Changed n)) is = is
 
 -- the same in the terms of the code
-pub news_told : (cells : List Cell) (targets now : List TargetRows) (t : ℕ) (target : TargetRows)
-    (seats : List Seat) (found : Option News) → targets ≡ now → t < length now
-    → target ≡ get_or targets t target → seats ≡ target.seats
+pub news_told : (cells : List Cell) (targets : List TargetRows) (t : ℕ) (seats : List Seat)
+    (found : Option News) → seats ≡ (target_at targets t).seats
     → MatchOption found (SomeNews (known cells) seats → ⊥) (IsNewsIn (known cells) seats)
-    → MatchOption found (SomeAppeared (with_rows cells now) t
-    ⊎ SomeChanged (with_rows cells now) t → ⊥) (IsNews (with_rows cells now) t)
-news_told cells targets now t target seats found is t_in at same told =
-    let own = found_target targets now t target is t_in at in
-    let all : seats ≡ (target_at now t).seats =
-    same ∙ ap (λ (x : TargetRows). x.seats) own.1
-    ∙ ap (λ (ts : List TargetRows). (target_at ts t).seats) is in
-    news_at cells now t found
+    → MatchOption found (SomeAppeared (with_rows cells targets) t
+    ⊎ SomeChanged (with_rows cells targets) t → ⊥) (IsNews (with_rows cells targets) t)
+news_told cells targets t seats found same told =
+    news_at cells targets t found
     (subst (λ ss. MatchOption found (SomeNews (known cells) ss → ⊥) (IsNewsIn (known cells) ss))
-    all told)
+    same told)
 
--- the news of rows are of a name below the count
-name_told : (cells : List Cell) (targets : List TargetRows) (t : ℕ)
-    (needed awaited : List NumberList) (seated : List ℕ) (news : News) → IsKept targets needed awaited seated
-    → IsNews (with_rows cells targets) t news → name_of news < length targets
-name_told cells targets t needed awaited seated (Appeared n) kept is =
-    name_below targets needed awaited seated t n kept (inr is.0)
-name_told cells targets t needed awaited seated (Changed n) kept is =
-    name_below targets needed awaited seated t n kept (inl (subst IsSome (sym is.1) refl))
+-- the name that news are of has a seat
+news_seated : (r : Records ℕ) (seats : List Seat) (news : News) → IsNewsIn r seats news
+    → has_seat seats (name_of news) ≡ true
+news_seated r seats (Appeared n) is = seated_row has_created (λ k. refl) seats n is.0
+news_seated r seats (Changed n) is =
+    seated_row has_change (λ k. refl) seats n (subst IsSome (sym is.1) refl)
 
-pub news_below : (cells : List Cell) (targets now : List TargetRows) (t : ℕ)
-    (needed awaited : List NumberList) (seated : List ℕ) (found : Option News) → targets ≡ now
-    → IsKept targets needed awaited seated
-    → MatchOption found (SomeAppeared (with_rows cells now) t
-    ⊎ SomeChanged (with_rows cells now) t → ⊥) (IsNews (with_rows cells now) t)
-    → IfSome found (λ news. name_of news < length now)
-news_below cells targets now t needed awaited seated None is kept told = tt
-news_below cells targets now t needed awaited seated (Some news) is kept told =
-    subst (λ (ts : List TargetRows). name_of news < length ts) is
-    (name_told cells targets t needed awaited seated news kept
-    (subst (λ (ts : List TargetRows). IsNews (with_rows cells ts) t news) (sym is) told))
+-- so it is below a count that the seats' names are below
+pub news_below : (r : Records ℕ) (seats : List Seat) (count : ℕ) (found : Option News)
+    → ((n : ℕ) → has_seat seats n ≡ true → n < count)
+    → MatchOption found (SomeNews r seats → ⊥) (IsNewsIn r seats)
+    → IfSome found (λ news. name_of news < count)
+news_below r seats count None below told = tt
+news_below r seats count (Some news) below told =
+    below (name_of news) (news_seated r seats news told)

@@ -1,15 +1,16 @@
-ghost use Rattle.std.specs.Prelude.{◌≡◌, ◌⊎◌, ◌↔◌, ℕ, ◌<◌, ◌≤◌, ◌==◌, ◌&&◌, not, false, IsTrue, length, Contains, ◌||◌, option_map, IfOk, IfSome, MatchOption, OnOk, OnErr};
+ghost use Rattle.std.specs.Prelude.{◌≡◌, ◌⊎◌, ◌↔◌, ℕ, ◌<◌, ◌≤◌, ◌==◌, ◌&&◌, not, true, false, IsTrue, length, Contains, ◌||◌, option_map, IfOk, IfSome, MatchOption, OnOk, OnErr};
 ghost use Rattle.redo_model.specs.Names.{IsListed};
 ghost use Rattle.redo_model.specs.OutOfDate.{SomeAppeared, SomeChanged};
 ghost use Rattle.redo_model.specs.State.{no_rows};
 ghost use Rattle.redo_model.specs.Renaming.{AllBelow};
 ghost use Rattle.redo_records.specs.Meaning.{row_mark_of};
 ghost use Rattle.redo_rows.specs.News.{IsNews, name_of};
-ghost use Rattle.redo_rows.specs.Rows.{rows_count, rows_of, room_of, with_change, with_created, with_always, without_rows, HasRowOn, HasChangeRowOn, HasCreatedRowOn, by_number, with_rows};
+ghost use Rattle.redo_rows.specs.Target.{Ascending};
+ghost use Rattle.redo_rows.specs.Rows.{rows_count, rows_of, room_of, target_at, has_seat, with_change, with_created, with_always, without_rows, HasRowOn, HasChangeRowOn, HasCreatedRowOn, by_number, with_rows};
 
 use crate::news::{News, first_news};
 use crate::numbers::Numbers;
-use crate::target::Target;
+use crate::target::{Seat, Target};
 use crate::{inverse, made};
 use redo_records::{Mark, Records, extended};
 use std::alloc::{AllocError, Global};
@@ -213,6 +214,16 @@ impl DepRows {
         self.targets[t as usize].names()
     }
 
+    /// The seats of `t`, by their names' ascending numbers: each has the rows of `t` on its name.
+    pub fn seats_of(&self, t: u32) -> &[Seat]
+        requires { t < rows_count self.now }
+        ensures same { result.now ≡ (target_at self.now t).seats }
+        ensures ascending { Ascending result.now }
+        ensures below { (n : ℕ) → has_seat result.now n ≡ true → n < rows_count self.now }
+    {
+        self.targets[t as usize].seats()
+    }
+
     /// The first name, by ascending number, that has a file now and on which `t` has a created row, or that has another
     /// mark now than the change row of `t` on it.
     pub fn news(&self, records: &Records, t: u32) -> Option<News>
@@ -223,7 +234,7 @@ impl DepRows {
             (IsNews (with_rows records.now self.now) t) }
         ensures below { IfSome result (λ news. name_of news < rows_count self.now) }
     {
-        first_news(records, self.targets[t as usize].seats())
+        first_news(records, self.seats_of(t))
     }
 
     /// The targets with a change row on `n`, by ascending number.

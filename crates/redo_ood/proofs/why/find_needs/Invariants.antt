@@ -1,16 +1,18 @@
 use Rattle.std.proofs.Common.{◌≡◌, ◌++◌, List, ℕ, take}
 use Rattle.redo_rows.specs.Rows.{with_rows}
+use Rattle.redo_rows.proofs.Walked.{seat_names}
 use Rattle.redo_ood.specs.Marks.{size_of}
 use Rattle.redo_ood.specs.Search.{IsSearch}
 use Rattle.redo_ood.proofs.Searching.{StepsPartly}
 use Rattle.redo_ood.proofs.why.find_needs.Given as goal
 
-abbrev pub invariant-loop-n : goal.invariant-loop-n
-invariant-loop-n l =
-    let r = with_rows l.records l.rows in record {
+abbrev pub invariant-loop-seat : goal.invariant-loop-seat
+invariant-loop-seat l =
+    let r = with_rows l.records l.rows in
+    let names = take l.seat-index (seat_names l.seat-items) in
+    record {
       sized : size_of l.seen ≡ size_of l.fn.seen;
       behind : (ns : List ℕ) × (l.seen.queue ≡ l.fn.seen.queue ++ ns);
-      search : IsSearch r
-          (StepsPartly r l.out l.fn.seen.queue l.from l.t (take l.n-index l.n-items)) l.from l.seen
+      search : IsSearch r (StepsPartly r l.out l.fn.seen.queue l.from l.t names) l.from l.seen
           l.parents.items;
     }
