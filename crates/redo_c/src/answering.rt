@@ -1,8 +1,9 @@
 ghost use Rattle.std.specs.Prelude.{◌≡◌, ◌≤◌, ◌++◌, drop, length};
 ghost use Rattle.redo_c.specs.Calls.{Answers};
 
+use crate::held::Opened;
 use crate::status::{FAULT, MEMORY, OK, TOO_SMALL};
-use redo_live::{Live, Withheld};
+use redo_live::Withheld;
 use redo_talk::{Replied, reply};
 use std::alloc::Global;
 
@@ -27,17 +28,19 @@ fn put(bytes: &[u8], room: &mut [u8])
 /// Answers a line into the room.
 pub(crate) fn answer(
     alloc: Global,
-    live: &mut Live,
+    opened: &mut Opened,
     line: &[u8],
     room: &mut [u8],
     told: &mut Told,
 ) -> u32
-    ensures { Answers result live.old live.new line.now room.old room.new told.new }
+    ensures { Answers result opened.old opened.new line.now room.old room.new told.new }
 {
-    let (mut said, mut logged) = (Vec::new(alloc), Vec::new(alloc));
-    match reply(alloc, live, line, room.len(), &mut said, &mut logged) {
+    let Opened { live, said, logged } = opened;
+    said.clear();
+    logged.clear();
+    match reply(alloc, live, line, room.len(), said, logged) {
         Ok(replied) => {
-            put(&said, room);
+            put(said, room);
             told.size = said.len();
             told.logged = logged.len();
             match replied {

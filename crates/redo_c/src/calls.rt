@@ -1,16 +1,18 @@
 //! What the library exports. What a call needs besides its clauses is the caller's to see to: that pointers and lengths
 //! are those of memory that nobody else uses meanwhile.
-ghost use Rattle.std.specs.Prelude.{◌≡◌};
+ghost use Rattle.std.specs.Prelude.{◌≡◌, [], IfOk};
+ghost use Rattle.redo_model.specs.State.{empty};
+ghost use Rattle.redo_live.specs.Inside.LiveState.{state_in};
 ghost use Rattle.redo_c.specs.Calls.{AnswersAt, Opens, Restores};
 ghost use Rattle.redo_c.specs.declared.held.Held.TheVariants.{Closed};
 
 use crate::answering::{Told, answer};
 use crate::handle::Handle;
-use crate::held::Held;
+use crate::held::{Held, Opened};
 use crate::status::{DIFFERS, MEMORY, MISUSE, OK, WORN};
 use redo_live::Live;
 use redo_log::{RestoreFault, Restored, restore};
-use std::alloc::Global;
+use std::alloc::{AllocError, Global};
 use std::mem::size_of;
 
 /// How many bytes of memory the caller gives a handle.
@@ -19,14 +21,23 @@ pub extern "C" fn redo_c_room() -> usize {
     size_of::<Held>()
 }
 
+/// An empty database.
+fn opened(alloc: Global) -> Result<Opened, AllocError>
+    ensures names { IfOk result (λ opened. opened.names ≡ []) }
+    ensures state { IfOk result (λ opened. state_in opened ≡ empty) }
+{
+    let live = Live::new(alloc)?;
+    Opened::new(alloc, live)
+}
+
 /// Opens an empty database.
 #[unsafe(no_mangle)]
 pub extern "C" fn redo_c_open(alloc: Global, handle: &mut Handle) -> u32
     ensures { Opens result handle.old.held handle.new.held }
 {
-    match Live::new(alloc) {
-        Ok(live) => {
-            handle.replace(Held::Open(live));
+    match opened(alloc) {
+        Ok(opened) => {
+            handle.replace(Held::Open(opened));
             OK
         }
         Err(_) => MEMORY,
@@ -53,13 +64,16 @@ pub extern "C" fn redo_c_restore(
     ensures { Restores result handle.old.held handle.new.held log.now counts.new }
 {
     match restore(alloc, log) {
-        Ok(Restored { live, lines, bytes }) => {
-            counts.lines = lines;
-            counts.bytes = bytes;
-            counts.line = 0;
-            handle.replace(Held::Open(live));
-            OK
-        }
+        Ok(Restored { live, lines, bytes }) => match Opened::new(alloc, live) {
+            Ok(opened) => {
+                counts.lines = lines;
+                counts.bytes = bytes;
+                counts.line = 0;
+                handle.replace(Held::Open(opened));
+                OK
+            }
+            Err(_) => MEMORY,
+        },
         Err(RestoreFault::Memory) => MEMORY,
         Err(RestoreFault::Worn) => WORN,
         Err(RestoreFault::Differs { line, lines, bytes }) => {
@@ -82,11 +96,11 @@ pub extern "C" fn redo_c_answer(
 ) -> u32
     ensures { AnswersAt result handle.old.held handle.new.held line.now room.old room.new told.new }
 {
-    let Held::Open(mut live) = handle.replace(Held::Closed) else {
+    let Held::Open(mut opened) = handle.replace(Held::Closed) else {
         return MISUSE;
     };
-    let status = answer(alloc, &mut live, line, room, told);
-    handle.replace(Held::Open(live));
+    let status = answer(alloc, &mut opened, line, room, told);
+    handle.replace(Held::Open(opened));
     status
 }
 

@@ -1,8 +1,43 @@
 use redo_live::Live;
+use std::alloc::{AllocError, Global};
+use std::marker::Model;
+
+/// A database that is open, and memory for its answers, which each call uses again. The database stands elsewhere, so
+/// that it isn't moved when this is.
+#[derive(Drop)]
+pub struct Opened {
+    pub(crate) live: Box<Live>,
+    pub(crate) said: Vec<u8>,
+    pub(crate) logged: Vec<u8>,
+}
+
+impl Model for Opened {
+    ghost use Rattle.redo_live.specs.Inside.LiveState.{LiveState};
+
+    ghost Value = { LiveState };
+
+    ghost use Rattle.redo_c.specs.Opened.{live_in};
+
+    ghost view = { live_in };
+}
+
+impl Opened {
+    ghost use Rattle.std.specs.Prelude.{◌≡◌, IfOk};
+
+    pub(crate) fn new(alloc: Global, live: Live) -> Result<Opened, AllocError>
+        ensures { IfOk result (λ opened. opened ≡ live) }
+    {
+        Ok(Opened {
+            live: Box::new(alloc, live)?,
+            said: Vec::new(alloc),
+            logged: Vec::new(alloc),
+        })
+    }
+}
 
 /// What lies in the memory of a handle.
 #[derive(Drop)]
 pub enum Held {
     Closed,
-    Open(Live),
+    Open(Opened),
 }

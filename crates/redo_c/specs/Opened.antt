@@ -1,0 +1,6 @@
+-- What stands behind a handle.
+use Rattle.redo_live.specs.Inside.LiveState.{LiveState}
+use Rattle.redo_c.specs.declared.held.Opened.TheInside.{Inside}
+
+abbrev pub live_in : Inside → LiveState
+live_in inside = inside.live.value
