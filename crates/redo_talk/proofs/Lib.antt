@@ -2,7 +2,6 @@ pub mod Led
 pub mod RoundByRound
 pub mod LongLines
 pub mod Fronts
-pub mod Heeding
 pub mod Responding
 pub mod RoundTold
 pub mod Fronted

@@ -10,10 +10,11 @@ use Rattle.redo_text.specs.Grammar.{with_names}
 use Rattle.redo_text.specs.Inquiries.{inquiry_text_of, inquiry_fault, inquiry_in}
 use Rattle.redo_text.specs.Questions.{words_of}
 use Rattle.redo_text.specs.declared.inquiries.Inquiry.{Inquiry}
+use Rattle.redo_text.proofs.Inquired.{asked_of_command}
 use Rattle.redo_history.specs.Histories.{line_text_of}
 use Rattle.redo_live.specs.Answers.{AnswersInquiry}
 use Rattle.redo_live.specs.Inside.LiveState.{LiveState, state_in, IsAsKnown}
-use Rattle.redo_live.specs.Inside.Told.{AnswersText, EndsSession}
+use Rattle.redo_live.specs.Inside.Told.{AnswersText, EndsSession, IsCause}
 use Rattle.redo_live.specs.Inside.Withheld.{WouldAnswer, WouldEnd, IsWithheldFor, IsUnendedFor}
 use Rattle.redo_live.specs.declared.fault.Unanswered.{Unanswered as Why}
 use Rattle.redo_live.specs.declared.fault.Unanswered.TheVariants.{Memory, Worn, Fault}
@@ -25,8 +26,15 @@ use Rattle.redo_talk.specs.Inside.Steps.{IsStep}
 use Rattle.redo_talk.specs.Inside.Hearing.{known_of}
 use Rattle.redo_talk.specs.Inside.Replies.{TellsRound, WouldTell, IsPutOffFor, IsUndoneFor, IsUnheededFor, IsUnsaidFor, IsUntoldFor}
 use Rattle.redo_talk.proofs.Fronted.{logs_front}
-use Rattle.redo_talk.proofs.Heeding.{command_cause}
 use Rattle.redo_talk.proofs.Steps.{answering_step, ending_step, telling_step, held_are_known}
+
+-- why a command is refused
+pub command_cause : (live : LiveState) (text : Text) (why : Why)
+    → inquiry_in (words_of text) ≡ None → IsCause live text why → IsRefusedFor live.names text why
+command_cause live text Memory none cause = tt
+command_cause live text Worn none cause = tt
+command_cause live text (Fault fault) none cause =
+    asked_of_command live.names text none ∙ cause
 
 module _ (old : LiveState) (heard : Text) (session : ℕ) where
   pub answered_round : (new : LiveState) (text said said' logged logged' : Text)

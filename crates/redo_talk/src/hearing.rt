@@ -1,22 +1,19 @@
-ghost use Rattle.std.specs.Prelude.{◌≡◌, ◌⊎◌, ◌≤◌, ◌++◌, [], length, take, vec_capacity, decimal, IfErr, IsErrAnd, IsOkAnd, OnOk, OnErr};
+ghost use Rattle.std.specs.Prelude.{◌≡◌, ◌≤◌, ◌++◌, [], length, take, vec_capacity, decimal, IfErr, OnOk, OnErr};
 ghost use Rattle.redo_model.specs.Names.{Text};
 ghost use Rattle.redo_whole.specs.Devices.{known_in};
 ghost use Rattle.redo_history.specs.Histories.{ended};
-ghost use Rattle.redo_live.specs.Answers.{AnswersInquiry};
-ghost use Rattle.redo_live.specs.Inside.LiveState.{IsAsKnown, state_in};
-ghost use Rattle.redo_talk.specs.Rounds.{Round, Asks, fault_text_of};
+ghost use Rattle.redo_talk.specs.Rounds.{Round, fault_text_of};
 ghost use Rattle.redo_talk.specs.Logs.{logged_of};
-ghost use Rattle.redo_talk.specs.Inside.Sending.{IsRefusedFor};
 ghost use Rattle.redo_talk.specs.Inside.Steps.{IsStep, Refusing};
 ghost use Rattle.redo_talk.specs.Inside.KeptLines.{IsHeardOf, IsFrontOf, kept_of};
 ghost use Rattle.redo_talk.specs.Inside.Hearing.{GoesOn, GoesOnInLine, BreaksOff, known_of, place_of};
 
 use crate::asked::asked;
 use crate::fault::Refusal;
+use crate::replying::respond_within;
 use crate::unsent::{Unsent, send, tell_fault};
 use redo_history::cut_at;
-use redo_live::{Live, Unanswered};
-use redo_text::{Inquiry, LineFault, read_inquiry};
+use redo_live::{Live, Unanswered, Withheld};
 use redo_whole::{Watched, WriteFault};
 use std::alloc::Global;
 use std::io::Write;
@@ -47,56 +44,6 @@ fn keep(front: &mut Vec<u8>, bytes: &[u8])
     let _ = front.extend_from_slice(first(bytes, room));
 }
 
-/// Tells a session what it asks about a name.
-fn tell(
-    alloc: Global,
-    live: &mut Live,
-    session: u8,
-    asked: Result<(Inquiry, &[u8]), LineFault>,
-    said: &mut Vec<u8>,
-) -> Result<(), Unanswered>
-    ensures known { IsAsKnown live.old live.new }
-    ensures told { OnOk result (IsOkAnd asked.entry (λ about. (line : Text)
-        × AnswersInquiry (state_in live.old) session about.0 about.1.now line
-        × (said.new.items ≡ said.old.items ++ line))) }
-    ensures untold { OnErr result (said.new.items ≡ said.old.items) }
-    ensures cause { IfErr result (λ why. (why ≡ Unanswered.Memory)
-        ⊎ IsErrAnd asked.entry (λ fault. why ≡ Unanswered.Fault fault)) }
-{
-    match asked {
-        Ok((inquiry, name)) => {
-            live.ask(alloc, session, inquiry, name, said)?;
-            Ok(())
-        }
-        Err(fault) => Err(Unanswered::Fault(fault)),
-    }
-}
-
-/// Does what a session says, where it doesn't say its end.
-fn heed(
-    alloc: Global,
-    live: &mut Live,
-    session: u8,
-    text: &[u8],
-    unsent: &mut Unsent,
-) -> Result<(), Unanswered>
-    ensures step { OnOk result ((heard : Text) → Asks heard session text.now
-        → (round : Round) × (round.heard ≡ heard)
-        × IsStep (known_of live.old) (known_of live.new) round
-        × (unsent.new.said.items ≡ unsent.old.said.items ++ round.said)
-        × (unsent.new.logged.items
-        ≡ unsent.old.logged.items ++ logged_of (known_of live.old).state round.lines)) }
-    ensures cause { IfErr result (IsRefusedFor live.old.names text.now) }
-    ensures known { OnErr result (IsAsKnown live.old live.new) }
-    ensures said { OnErr result (unsent.new.said.items ≡ unsent.old.said.items) }
-    ensures logged { OnErr result (unsent.new.logged.items ≡ unsent.old.logged.items) }
-{
-    match read_inquiry(text) {
-        Some(asked) => tell(alloc, live, session, asked, &mut unsent.said),
-        None => live.answer(alloc, session, text, &mut unsent.said, &mut unsent.logged),
-    }
-}
-
 /// Answers a line: what it says and logs waits behind what waited.
 fn answer(alloc: Global, live: &mut Live, line: &[u8], unsent: &mut Unsent) -> Result<(), Refusal>
     ensures step { OnOk result ((round : Round) × (round.heard ≡ line.now)
@@ -117,14 +64,19 @@ fn answer(alloc: Global, live: &mut Live, line: &[u8], unsent: &mut Unsent) -> R
     let Some((session, text)) = asked(line) else {
         return Err(Refusal::no_session());
     };
-    let done = if text == b"end".as_slice() {
-        live.end(alloc, session, &mut unsent.said, &mut unsent.logged)
-    } else {
-        heed(alloc, live, session, text, unsent)
-    };
-    match done {
+    match respond_within(
+        alloc,
+        live,
+        session,
+        text,
+        usize::MAX,
+        &mut unsent.said,
+        &mut unsent.logged,
+    ) {
         Ok(()) => Ok(()),
-        Err(why) => Err(Refusal::of(session, why)),
+        Err(Withheld::Unanswered(why)) => Err(Refusal::of(session, why)),
+        // No answer is longer than that.
+        Err(Withheld::TooLong(_)) => Err(Refusal::of(session, Unanswered::Memory)),
     }
 }
 

@@ -82,7 +82,7 @@ fn heed_within(
 }
 
 /// Does what a session says, where so many bytes suffice for the answer.
-fn respond_within(
+pub(crate) fn respond_within(
     alloc: Global,
     live: &mut Live,
     session: u8,

@@ -1,10 +1,6 @@
-use Rattle.std.proofs.Common.{refl, sym, ap, ◌∙◌, subst, inl, decimal, arith}
+use Rattle.std.proofs.Common.{ℕ, refl, sym, ap, ◌∙◌, subst, inl, inr, decimal, arith}
 use Rattle.std.proofs.lemmas.Fmt.{decimal_digit}
-use Rattle.std.proofs.lemmas.Slice.Eq.{bytes_eq-Decides}
-use Rattle.redo_talk.specs.Rounds.{Asks, fault_text_of}
-use Rattle.redo_talk.proofs.Outcomes.{ok_holds}
-use Rattle.redo_talk.proofs.Steps.{ending_step}
-use Rattle.redo_talk.proofs.hearing.answer.Goals.{then-eq, else-eq}
+use Rattle.redo_talk.specs.Rounds.{IsFaultWord, fault_text_of}
 use Rattle.redo_talk.proofs.hearing.answer.Goals as goal
 
 pub returns-in_default-clause-refused : goal.returns-in_default-clause-refused
@@ -21,19 +17,43 @@ returns-in_default-clause-refused c =
     }
 
 pub returns-in-Ok-clause-step : goal.returns-in-Ok-clause-step
-returns-in-Ok-clause-step c = elim c.if-eq.branch [
-  | then-eq w ↦
-      let is = (bytes_eq-Decides c.in-Some.text.now c.as_slice.result.now).0 (sym w.if-eq.ensures)
-      ∙ c.as_slice.ensures in
-      let ended = ok_holds w.end-done.result c.in-Ok.field-0 _ (sym w.done-is ∙ c.in-Ok.is)
-      w.end-done.ensures.ended in
-      rw (w.live-is, w.unsent-is)
-      (ending_step c.args.live.now w.end-done.new.self c.args.line.now c.in-Some.session
-      c.args.unsent.now.said.items w.end-done.new.said.items c.args.unsent.now.logged.items
-      w.end-done.new.logged.items
-      (subst (Asks c.args.line.now c.in-Some.session) is c.in-Some.ensures) ended)
-  | else-eq w ↦
-      let stepped = ok_holds w.heed-done.result c.in-Ok.field-0 _
-      (sym w.done-is ∙ c.in-Ok.is) w.heed-done.ensures.step in
-      rw (w.live-is, w.unsent-is) (stepped c.args.line.now c.in-Some.ensures)
-]
+returns-in-Ok-clause-step c =
+    let told = c.in-Ok.ensures.told c.args.line.now c.in-Some.ensures in
+    (told.round, told.heard_is, told.step, told.says, told.logs)
+
+pub returns-in-Err-Unanswered-clause-refused : goal.returns-in-Err-Unanswered-clause-refused
+returns-in-Err-Unanswered-clause-refused c =
+    let failed = c.in-Err-Unanswered.ensures in
+    let cause = rw c.in-Err-Unanswered.field-0-is at failed.cause in
+    let word = c.of.result.word.now in
+    record {
+      same_names = failed.known.names;
+      same_state = failed.known.state;
+      none = refl;
+      cause = inr (
+        c.in-Some.session,
+        c.in-Some.text.now,
+        word,
+        c.in-Some.ensures,
+        subst (IsFaultWord c.args.live.now.names c.in-Some.text.now) (sym c.of.ensures.word) cause,
+        ap (λ (n : ℕ). fault_text_of (decimal n) word) c.of.ensures.number,
+      );
+    }
+
+pub returns-in-Err-TooLong-clause-refused : goal.returns-in-Err-TooLong-clause-refused
+returns-in-Err-TooLong-clause-refused c =
+    let failed = c.in-Err-TooLong.ensures in
+    let word = c.of-in-Err-TooLong.result.word.now in
+    record {
+      same_names = failed.known.names;
+      same_state = failed.known.state;
+      none = refl;
+      cause = inr (
+        c.in-Some.session,
+        c.in-Some.text.now,
+        word,
+        c.in-Some.ensures,
+        inr (inl c.of-in-Err-TooLong.ensures.word),
+        ap (λ (n : ℕ). fault_text_of (decimal n) word) c.of-in-Err-TooLong.ensures.number,
+      );
+    }
