@@ -1,10 +1,11 @@
 -- A session's command is answered by the line that was told.
-use Rattle.std.proofs.Common.{◌≡◌, ◌+◌, ◌<◌, ℕ, Bool, cond, List, [], ◌∷◌, ◌++◌, sym, ap, ◌∙◌, subst, length}
+use Rattle.std.proofs.Common.{◌≡◌, ◌+◌, ◌<◌, ℕ, Bool, cond, List, [], ◌∷◌, ◌++◌, refl, sym, ap, ◌∙◌, subst, length}
 use Rattle.redo_names.specs.Names.{text_at}
 use Rattle.redo_names.specs.Inside.Names.{AreNames}
 use Rattle.redo_model.specs.Names.{Text, texts}
 use Rattle.redo_model.specs.State.{State}
 use Rattle.redo_model.specs.Command.{Command}
+use Rattle.redo_model.specs.Reply.{Reply as ReplyOf}
 use Rattle.redo_model.specs.Step.{Answers, after}
 use Rattle.redo_model.specs.Changes.{changes}
 use Rattle.redo_model.specs.Renaming.{IsBelow, named_command, named_reply}
@@ -12,42 +13,67 @@ use Rattle.redo_model.specs.Inside.Renaming.{named_state, numbering}
 use Rattle.redo_model.proofs.StepsByName.{after_by_name}
 use Rattle.redo_model.proofs.Texts.{texts_are_names}
 use Rattle.redo_terms.specs.Meaning.{command_of, reply_of, line_at, by_text}
+use Rattle.redo_terms.specs.declared.command.Command.{Command as Asked}
+use Rattle.redo_terms.specs.declared.reply.Line.{Line}
+use Rattle.redo_terms.specs.declared.reply.Reply.{Reply}
 use Rattle.redo_text.specs.Grammar.{IsCommandLine, AddsNames}
 use Rattle.redo_store.specs.Tables.{Tables, state_of, tables_records, tables_naming, tables_order, calls_of}
+use Rattle.redo_history.specs.Histories.{line_text_of}
 use Rattle.redo_live.specs.Inside.Answered.{logged_text}
 use Rattle.redo_live.specs.Inside.LiveState.{LiveState, state_in, calls_in}
 use Rattle.redo_live.specs.Inside.Kept.{IsKept}
+use Rattle.redo_live.specs.Inside.Ordered.{IsSortedReply}
 use Rattle.redo_live.specs.Inside.Told.{IsTold, IsObeyed, AnswersText, IsCause}
 use Rattle.redo_live.specs.Inside.Withheld.{WouldObey, IsUnobeyedFor, IsWithheldFor}
 use Rattle.redo_live.specs.declared.fault.Withheld.{Withheld}
 use Rattle.redo_live.specs.declared.fault.Withheld.TheVariants.{Unanswered, TooLong}
-use Rattle.redo_live.specs.declared.told.Told.{Told}
 use Rattle.redo_live.proofs.Answering.{renaming, now_answers}
 use Rattle.redo_live.proofs.Changing.{changes_by_name}
 use Rattle.redo_live.proofs.Keeping.{IsKept-after}
 
+-- the line with the database's reply, whose names were put into order
+pub line_is_told : (live : LiveState) (session : ℕ) (command : Asked) (reply copy sorted : Reply)
+    (text : Text)
+    → Answers (tables_naming live.tables) (state_of live.tables) session (command_of command)
+    (reply_of reply)
+    → reply_of copy ≡ reply_of reply
+    → IsSortedReply (by_text live.names).order (reply_of copy) (reply_of sorted)
+    → text ≡ line_text_of (line_at live.names
+    (record { session = session; command = command; reply = sorted }))
+    → IsTold live session (command_of command)
+    (record { session = session; command = command; reply = sorted }) reply text
+line_is_told live session command reply copy sorted text answers same is_sorted is_text = record {
+  session_is = refl;
+  command_is = refl;
+  answers = answers;
+  sorted = subst (λ (of_numbers : ReplyOf ℕ). IsSortedReply (by_text live.names).order of_numbers
+      (reply_of sorted)) same is_sorted;
+  text_is = is_text;
+}
+
 module _ (names : List Text) (are : AreNames names) (tables : Tables)
     (kept : IsKept names (state_of tables) (calls_of tables)) (session : ℕ) (command : Command ℕ)
-    (below : IsBelow (length names) command) (told : Told)
-    (is : IsTold (record { names = names; tables = tables }) session command told)
+    (below : IsBelow (length names) command) (told : Line) (reply : Reply)
+    (text : Text)
+    (is : IsTold (record { names = names; tables = tables }) session command told reply text)
   where
-    asked_below : IsBelow (length names) (command_of told.line.command)
+    asked_below : IsBelow (length names) (command_of told.command)
     asked_below = subst (IsBelow (length names)) (sym is.command_is) below
 
     told_answers : Answers texts (named_state (numbering names) (state_of tables)) session
         (named_command (text_at names) command)
-        (named_reply (text_at names) (reply_of told.line.reply))
+        (named_reply (text_at names) (reply_of told.reply))
     told_answers =
-        now_answers names are tables kept.within session command below (reply_of told.reply)
-        (reply_of told.line.reply) is.answers is.sorted
+        now_answers names are tables kept.within session command below (reply_of reply)
+        (reply_of told.reply) is.answers is.sorted
 
     told_changes : changes (named_state (numbering names) (state_of tables)).records
-        (line_at names told.line).command (line_at names told.line).reply
-        ≡ changes (tables_records tables) (command_of told.line.command) (reply_of told.reply)
+        (line_at names told).command (line_at names told).reply
+        ≡ changes (tables_records tables) (command_of told.command) (reply_of reply)
     told_changes =
         changes_by_name (by_text names).order names are (tables_records tables)
-        (reply_of told.reply) (reply_of told.line.reply) is.sorted
-        (command_of told.line.command) asked_below
+        (reply_of reply) (reply_of told.reply) is.sorted
+        (command_of told.command) asked_below
 
     module _ (old : LiveState) (old_names : names ≡ old.names)
         (old_state : state_of tables ≡ state_of old.tables)
@@ -57,24 +83,24 @@ module _ (names : List Text) (are : AreNames names) (tables : Tables)
             ap (named_state (numbering names)) old_state
             ∙ ap (λ (ns : List Text). named_state (numbering ns) (state_of old.tables)) old_names
 
-        told_command : (line_at names told.line).command
+        told_command : (line_at names told).command
             ≡ named_command (text_at old.names) command
         told_command =
             ap (named_command (text_at names)) is.command_is
             ∙ ap (λ (ns : List Text). named_command (text_at ns) command) old_names
 
-        told_there : Answers texts (state_in old) session (line_at names told.line).command
-            (line_at names told.line).reply
+        told_there : Answers texts (state_in old) session (line_at names told).command
+            (line_at names told).reply
         told_there =
-            let line = line_at names told.line in
+            let line = line_at names told in
             subst (λ (st : State Text). Answers texts st session line.command line.reply) before
             (subst (λ (asked : Command ℕ). Answers texts
             (named_state (numbering names) (state_of tables)) session
             (named_command (text_at names) asked) line.reply) (sym is.command_is) told_answers)
 
-        pub would_obey : WouldObey old session command (length told.text.items)
+        pub would_obey : WouldObey old session command (length text)
         would_obey = record {
-          line = line_at names told.line;
+          line = line_at names told;
           session_is = is.session_is;
           command_is = told_command;
           answers = told_there;
@@ -83,7 +109,7 @@ module _ (names : List Text) (are : AreNames names) (tables : Tables)
 
     module _ (next : Tables)
         (steps : state_of next
-        ≡ after (tables_naming tables) (state_of tables) session (command_of told.line.command))
+        ≡ after (tables_naming tables) (state_of tables) session (command_of told.command))
         (counted : calls_of next ≡ calls_of tables + 1)
       where
         same_step : state_of next ≡ after (tables_naming tables) (state_of tables) session command
@@ -97,27 +123,27 @@ module _ (names : List Text) (are : AreNames names) (tables : Tables)
             (subst (IsKept names (after (tables_naming tables) (state_of tables) session command))
             (sym counted)
             (IsKept-after names are (tables_order tables) (state_of tables) session command
-            (named_reply (text_at names) (reply_of told.line.reply)) (calls_of tables) left below
+            (named_reply (text_at names) (reply_of told.reply)) (calls_of tables) left below
             kept told_answers))
 
         pub obeyed : (old : LiveState) (said said_after logged logged_after : Text) (b : Bool)
             → names ≡ old.names → state_of tables ≡ state_of old.tables
             → calls_of tables ≡ calls_in old
-            → b ≡ changes (tables_records tables) (command_of told.line.command)
-            (reply_of told.reply)
-            → said_after ≡ said ++ told.text.items
-            → logged_after ≡ logged ++ cond b told.text.items []
+            → b ≡ changes (tables_records tables) (command_of told.command)
+            (reply_of reply)
+            → said_after ≡ said ++ text
+            → logged_after ≡ logged ++ cond b text []
             → IsObeyed old (record { names = names; tables = next }) session command said said_after
             logged logged_after
         obeyed old said said_after logged logged_after b old_names old_state old_calls changing
             says logs =
-            let line = line_at names told.line in
+            let line = line_at names told in
             let same = before old old_names old_state in
             let is_changing : b ≡ changes (state_in old).records line.command line.reply =
             changing ∙ sym told_changes
             ∙ ap (λ (st : State Text). changes st.records line.command line.reply) same in
-            let logged_is : cond b told.text.items [] ≡ logged_text (state_in old) line =
-            ap (λ (w : Bool). cond w told.text.items []) is_changing
+            let logged_is : cond b text [] ≡ logged_text (state_in old) line =
+            ap (λ (w : Bool). cond w text []) is_changing
             ∙ ap (λ (t : Text). cond (changes (state_in old).records line.command line.reply) t [])
             is.text_is in
             record {
@@ -127,7 +153,7 @@ module _ (names : List Text) (are : AreNames names) (tables : Tables)
               answers = told_there old old_names old_state;
               after_is = ap (named_state (numbering names)) steps
                   ∙ after_by_name (renaming names are) texts texts_are_names (tables_order tables)
-                  (state_of tables) session (command_of told.line.command) asked_below
+                  (state_of tables) session (command_of told.command) asked_below
                   ∙ ap (λ (st : State Text). after texts st session line.command) same;
               told = record {
                 says = says ∙ ap (λ (t : Text). said ++ t) is.text_is;

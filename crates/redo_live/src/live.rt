@@ -1,4 +1,4 @@
-ghost use Rattle.std.specs.Prelude.{◌≡◌, ◌≤◌, ◌<◌, ◌+◌, ◌^◌, [], None, length, IfOk, IfErr, OnOk, OnErr, true};
+ghost use Rattle.std.specs.Prelude.{◌≡◌, ◌≤◌, ◌<◌, ◌+◌, [], None, length, IfOk, IfErr, OnOk, OnErr, true};
 ghost use Rattle.redo_names.specs.Inside.Names.{Extends, AreNames};
 ghost use Rattle.redo_model.specs.State.{empty};
 ghost use Rattle.redo_model.specs.Renaming.{IsBelow};
@@ -9,13 +9,14 @@ ghost use Rattle.redo_store.specs.Tables.{tables_count};
 
 use crate::fault::{Unanswered, Withheld};
 use crate::ordering::ordered;
-use crate::told::{Told, line_text, tell, text_if};
+use crate::told::{line_text, tell, text_if};
 use redo_names::{MOST_NAMES, Names};
 use redo_store::Redo;
 use redo_terms::{Command, Line};
 use redo_text::read_command;
 use std::alloc::{AllocError, Global};
 use std::marker::Model;
+use std::mem;
 
 mod asking;
 mod ending;
@@ -33,6 +34,8 @@ pub struct Live {
     names: Names,
     redo: Redo,
     slots: u32,
+    /// Memory for the line that is printed next.
+    line: Vec<u8>,
 }
 
 impl Model for Live {
@@ -49,7 +52,7 @@ impl Model for Live {
 
 impl Live {
     ghost use Rattle.redo_live.specs.Inside.LiveState.{state_in, calls_in, IsAsKnown, IsSameDatabase};
-    ghost use Rattle.redo_live.specs.Inside.Told.{IsCause, IsTold, IsObeyed, AnswersText, TellsNothing};
+    ghost use Rattle.redo_live.specs.Inside.Told.{IsCause, IsObeyed, AnswersText, TellsNothing};
     ghost use Rattle.redo_live.specs.Inside.Withheld.{IsWithheldFor, IsUnobeyedFor};
 
     /// The empty database.
@@ -63,6 +66,7 @@ impl Live {
             names: Names::new(alloc),
             redo,
             slots: FIRST_SLOTS,
+            line: Vec::new(alloc),
         })
     }
 
@@ -188,15 +192,31 @@ impl Live {
             (TellsNothing said.old.items said.new.items logged.old.items logged.new.items) }
     {
         self.make_room(&command)?;
-        let told = self.told(alloc, session, command)?;
-        let size = told.text.len();
+        let old_line = self.take_line(alloc);
+        let reply = self.redo.reply(alloc, session, &command)?;
+        let copy = reply.copy(alloc)?;
+        let line = Line {
+            session,
+            command,
+            reply: ordered(&self.names, copy),
+        };
+        let text = line_text(alloc, &line, &self.names, old_line)?;
+        let size = text.len();
         if size > most {
             return Err(Withheld::TooLong(size));
         }
-        let changes = self.redo.changes(&told.line.command, &told.reply);
-        tell(said, &told.text, logged, text_if(changes, &told.text))?;
-        self.redo.change(session, &told.line.command, &told.reply);
+        let changes = self.redo.changes(&line.command, &reply);
+        tell(said, &text, logged, text_if(changes, &text))?;
+        self.redo.change(session, &line.command, &reply);
+        self.line = text;
         Ok(())
+    }
+
+    /// The line that was printed last, whose memory serves for the next.
+    fn take_line(&mut self, alloc: Global) -> Vec<u8>
+        ensures { self.new ≡ self.old }
+    {
+        mem::replace(&mut self.line, Vec::new(alloc))
     }
 
     /// Room for the names, and for the change of the command.
@@ -227,24 +247,5 @@ impl Live {
             self.slots = slots;
         }
         Ok(())
-    }
-
-    /// What a session's command is answered, before its change.
-    fn told(&self, alloc: Global, session: u8, command: Command) -> Result<Told, AllocError>
-        requires below { IsBelow (length self.now.names) (command_of command) }
-        requires names { AreNames self.now.names }
-        requires count { length self.now.names ≤ tables_count self.now.tables }
-        requires calls { calls_in self.now + 1 < 2 ^ 32 }
-        ensures { IfOk result (IsTold self.now session (command_of command)) }
-    {
-        let reply = self.redo.reply(alloc, session, &command)?;
-        let copy = reply.copy(alloc)?;
-        let line = Line {
-            session,
-            command,
-            reply: ordered(&self.names, copy),
-        };
-        let text = line_text(alloc, &line, &self.names)?;
-        Ok(Told { line, reply, text })
     }
 }

@@ -6,19 +6,8 @@ ghost use Rattle.redo_live.specs.Inside.Told.{TellsNothing};
 
 use redo_history::put_line;
 use redo_names::Names;
-use redo_terms::{Line, Reply};
+use redo_terms::Line;
 use std::alloc::{AllocError, Global};
-
-/// Bytes that most lines don't exceed.
-const USUAL_LINE: usize = 64;
-
-/// The line that a command is answered, its text, and the reply as the database gave it.
-#[derive(Drop)]
-pub(crate) struct Told {
-    pub line: Line,
-    pub reply: Reply,
-    pub text: Vec<u8>,
-}
 
 /// The text, where there is to be one.
 pub(crate) fn text_if(wanted: bool, text: &[u8]) -> &[u8]
@@ -27,12 +16,17 @@ pub(crate) fn text_if(wanted: bool, text: &[u8]) -> &[u8]
     if wanted { text } else { &[] }
 }
 
-/// The line of a history, with its LF.
-pub(crate) fn line_text(alloc: Global, line: &Line, names: &Names) -> Result<Vec<u8>, AllocError>
+/// The line of a history, with its LF, in the memory of an older one.
+pub(crate) fn line_text(
+    alloc: Global,
+    line: &Line,
+    names: &Names,
+    mut text: Vec<u8>,
+) -> Result<Vec<u8>, AllocError>
     requires { IsLineBelow (length names.now) (line_of line.now) }
     ensures { IfOk result (λ text. text.items ≡ line_text_of (line_at names.now line.now)) }
 {
-    let mut text = Vec::with_capacity(alloc, USUAL_LINE)?;
+    text.clear();
     put_line(alloc, &mut text, line, names)?;
     Ok(text)
 }

@@ -8,6 +8,8 @@ use Rattle.redo_model.specs.History.{Line}
 use Rattle.redo_model.specs.Renaming.{named_command}
 use Rattle.redo_model.specs.Step.{Answers, after}
 use Rattle.redo_terms.specs.Meaning.{command_of, reply_of, line_at, by_text}
+use Rattle.redo_terms.specs.declared.reply.Line.{Line as LineOfNumbers}
+use Rattle.redo_terms.specs.declared.reply.Reply.{Reply as ReplyOfNumbers}
 use Rattle.redo_text.specs.Questions.{line_fault}
 use Rattle.redo_text.specs.declared.fault.ReadFault.{ReadFault}
 use Rattle.redo_text.specs.declared.fault.ReadFault.TheVariants as read
@@ -19,7 +21,6 @@ use Rattle.redo_live.specs.Inside.LiveState.{LiveState, state_in, calls_in}
 use Rattle.redo_live.specs.Inside.Ordered.{IsSortedReply}
 use Rattle.redo_live.specs.declared.fault.Unanswered.{Unanswered}
 use Rattle.redo_live.specs.declared.fault.Unanswered.TheVariants.{Memory, Worn, Fault}
-use Rattle.redo_live.specs.declared.told.Told.{Told}
 
 -- why a text that can't be read isn't answered
 abbrev pub unread : ReadFault → Unanswered
@@ -34,14 +35,14 @@ IsCause live text (Fault fault) = line_fault live.names text ≡ Some fault
 
 -- the line has the database's reply to the session's command, with its names in the order of their
 -- texts, and this is its text
-pub record IsTold (live : LiveState) (session : ℕ) (command : Command ℕ) (told : Told) : Type 0 where
-  pub session_is : told.line.session ≡ session
-  pub command_is : command_of told.line.command ≡ command
+pub record IsTold (live : LiveState) (session : ℕ) (command : Command ℕ) (line : LineOfNumbers)
+    (reply : ReplyOfNumbers) (text : Text) : Type 0 where
+  pub session_is : line.session ≡ session
+  pub command_is : command_of line.command ≡ command
   pub answers : Answers (tables_naming live.tables) (state_of live.tables) session command
-      (reply_of told.reply)
-  pub sorted : IsSortedReply (by_text live.names).order (reply_of told.reply)
-      (reply_of told.line.reply)
-  pub text_is : told.text.items ≡ line_text_of (line_at live.names told.line)
+      (reply_of reply)
+  pub sorted : IsSortedReply (by_text live.names).order (reply_of reply) (reply_of line.reply)
+  pub text_is : text ≡ line_text_of (line_at live.names line)
 
 -- the line went behind what was said, and behind the log where it changes something
 pub record TellsLine (old new : LiveState) (line : Line Text) (said said_after logged logged_after

@@ -45,23 +45,27 @@ impl Live {
             × (said.new.items ≡ said.old.items ++ line)) }
         ensures untold { OnErr result (said.new.items ≡ said.old.items) }
     {
-        let line = self.line_told(alloc, session, inquiry, name)?;
-        said.extend_from_slice(&line)
+        let old_line = self.take_line(alloc);
+        let line = self.line_told(alloc, session, inquiry, name, old_line)?;
+        said.extend_from_slice(&line)?;
+        self.line = line;
+        Ok(())
     }
 
-    /// The line that answers the question.
+    /// The line that answers the question, in the memory of an older one.
     fn line_told(
         &mut self,
         alloc: Global,
         session: u8,
         inquiry: Inquiry,
         name: &[u8],
+        mut line: Vec<u8>,
     ) -> Result<Vec<u8>, AllocError>
         ensures kept { self.new ≡ self.old }
         ensures answers { IfOk result (λ line.
             AnswersInquiry (state_in self.old) session inquiry name.now line.items) }
     {
-        let mut line = Vec::new(alloc);
+        line.clear();
         put_number(&mut line, session as usize + 1)?;
         put_word(&mut line, inquiry_word(inquiry))?;
         put_word(&mut line, name)?;
