@@ -40,8 +40,8 @@ impl Model for Cell {
     ghost inverse_ok = { λ cell i. fields_for-cell_of cell };
 }
 
-fn is_same_stamp(one: Option<FileStamp>, other: Option<FileStamp>) -> bool
-    ensures { IsTrue result ↔ (one ≡ other) }
+fn is_same_stamp(one: &Option<FileStamp>, other: &Option<FileStamp>) -> bool
+    ensures { IsTrue result ↔ (one.now ≡ other.now) }
 {
     match (one, other) {
         (Some(one), Some(other)) => one.bytes() == other.bytes(),
@@ -135,12 +135,63 @@ impl Cell {
         }
     }
 
+    /// Whether that mark is this digest.
+    pub fn has_digest(&self, digest: &[u8; 20]) -> bool
+        ensures { IsTrue result
+            ↔ (mark_in self.now.state self.now ≡ states.Digest digest.now) }
+    {
+        match (self.state, &self.digest) {
+            (State::Built, Some(own)) => own == digest,
+            _ => false,
+        }
+    }
+
+    /// Whether that mark is that it was built so often.
+    pub fn has_builds(&self, builds: u32) -> bool
+        ensures { IsTrue result ↔ (mark_in self.now.state self.now ≡ states.Builds builds) }
+    {
+        match (self.state, &self.digest) {
+            (State::Built, None) => self.builds == builds,
+            _ => false,
+        }
+    }
+
+    /// Whether that mark is this stamp.
+    pub fn has_stamp(&self, stamp: &FileStamp) -> bool
+        ensures { IsTrue result ↔ (mark_in self.now.state self.now ≡ states.File stamp.now) }
+    {
+        match (self.state, &self.file) {
+            (State::Idle, Some(own)) => own.bytes() == stamp.bytes(),
+            _ => false,
+        }
+    }
+
+    /// Whether that mark is that a build is pending.
+    pub fn is_pending(&self) -> bool
+        ensures { IsTrue result ↔ (mark_in self.now.state self.now ≡ states.Pending) }
+    {
+        match self.state {
+            State::Building(_) | State::Failed => true,
+            State::Idle | State::Built => false,
+        }
+    }
+
+    /// Whether that mark is that there is no file.
+    pub fn is_absent(&self) -> bool
+        ensures { IsTrue result ↔ (mark_in self.now.state self.now ≡ states.Absent) }
+    {
+        match (self.state, &self.file) {
+            (State::Idle, None) => true,
+            _ => false,
+        }
+    }
+
     /// Whether the name is built, and its file is another than its last done gave.
     pub fn is_edited(&self) -> bool
         ensures { IsTrue result ↔ IsBuiltAndEdited self.now }
     {
         match self.state {
-            State::Built => !is_same_stamp(self.file, self.done),
+            State::Built => !is_same_stamp(&self.file, &self.done),
             _ => false,
         }
     }

@@ -10,6 +10,7 @@ mod mark;
 mod records;
 mod state;
 
+pub use cell::Cell;
 pub use digest::digest_of;
 pub use laws::verdict_by_kind;
 pub use lists::extended;

@@ -80,6 +80,14 @@ impl Records {
         self.cells[n as usize].builds()
     }
 
+    /// All that is known of it.
+    pub fn cell(&self, n: u32) -> &Cell
+        requires { n < length self.now }
+        ensures { result.now ≡ cell_at self.now n }
+    {
+        &self.cells[n as usize]
+    }
+
     /// The mark that a change row on it records now.
     pub fn mark(&self, n: u32) -> Mark
         requires { n < length self.now }

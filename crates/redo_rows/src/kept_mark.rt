@@ -1,8 +1,9 @@
 ghost use Rattle.std.specs.Prelude.{◌≡◌, ◌↔◌, IsTrue};
+ghost use Rattle.redo_model.specs.State.{mark_in};
 ghost use Rattle.redo_records.specs.Meaning.{row_mark_of};
 ghost use Rattle.redo_rows.specs.KeptMark.{kept_mark_of};
 
-use redo_records::Mark;
+use redo_records::{Cell, Mark};
 use redo_terms::FileStamp;
 use std::marker::Model;
 
@@ -78,16 +79,16 @@ impl KeptMark {
         }
     }
 
-    /// Whether it is this mark.
-    pub fn is(&self, mark: &Mark) -> bool
-        ensures { IsTrue result ↔ (kept_mark_of self.now ≡ row_mark_of mark.now) }
+    /// Whether it is the mark that the name has now of which this is known.
+    pub fn is_of(&self, cell: &Cell) -> bool
+        ensures { IsTrue result ↔ (kept_mark_of self.now ≡ mark_in cell.now.state cell.now) }
     {
-        match (self, mark) {
-            (KeptMark::Digest(kept), Mark::Digest(digest)) => kept == digest,
-            (KeptMark::Builds(kept), Mark::Builds(builds)) => kept.builds() == *builds,
-            (KeptMark::File(kept), Mark::File(stamp)) => kept.bytes() == stamp.bytes(),
-            (KeptMark::Pending, Mark::Pending) | (KeptMark::Absent, Mark::Absent) => true,
-            _ => false,
+        match self {
+            KeptMark::Digest(digest) => cell.has_digest(digest),
+            KeptMark::Builds(count) => cell.has_builds(count.builds()),
+            KeptMark::Pending => cell.is_pending(),
+            KeptMark::File(stamp) => cell.has_stamp(stamp),
+            KeptMark::Absent => cell.is_absent(),
         }
     }
 }

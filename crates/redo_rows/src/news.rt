@@ -30,7 +30,7 @@ fn has_changed(records: &Records, seat: &Seat) -> bool
     requires { seat.now.name < length records.now }
     ensures { IsTrue result ↔ HasChanged (known records.now) seat.now seat.now.name }
 {
-    seat.has_change_but(&records.mark(seat.name()))
+    seat.has_changed(records.cell(seat.name()))
 }
 
 // Whether the name has appeared or changed, and which of the two.

@@ -1,12 +1,13 @@
 ghost use Rattle.std.specs.Prelude.{◌≡◌, ◌⊎◌, ◌↔◌, ℕ, ◌+◌, ◌<◌, ◌≤◌, ◌==◌, ◌||◌, Some, true, false, not, is_some, IsTrue, length, Contains, option_map, MatchOption, IfOk, IfErr, OnOk, OnErr, if◌then◌else◌};
 ghost use Rattle.redo_model.specs.Names.{IsListed};
+ghost use Rattle.redo_model.specs.State.{mark_in};
 ghost use Rattle.redo_records.specs.Meaning.{row_mark_of};
 ghost use Rattle.redo_rows.specs.Rows.{bare, seat_at, has_seat, by_number};
 ghost use Rattle.redo_rows.specs.Target.{blank, has_row, HasRowIn, HasChangeBut, Ascending, IsSeatOf, IsGapFor};
 
 use crate::kept_mark::KeptMark;
 use crate::numbers::Numbers;
-use redo_records::Mark;
+use redo_records::{Cell, Mark};
 use std::alloc::{AllocError, Global};
 use std::marker::Model;
 use std::mem::size_of;
@@ -59,12 +60,12 @@ impl Seat {
         self.change.map(|kept| kept.mark())
     }
 
-    /// Whether there is a change row with another mark.
-    pub fn has_change_but(&self, mark: &Mark) -> bool
-        ensures { IsTrue result ↔ HasChangeBut (row_mark_of mark.now) self.now }
+    /// Whether there is a change row with another mark than the name has now, of which this is known.
+    pub fn has_changed(&self, cell: &Cell) -> bool
+        ensures { IsTrue result ↔ HasChangeBut (mark_in cell.now.state cell.now) self.now }
     {
         match &self.change {
-            Some(kept) => !kept.is(mark),
+            Some(kept) => !kept.is_of(cell),
             None => false,
         }
     }

@@ -14,17 +14,19 @@ const DIGEST_OF_ABC: [u8; 20] = [
 fn marks(rt: HostRuntime) -> Result<(), Fail> {
     let mut records = Records::new(rt.alloc(), 2)?;
     let stamp = FileStamp::new(b"7").ok_or("a stamp")?;
-    assert!(rt; records.mark(1) == Mark::Absent);
+    assert!(rt; records.mark(1) == Mark::Absent && records.cell(1).is_absent());
     records.set_file(1, Some(stamp));
-    assert!(rt; records.mark(1) == Mark::File(stamp));
+    assert!(rt; records.mark(1) == Mark::File(stamp) && records.cell(1).has_stamp(&stamp));
     records.start(0, 0);
-    assert!(rt; records.mark(0) == Mark::Pending);
+    assert!(rt; records.mark(0) == Mark::Pending && records.cell(0).is_pending());
     records.stamp(0, digest_of(b"abc"));
     records.done(0, Some(stamp));
     assert!(rt; records.mark(0) == Mark::Digest(DIGEST_OF_ABC));
+    assert!(rt; records.cell(0).has_digest(&DIGEST_OF_ABC));
     records.start(0, 0);
     records.done(0, Some(stamp));
     assert!(rt; records.mark(0) == Mark::Builds(2) && !records.changed(0));
+    assert!(rt; records.cell(0).has_builds(2));
     records.set_file(0, None);
     assert!(rt; records.mark(0) == Mark::Builds(2) && records.changed(0));
     Ok(())
