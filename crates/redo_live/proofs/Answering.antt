@@ -1,12 +1,10 @@
 -- What a command that was read is answered, over the names of its numbers.
 use Rattle.std.proofs.Common.{◌≡◌, ◌≢◌, ℕ, ◌≤◌, List, [], ◌∷◌, refl, sym, ap, ◌∙◌, subst, length, arith}
-use Rattle.std.specs.Cmp.Lexicographic.{slice_cmp, nat_list_cmp_total, bytes_decides}
+use Rattle.std.specs.Cmp.Lexicographic.{nat_list_cmp_total}
 use Rattle.std.specs.Cmp.{tied_itself}
-use Rattle.std.specs.Ordering.{nat_cmp, is_eq}
 use Rattle.std.specs.declared.cmp.Ordering.{Ordering}
-use Rattle.std.specs.declared.cmp.Ordering.TheVariants.{Less, Equal}
+use Rattle.std.specs.declared.cmp.Ordering.TheVariants.{Less}
 use Rattle.std.proofs.lemmas.Cmp.{nat_cmp_total, on_total}
-use Rattle.std.proofs.lemmas.Map.Text.{is_eq-slice_cmp}
 use Rattle.redo_names.specs.Names.{text_at}
 use Rattle.redo_names.specs.Inside.Names.{AreNames, Extends}
 use Rattle.redo_model.specs.Names.{Text, texts, numbers}
@@ -16,7 +14,7 @@ use Rattle.redo_model.specs.Reply.{Reply}
 use Rattle.redo_model.specs.Step.{Answers, after}
 use Rattle.redo_model.specs.Renaming.{AllBelow, IsBelow, IsReplyBelow, named_command, named_reply}
 use Rattle.redo_model.specs.Inside.Renaming.{IsRenaming, OrdersAlike, named_state, numbering}
-use Rattle.redo_model.proofs.Texts.{texts_are_names}
+use Rattle.redo_model.proofs.Texts.{same_texts, texts_are_names}
 use Rattle.redo_model.proofs.Naming.{numbering_is_renaming}
 use Rattle.redo_model.proofs.RepliesByName.{one_number}
 use Rattle.redo_model.proofs.AnswersByName.{answers_by_name}
@@ -40,9 +38,6 @@ below_more a b command few below = all_below_more a b (names_in command) few bel
 place_is_strict : (sorted : List ℕ) (n : ℕ) → by_place sorted n n ≢ Less
 unfolding by_place
 place_is_strict sorted n e = let f = tied_itself nat_cmp_total (place sorted n) in cc
-
-same_texts : (a b : Text) → slice_cmp nat_cmp a b ≡ Equal → a ≡ b
-same_texts a b e = (bytes_decides a b).0 (sym (is_eq-slice_cmp a b) ∙ ap is_eq e)
 
 pub renaming : (names : List Text) → AreNames names → IsRenaming (numbering names)
 renaming names are = numbering_is_renaming names are.distinct

@@ -19,6 +19,7 @@ pub mod HistoriesByName
 pub mod Lists
 pub mod JournalRoom
 pub mod LetThrough
+pub mod Least
 pub mod Letting
 pub mod Members
 pub mod NamesWithoutAFile

@@ -1,10 +1,10 @@
 //! Histories go on line by line, and what is refused leaves no trace in them.
 
 ghost use Rattle.std.specs.Prelude.{◌≡◌, ◌≢◌, ◌↔◌, ◌∷◌, ◌++◌, List, [], None, Some, false, ℕ};
-ghost use Rattle.redo_model.specs.Closing.{ClosesAfter, closing_of};
+ghost use Rattle.redo_model.specs.Closing.{ClosesAfter, closing_of, holds, letting_go};
 ghost use Rattle.redo_model.specs.Command.{Command};
 ghost use Rattle.redo_model.specs.History.{Legal, Line, left_by, part_of};
-ghost use Rattle.redo_model.specs.Inside.Ending.{AreHeld, closing_lines_of, state_without};
+ghost use Rattle.redo_model.specs.Inside.Ending.{AreHeld, IsLeastHeld, closing_lines_of, state_without};
 ghost use Rattle.redo_model.specs.Names.{Text, texts};
 ghost use Rattle.redo_model.specs.Reply.{Okay, Refusal, Refused};
 ghost use Rattle.redo_model.specs.State.{Building, State, empty, is_building, target_state};
@@ -34,6 +34,15 @@ pub fn refused_changes_nothing()
     ensures { (state : State Text) (session : ℕ) (command : Command Text) (refusal : Refusal Text)
         → Answers texts state session command (Refused refusal)
         → after texts state session command ≡ state }
+{}
+
+/// The closing command that comes after a session's lines lets go of the least target that it holds, by bytes. There is
+/// none exactly where the session holds nothing.
+pub fn closing_is_of_the_least()
+    ensures some { (own : List (Line Text)) (t : Text)
+        → (closing_of texts own ≡ Some (letting_go texts own t)) ↔ IsLeastHeld texts own t }
+    ensures none { (own : List (Line Text))
+        → (closing_of texts own ≡ None) ↔ ((t : Text) → holds texts own t ≡ false) }
 {}
 
 /// The closing command that comes after a session's lines is answered `ok`.

@@ -1,5 +1,6 @@
 -- What a session that ends does, and what is left of the state, both told by the state before.
-use Rattle.std.specs.Prelude.{◌≡◌, ℕ, cond, List, [], ◌∷◌, ◌++◌, flat_map, Option, Some, None}
+use Rattle.std.specs.Prelude.{◌≡◌, ◌≢◌, ℕ, true, cond, List, [], ◌∷◌, ◌++◌, flat_map, Option, Some, None}
+use Rattle.std.specs.declared.cmp.Ordering.TheVariants.{Less}
 use Rattle.redo_model.specs.Names.{Naming, IsListed}
 use Rattle.redo_model.specs.State.{Cell, State, is_building, target_state}
 use Rattle.redo_model.specs.State as states
@@ -7,10 +8,17 @@ use Rattle.redo_model.specs.Command.{Command, Unlock, Failed}
 use Rattle.redo_model.specs.Reply.{Okay}
 use Rattle.redo_model.specs.Step.{is_built_by, is_held_by}
 use Rattle.redo_model.specs.History.{Line}
+use Rattle.redo_model.specs.Closing.{holds}
 
 -- these are the targets that the session holds, in order
 abbrev pub AreHeld : {N : Type 0} → Naming N → ℕ → State N → List N → Type 0
 AreHeld naming s st ts = IsListed naming (λ t. st.locks.holder t ≡ Some s) ts
+
+-- by its own lines the session holds the target, and none that is less
+abbrev pub IsLeastHeld : {N : Type 0} → Naming N → List (Line N) → N → Type 0
+IsLeastHeld {N} naming own t =
+    (holds naming own t ≡ true)
+    × ((u : N) → holds naming own u ≡ true → naming.order u t ≢ Less)
 
 abbrev pub okay_line : {N : Type 0} → ℕ → Command N → Line N
 okay_line s command = record { session = s; command = command; reply = Okay }
