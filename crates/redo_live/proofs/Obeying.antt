@@ -23,7 +23,7 @@ use Rattle.redo_live.specs.Inside.Answered.{logged_text}
 use Rattle.redo_live.specs.Inside.LiveState.{LiveState, state_in, calls_in}
 use Rattle.redo_live.specs.Inside.Kept.{IsKept}
 use Rattle.redo_live.specs.Inside.Ordered.{IsSortedReply}
-use Rattle.redo_live.specs.Inside.Told.{IsTold, IsObeyed, AnswersText, IsCause}
+use Rattle.redo_live.specs.Inside.Told.{IsTold, IsObeyed, AnswersText, IsUnansweredFor}
 use Rattle.redo_live.specs.Inside.Withheld.{WouldObey, IsUnobeyedFor, IsWithheldFor}
 use Rattle.redo_live.specs.declared.fault.Withheld.{Withheld}
 use Rattle.redo_live.specs.declared.fault.Withheld.TheVariants.{Unanswered, TooLong}
@@ -201,7 +201,7 @@ pub withheld : (old mid : LiveState) (session : ℕ) (text : Text) (command : Co
     → AddsNames old.names (named_command (text_at mid.names) command ∷ []) mid.names
     → IsUnobeyedFor mid session command most why → IsWithheldFor old session text most why
 withheld old mid session text command most (Unanswered why) same is_line adds e =
-    subst (IsCause old text) (sym e) tt
+    subst (IsUnansweredFor old text) (sym e) tt
 withheld old mid session text command most (TooLong size) same is_line adds (more, would) =
     let line = would.line in (
       more,

@@ -22,7 +22,7 @@ mod asking;
 mod ending;
 
 /// How many numbers there are for names at first.
-const FIRST_SLOTS: u32 = 64;
+const FIRST_NUMBERS: u32 = 64;
 
 /// After so many calls no command is answered any more: closing takes two for each target that is held, of which there
 /// are at most as many as names.
@@ -33,7 +33,8 @@ const MOST_CALLS: u32 = u32::MAX - 131_072;
 pub struct Live {
     names: Names,
     redo: Redo,
-    slots: u32,
+    /// For so many names there are numbers.
+    numbers: u32,
     /// Memory for the line that is printed next.
     line: Vec<u8>,
 }
@@ -52,7 +53,7 @@ impl Model for Live {
 
 impl Live {
     ghost use Rattle.redo_live.specs.Inside.LiveState.{state_in, calls_in, IsAsKnown, IsSameDatabase};
-    ghost use Rattle.redo_live.specs.Inside.Told.{IsCause, IsObeyed, AnswersText, TellsNothing};
+    ghost use Rattle.redo_live.specs.Inside.Told.{IsUnansweredFor, IsObeyed, AnswersText, TellsNothing};
     ghost use Rattle.redo_live.specs.Inside.Withheld.{IsWithheldFor, IsUnobeyedFor};
 
     /// The empty database.
@@ -61,11 +62,11 @@ impl Live {
         ensures state { IfOk result (λ live. state_in live ≡ empty) }
         ensures calls { IfOk result (λ live. calls_in live ≡ 0) }
     {
-        let redo = Redo::blank(alloc, FIRST_SLOTS)?;
+        let redo = Redo::blank(alloc, FIRST_NUMBERS)?;
         Ok(Live {
             names: Names::new(alloc),
             redo,
-            slots: FIRST_SLOTS,
+            numbers: FIRST_NUMBERS,
             line: Vec::new(alloc),
         })
     }
@@ -84,7 +85,7 @@ impl Live {
             said.old.items said.new.items logged.old.items logged.new.items) }
 
         // A fault is that of the line, and a line that is answered has none.
-        ensures cause { IfErr result (IsCause self.old text.now) }
+        ensures cause { IfErr result (IsUnansweredFor self.old text.now) }
         ensures no_fault { OnOk result (line_fault self.old.names text.now ≡ None) }
 
         ensures known { OnErr result (IsAsKnown self.old self.new) }
@@ -241,10 +242,10 @@ impl Live {
         ensures count { OnOk result (length self.new.names ≤ tables_count self.new.tables) }
     {
         let count = self.names.len();
-        if count > self.slots {
-            let slots = (2 * self.slots).max(count).min(MOST_NAMES as u32);
-            self.redo.grow(slots)?;
-            self.slots = slots;
+        if count > self.numbers {
+            let numbers = (2 * self.numbers).max(count).min(MOST_NAMES as u32);
+            self.redo.grow(numbers)?;
+            self.numbers = numbers;
         }
         Ok(())
     }

@@ -1,6 +1,6 @@
 -- What the fields of the memo show, and what they keep.
 use Rattle.std.specs.Prelude.{◌≡◌, ℕ, Bool, List}
-use Rattle.redo_ood.specs.Marks.{Marked, IsMarked, IsQueued, size_of}
+use Rattle.redo_ood.specs.NameSet.{Marked, IsMarked, IsQueued, size_of}
 use Rattle.redo_ood.specs.declared.ood.Ood.TheInside.{Inside}
 
 abbrev pub memo_of : Inside → List Bool

@@ -1,5 +1,5 @@
-pub mod Marks
-pub mod KeptMarks
+pub mod NameSet
+pub mod KeptNames
 pub mod Memo
 pub mod KeptMemo
 pub mod Meaning

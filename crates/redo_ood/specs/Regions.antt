@@ -2,7 +2,7 @@
 use Rattle.std.specs.Prelude.{◌⊎◌, ℕ, List, Contains}
 use Rattle.redo_model.specs.State.{Records}
 use Rattle.redo_model.specs.OutOfDate.{HasReason, Depends, Chain, OutOfDate}
-use Rattle.redo_ood.specs.Marks.{Marked, IsMarked, IsQueued, Grows}
+use Rattle.redo_ood.specs.NameSet.{Marked, IsMarked, IsQueued, Grows}
 
 -- a chain of change rows leads from the target to a name with P, the empty chain included
 abbrev pub Reaches : Records ℕ → (ℕ → Type 0) → ℕ → Type 0

@@ -4,32 +4,32 @@ ghost use Rattle.std.specs.Prelude.{◌≡◌, ◌<◌, ◌↔◌, ℕ, IsTrue, 
 ghost use Rattle.redo_model.specs.OutOfDate.{Depends};
 ghost use Rattle.redo_model.specs.Renaming.{AllBelow};
 ghost use Rattle.redo_rows.specs.Rows.{with_rows, rows_of, rows_count};
-ghost use Rattle.redo_ood.specs.Marks.{IsMarked, size_of};
+ghost use Rattle.redo_ood.specs.NameSet.{IsMarked, size_of};
 ghost use Rattle.redo_ood.specs.Regions.{IsDue, IsClosed, EntersDue};
 
-use crate::marks::Marks;
+use crate::name_set::NameSet;
 use crate::reason::has_reason;
 use crate::region::{is_target, spread};
 use redo_records::Records;
-use redo_rows::{DepRows, Seat};
+use redo_rows::{DepRows, Slot};
 
-/// Whether the seat has a change row, and its name is marked.
-pub(crate) fn needs_marked(seat: &Seat, marks: &Marks) -> bool
-    requires { seat.now.name < size_of marks.now }
-    ensures { IsTrue result ↔ (IsSome seat.now.change × IsMarked marks.now seat.now.name) }
+/// Whether the slot has a change row, and its name is marked.
+pub(crate) fn needs_marked(slot: &Slot, marks: &NameSet) -> bool
+    requires { slot.now.name < size_of marks.now }
+    ensures { IsTrue result ↔ (IsSome slot.now.change × IsMarked marks.now slot.now.name) }
 {
-    marks.has(seat.name()) && seat.has_change()
+    marks.has(slot.name()) && slot.has_change()
 }
 
 // Whether the target has a change row on a marked name.
-fn needs_any_marked(rows: &DepRows, marks: &Marks, t: u32) -> bool
+fn needs_any_marked(rows: &DepRows, marks: &NameSet, t: u32) -> bool
     requires target { t < rows_count rows.now }
     requires sized { size_of marks.now ≡ rows_count rows.now }
     ensures { IsTrue result
         ↔ ((n : ℕ) × IsSome ((rows_of rows.now).change t n) × IsMarked marks.now n) }
 {
-    for seat in rows.seats_of(t) {
-        if needs_marked(seat, marks) {
+    for slot in rows.slots_of(t) {
+        if needs_marked(slot, marks) {
             return true;
         }
     }
@@ -37,7 +37,7 @@ fn needs_any_marked(rows: &DepRows, marks: &Marks, t: u32) -> bool
 }
 
 // Whether it is a target that depends on a marked name.
-fn depends_on_marked(records: &Records, rows: &DepRows, marks: &Marks, t: u32) -> bool
+fn depends_on_marked(records: &Records, rows: &DepRows, marks: &NameSet, t: u32) -> bool
     requires target { t < rows_count rows.now }
     requires records { length records.now ≡ rows_count rows.now }
     requires sized { size_of marks.now ≡ rows_count rows.now }
@@ -48,7 +48,7 @@ fn depends_on_marked(records: &Records, rows: &DepRows, marks: &Marks, t: u32) -
 }
 
 // Whether it is a target that has a reason of its own, or depends on a marked name.
-fn is_due(records: &Records, rows: &DepRows, marks: &Marks, t: u32) -> bool
+fn is_due(records: &Records, rows: &DepRows, marks: &NameSet, t: u32) -> bool
     requires target { t < rows_count rows.now }
     requires records { length records.now ≡ rows_count rows.now }
     requires sized { size_of marks.now ≡ rows_count rows.now }
@@ -58,7 +58,7 @@ fn is_due(records: &Records, rows: &DepRows, marks: &Marks, t: u32) -> bool
 }
 
 // Marks the target where it is due, and all that depend on it.
-fn enter_due(records: &Records, rows: &DepRows, t: u32, marks: &mut Marks)
+fn enter_due(records: &Records, rows: &DepRows, t: u32, marks: &mut NameSet)
     requires target { t < rows_count rows.now }
     requires records { length records.now ≡ rows_count rows.now }
     requires sized { size_of marks.old ≡ rows_count rows.now }
@@ -73,7 +73,7 @@ fn enter_due(records: &Records, rows: &DepRows, t: u32, marks: &mut Marks)
 }
 
 /// Marks those of the names that are due, and all that depend on them.
-pub(crate) fn derive(records: &Records, rows: &DepRows, names: &[u32], marks: &mut Marks)
+pub(crate) fn derive(records: &Records, rows: &DepRows, names: &[u32], marks: &mut NameSet)
     requires names { AllBelow (size_of marks.old) names.now }
     requires records { length records.now ≡ rows_count rows.now }
     requires sized { size_of marks.old ≡ rows_count rows.now }

@@ -3,7 +3,7 @@
 #![tactic(auto)]
 
 mod derive;
-mod marks;
+mod name_set;
 mod ood;
 mod reason;
 mod region;

@@ -11,7 +11,7 @@ ghost use Rattle.redo_ood.specs.Meaning.{why_of};
 ghost use Rattle.redo_ood.specs.Memo.{memo_count, is_out, IsRight, WasRight, HasCount};
 
 use crate::derive::derive;
-use crate::marks::Marks;
+use crate::name_set::NameSet;
 use crate::region::{enter_marked, find_region};
 use crate::why::{Why, search};
 use redo_records::Records;
@@ -34,10 +34,10 @@ fn push_if(targets: &mut Vec<u32>, t: u32, is_due: bool) -> Result<(), AllocErro
 /// Names are numbers below the number of names it was made for.
 #[derive(Drop)]
 pub struct Ood {
-    out: Marks,
+    out: NameSet,
     // nothing is marked in these between two calls
-    region: Marks,
-    outdated: Marks,
+    region: NameSet,
+    outdated: NameSet,
 }
 
 impl Model for Ood {
@@ -58,9 +58,9 @@ impl Ood {
         ensures count { IfOk result (λ ood. memo_count ood ≡ names) }
         ensures right { IfOk result (λ ood. IsRight ood empty.records) }
     {
-        let out = Marks::new(alloc, names)?;
-        let region = Marks::new(alloc, names)?;
-        let outdated = Marks::new(alloc, names)?;
+        let out = NameSet::new(alloc, names)?;
+        let region = NameSet::new(alloc, names)?;
+        let outdated = NameSet::new(alloc, names)?;
         Ok(Ood {
             out,
             region,
@@ -75,8 +75,8 @@ impl Ood {
         ensures same { IfOk result (λ ood. (t : ℕ) → is_out ood t ≡ is_out self.now t) }
     {
         let out = self.out.grown(alloc, names)?;
-        let region = Marks::new(alloc, names)?;
-        let outdated = Marks::new(alloc, names)?;
+        let region = NameSet::new(alloc, names)?;
+        let outdated = NameSet::new(alloc, names)?;
         Ok(Ood {
             out,
             region,

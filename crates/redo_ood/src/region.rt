@@ -8,10 +8,10 @@ ghost use Rattle.redo_model.specs.Renaming.{AllBelow};
 ghost use Rattle.redo_model.specs.State.{Idle};
 ghost use Rattle.redo_records.specs.Cells.{cell_at};
 ghost use Rattle.redo_rows.specs.Rows.{with_rows, rows_count};
-ghost use Rattle.redo_ood.specs.Marks.{IsMarked, IsQueued, Enters, HoldsOnly, size_of};
+ghost use Rattle.redo_ood.specs.NameSet.{IsMarked, IsQueued, Enters, HoldsOnly, size_of};
 ghost use Rattle.redo_ood.specs.Regions.{Spreads, IsClosed};
 
-use crate::marks::Marks;
+use crate::name_set::NameSet;
 use redo_records::{Records, State};
 use redo_rows::DepRows;
 
@@ -23,7 +23,7 @@ pub(crate) fn is_target(records: &Records, t: u32) -> bool
 }
 
 // Marks the names.
-fn enter_each(names: &[u32], marks: &mut Marks)
+fn enter_each(names: &[u32], marks: &mut NameSet)
     requires { AllBelow (size_of marks.old) names.now }
     ensures { Enters (Contains names.now) marks.old marks.new }
 {
@@ -33,7 +33,7 @@ fn enter_each(names: &[u32], marks: &mut Marks)
 }
 
 // Marks those of the names that are targets.
-fn enter_targets(records: &Records, names: &[u32], marks: &mut Marks)
+fn enter_targets(records: &Records, names: &[u32], marks: &mut NameSet)
     requires below { AllBelow (size_of marks.old) names.now }
     requires sized { size_of marks.old ≡ length records.now }
     ensures { Enters (λ t. ((cell_at records.now t).state ≢ Idle) × Contains names.now t)
@@ -46,7 +46,7 @@ fn enter_targets(records: &Records, names: &[u32], marks: &mut Marks)
 }
 
 // Marks the targets that depend on the name.
-fn enter_dependents(records: &Records, rows: &DepRows, n: u32, marks: &mut Marks)
+fn enter_dependents(records: &Records, rows: &DepRows, n: u32, marks: &mut NameSet)
     requires name { n < rows_count rows.now }
     requires records { length records.now ≡ rows_count rows.now }
     requires sized { size_of marks.old ≡ rows_count rows.now }
@@ -56,7 +56,7 @@ fn enter_dependents(records: &Records, rows: &DepRows, n: u32, marks: &mut Marks
 }
 
 // Marks the targets with a row on the name.
-fn enter_holders(records: &Records, rows: &DepRows, n: u32, marks: &mut Marks)
+fn enter_holders(records: &Records, rows: &DepRows, n: u32, marks: &mut NameSet)
     requires name { n < rows_count rows.now }
     requires records { length records.now ≡ rows_count rows.now }
     requires sized { size_of marks.old ≡ rows_count rows.now }
@@ -68,7 +68,7 @@ fn enter_holders(records: &Records, rows: &DepRows, n: u32, marks: &mut Marks)
 }
 
 // Marks the seeds and the targets with a row on one of them.
-fn enter_touched(records: &Records, rows: &DepRows, seeds: &[u32], marks: &mut Marks)
+fn enter_touched(records: &Records, rows: &DepRows, seeds: &[u32], marks: &mut NameSet)
     requires seeds { AllBelow (size_of marks.old) seeds.now }
     requires records { length records.now ≡ rows_count rows.now }
     requires sized { size_of marks.old ≡ rows_count rows.now }
@@ -82,7 +82,7 @@ fn enter_touched(records: &Records, rows: &DepRows, seeds: &[u32], marks: &mut M
 
 /// Marks the targets from which a chain of change rows leads to a name that is queued from this
 /// place on, where all that depend on the names before it are marked.
-pub(crate) fn spread(records: &Records, rows: &DepRows, from: usize, marks: &mut Marks)
+pub(crate) fn spread(records: &Records, rows: &DepRows, from: usize, marks: &mut NameSet)
     requires records { length records.now ≡ rows_count rows.now }
     requires sized { size_of marks.old ≡ rows_count rows.now }
     requires from { from ≤ length marks.old.queue }
@@ -104,7 +104,7 @@ pub(crate) fn find_region(
     records: &Records,
     rows: &DepRows,
     seeds: &[u32],
-    marks: &mut Marks,
+    marks: &mut NameSet,
 ) -> usize
     requires seeds { AllBelow (size_of marks.old) seeds.now }
     requires records { length records.now ≡ rows_count rows.now }
@@ -124,7 +124,7 @@ pub(crate) fn find_region(
 }
 
 /// Marks those of the names that are marked elsewhere.
-pub(crate) fn enter_marked(elsewhere: &Marks, names: &[u32], marks: &mut Marks)
+pub(crate) fn enter_marked(elsewhere: &NameSet, names: &[u32], marks: &mut NameSet)
     requires below { AllBelow (size_of marks.old) names.now }
     requires sized { size_of marks.old ≡ size_of elsewhere.now }
     ensures { Enters (λ t. IsMarked elsewhere.now t × Contains names.now t) marks.old marks.new }

@@ -7,12 +7,12 @@ ghost use Rattle.redo_model.specs.Inside.Why.{IsReasonBelow, IsWhyBelow};
 ghost use Rattle.redo_model.specs.OutOfDate.{OutOfDate};
 ghost use Rattle.redo_model.specs.Renaming.{AllBelow};
 ghost use Rattle.redo_rows.specs.Rows.{with_rows, rows_count};
-ghost use Rattle.redo_ood.specs.Marks.{IsMarked, IsQueued, AreQueued, size_of};
+ghost use Rattle.redo_ood.specs.NameSet.{IsMarked, IsQueued, AreQueued, size_of};
 ghost use Rattle.redo_ood.specs.Meaning.{reason_of, why_of};
 ghost use Rattle.redo_ood.specs.Search.{IsSearch, StepsBefore, Finds, IsWay, HaveNoReason, IsFirstReason};
 
 use crate::derive::needs_marked;
-use crate::marks::Marks;
+use crate::name_set::NameSet;
 use crate::reason::{Reason, own_reason};
 use crate::region::is_target;
 use redo_records::Records;
@@ -33,7 +33,7 @@ fn find_if(
     n: u32,
     from: u32,
     is_due: bool,
-    seen: &mut Marks,
+    seen: &mut NameSet,
     parents: &mut Vec<u32>,
 ) -> Result<(), AllocError>
     requires { n < size_of seen.old }
@@ -52,9 +52,9 @@ fn find_if(
 fn find_needs(
     records: &Records,
     rows: &DepRows,
-    out: &Marks,
+    out: &NameSet,
     from: u32,
-    seen: &mut Marks,
+    seen: &mut NameSet,
     parents: &mut Vec<u32>,
 ) -> Result<(), AllocError>
     requires from { from < length seen.old.queue }
@@ -73,9 +73,9 @@ fn find_needs(
 {
     let t = seen.queued(from as usize);
     if is_target(records, t) {
-        for seat in rows.seats_of(t) {
-            let is_due = needs_marked(seat, out);
-            find_if(seat.name(), from, is_due, seen, parents)?;
+        for slot in rows.slots_of(t) {
+            let is_due = needs_marked(slot, out);
+            find_if(slot.name(), from, is_due, seen, parents)?;
         }
     }
     Ok(())
@@ -89,7 +89,7 @@ struct Found {
 }
 
 // The first place from this one on whose name has a reason of its own.
-fn first_reason(records: &Records, rows: &DepRows, seen: &Marks, from: usize) -> Option<Found>
+fn first_reason(records: &Records, rows: &DepRows, seen: &NameSet, from: usize) -> Option<Found>
     requires records { length records.now ≡ rows_count rows.now }
     requires sized { size_of seen.now ≡ rows_count rows.now }
     ensures first { MatchOption result
@@ -111,7 +111,7 @@ fn first_reason(records: &Records, rows: &DepRows, seen: &Marks, from: usize) ->
 // The names on the way from the queue's first place, whose name is left out, to this one.
 fn way_to(
     alloc: Global,
-    seen: &Marks,
+    seen: &NameSet,
     parents: &Vec<u32>,
     place: usize,
 ) -> Result<Vec<u32>, AllocError>
@@ -138,9 +138,9 @@ pub(crate) fn search(
     alloc: Global,
     records: &Records,
     rows: &DepRows,
-    out: &Marks,
+    out: &NameSet,
     t: u32,
-    seen: &mut Marks,
+    seen: &mut NameSet,
 ) -> Result<Option<Why>, AllocError>
     requires target { t < rows_count rows.now }
     requires records { length records.now ≡ rows_count rows.now }

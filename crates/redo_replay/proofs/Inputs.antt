@@ -3,7 +3,7 @@ use Rattle.std.proofs.Common.{◌≡◌, ◌≤◌, ◌⊎◌, inl, inr, Bool, O
 use Rattle.std.specs.Prelude.{IfSome}
 use Rattle.redo_model.specs.Names.{Text}
 use Rattle.redo_history.specs.HistoryFaults.{IsHistoryFault}
-use Rattle.redo_replay.specs.Replays.{IsCause, IsDeviceFault}
+use Rattle.redo_replay.specs.Replays.{IsReplayCause, IsReplayDeviceFault}
 use Rattle.redo_replay.specs.Inside.Replays.{replay_fault}
 use Rattle.redo_history.specs.declared.fault.HistoryFault.{HistoryFault}
 use Rattle.redo_history.specs.declared.fault.HistoryFault.TheVariants as history_faults
@@ -24,7 +24,7 @@ whole_known known whole bytes is same =
 -- an answer that is want of memory, or a read history, is the one or the other
 pub memory_alone : {H : Type 0} {result : Result H HistoryFault} (fault : HistoryFault)
     → result ≡ Err fault → ((result ≡ Err history_faults.Memory) ⊎ ⊥)
-    → (replay_fault fault ≡ Memory) ⊎ IsDeviceFault (replay_fault fault)
+    → (replay_fault fault ≡ Memory) ⊎ IsReplayDeviceFault (replay_fault fault)
 memory_alone fault refused (inl is) = let same : fault ≡ history_faults.Memory = cc in
     inl (ap replay_fault same)
 memory_alone fault refused (inr none) = absurd none
@@ -35,14 +35,14 @@ read_alone (inl is) = absurd cc
 read_alone (inr rest) = rest
 
 -- the fault of what was read is the input's
-pub IsCause-read : (known : Option Text) (whole : Text) (faulted out_faulted : Bool)
+pub IsReplayCause-read : (known : Option Text) (whole : Text) (faulted out_faulted : Bool)
     (fault : HistoryFault) → IfSome known (λ bytes. whole ≡ bytes)
     → length whole ≤ 1073741824 → IsHistoryFault whole fault
-    → IsCause known faulted out_faulted (replay_fault fault)
-IsCause-read known whole faulted out_faulted fault same few is = by fault is
+    → IsReplayCause known faulted out_faulted (replay_fault fault)
+IsReplayCause-read known whole faulted out_faulted fault same few is = by fault is
   where
     by : (fault : HistoryFault) → IsHistoryFault whole fault
-        → IsCause known faulted out_faulted (replay_fault fault)
+        → IsReplayCause known faulted out_faulted (replay_fault fault)
     by history_faults.Memory is = tt
     by history_faults.BadHeader is = (
       λ e. cc,

@@ -35,26 +35,26 @@ WritesVerdict known before after verdict =
     (text : Text) × HasVerdict known verdict text × Appends before after text
 
 -- the same, where of the verdict's text a front was written
-abbrev pub WritesPart : Option Text → Option Text → Option Text → Type 0
-WritesPart known before after =
+abbrev pub WritesReplayPart : Option Text → Option Text → Option Text → Type 0
+WritesReplayPart known before after =
     (verdict : declared.Verdict) × (sent : Text) × (rest : Text)
     × HasVerdict known verdict (sent ++ rest) × Appends before after sent
 
 -- the cause of a fault: `known` are the input's bytes, where they are known, `failed` says whether
 -- a read failed, and `out_failed` whether a write failed
-abbrev pub IsCause : Option Text → Bool → Bool → ReplayFault → Type 0
-IsCause known failed out_failed Memory = ⊤
-IsCause known failed out_failed (History fault) =
+abbrev pub IsReplayCause : Option Text → Bool → Bool → ReplayFault → Type 0
+IsReplayCause known failed out_failed Memory = ⊤
+IsReplayCause known failed out_failed (History fault) =
     (fault ≢ history_faults.Memory)
     × IfSome known (λ input. (length input ≤ 1073741824) × IsHistoryFault input fault)
-IsCause known failed out_failed Device = IsTrue failed
-IsCause known failed out_failed TooLong = IfSome known (λ input. 1073741824 < length input)
-IsCause known failed out_failed Write = IsTrue out_failed
+IsReplayCause known failed out_failed Device = IsTrue failed
+IsReplayCause known failed out_failed TooLong = IfSome known (λ input. 1073741824 < length input)
+IsReplayCause known failed out_failed Write = IsTrue out_failed
 
 -- the fault is one of a device: a read or a write failed
-abbrev pub IsDeviceFault : ReplayFault → Type 0
-IsDeviceFault Memory = ⊥
-IsDeviceFault (History fault) = ⊥
-IsDeviceFault Device = ⊤
-IsDeviceFault TooLong = ⊥
-IsDeviceFault Write = ⊤
+abbrev pub IsReplayDeviceFault : ReplayFault → Type 0
+IsReplayDeviceFault Memory = ⊥
+IsReplayDeviceFault (History fault) = ⊥
+IsReplayDeviceFault Device = ⊤
+IsReplayDeviceFault TooLong = ⊥
+IsReplayDeviceFault Write = ⊤

@@ -5,7 +5,7 @@ ghost use Rattle.redo_whole.specs.Watched.{failures_of, has_failed};
 ghost use Rattle.redo_whole.specs.Devices.{known_in, WritesNothing};
 ghost use Rattle.redo_history.specs.Inside.Recorded.{lines_of};
 ghost use Rattle.redo_replay.specs.Verdicts.{IsSame};
-ghost use Rattle.redo_replay.specs.Replays.{IsReadAs, IsKnownAs, HasVerdict, WritesVerdict, WritesPart, IsCause, IsDeviceFault};
+ghost use Rattle.redo_replay.specs.Replays.{IsReadAs, IsKnownAs, HasVerdict, WritesVerdict, WritesReplayPart, IsReplayCause, IsReplayDeviceFault};
 
 use crate::fault::ReplayFault;
 use crate::replays::replay;
@@ -36,12 +36,12 @@ fn history_of<R: Read>(alloc: Global, input: &mut Watched<R>) -> Result<History,
     ensures read { IfOk result (λ history. IfSome (known_in R.remaining input.old)
         (λ bytes. IsReadAs bytes history.names (lines_of history))) }
     ensures only { (lines : List (Line Text)) → IsKnownAs (known_in R.remaining input.old) lines
-        → IfErr result (λ fault. (fault ≡ ReplayFault.Memory) ⊎ IsDeviceFault fault) }
+        → IfErr result (λ fault. (fault ≡ ReplayFault.Memory) ⊎ IsReplayDeviceFault fault) }
     ensures same { (lines : List (Line Text)) → IsKnownAs (known_in R.remaining input.old) lines
         → IfOk result (λ history. lines_of history ≡ lines) }
     ensures cause { IfErr result
-        (IsCause (known_in R.remaining input.old) (has_failed input.old input.new) false) }
-    ensures others { ¬ (IsErrAnd result IsDeviceFault)
+        (IsReplayCause (known_in R.remaining input.old) (has_failed input.old input.new) false) }
+    ensures others { ¬ (IsErrAnd result IsReplayDeviceFault)
         → failures_of input.new ≡ failures_of input.old }
 {
     let bytes = match read_whole(alloc, input, INPUT_LIMIT) {
@@ -59,12 +59,12 @@ fn verdict_on_input<R: Read>(
     ensures verdict { IfOk result (λ judged.
         HasVerdict (known_in R.remaining input.old) judged.0 judged.1.items) }
     ensures only { (lines : List (Line Text)) → IsKnownAs (known_in R.remaining input.old) lines
-        → IfErr result (λ fault. (fault ≡ ReplayFault.Memory) ⊎ IsDeviceFault fault) }
+        → IfErr result (λ fault. (fault ≡ ReplayFault.Memory) ⊎ IsReplayDeviceFault fault) }
     ensures same { (lines : List (Line Text)) → IsKnownAs (known_in R.remaining input.old) lines
         → IfOk result (λ judged. IsSame judged.0 ↔ Legal texts lines) }
     ensures cause { IfErr result
-        (IsCause (known_in R.remaining input.old) (has_failed input.old input.new) false) }
-    ensures others { ¬ (IsErrAnd result IsDeviceFault)
+        (IsReplayCause (known_in R.remaining input.old) (has_failed input.old input.new) false) }
+    ensures others { ¬ (IsErrAnd result IsReplayDeviceFault)
         → failures_of input.new ≡ failures_of input.old }
 {
     let history = history_of(alloc, input)?;
@@ -87,21 +87,21 @@ pub fn replay_text<R: Read, W: Write>(
     // A history is refused for want of memory and by devices alone, and is the same exactly where
     // its lines are legal.
     ensures only { (lines : List (Line Text)) → IsKnownAs (known_in R.remaining input.old) lines
-        → IfErr result (λ fault. (fault ≡ ReplayFault.Memory) ⊎ IsDeviceFault fault) }
+        → IfErr result (λ fault. (fault ≡ ReplayFault.Memory) ⊎ IsReplayDeviceFault fault) }
     ensures same { (lines : List (Line Text)) → IsKnownAs (known_in R.remaining input.old) lines
         → IfOk result (λ verdict. IsSame verdict ↔ Legal texts lines) }
 
     // Each fault has its cause.
-    ensures cause { IfErr result (IsCause (known_in R.remaining input.old)
+    ensures cause { IfErr result (IsReplayCause (known_in R.remaining input.old)
         (has_failed input.old input.new) (has_failed out.old out.new)) }
     ensures nothing_written { IfErr result (λ fault. fault ≢ ReplayFault.Write
         → WritesNothing W.contents out.old out.new) }
     ensures part_written { IsErrOf result ReplayFault.Write
-        → WritesPart (known_in R.remaining input.old)
+        → WritesReplayPart (known_in R.remaining input.old)
         (known_in W.contents out.old) (known_in W.contents out.new) }
 
     // A device's fault is answered exactly where a read or a write of this call failed.
-    ensures device { IsErrAnd result IsDeviceFault
+    ensures device { IsErrAnd result IsReplayDeviceFault
         ↔ (IsTrue (has_failed input.old input.new) ⊎ IsTrue (has_failed out.old out.new)) }
 {
     let (verdict, text) = verdict_on_input(alloc, input)?;

@@ -4,7 +4,7 @@ use Rattle.std.proofs.Math.Path.{fun_ext}
 use Rattle.std.proofs.lemmas.Bool.{cases_eq}
 use Rattle.redo_model.specs.Names.{put}
 use Rattle.redo_model.specs.State.{Mark, Rows}
-use Rattle.redo_rows.specs.Rows.{Seat, TargetRows, seat_at, has_seat, target_at, rows_of, with_change, with_created, by_number}
+use Rattle.redo_rows.specs.Rows.{Slot, TargetRows, slot_at, has_slot, target_at, rows_of, with_change, with_created, by_number}
 use Rattle.redo_rows.proofs.Inverses.{found_target, target_same, target_other}
 
 -- rows with the same values are the same
@@ -31,8 +31,8 @@ each_target f g targets t new below own others u = elim (cases_eq u t) [
 
 -- the rows of t are these, and those of the others stay
 pub record IsRowsWith (old : Rows ℕ) (t : ℕ) (target : TargetRows) (new : Rows ℕ) : Type 0 where
-  pub change : (n : ℕ) → (seat_at target.seats n).change ≡ new.change t n
-  pub created : (n : ℕ) → (seat_at target.seats n).created ≡ new.created t n
+  pub change : (n : ℕ) → (slot_at target.slots n).change ≡ new.change t n
+  pub created : (n : ℕ) → (slot_at target.slots n).created ≡ new.created t n
   pub always : target.always ≡ new.always t
   pub other_change : (u n : ℕ) → u ≢ t → old.change u n ≡ new.change u n
   pub other_created : (u n : ℕ) → u ≢ t → old.created u n ≡ new.created u n
@@ -42,9 +42,9 @@ pub rows_set : (targets : List TargetRows) (t : ℕ) (target : TargetRows) (rows
     → t < length targets → IsRowsWith (rows_of targets) t target rows
     → rows_of (set targets t target) ≡ rows
 rows_set targets t target rows below h = rows_ext (rows_of (set targets t target)) rows
-    (λ u n. each_target (λ x. (seat_at x.seats n).change)
+    (λ u n. each_target (λ x. (slot_at x.slots n).change)
     (λ k. rows.change k n) targets t target below (h.change n) (λ k off. h.other_change k n off) u)
-    (λ u n. each_target (λ x. (seat_at x.seats n).created) (λ k. rows.created k n) targets t target
+    (λ u n. each_target (λ x. (slot_at x.slots n).created) (λ k. rows.created k n) targets t target
     below (h.created n) (λ k off. h.other_created k n off) u)
     (each_target (λ x. x.always) rows.always targets t target below h.always h.other_always)
 
@@ -66,9 +66,9 @@ cond_same false x = refl
 
 -- t's change row on n is written
 pub record WritesChange (old new : TargetRows) (n : ℕ) (mark : Mark) : Type 0 where
-  pub rows : (k : ℕ) → seat_at new.seats k
-      ≡ cond (eqb n k) (record (seat_at old.seats k) { change = Some mark }) (seat_at old.seats k)
-  pub room : (k : ℕ) → has_seat new.seats k ≡ has_seat old.seats k
+  pub rows : (k : ℕ) → slot_at new.slots k
+      ≡ cond (eqb n k) (record (slot_at old.slots k) { change = Some mark }) (slot_at old.slots k)
+  pub room : (k : ℕ) → has_slot new.slots k ≡ has_slot old.slots k
   pub always : new.always ≡ old.always
 
 change_set : (targets : List TargetRows) (t n : ℕ) (new : TargetRows) (mark : Mark)
@@ -79,16 +79,16 @@ change_set targets t n new mark below w =
     let row : ℕ → Option Mark = put by_number n (Some mark) (rows.change t) in
     rows_set targets t new (with_change rows t n mark) below (record {
       change = λ k.
-          ap (λ (s : Seat). s.change) (w.rows k)
-          ∙ (field_of_cond (λ (s : Seat). s.change) (eqb n k)
-          (record (seat_at (target_at targets t).seats k) { change = Some mark })
-          (seat_at (target_at targets t).seats k)
+          ap (λ (s : Slot). s.change) (w.rows k)
+          ∙ (field_of_cond (λ (s : Slot). s.change) (eqb n k)
+          (record (slot_at (target_at targets t).slots k) { change = Some mark })
+          (slot_at (target_at targets t).slots k)
           ∙ sym (ap (λ (f : ℕ → Option Mark). f k) (put_same t row rows.change)));
       created = λ k.
-          ap (λ (s : Seat). s.created) (w.rows k)
-          ∙ (field_of_cond (λ (s : Seat). s.created) (eqb n k)
-          (record (seat_at (target_at targets t).seats k) { change = Some mark })
-          (seat_at (target_at targets t).seats k)
+          ap (λ (s : Slot). s.created) (w.rows k)
+          ∙ (field_of_cond (λ (s : Slot). s.created) (eqb n k)
+          (record (slot_at (target_at targets t).slots k) { change = Some mark })
+          (slot_at (target_at targets t).slots k)
           ∙ cond_same (eqb n k) (rows.created t k));
       always = w.always;
       other_change =
@@ -99,9 +99,9 @@ change_set targets t n new mark below w =
 
 -- t's created row on n is written
 pub record WritesCreated (old new : TargetRows) (n : ℕ) : Type 0 where
-  pub rows : (k : ℕ) → seat_at new.seats k
-      ≡ cond (eqb n k) (record (seat_at old.seats k) { created = true }) (seat_at old.seats k)
-  pub room : (k : ℕ) → has_seat new.seats k ≡ has_seat old.seats k
+  pub rows : (k : ℕ) → slot_at new.slots k
+      ≡ cond (eqb n k) (record (slot_at old.slots k) { created = true }) (slot_at old.slots k)
+  pub room : (k : ℕ) → has_slot new.slots k ≡ has_slot old.slots k
   pub always : new.always ≡ old.always
 
 created_set : (targets : List TargetRows) (t n : ℕ) (new : TargetRows) → t < length targets
@@ -112,16 +112,16 @@ created_set targets t n new below w =
     let row : ℕ → Bool = put by_number n true (rows.created t) in
     rows_set targets t new (with_created rows t n) below (record {
       change = λ k.
-          ap (λ (s : Seat). s.change) (w.rows k)
-          ∙ (field_of_cond (λ (s : Seat). s.change) (eqb n k)
-          (record (seat_at (target_at targets t).seats k) { created = true })
-          (seat_at (target_at targets t).seats k)
+          ap (λ (s : Slot). s.change) (w.rows k)
+          ∙ (field_of_cond (λ (s : Slot). s.change) (eqb n k)
+          (record (slot_at (target_at targets t).slots k) { created = true })
+          (slot_at (target_at targets t).slots k)
           ∙ cond_same (eqb n k) (rows.change t k));
       created = λ k.
-          ap (λ (s : Seat). s.created) (w.rows k)
-          ∙ (field_of_cond (λ (s : Seat). s.created) (eqb n k)
-          (record (seat_at (target_at targets t).seats k) { created = true })
-          (seat_at (target_at targets t).seats k)
+          ap (λ (s : Slot). s.created) (w.rows k)
+          ∙ (field_of_cond (λ (s : Slot). s.created) (eqb n k)
+          (record (slot_at (target_at targets t).slots k) { created = true })
+          (slot_at (target_at targets t).slots k)
           ∙ sym (ap (λ (f : ℕ → Bool). f k) (put_same t row rows.created)));
       always = w.always;
       other_change = λ u k off. refl;
@@ -130,17 +130,17 @@ created_set targets t n new below w =
       other_always = λ u off. refl;
     })
 
--- t gets a seat for n
-pub record AddsSeat (old new : TargetRows) (n : ℕ) : Type 0 where
-  pub rows : (k : ℕ) → seat_at new.seats k ≡ seat_at old.seats k
-  pub room : (k : ℕ) → has_seat new.seats k ≡ (eqb k n || has_seat old.seats k)
+-- t gets a slot for n
+pub record AddsSlot (old new : TargetRows) (n : ℕ) : Type 0 where
+  pub rows : (k : ℕ) → slot_at new.slots k ≡ slot_at old.slots k
+  pub room : (k : ℕ) → has_slot new.slots k ≡ (eqb k n || has_slot old.slots k)
   pub always : new.always ≡ old.always
 
 rows_stay : (targets : List TargetRows) (t n : ℕ) (new : TargetRows) → t < length targets
-    → AddsSeat (target_at targets t) new n → rows_of (set targets t new) ≡ rows_of targets
+    → AddsSlot (target_at targets t) new n → rows_of (set targets t new) ≡ rows_of targets
 rows_stay targets t n new below w = rows_set targets t new (rows_of targets) below (record {
-  change = λ k. ap (λ (s : Seat). s.change) (w.rows k);
-  created = λ k. ap (λ (s : Seat). s.created) (w.rows k);
+  change = λ k. ap (λ (s : Slot). s.change) (w.rows k);
+  created = λ k. ap (λ (s : Slot). s.created) (w.rows k);
   always = w.always;
   other_change = λ u k off. refl;
   other_created = λ u k off. refl;
@@ -164,9 +164,9 @@ created_written targets now t n old new is t_in at w =
     created_set targets t n new found.0 (subst (λ x. WritesCreated x new n) found.1 w)
     ∙ ap (λ ts. with_created (rows_of ts) t n) is
 
-pub seat_added_rows : (targets now : List TargetRows) (t n : ℕ) (old new : TargetRows)
-    → targets ≡ now → t < length now → old ≡ get_or targets t old → AddsSeat old new n
+pub slot_added_rows : (targets now : List TargetRows) (t n : ℕ) (old new : TargetRows)
+    → targets ≡ now → t < length now → old ≡ get_or targets t old → AddsSlot old new n
     → rows_of (set targets t new) ≡ rows_of now
-seat_added_rows targets now t n old new is t_in at w =
+slot_added_rows targets now t n old new is t_in at w =
     let found = found_target targets now t old is t_in at in
-    rows_stay targets t n new found.0 (subst (λ x. AddsSeat x new n) found.1 w) ∙ ap rows_of is
+    rows_stay targets t n new found.0 (subst (λ x. AddsSlot x new n) found.1 w) ∙ ap rows_of is

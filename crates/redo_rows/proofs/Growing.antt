@@ -6,10 +6,10 @@ use Rattle.std.proofs.lemmas.List.{get_or_past}
 use Rattle.std.proofs.lemmas.List.Sums.{sum_by-append, sum_by-cons}
 use Rattle.std.specs.List.{count_by, Contains}
 use Rattle.redo_records.proofs.MorePlaces.{get_or-extended}
-use Rattle.redo_rows.specs.Rows.{Seat, TargetRows, seat_at, has_seat, target_at, bare, room_of, rows_of}
+use Rattle.redo_rows.specs.Rows.{Slot, TargetRows, slot_at, has_slot, target_at, bare, room_of, rows_of}
 use Rattle.redo_rows.specs.Numbers.{NumberList}
-use Rattle.redo_rows.specs.Kept.{has_change, has_created, no_numbers, passes_on, sits_on, seats_on, numbers_at, AreEmpty, IsInverseOn, IsInverse, CountsSeats, IsKept}
-use Rattle.redo_rows.proofs.Inverses.{flag, IsRowTest, no_seat_no_row, seated_row}
+use Rattle.redo_rows.specs.Kept.{has_change, has_created, no_numbers, passes_on, sits_on, slots_on, numbers_at, AreEmpty, IsInverseOn, IsInverse, CountsSlots, IsKept}
+use Rattle.redo_rows.proofs.Inverses.{flag, IsRowTest, no_slot_no_row, sloted_row}
 
 -- the lists with empty ones behind
 lists_more : (lists more : List NumberList) → AreEmpty more → (n : ℕ)
@@ -40,12 +40,12 @@ none_passes p (x ∷ targets) off =
       none_passes p targets (λ t. off (suc t)),
     )
 
--- no target has a seat for n
-inverse_of_none : (test : Seat → Bool) → IsRowTest test → (targets : List TargetRows) (n : ℕ)
+-- no target has a slot for n
+inverse_of_none : (test : Slot → Bool) → IsRowTest test → (targets : List TargetRows) (n : ℕ)
     → ((t : ℕ) → room_of targets t n ≡ false) → IsInverseOn test targets n no_numbers
 inverse_of_none test blank targets n off =
     let no_row : (t : ℕ) → passes_on test n (target_at targets t) ≡ false = λ t.
-    no_seat_no_row test blank (target_at targets t).seats n (off t) in
+    no_slot_no_row test blank (target_at targets t).slots n (off t) in
     record {
       listed = λ t. (
         λ c. absurd (omega (arith, c.1)),
@@ -69,12 +69,12 @@ module _ (targets : List TargetRows) (k : ℕ) where
   target_grown t = get_or-extended targets k t bare
 
   pub room_grown : (t n : ℕ) → room_of grown t n ≡ room_of targets t n
-  room_grown t n = ap (λ (x : TargetRows). has_seat x.seats n) (target_grown t)
+  room_grown t n = ap (λ (x : TargetRows). has_slot x.slots n) (target_grown t)
 
   pub rows_grown : rows_of grown ≡ rows_of targets
   rows_grown = λ i. record {
-    change = λ t n. (seat_at (target_grown t i).seats n).change;
-    created = λ t n. (seat_at (target_grown t i).seats n).created;
+    change = λ t n. (slot_at (target_grown t i).slots n).change;
+    created = λ t n. (slot_at (target_grown t i).slots n).created;
     always = λ t. (target_grown t i).always;
   }
 
@@ -86,7 +86,7 @@ module _ (targets : List TargetRows) (k : ℕ) where
         none_bare p off k,
       )
 
-  inverse_on_grown : (test : Seat → Bool) → IsRowTest test → (n : ℕ) (list more : NumberList)
+  inverse_on_grown : (test : Slot → Bool) → IsRowTest test → (n : ℕ) (list more : NumberList)
       → IsInverseOn test targets n list → more.items ≡ list.items → list.room ≤ more.room
       → IsInverseOn test grown n more
   inverse_on_grown test blank n list more h same room = record {
@@ -100,23 +100,23 @@ module _ (targets : List TargetRows) (k : ℕ) where
 
   -- rows are on names alone
   module _ (below : (t n : ℕ) → IsTrue (room_of targets t n) → n < length targets) where
-    no_seats : (n : ℕ) → length targets ≤ n → (t : ℕ) → room_of targets t n ≡ false
-    no_seats n past t = elim (cases_Bool (room_of targets t n)) [
+    no_slots : (n : ℕ) → length targets ≤ n → (t : ℕ) → room_of targets t n ≡ false
+    no_slots n past t = elim (cases_Bool (room_of targets t n)) [
       | inl on ↦ let in' : n < length targets = below t n on in absurd (omega arith)
       | inr off ↦ off
     ]
 
-    inverse_at : (test : Seat → Bool) → IsRowTest test → (lists : List NumberList)
+    inverse_at : (test : Slot → Bool) → IsRowTest test → (lists : List NumberList)
         → IsInverse test targets lists → (n : ℕ) → IsInverseOn test targets n (numbers_at lists n)
     inverse_at test blank lists h n = elim (cases_lt n (length targets)) [
       | inl in' ↦ h.each n in'
       | inr past ↦
           let none = get_or_past lists n no_numbers (omega (arith, h.sized)) in
           subst (IsInverseOn test targets n) (sym none)
-          (inverse_of_none test blank targets n (no_seats n past))
+          (inverse_of_none test blank targets n (no_slots n past))
     ]
 
-    inverse_grown : (test : Seat → Bool) → IsRowTest test → (lists more : List NumberList)
+    inverse_grown : (test : Slot → Bool) → IsRowTest test → (lists more : List NumberList)
         → length more ≡ k → AreEmpty more → IsInverse test targets lists
         → IsInverse test grown (lists ++ more)
     inverse_grown test blank lists more sized empty h = record {
@@ -127,31 +127,31 @@ module _ (targets : List TargetRows) (k : ℕ) where
           (inverse_at test blank lists h n) longer.0 longer.1;
     }
 
-    counts_grown : (seated more : List ℕ) → length more ≡ length targets + k
-        → ((n : ℕ) → get_or more n 0 ≡ get_or seated n 0) → CountsSeats targets seated
-        → CountsSeats grown more
-    counts_grown seated more sized same h = record {
+    counts_grown : (sloted more : List ℕ) → length more ≡ length targets + k
+        → ((n : ℕ) → get_or more n 0 ≡ get_or sloted n 0) → CountsSlots targets sloted
+        → CountsSlots grown more
+    counts_grown sloted more sized same h = record {
       sized = sized ∙ sym length-grown;
       each = λ n in'. elim (cases_lt n (length targets)) [
         | inl was ↦ same n ∙ h.each n was ∙ sym (count_grown (sits_on n) refl)
         | inr past ↦
-            let none : get_or seated n 0 ≡ 0 =
-            get_or_past seated n 0 (omega (arith, h.sized)) in
-            let unseated = none_passes (sits_on n) targets (no_seats n past) in
-            same n ∙ none ∙ sym unseated ∙ sym (count_grown (sits_on n) refl)
+            let none : get_or sloted n 0 ≡ 0 =
+            get_or_past sloted n 0 (omega (arith, h.sized)) in
+            let unsloted = none_passes (sits_on n) targets (no_slots n past) in
+            same n ∙ none ∙ sym unsloted ∙ sym (count_grown (sits_on n) refl)
       ];
     }
 
   pub kept_grown : (needed more_needed awaited more_awaited : List NumberList)
-      (seated more_seated : List ℕ) → length targets + k < 2 ^ 32
+      (sloted more_sloted : List ℕ) → length targets + k < 2 ^ 32
       → length more_needed ≡ k → AreEmpty more_needed
       → length more_awaited ≡ k → AreEmpty more_awaited
-      → length more_seated ≡ length targets + k
-      → ((n : ℕ) → get_or more_seated n 0 ≡ get_or seated n 0)
-      → IsKept targets needed awaited seated
-      → IsKept grown (needed ++ more_needed) (awaited ++ more_awaited) more_seated
-  kept_grown needed more_needed awaited more_awaited seated more_seated small need_sized need_none
-      await_sized await_none seat_sized seat_same h = record {
+      → length more_sloted ≡ length targets + k
+      → ((n : ℕ) → get_or more_sloted n 0 ≡ get_or sloted n 0)
+      → IsKept targets needed awaited sloted
+      → IsKept grown (needed ++ more_needed) (awaited ++ more_awaited) more_sloted
+  kept_grown needed more_needed awaited more_awaited sloted more_sloted small need_sized need_none
+      await_sized await_none slot_sized slot_same h = record {
         small = omega (arith, length-grown);
         below = λ t n on.
             let was : n < length targets = h.below t n (subst (λ b. IsTrue b) (room_grown t n) on) in
@@ -160,5 +160,5 @@ module _ (targets : List TargetRows) (k : ℕ) where
             h.needs;
         awaits = inverse_grown h.below has_created (λ n. refl) awaited more_awaited await_sized
             await_none h.awaits;
-        counts = counts_grown h.below seated more_seated seat_sized seat_same h.counts;
+        counts = counts_grown h.below sloted more_sloted slot_sized slot_same h.counts;
       }

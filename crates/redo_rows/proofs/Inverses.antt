@@ -4,16 +4,16 @@ use Rattle.std.proofs.lemmas.Bool.{cases_eq, cases_Bool, false≢true}
 use Rattle.std.proofs.lemmas.List.{get_or-set_same, get_or-set_other, length-set, get_or_default}
 use Rattle.std.proofs.lemmas.List.Sums.{sum_by-set, sum_by-cons, get_or-le-sum_by}
 use Rattle.std.specs.List.{count_by, Contains}
-use Rattle.redo_rows.specs.Rows.{Seat, TargetRows, seat_at, has_seat, target_at, bare}
+use Rattle.redo_rows.specs.Rows.{Slot, TargetRows, slot_at, has_slot, target_at, bare}
 use Rattle.redo_rows.specs.Numbers.{NumberList}
-use Rattle.redo_rows.specs.Kept.{no_numbers, passes_on, sits_on, seats_on, numbers_at, IsInverseOn, IsInverse, CountsSeats, Follows, FollowsOn}
+use Rattle.redo_rows.specs.Kept.{no_numbers, passes_on, sits_on, slots_on, numbers_at, IsInverseOn, IsInverse, CountsSlots, Follows, FollowsOn}
 
 abbrev pub flag : Bool → ℕ
 flag b = cond b 1 0
 
--- the test passes on no blank seat
-abbrev pub IsRowTest : (Seat → Bool) → Type 0
-IsRowTest test = (n : ℕ) → test (seat_at [] n) ≡ false
+-- the test passes on no blank slot
+abbrev pub IsRowTest : (Slot → Bool) → Type 0
+IsRowTest test = (n : ℕ) → test (slot_at [] n) ≡ false
 
 pub target_same : (targets : List TargetRows) (t : ℕ) (new : TargetRows) → t < length targets
     → target_at (set targets t new) t ≡ new
@@ -37,11 +37,11 @@ count_set : (p : TargetRows → Bool) (targets : List TargetRows) (t : ℕ) (new
     ≡ count_by p targets + flag (p new)
 count_set p targets t new below = sum_by-set (λ x. flag (p x)) targets t new bare below
 
-pub inverse_on_set : (test : Seat → Bool) (targets : List TargetRows) (t : ℕ) (new : TargetRows)
+pub inverse_on_set : (test : Slot → Bool) (targets : List TargetRows) (t : ℕ) (new : TargetRows)
     (n : ℕ) (list list' : NumberList) → t < length targets
     → IsInverseOn test targets n list
     → Follows t (passes_on test n (target_at targets t)) (passes_on test n new) list list'
-    → seats_on targets n + flag (sits_on n new) ≤ list'.room + flag
+    → slots_on targets n + flag (sits_on n new) ≤ list'.room + flag
     (sits_on n (target_at targets t))
     → IsInverseOn test (set targets t new) n list'
 inverse_on_set test targets t new n list list' below h f room = record {
@@ -62,7 +62,7 @@ inverse_on_set test targets t new n list list' below h f room = record {
 }
 
 -- a list whose items stay
-pub follows_same : (test : Seat
+pub follows_same : (test : Slot
     → Bool) (targets : List TargetRows) (t n : ℕ) (list list' : NumberList)
     → IsInverseOn test targets n list → list'.items ≡ list.items → list.room ≤ list'.room → Follows
     t (passes_on test n (target_at targets t)) (passes_on test n (target_at targets t)) list list'
@@ -77,7 +77,7 @@ follows_same test targets t n list list' h same room = record {
   room = room;
 }
 
-pub inverse_on_stays : (test : Seat → Bool) (targets : List TargetRows) (t : ℕ) (new : TargetRows)
+pub inverse_on_stays : (test : Slot → Bool) (targets : List TargetRows) (t : ℕ) (new : TargetRows)
     (n : ℕ) (list : NumberList) → t < length targets
     → passes_on test n new ≡ passes_on test n (target_at targets t)
     → sits_on n new ≡ sits_on n (target_at targets t)
@@ -89,7 +89,7 @@ inverse_on_stays test targets t new n list below passes sits h =
     (omega (arith, h.room, ap flag sits))
 
 -- no list changes
-pub inverse_stays : (test : Seat → Bool) (targets : List TargetRows) (t : ℕ) (new : TargetRows)
+pub inverse_stays : (test : Slot → Bool) (targets : List TargetRows) (t : ℕ) (new : TargetRows)
     (lists : List NumberList) → t < length targets
     → ((k : ℕ) → passes_on test k new ≡ passes_on test k (target_at targets t))
     → ((k : ℕ) → sits_on k new ≡ sits_on k (target_at targets t))
@@ -101,12 +101,12 @@ inverse_stays test targets t new lists below passes sits h = record {
 }
 
 -- the list of n changes
-pub inverse_set : (test : Seat → Bool) (targets : List TargetRows) (t : ℕ) (new : TargetRows)
+pub inverse_set : (test : Slot → Bool) (targets : List TargetRows) (t : ℕ) (new : TargetRows)
     (n : ℕ) (lists lists' : List NumberList) → t < length targets
     → ((k : ℕ) → k ≢ n → passes_on test k new ≡ passes_on test k (target_at targets t))
     → ((k : ℕ) → k ≢ n → sits_on k new ≡ sits_on k (target_at targets t))
     → FollowsOn n t (passes_on test n (target_at targets t)) (passes_on test n new) lists lists'
-    → (n < length targets → seats_on targets n + flag
+    → (n < length targets → slots_on targets n + flag
     (sits_on n new) ≤ (numbers_at lists' n).room + flag (sits_on n (target_at targets t)))
     → IsInverse test targets lists → IsInverse test (set targets t new) lists'
 inverse_set test targets t new n lists lists' below passes sits f room h = record {
@@ -152,24 +152,24 @@ follows_on_same t n was lists own = record {
 }
 
 -- one of the counts changes
-pub counts_set : (targets : List TargetRows) (t : ℕ) (new : TargetRows) (n m : ℕ) (seated : List ℕ)
+pub counts_set : (targets : List TargetRows) (t : ℕ) (new : TargetRows) (n m : ℕ) (sloted : List ℕ)
     → t < length targets
     → ((k : ℕ) → k ≢ n → sits_on k new ≡ sits_on k (target_at targets t))
     → (n < length targets
-    → m + flag (sits_on n (target_at targets t)) ≡ get_or seated n 0 + flag (sits_on n new))
-    → CountsSeats targets seated → CountsSeats (set targets t new) (set seated n m)
-counts_set targets t new n m seated below sits more h = record {
-  sized = length-set seated n m ∙ (h.sized ∙ sym (length-set targets t new));
+    → m + flag (sits_on n (target_at targets t)) ≡ get_or sloted n 0 + flag (sits_on n new))
+    → CountsSlots targets sloted → CountsSlots (set targets t new) (set sloted n m)
+counts_set targets t new n m sloted below sits more h = record {
+  sized = length-set sloted n m ∙ (h.sized ∙ sym (length-set targets t new));
   each = λ k in'.
       let old_in : k < length targets = subst (λ j. k < j) (length-set targets t new) in' in
       elim (cases_eq k n) [
         | inl here ↦
             let n_in : n < length targets = subst (λ j. j < length targets) here old_in in
-            let seated_in : n < length seated = subst (λ j. n < j) (sym h.sized) n_in in
-            subst (λ j. get_or (set seated n m) j 0 ≡ seats_on (set targets t new) j) (sym here)
+            let sloted_in : n < length sloted = subst (λ j. n < j) (sym h.sized) n_in in
+            subst (λ j. get_or (set sloted n m) j 0 ≡ slots_on (set targets t new) j) (sym here)
             (omega (
               arith,
-              get_or-set_same seated n m 0 seated_in,
+              get_or-set_same sloted n m 0 sloted_in,
               count_set (sits_on n) targets t new below,
               more n_in,
               h.each n n_in,
@@ -177,7 +177,7 @@ counts_set targets t new n m seated below sits more h = record {
         | inr off ↦
             omega (
               arith,
-              get_or-set_other seated n k m 0 off,
+              get_or-set_other sloted n k m 0 off,
               count_set (sits_on k) targets t new below,
               ap flag (sits k off),
               h.each k old_in,
@@ -186,10 +186,10 @@ counts_set targets t new n m seated below sits more h = record {
 }
 
 -- no count changes
-pub counts_stay : (targets : List TargetRows) (t : ℕ) (new : TargetRows) (seated : List ℕ)
+pub counts_stay : (targets : List TargetRows) (t : ℕ) (new : TargetRows) (sloted : List ℕ)
     → t < length targets → ((k : ℕ) → sits_on k new ≡ sits_on k (target_at targets t))
-    → CountsSeats targets seated → CountsSeats (set targets t new) seated
-counts_stay targets t new seated below sits h = record {
+    → CountsSlots targets sloted → CountsSlots (set targets t new) sloted
+counts_stay targets t new sloted below sits h = record {
   sized = h.sized ∙ sym (length-set targets t new);
   each = λ k in'. omega (
     arith,
@@ -199,21 +199,21 @@ counts_stay targets t new seated below sits h = record {
   );
 }
 
--- a row stands on a seat
-pub seated_row : (test : Seat → Bool) → IsRowTest test → (seats : List Seat) (n : ℕ)
-    → test (seat_at seats n) ≡ true → has_seat seats n ≡ true
-seated_row test blank [] n row = absurd (false≢true (sym (blank n) ∙ row))
-seated_row test blank (seat ∷ seats) n row = elim (cases_eq seat.name n) [
-  | inl here ↦ rw (eq-eqb seat.name n here) refl
+-- a row stands on a slot
+pub sloted_row : (test : Slot → Bool) → IsRowTest test → (slots : List Slot) (n : ℕ)
+    → test (slot_at slots n) ≡ true → has_slot slots n ≡ true
+sloted_row test blank [] n row = absurd (false≢true (sym (blank n) ∙ row))
+sloted_row test blank (slot ∷ slots) n row = elim (cases_eq slot.name n) [
+  | inl here ↦ rw (eq-eqb slot.name n here) refl
   | inr off ↦
-      let e : eqb seat.name n ≡ false = ne_eqb seat.name n off in
-      rw e (seated_row test blank seats n (rw e at row))
+      let e : eqb slot.name n ≡ false = ne_eqb slot.name n off in
+      rw e (sloted_row test blank slots n (rw e at row))
 ]
 
-pub no_seat_no_row : (test : Seat → Bool) → IsRowTest test → (seats : List Seat) (n : ℕ)
-    → has_seat seats n ≡ false → test (seat_at seats n) ≡ false
-no_seat_no_row test blank seats n none = elim (cases_Bool (test (seat_at seats n))) [
-  | inl row ↦ absurd (false≢true (sym none ∙ seated_row test blank seats n row))
+pub no_slot_no_row : (test : Slot → Bool) → IsRowTest test → (slots : List Slot) (n : ℕ)
+    → has_slot slots n ≡ false → test (slot_at slots n) ≡ false
+no_slot_no_row test blank slots n none = elim (cases_Bool (test (slot_at slots n))) [
+  | inl row ↦ absurd (false≢true (sym none ∙ sloted_row test blank slots n row))
   | inr no_row ↦ no_row
 ]
 
@@ -235,22 +235,22 @@ count_le p q (x ∷ xs) f =
       count_le p q xs f,
     )
 
--- there is room for the row of a seat that has none
-pub has_room_for : (test : Seat → Bool) → IsRowTest test
+-- there is room for the row of a slot that has none
+pub has_room_for : (test : Slot → Bool) → IsRowTest test
     → (targets : List TargetRows) (t n : ℕ) (list : NumberList) → t < length targets
     → IsInverseOn test targets n list
     → sits_on n (target_at targets t) ≡ true → passes_on test n (target_at targets t) ≡ false
     → length list.items < list.room
 has_room_for test blank targets t n list below h sits no_row =
     let rows = count_set (passes_on test n) targets t bare below in
-    let seats = count_set (sits_on n) targets t bare below in
+    let slots = count_set (sits_on n) targets t bare below in
     let le =
     count_le (passes_on test n) (sits_on n) (set targets t bare)
-    (λ x. seated_row test blank x.seats n) in
+    (λ x. sloted_row test blank x.slots n) in
     omega (
       arith,
       rows,
-      seats,
+      slots,
       le,
       h.counted,
       h.room,
@@ -259,10 +259,10 @@ has_room_for test blank targets t n list below h sits no_row =
       ap flag (blank n),
     )
 
--- one target has a seat, where the count is not 0
-pub seat_counted : (targets : List TargetRows) (t n : ℕ) → t < length targets
-    → sits_on n (target_at targets t) ≡ true → 0 < seats_on targets n
-seat_counted targets t n below sits =
+-- one target has a slot, where the count is not 0
+pub slot_counted : (targets : List TargetRows) (t n : ℕ) → t < length targets
+    → sits_on n (target_at targets t) ≡ true → 0 < slots_on targets n
+slot_counted targets t n below sits =
     omega (arith, get_or-le-sum_by (λ x. flag (sits_on n x)) targets t bare below, ap flag sits)
 
 -- t comes into the list of n

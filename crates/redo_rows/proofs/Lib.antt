@@ -6,8 +6,8 @@ pub mod Inverses
 pub mod Keeping
 pub mod Listed
 pub mod Rises
-pub mod SeatEdits
-pub mod Seats
+pub mod SlotEdits
+pub mod Slots
 pub mod Told
 pub mod Walked
 pub mod Writing

@@ -4,11 +4,11 @@ use Rattle.std.proofs.lemmas.Bool.{cases_lt, false≢true}
 use Rattle.std.proofs.lemmas.List.{get_or_past, get_or_default}
 use Rattle.std.specs.List.{Contains}
 use Rattle.redo_model.specs.Renaming.{AllBelow}
-use Rattle.redo_rows.specs.Rows.{Seat, TargetRows, has_seat, target_at, bare}
+use Rattle.redo_rows.specs.Rows.{Slot, TargetRows, has_slot, target_at, bare}
 use Rattle.redo_rows.specs.Target.{HasRowIn}
 use Rattle.redo_rows.specs.Numbers.{NumberList}
 use Rattle.redo_rows.specs.Kept.{passes_on, has_change, has_created, IsKept, IsInverse, numbers_at, no_numbers}
-use Rattle.redo_rows.proofs.Inverses.{found_target, IsRowTest, seated_row}
+use Rattle.redo_rows.proofs.Inverses.{found_target, IsRowTest, sloted_row}
 
 -- a list whose members are below the count
 all_below : (count : ℕ) (xs : List ℕ) → ((x : ℕ) → Contains xs x → x < count) → AllBelow count xs
@@ -17,7 +17,7 @@ all_below count (x ∷ xs) f =
     (f x (0, omega arith, refl), all_below count xs (λ y c. f y (suc c.0, omega (arith, c.1), c.2)))
 
 -- only targets have rows
-target_below : (test : Seat → Bool) → IsRowTest test → (targets : List TargetRows) (t n : ℕ)
+target_below : (test : Slot → Bool) → IsRowTest test → (targets : List TargetRows) (t n : ℕ)
     → passes_on test n (target_at targets t) ≡ true → t < length targets
 target_below test blank targets t n row = elim (cases_lt t (length targets)) [
   | inl below ↦ below
@@ -26,16 +26,16 @@ target_below test blank targets t n row = elim (cases_lt t (length targets)) [
 ]
 
 -- and only on names
-pub name_below : (targets : List TargetRows) (needed awaited : List NumberList) (seated : List ℕ)
-    (t n : ℕ) → IsKept targets needed awaited seated → HasRowIn (target_at targets t).seats n
+pub name_below : (targets : List TargetRows) (needed awaited : List NumberList) (sloted : List ℕ)
+    (t n : ℕ) → IsKept targets needed awaited sloted → HasRowIn (target_at targets t).slots n
     → n < length targets
-name_below targets needed awaited seated t n h row = h.below t n (elim row [
-  | inl change ↦ seated_row has_change (λ k. refl) (target_at targets t).seats n change
-  | inr created ↦ seated_row has_created (λ k. refl) (target_at targets t).seats n created
+name_below targets needed awaited sloted t n h row = h.below t n (elim row [
+  | inl change ↦ sloted_row has_change (λ k. refl) (target_at targets t).slots n change
+  | inr created ↦ sloted_row has_created (λ k. refl) (target_at targets t).slots n created
 ])
 
 -- the same in the terms of the code
-pub inverse_below : (test : Seat → Bool) → IsRowTest test → (targets now : List TargetRows) (n : ℕ)
+pub inverse_below : (test : Slot → Bool) → IsRowTest test → (targets now : List TargetRows) (n : ℕ)
     (lists : List NumberList) (list : NumberList) (xs : List ℕ) → targets ≡ now → n < length now
     → list ≡ get_or lists n list → xs ≡ list.items
     → IsInverse test targets lists → AllBelow (length now) xs
@@ -49,24 +49,24 @@ inverse_below test blank targets now n lists list xs is n_in at items h =
     (((h.each n name).listed t).0 (subst (λ ys. Contains ys t) same in'))))
 
 pub names_below : (targets now : List TargetRows) (t : ℕ) (target : TargetRows)
-    (needed awaited : List NumberList) (seated : List ℕ) (xs : List ℕ) → targets ≡ now
+    (needed awaited : List NumberList) (sloted : List ℕ) (xs : List ℕ) → targets ≡ now
     → t < length now → target ≡ get_or targets t target
-    → ((n : ℕ) → Contains xs n → HasRowIn target.seats n) → IsKept targets needed awaited seated
+    → ((n : ℕ) → Contains xs n → HasRowIn target.slots n) → IsKept targets needed awaited sloted
     → AllBelow (length now) xs
-names_below targets now t target needed awaited seated xs is t_in at rows h =
+names_below targets now t target needed awaited sloted xs is t_in at rows h =
     let found = found_target targets now t target is t_in at in
     subst (λ (ts : List TargetRows). AllBelow (length ts) xs) is
-    (all_below (length targets) xs (λ n in'. name_below targets needed awaited seated t n h
-    (subst (λ (x : TargetRows). HasRowIn x.seats n) found.1 (rows n in'))))
+    (all_below (length targets) xs (λ n in'. name_below targets needed awaited sloted t n h
+    (subst (λ (x : TargetRows). HasRowIn x.slots n) found.1 (rows n in'))))
 
-pub seats_below : (targets now : List TargetRows) (t : ℕ) (target : TargetRows) (seats : List Seat)
-    (needed awaited : List NumberList) (seated : List ℕ) → targets ≡ now → t < length now
+pub slots_below : (targets now : List TargetRows) (t : ℕ) (target : TargetRows) (slots : List Slot)
+    (needed awaited : List NumberList) (sloted : List ℕ) → targets ≡ now → t < length now
     → target ≡ get_or targets t target
-    → seats ≡ target.seats → IsKept targets needed awaited seated → (n : ℕ)
-    → has_seat seats n ≡ true → n < length now
-seats_below targets now t target seats needed awaited seated is t_in at same h n there =
+    → slots ≡ target.slots → IsKept targets needed awaited sloted → (n : ℕ)
+    → has_slot slots n ≡ true → n < length now
+slots_below targets now t target slots needed awaited sloted is t_in at same h n there =
     let found = found_target targets now t target is t_in at in
-    let own : has_seat (target_at targets t).seats n ≡ true =
-    subst (λ (x : TargetRows). has_seat x.seats n ≡ true) found.1
-    (subst (λ ss. has_seat ss n ≡ true) same there) in
+    let own : has_slot (target_at targets t).slots n ≡ true =
+    subst (λ (x : TargetRows). has_slot x.slots n ≡ true) found.1
+    (subst (λ ss. has_slot ss n ≡ true) same there) in
     subst (λ (ts : List TargetRows). n < length ts) is (h.below t n own)

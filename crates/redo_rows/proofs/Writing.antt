@@ -1,18 +1,18 @@
--- What the fields of the rows keep, where a row is written, or a seat comes.
+-- What the fields of the rows keep, where a row is written, or a slot comes.
 use Rattle.std.proofs.Common.{◌≡◌, ◌≢◌, ◌↔◌, ℕ, ◌<◌, ◌≤◌, ◌+◌, ◌^◌, Bool, true, false, cond, ◌||◌, List, length, get_or, set, refl, sym, ap, ◌∙◌, subst, inl, inr, arith, IsTrue, eqb, ne_eqb, eq-eqb, Some}
 use Rattle.std.proofs.lemmas.Bool.{cases_eq, eqb-true, or_cases}
 use Rattle.std.proofs.lemmas.List.{get_or-set_same, get_or-set_other, length-set, get_or_default}
 use Rattle.std.specs.List.{Contains}
 use Rattle.redo_model.specs.State.{Mark}
-use Rattle.redo_rows.specs.Rows.{Seat, TargetRows, seat_at, has_seat, room_of, target_at}
+use Rattle.redo_rows.specs.Rows.{Slot, TargetRows, slot_at, has_slot, room_of, target_at}
 use Rattle.redo_rows.specs.Numbers.{NumberList}
-use Rattle.redo_rows.specs.Kept.{no_numbers, has_change, has_created, passes_on, sits_on, seats_on, numbers_at, IsInverseOn, IsInverse, IsKept, FollowsOn}
+use Rattle.redo_rows.specs.Kept.{no_numbers, has_change, has_created, passes_on, sits_on, slots_on, numbers_at, IsInverseOn, IsInverse, IsKept, FollowsOn}
 use Rattle.redo_rows.proofs.Inverses.{found_target, flag, IsRowTest, inverse_stays, inverse_set, follows_on_same, counts_set, counts_stay, has_room_for}
 use Rattle.redo_rows.proofs.Forgetting.{kept_stays, below_set}
-use Rattle.redo_rows.proofs.Changed.{WritesChange, WritesCreated, AddsSeat, field_of_cond, cond_same}
+use Rattle.redo_rows.proofs.Changed.{WritesChange, WritesCreated, AddsSlot, field_of_cond, cond_same}
 
 -- a row comes, or stays, at n
-inverse_put : (test : Seat → Bool) (targets : List TargetRows) (t n : ℕ) (new : TargetRows)
+inverse_put : (test : Slot → Bool) (targets : List TargetRows) (t n : ℕ) (new : TargetRows)
     (was : Bool) (lists lists' : List NumberList) → t < length targets
     → ((k : ℕ) → k ≢ n → passes_on test k new ≡ passes_on test k (target_at targets t))
     → ((k : ℕ) → sits_on k new ≡ sits_on k (target_at targets t))
@@ -27,13 +27,13 @@ inverse_put test targets t n new was lists lists' below others sits row was_is f
     h
 
 keeps_change : (targets : List TargetRows) (t n : ℕ) (new : TargetRows) (mark : Mark) (was : Bool)
-    (needed needed' awaited : List NumberList) (seated : List ℕ) → t < length targets
+    (needed needed' awaited : List NumberList) (sloted : List ℕ) → t < length targets
     → WritesChange (target_at targets t) new n mark → was
-    ≡ has_change (seat_at (target_at targets t).seats n) → FollowsOn n t was true needed needed'
-    → IsKept targets needed awaited seated → IsKept (set targets t new) needed' awaited seated
-keeps_change targets t n new mark was needed needed' awaited seated below w was_is f h =
-    let old : ℕ → Seat = seat_at (target_at targets t).seats in
-    let written : ℕ → Seat = λ k. record (old k) { change = Some mark } in
+    ≡ has_change (slot_at (target_at targets t).slots n) → FollowsOn n t was true needed needed'
+    → IsKept targets needed awaited sloted → IsKept (set targets t new) needed' awaited sloted
+keeps_change targets t n new mark was needed needed' awaited sloted below w was_is f h =
+    let old : ℕ → Slot = slot_at (target_at targets t).slots in
+    let written : ℕ → Slot = λ k. record (old k) { change = Some mark } in
     record {
       small = subst (λ m. m < 2 ^ 32) (sym (length-set targets t new)) h.small;
       below = below_set targets t new below h.below (λ k s. h.below t k (sym (w.room k) ∙ s));
@@ -47,17 +47,17 @@ keeps_change targets t n new mark was needed needed' awaited seated below w was_
           (λ k. ap has_created (w.rows k) ∙ (field_of_cond has_created (eqb n k) (written k) (old k)
           ∙ cond_same (eqb n k) (has_created (old k))))
           w.room h.awaits;
-      counts = counts_stay targets t new seated below w.room h.counts;
+      counts = counts_stay targets t new sloted below w.room h.counts;
     }
 
 keeps_created : (targets : List TargetRows) (t n : ℕ) (new : TargetRows) (was : Bool)
-    (needed awaited awaited' : List NumberList) (seated : List ℕ) → t < length targets
+    (needed awaited awaited' : List NumberList) (sloted : List ℕ) → t < length targets
     → WritesCreated (target_at targets t) new n → was
-    ≡ has_created (seat_at (target_at targets t).seats n) → FollowsOn n t was true awaited awaited'
-    → IsKept targets needed awaited seated → IsKept (set targets t new) needed awaited' seated
-keeps_created targets t n new was needed awaited awaited' seated below w was_is f h =
-    let old : ℕ → Seat = seat_at (target_at targets t).seats in
-    let written : ℕ → Seat = λ k. record (old k) { created = true } in
+    ≡ has_created (slot_at (target_at targets t).slots n) → FollowsOn n t was true awaited awaited'
+    → IsKept targets needed awaited sloted → IsKept (set targets t new) needed awaited' sloted
+keeps_created targets t n new was needed awaited awaited' sloted below w was_is f h =
+    let old : ℕ → Slot = slot_at (target_at targets t).slots in
+    let written : ℕ → Slot = λ k. record (old k) { created = true } in
     record {
       small = subst (λ m. m < 2 ^ 32) (sym (length-set targets t new)) h.small;
       below = below_set targets t new below h.below (λ k s. h.below t k (sym (w.room k) ∙ s));
@@ -71,7 +71,7 @@ keeps_created targets t n new was needed awaited awaited' seated below w was_is 
           w.room
           (ap has_created (w.rows n ∙ ap (λ b. cond b (written n) (old n)) (eq-eqb n n refl)))
           was_is f h.awaits;
-      counts = counts_stay targets t new seated below w.room h.counts;
+      counts = counts_stay targets t new sloted below w.room h.counts;
     }
 
 -- what the inverses say of the row of t on n, before it is written
@@ -80,7 +80,7 @@ pub record KnowsRow (t n : ℕ) (was : Bool) (lists : List NumberList) : Type 0 
   pub listed : Contains (numbers_at lists n).items t ↔ IsTrue was
   pub room : was ≡ false → length (numbers_at lists n).items < (numbers_at lists n).room
 
-row_known : (test : Seat → Bool) → IsRowTest test
+row_known : (test : Slot → Bool) → IsRowTest test
     → (targets : List TargetRows) (t n : ℕ) (was : Bool) (lists : List NumberList)
     → t < length targets → n < length targets
     → sits_on n (target_at targets t) ≡ true → was ≡ passes_on test n (target_at targets t)
@@ -94,7 +94,7 @@ row_known test blank targets t n was lists below n_in sits was_is h = record {
 }
 
 -- the list of n gets more room
-inverse_grown : (test : Seat
+inverse_grown : (test : Slot
     → Bool) (targets : List TargetRows) (n : ℕ) (lists : List NumberList) (old new : NumberList)
     → n < length targets → old ≡ get_or lists n old → new.items ≡ old.items → old.room ≤ new.room
     → IsInverse test targets lists → IsInverse test targets (set lists n new)
@@ -122,10 +122,10 @@ inverse_grown test targets n lists old new n_in at same larger h =
     }
 
 pub kept_needed : (targets : List TargetRows) (n : ℕ) (needed awaited : List NumberList)
-    (seated : List ℕ) (old new : NumberList) → n < length targets → old ≡ get_or needed n old
+    (sloted : List ℕ) (old new : NumberList) → n < length targets → old ≡ get_or needed n old
     → new.items ≡ old.items → old.room ≤ new.room
-    → IsKept targets needed awaited seated → IsKept targets (set needed n new) awaited seated
-kept_needed targets n needed awaited seated old new n_in at same larger h = record {
+    → IsKept targets needed awaited sloted → IsKept targets (set needed n new) awaited sloted
+kept_needed targets n needed awaited sloted old new n_in at same larger h = record {
   small = h.small;
   below = h.below;
   needs = inverse_grown has_change targets n needed old new n_in at same larger h.needs;
@@ -134,10 +134,10 @@ kept_needed targets n needed awaited seated old new n_in at same larger h = reco
 }
 
 pub kept_awaited : (targets : List TargetRows) (n : ℕ) (needed awaited : List NumberList)
-    (seated : List ℕ) (old new : NumberList) → n < length targets → old ≡ get_or awaited n old
+    (sloted : List ℕ) (old new : NumberList) → n < length targets → old ≡ get_or awaited n old
     → new.items ≡ old.items → old.room ≤ new.room
-    → IsKept targets needed awaited seated → IsKept targets needed (set awaited n new) seated
-kept_awaited targets n needed awaited seated old new n_in at same larger h = record {
+    → IsKept targets needed awaited sloted → IsKept targets needed (set awaited n new) sloted
+kept_awaited targets n needed awaited sloted old new n_in at same larger h = record {
   small = h.small;
   below = h.below;
   needs = h.needs;
@@ -145,102 +145,102 @@ kept_awaited targets n needed awaited seated old new n_in at same larger h = rec
   counts = h.counts;
 }
 
--- a seat comes, where there is room for its row
-inverse_seat : (test : Seat → Bool) (targets : List TargetRows) (t n : ℕ) (new : TargetRows)
+-- a slot comes, where there is room for its row
+inverse_slot : (test : Slot → Bool) (targets : List TargetRows) (t n : ℕ) (new : TargetRows)
     (lists : List NumberList) → t < length targets → n < length targets
-    → AddsSeat (target_at targets t) new n → seats_on targets n + 1 ≤ (numbers_at lists n).room
+    → AddsSlot (target_at targets t) new n → slots_on targets n + 1 ≤ (numbers_at lists n).room
     → IsInverse test targets lists → IsInverse test (set targets t new) lists
-inverse_seat test targets t n new lists below n_in w room h =
+inverse_slot test targets t n new lists below n_in w room h =
     let row : Bool = passes_on test n (target_at targets t) in
     inverse_set test targets t new n lists lists below
     (λ k off. ap test (w.rows k))
-    (λ k off. w.room k ∙ ap (λ b. b || has_seat (target_at targets t).seats k) (ne_eqb k n off))
+    (λ k off. w.room k ∙ ap (λ b. b || has_slot (target_at targets t).slots k) (ne_eqb k n off))
     (subst (λ b. FollowsOn n t row b lists lists) (sym (ap test (w.rows n)))
     (follows_on_same t n row lists ((h.each n n_in).listed t)))
     (λ in'. omega (
       arith,
       room,
-      ap flag (w.room n ∙ ap (λ b. b || has_seat (target_at targets t).seats n) (eq-eqb n n refl)),
+      ap flag (w.room n ∙ ap (λ b. b || has_slot (target_at targets t).slots n) (eq-eqb n n refl)),
     ))
     h
 
-keeps_seat : (targets : List TargetRows) (t n : ℕ) (new : TargetRows)
-    (needed awaited : List NumberList) (seated : List ℕ) (m : ℕ) → t < length targets
+keeps_slot : (targets : List TargetRows) (t n : ℕ) (new : TargetRows)
+    (needed awaited : List NumberList) (sloted : List ℕ) (m : ℕ) → t < length targets
     → n < length targets
-    → AddsSeat (target_at targets t) new n → has_seat (target_at targets t).seats n ≡ false
-    → m ≡ get_or seated n 0 + 1 → m ≤ (numbers_at needed n).room → m ≤ (numbers_at awaited n).room
-    → IsKept targets needed awaited seated
-    → IsKept (set targets t new) needed awaited (set seated n m)
-keeps_seat targets t n new needed awaited seated m below n_in w none more needed_room awaited_room
+    → AddsSlot (target_at targets t) new n → has_slot (target_at targets t).slots n ≡ false
+    → m ≡ get_or sloted n 0 + 1 → m ≤ (numbers_at needed n).room → m ≤ (numbers_at awaited n).room
+    → IsKept targets needed awaited sloted
+    → IsKept (set targets t new) needed awaited (set sloted n m)
+keeps_slot targets t n new needed awaited sloted m below n_in w none more needed_room awaited_room
     h =
     let now : sits_on n new ≡ true =
-    w.room n ∙ ap (λ b. b || has_seat (target_at targets t).seats n) (eq-eqb n n refl) in
+    w.room n ∙ ap (λ b. b || has_slot (target_at targets t).slots n) (eq-eqb n n refl) in
     record {
       small = subst (λ k. k < 2 ^ 32) (sym (length-set targets t new)) h.small;
       below =
           below_set targets t new below h.below (λ k s.
-          elim (or_cases (eqb k n) (has_seat (target_at targets t).seats k) (sym (w.room k) ∙ s)) [
+          elim (or_cases (eqb k n) (has_slot (target_at targets t).slots k) (sym (w.room k) ∙ s)) [
             | inl here ↦ subst (λ j. j < length targets) (sym (eqb-true k n here)) n_in
             | inr old ↦ h.below t k old
           ]);
-      needs = inverse_seat has_change targets t n new needed below n_in w
+      needs = inverse_slot has_change targets t n new needed below n_in w
           (omega (arith, needed_room, more, h.counts.each n n_in)) h.needs;
-      awaits = inverse_seat has_created targets t n new awaited below n_in w
+      awaits = inverse_slot has_created targets t n new awaited below n_in w
           (omega (arith, awaited_room, more, h.counts.each n n_in)) h.awaits;
-      counts = counts_set targets t new n m seated below
+      counts = counts_set targets t new n m sloted below
           (λ k off. w.room k
-          ∙ ap (λ b. b || has_seat (target_at targets t).seats k) (ne_eqb k n off))
+          ∙ ap (λ b. b || has_slot (target_at targets t).slots k) (ne_eqb k n off))
           (λ in'. omega (arith, more, ap flag none, ap flag now))
           h.counts;
     }
 
 -- the same in the terms of the code
 pub kept_change : (targets now : List TargetRows) (t n : ℕ) (old new : TargetRows) (mark : Mark)
-    (was : Bool) (needed needed' awaited : List NumberList) (seated : List ℕ) → targets ≡ now
+    (was : Bool) (needed needed' awaited : List NumberList) (sloted : List ℕ) → targets ≡ now
     → t < length now → old ≡ get_or targets t old
-    → WritesChange old new n mark → was ≡ has_change (seat_at old.seats n)
+    → WritesChange old new n mark → was ≡ has_change (slot_at old.slots n)
     → FollowsOn n t was true needed needed'
-    → IsKept targets needed awaited seated → IsKept (set targets t new) needed' awaited seated
-kept_change targets now t n old new mark was needed needed' awaited seated is t_in at w was_is f h =
+    → IsKept targets needed awaited sloted → IsKept (set targets t new) needed' awaited sloted
+kept_change targets now t n old new mark was needed needed' awaited sloted is t_in at w was_is f h =
     let found = found_target targets now t old is t_in at in
-    keeps_change targets t n new mark was needed needed' awaited seated found.0
+    keeps_change targets t n new mark was needed needed' awaited sloted found.0
     (subst (λ x. WritesChange x new n mark) found.1 w)
-    (was_is ∙ ap (λ (x : TargetRows). has_change (seat_at x.seats n)) found.1) f h
+    (was_is ∙ ap (λ (x : TargetRows). has_change (slot_at x.slots n)) found.1) f h
 
 pub kept_created : (targets now : List TargetRows) (t n : ℕ) (old new : TargetRows) (was : Bool)
-    (needed awaited awaited' : List NumberList) (seated : List ℕ) → targets ≡ now → t < length now
+    (needed awaited awaited' : List NumberList) (sloted : List ℕ) → targets ≡ now → t < length now
     → old ≡ get_or targets t old
-    → WritesCreated old new n → was ≡ has_created (seat_at old.seats n)
+    → WritesCreated old new n → was ≡ has_created (slot_at old.slots n)
     → FollowsOn n t was true awaited awaited'
-    → IsKept targets needed awaited seated → IsKept (set targets t new) needed awaited' seated
-kept_created targets now t n old new was needed awaited awaited' seated is t_in at w was_is f h =
+    → IsKept targets needed awaited sloted → IsKept (set targets t new) needed awaited' sloted
+kept_created targets now t n old new was needed awaited awaited' sloted is t_in at w was_is f h =
     let found = found_target targets now t old is t_in at in
-    keeps_created targets t n new was needed awaited awaited' seated found.0
+    keeps_created targets t n new was needed awaited awaited' sloted found.0
     (subst (λ x. WritesCreated x new n) found.1 w)
-    (was_is ∙ ap (λ (x : TargetRows). has_created (seat_at x.seats n)) found.1) f h
+    (was_is ∙ ap (λ (x : TargetRows). has_created (slot_at x.slots n)) found.1) f h
 
-pub knows_row : (test : Seat → Bool) → IsRowTest test → (targets now : List TargetRows) (t n : ℕ)
+pub knows_row : (test : Slot → Bool) → IsRowTest test → (targets now : List TargetRows) (t n : ℕ)
     (old : TargetRows) (was : Bool) (lists : List NumberList) → targets ≡ now → t < length now
     → n < length now → old ≡ get_or targets t old
-    → room_of now t n ≡ true → was ≡ test (seat_at old.seats n) → IsInverse test targets lists
+    → room_of now t n ≡ true → was ≡ test (slot_at old.slots n) → IsInverse test targets lists
     → KnowsRow t n was lists
 knows_row test blank targets now t n old was lists is t_in n_in at room was_is h =
     let found = found_target targets now t old is t_in at in
     row_known test blank targets t n was lists found.0
     (subst (λ (ts : List TargetRows). n < length ts) (sym is) n_in) (ap (λ ts. room_of ts t n) is
-    ∙ room) (was_is ∙ ap (λ (x : TargetRows). test (seat_at x.seats n)) found.1) h
+    ∙ room) (was_is ∙ ap (λ (x : TargetRows). test (slot_at x.slots n)) found.1) h
 
 pub kept_always : (targets now : List TargetRows) (t : ℕ) (old new : TargetRows)
-    (needed awaited : List NumberList) (seated : List ℕ) → targets ≡ now → t < length now
+    (needed awaited : List NumberList) (sloted : List ℕ) → targets ≡ now → t < length now
     → old ≡ get_or targets t old
-    → new.seats ≡ old.seats → IsKept targets needed awaited seated
-    → IsKept (set targets t new) needed awaited seated
-kept_always targets now t old new needed awaited seated is t_in at same h =
+    → new.slots ≡ old.slots → IsKept targets needed awaited sloted
+    → IsKept (set targets t new) needed awaited sloted
+kept_always targets now t old new needed awaited sloted is t_in at same h =
     let found = found_target targets now t old is t_in at in
-    let seats : new.seats ≡ (target_at targets t).seats =
-    same ∙ ap (λ (x : TargetRows). x.seats) found.1 in
-    kept_stays targets t new needed awaited seated found.0 (λ k. ap (λ ss. seat_at ss k) seats)
-    (λ k. ap (λ ss. has_seat ss k) seats) h
+    let slots : new.slots ≡ (target_at targets t).slots =
+    same ∙ ap (λ (x : TargetRows). x.slots) found.1 in
+    kept_stays targets t new needed awaited sloted found.0 (λ k. ap (λ ss. slot_at ss k) slots)
+    (λ k. ap (λ ss. has_slot ss k) slots) h
 
 -- the list of n in other lists has room
 room_there : (lists : List NumberList) (n m : ℕ) (new : NumberList) → n < length lists
@@ -248,15 +248,15 @@ room_there : (lists : List NumberList) (n m : ℕ) (new : NumberList) → n < le
 room_there lists n m new n_in room =
     subst (λ (x : NumberList). m ≤ x.room) (sym (get_or-set_same lists n new no_numbers n_in)) room
 
-pub kept_seat : (targets now : List TargetRows) (t n : ℕ) (old new : TargetRows) (needed
-    awaited : List NumberList) (seated : List ℕ) (grown_needed grown_awaited : NumberList) (m : ℕ)
+pub kept_slot : (targets now : List TargetRows) (t n : ℕ) (old new : TargetRows) (needed
+    awaited : List NumberList) (sloted : List ℕ) (grown_needed grown_awaited : NumberList) (m : ℕ)
     → targets ≡ now → t < length now → n < length now → old ≡ get_or targets t old
-    → AddsSeat old new n → room_of now t n ≡ false → m ≡ get_or seated n m
+    → AddsSlot old new n → room_of now t n ≡ false → m ≡ get_or sloted n m
     → m + 1 ≤ grown_needed.room → m + 1 ≤ grown_awaited.room
-    → IsKept targets (set needed n grown_needed) (set awaited n grown_awaited) seated
+    → IsKept targets (set needed n grown_needed) (set awaited n grown_awaited) sloted
     → IsKept (set targets t new) (set needed n grown_needed) (set awaited n grown_awaited)
-    (set seated n (m + 1))
-kept_seat targets now t n old new needed awaited seated grown_needed grown_awaited m is t_in n_in at
+    (set sloted n (m + 1))
+kept_slot targets now t n old new needed awaited sloted grown_needed grown_awaited m is t_in n_in at
     w none counted needed_room awaited_room h =
     let found = found_target targets now t old is t_in at in
     let name : n < length targets = subst (λ (ts : List TargetRows). n < length ts) (sym is) n_in in
@@ -264,10 +264,10 @@ kept_seat targets now t n old new needed awaited seated grown_needed grown_await
     omega (arith, name, h.needs.sized, length-set needed n grown_needed) in
     let awaited_in : n < length awaited =
     omega (arith, name, h.awaits.sized, length-set awaited n grown_awaited) in
-    let seated_in : n < length seated = omega (arith, name, h.counts.sized) in
-    keeps_seat targets t n new (set needed n grown_needed) (set awaited n grown_awaited) seated
-    (m + 1) found.0 name (subst (λ x. AddsSeat x new n) found.1 w)
+    let sloted_in : n < length sloted = omega (arith, name, h.counts.sized) in
+    keeps_slot targets t n new (set needed n grown_needed) (set awaited n grown_awaited) sloted
+    (m + 1) found.0 name (subst (λ x. AddsSlot x new n) found.1 w)
     (ap (λ ts. room_of ts t n) is ∙ none)
-    (ap (λ k. k + 1) (counted ∙ get_or_default seated n m 0 seated_in))
+    (ap (λ k. k + 1) (counted ∙ get_or_default sloted n m 0 sloted_in))
     (room_there needed n (m + 1) grown_needed needed_in needed_room)
     (room_there awaited n (m + 1) grown_awaited awaited_in awaited_room) h

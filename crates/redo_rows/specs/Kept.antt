@@ -1,28 +1,28 @@
--- What the fields of the rows keep: the inverses of the rows, and how many targets have a seat for
+-- What the fields of the rows keep: the inverses of the rows, and how many targets have a slot for
 -- each name.
 use Rattle.std.specs.Prelude.{◌≡◌, ◌≢◌, ◌↔◌, ◌<◌, ◌≤◌, ◌+◌, ◌^◌, ℕ, Bool, List, [], IsTrue, cond, is_some, slice_index_or, length, Contains, count_by}
-use Rattle.redo_rows.specs.Rows.{Seat, TargetRows, seat_at, has_seat, target_at, room_of}
+use Rattle.redo_rows.specs.Rows.{Slot, TargetRows, slot_at, has_slot, target_at, room_of}
 use Rattle.redo_rows.specs.Numbers.{NumberList}
 
--- the seat has a change row
-abbrev pub has_change : Seat → Bool
-has_change seat = is_some seat.change
+-- the slot has a change row
+abbrev pub has_change : Slot → Bool
+has_change slot = is_some slot.change
 
--- the seat has a created row
-abbrev pub has_created : Seat → Bool
-has_created seat = seat.created
+-- the slot has a created row
+abbrev pub has_created : Slot → Bool
+has_created slot = slot.created
 
--- whether the target's seat for n passes
-abbrev pub passes_on : (Seat → Bool) → ℕ → TargetRows → Bool
-passes_on test n target = test (seat_at target.seats n)
+-- whether the target's slot for n passes
+abbrev pub passes_on : (Slot → Bool) → ℕ → TargetRows → Bool
+passes_on test n target = test (slot_at target.slots n)
 
--- whether it has a seat for n
+-- whether it has a slot for n
 abbrev pub sits_on : ℕ → TargetRows → Bool
-sits_on n target = has_seat target.seats n
+sits_on n target = has_slot target.slots n
 
--- how many targets have a seat for n
-abbrev pub seats_on : List TargetRows → ℕ → ℕ
-seats_on targets n = count_by (sits_on n) targets
+-- how many targets have a slot for n
+abbrev pub slots_on : List TargetRows → ℕ → ℕ
+slots_on targets n = count_by (sits_on n) targets
 
 -- no numbers and no room
 abbrev pub no_numbers : NumberList
@@ -36,32 +36,32 @@ numbers_at lists n = slice_index_or lists n no_numbers
 abbrev pub AreEmpty : List NumberList → Type 0
 AreEmpty lists = (n : ℕ) → (numbers_at lists n).items ≡ []
 
--- the targets whose seat for n passes, and room for each that has a seat for n
-pub record IsInverseOn (test : Seat → Bool) (targets : List TargetRows) (n : ℕ)
+-- the targets whose slot for n passes, and room for each that has a slot for n
+pub record IsInverseOn (test : Slot → Bool) (targets : List TargetRows) (n : ℕ)
     (list : NumberList) : Type 0 where
   pub listed : (t : ℕ) → Contains list.items t ↔ IsTrue (passes_on test n (target_at targets t))
   pub counted : length list.items ≡ count_by (passes_on test n) targets
-  pub room : seats_on targets n ≤ list.room
+  pub room : slots_on targets n ≤ list.room
 
 -- the same of each name
-pub record IsInverse (test : Seat → Bool) (targets : List TargetRows)
+pub record IsInverse (test : Slot → Bool) (targets : List TargetRows)
     (lists : List NumberList) : Type 0 where
   pub sized : length lists ≡ length targets
   pub each : (n : ℕ) → n < length targets → IsInverseOn test targets n (numbers_at lists n)
 
--- for each name, how many targets have a seat for it
-pub record CountsSeats (targets : List TargetRows) (seated : List ℕ) : Type 0 where
-  pub sized : length seated ≡ length targets
-  pub each : (n : ℕ) → n < length targets → slice_index_or seated n 0 ≡ seats_on targets n
+-- for each name, how many targets have a slot for it
+pub record CountsSlots (targets : List TargetRows) (sloted : List ℕ) : Type 0 where
+  pub sized : length sloted ≡ length targets
+  pub each : (n : ℕ) → n < length targets → slice_index_or sloted n 0 ≡ slots_on targets n
 
 -- rows are on names alone, and each inverse and count is right
 pub record IsKept (targets : List TargetRows) (needed awaited : List NumberList)
-    (seated : List ℕ) : Type 0 where
+    (sloted : List ℕ) : Type 0 where
   pub small : length targets < 2 ^ 32
   pub below : (t n : ℕ) → IsTrue (room_of targets t n) → n < length targets
   pub needs : IsInverse has_change targets needed
   pub awaits : IsInverse has_created targets awaited
-  pub counts : CountsSeats targets seated
+  pub counts : CountsSlots targets sloted
 
 -- the list of a name before and after a call that puts t there or takes it away: `was` and `is` say
 -- whether t is there, and every other target stays

@@ -3,5 +3,5 @@ pub mod KeptMark
 pub mod News
 pub mod Numbers
 pub mod Rows
-pub mod Seat
+pub mod Slot
 pub mod Target

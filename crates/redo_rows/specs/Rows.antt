@@ -7,27 +7,27 @@ use Rattle.redo_model.specs.State.{Cell, Mark, Records, Rows}
 use Rattle.redo_records.specs.Cells.{cell_at}
 
 -- room for a target's rows on one name, and those of them that there are
-pub record Seat : Type 0 where
+pub record Slot : Type 0 where
   pub name : ℕ
   pub change : Option Mark
   pub created : Bool
 
--- a target's seats, and whether it has an always row
+-- a target's slots, and whether it has an always row
 pub record TargetRows : Type 0 where
-  pub seats : List Seat
+  pub slots : List Slot
   pub always : Bool
 
 -- a target without room and without rows
 abbrev pub bare : TargetRows
-bare = record { seats = []; always = false }
+bare = record { slots = []; always = false }
 
--- what stands on the name: that of its seat, and no row where it has none
-abbrev pub seat_at : List Seat → ℕ → Seat
-seat_at [] n = record { name = n; change = None; created = false }
-seat_at (seat ∷ seats) n = if seat.name == n then seat else seat_at seats n
+-- what stands on the name: that of its slot, and no row where it has none
+abbrev pub slot_at : List Slot → ℕ → Slot
+slot_at [] n = record { name = n; change = None; created = false }
+slot_at (slot ∷ slots) n = if slot.name == n then slot else slot_at slots n
 
-abbrev pub has_seat : List Seat → ℕ → Bool
-has_seat seats n = list_any (λ seat. seat.name == n) seats
+abbrev pub has_slot : List Slot → ℕ → Bool
+has_slot slots n = list_any (λ slot. slot.name == n) slots
 
 abbrev pub target_at : List TargetRows → ℕ → TargetRows
 target_at targets t = slice_index_or targets t bare
@@ -39,14 +39,14 @@ rows_count targets = length targets
 -- the rows that stand
 abbrev pub rows_of : List TargetRows → Rows ℕ
 rows_of targets = record {
-  change = λ t n. (seat_at (target_at targets t).seats n).change;
-  created = λ t n. (seat_at (target_at targets t).seats n).created;
+  change = λ t n. (slot_at (target_at targets t).slots n).change;
+  created = λ t n. (slot_at (target_at targets t).slots n).created;
   always = λ t. (target_at targets t).always;
 }
 
 -- whether there is room for t's rows on n
 abbrev pub room_of : List TargetRows → ℕ → ℕ → Bool
-room_of targets t n = has_seat (target_at targets t).seats n
+room_of targets t n = has_slot (target_at targets t).slots n
 
 -- numbers by their size
 abbrev pub by_number : Naming ℕ

@@ -2,44 +2,44 @@
 use Rattle.std.specs.Prelude.{◌≡◌, ◌≢◌, ◌↔◌, ◌⊎◌, ℕ, ◌+◌, ◌<◌, ◌≤◌, Bool, false, not, ◌||◌, List, None, Some, IsSome, is_some, IsTrue, length, slice_index_or, AllPairs, Contains, count_by}
 use Rattle.redo_model.specs.State.{Mark}
 use Rattle.redo_rows.specs.Numbers.{NumberList}
-use Rattle.redo_rows.specs.Rows.{Seat, seat_at}
+use Rattle.redo_rows.specs.Rows.{Slot, slot_at}
 
 -- room on the name, and no row
-abbrev pub blank : ℕ → Seat
+abbrev pub blank : ℕ → Slot
 blank n = record { name = n; change = None; created = false }
 
-abbrev pub has_row : Seat → Bool
-has_row seat = is_some seat.change || seat.created
+abbrev pub has_row : Slot → Bool
+has_row slot = is_some slot.change || slot.created
 
 -- a change row or a created row on the name
-abbrev pub HasRowIn : List Seat → ℕ → Type 0
-HasRowIn seats n = IsSome (seat_at seats n).change ⊎ IsTrue (seat_at seats n).created
+abbrev pub HasRowIn : List Slot → ℕ → Type 0
+HasRowIn slots n = IsSome (slot_at slots n).change ⊎ IsTrue (slot_at slots n).created
 
 -- there is a change row with another mark
-abbrev pub HasChangeBut : Mark → Seat → Type 0
-HasChangeBut mark seat = (kept : Mark) × (seat.change ≡ Some kept) × (kept ≢ mark)
+abbrev pub HasChangeBut : Mark → Slot → Type 0
+HasChangeBut mark slot = (kept : Mark) × (slot.change ≡ Some kept) × (kept ≢ mark)
 
--- the seats stand in the order of their names, one for each
-abbrev pub Ascending : List Seat → Type 0
-Ascending seats = AllPairs (λ x y. x.name < y.name) seats
+-- the slots stand in the order of their names, one for each
+abbrev pub Ascending : List Slot → Type 0
+Ascending slots = AllPairs (λ x y. x.name < y.name) slots
 
-abbrev pub name_at : List Seat → ℕ → ℕ
-name_at seats i = (slice_index_or seats i (blank 0)).name
+abbrev pub name_at : List Slot → ℕ → ℕ
+name_at slots i = (slice_index_or slots i (blank 0)).name
 
--- the seat at place i is that of the name
-pub record IsSeatOf (seats : List Seat) (n i : ℕ) : Type 0 where
-  pub within : i < length seats
-  pub named : name_at seats i ≡ n
+-- the slot at place i is that of the name
+pub record IsSlotOf (slots : List Slot) (n i : ℕ) : Type 0 where
+  pub within : i < length slots
+  pub named : name_at slots i ≡ n
 
--- a seat of the name would go at place i: smaller names before it, and greater names from it on
-pub record IsGapFor (seats : List Seat) (n i : ℕ) : Type 0 where
-  pub within : i ≤ length seats
-  pub before : (k : ℕ) → k < i → name_at seats k < n
-  pub after : (k : ℕ) → i ≤ k → k < length seats → n < name_at seats k
+-- a slot of the name would go at place i: smaller names before it, and greater names from it on
+pub record IsGapFor (slots : List Slot) (n i : ℕ) : Type 0 where
+  pub within : i ≤ length slots
+  pub before : (k : ℕ) → k < i → name_at slots k < n
+  pub after : (k : ℕ) → i ≤ k → k < length slots → n < name_at slots k
 
--- the names are those with a row, and there is memory for all that have a seat
-pub record IsKept (seats : List Seat) (names : NumberList) : Type 0 where
-  pub ascending : Ascending seats
-  pub listed : (n : ℕ) → Contains names.items n ↔ HasRowIn seats n
-  pub counted : length names.items + count_by (λ seat. not (has_row seat)) seats ≡ length seats
-  pub room : length seats ≤ names.room
+-- the names are those with a row, and there is memory for all that have a slot
+pub record IsKept (slots : List Slot) (names : NumberList) : Type 0 where
+  pub ascending : Ascending slots
+  pub listed : (n : ℕ) → Contains names.items n ↔ HasRowIn slots n
+  pub counted : length names.items + count_by (λ slot. not (has_row slot)) slots ≡ length slots
+  pub room : length slots ≤ names.room

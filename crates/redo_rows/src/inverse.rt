@@ -29,23 +29,23 @@ pub(crate) fn take_out(lists: &mut Vec<Numbers>, n: u32, t: u32, was: bool)
     }
 }
 
-/// Takes the rows of `t` out of the inverses, and its seats out of the count.
+/// Takes the rows of `t` out of the inverses, and its slots out of the count.
 pub(crate) fn forget(
     targets: &Vec<Target>,
     t: u32,
     needed: &mut Vec<Numbers>,
     awaited: &mut Vec<Numbers>,
-    seated: &mut Vec<usize>,
+    sloted: &mut Vec<usize>,
 )
     requires target { t < length targets.now.items }
-    requires kept { IsKept targets.now.items needed.old.items awaited.old.items seated.old.items }
+    requires kept { IsKept targets.now.items needed.old.items awaited.old.items sloted.old.items }
     ensures { IsKept
-        (slice_set targets.now.items t bare) needed.new.items awaited.new.items seated.new.items }
+        (slice_set targets.now.items t bare) needed.new.items awaited.new.items sloted.new.items }
 {
-    for seat in targets[t as usize].seats() {
-        let n = seat.name();
-        take_out(needed, n, t, seat.has_change());
-        take_out(awaited, n, t, seat.created());
-        seated[n as usize] -= 1;
+    for slot in targets[t as usize].slots() {
+        let n = slot.name();
+        take_out(needed, n, t, slot.has_change());
+        take_out(awaited, n, t, slot.created());
+        sloted[n as usize] -= 1;
     }
 }

@@ -44,7 +44,7 @@ impl BuildCount {
     }
 }
 
-/// A mark as a seat keeps it, without the padding that a `Mark` has.
+/// A mark as a slot keeps it, without the padding that a `Mark` has.
 #[derive(Clone, Copy, Debug)]
 pub enum KeptMark {
     Digest([u8; 20]),

@@ -11,4 +11,4 @@ mod target;
 
 pub use news::News;
 pub use rows::DepRows;
-pub use target::Seat;
+pub use target::Slot;

@@ -1,11 +1,11 @@
 //! What the rows of a target tell of the names that they are on.
 
 ghost use Rattle.std.specs.Prelude.{◌≡◌, ◌↔◌, ◌<◌, ℕ, IsTrue, MatchOption, length, true};
-ghost use Rattle.redo_rows.specs.Rows.{has_seat};
+ghost use Rattle.redo_rows.specs.Rows.{has_slot};
 ghost use Rattle.redo_rows.specs.Target.{Ascending};
 ghost use Rattle.redo_rows.specs.News.{known, HasAppeared, HasChanged, HasNews, SomeNews, IsNewsOf, IsNewsIn};
 
-use crate::target::Seat;
+use crate::target::Slot;
 use redo_records::Records;
 
 /// What has become of a name since a target took a row on it.
@@ -18,45 +18,45 @@ pub enum News {
 }
 
 // Whether there is a created row here, and the name has a file now.
-fn has_appeared(records: &Records, seat: &Seat) -> bool
-    requires { seat.now.name < length records.now }
-    ensures { IsTrue result ↔ HasAppeared (known records.now) seat.now seat.now.name }
+fn has_appeared(records: &Records, slot: &Slot) -> bool
+    requires { slot.now.name < length records.now }
+    ensures { IsTrue result ↔ HasAppeared (known records.now) slot.now slot.now.name }
 {
-    seat.created() && records.file(seat.name()).is_some()
+    slot.created() && records.file(slot.name()).is_some()
 }
 
 // Whether there is a change row here with another mark than the name has now.
-fn has_changed(records: &Records, seat: &Seat) -> bool
-    requires { seat.now.name < length records.now }
-    ensures { IsTrue result ↔ HasChanged (known records.now) seat.now seat.now.name }
+fn has_changed(records: &Records, slot: &Slot) -> bool
+    requires { slot.now.name < length records.now }
+    ensures { IsTrue result ↔ HasChanged (known records.now) slot.now slot.now.name }
 {
-    seat.has_changed(records.cell(seat.name()))
+    slot.has_changed(records.cell(slot.name()))
 }
 
 // Whether the name has appeared or changed, and which of the two.
-fn news_of(records: &Records, seat: &Seat) -> Option<News>
-    requires { seat.now.name < length records.now }
-    ensures { MatchOption result (HasNews (known records.now) seat.now seat.now.name → ⊥)
-        (IsNewsOf (known records.now) seat.now) }
+fn news_of(records: &Records, slot: &Slot) -> Option<News>
+    requires { slot.now.name < length records.now }
+    ensures { MatchOption result (HasNews (known records.now) slot.now slot.now.name → ⊥)
+        (IsNewsOf (known records.now) slot.now) }
 {
-    if has_appeared(records, seat) {
-        Some(News::Appeared(seat.name()))
-    } else if has_changed(records, seat) {
-        Some(News::Changed(seat.name()))
+    if has_appeared(records, slot) {
+        Some(News::Appeared(slot.name()))
+    } else if has_changed(records, slot) {
+        Some(News::Changed(slot.name()))
     } else {
         None
     }
 }
 
 /// The first name that has appeared or changed on which there is a row.
-pub(crate) fn first_news(records: &Records, seats: &[Seat]) -> Option<News>
-    requires names { (n : ℕ) → has_seat seats.now n ≡ true → n < length records.now }
-    requires ascending { Ascending seats.now }
-    ensures { MatchOption result (SomeNews (known records.now) seats.now → ⊥)
-        (IsNewsIn (known records.now) seats.now) }
+pub(crate) fn first_news(records: &Records, slots: &[Slot]) -> Option<News>
+    requires names { (n : ℕ) → has_slot slots.now n ≡ true → n < length records.now }
+    requires ascending { Ascending slots.now }
+    ensures { MatchOption result (SomeNews (known records.now) slots.now → ⊥)
+        (IsNewsIn (known records.now) slots.now) }
 {
-    for seat in seats {
-        if let Some(news) = news_of(records, seat) {
+    for slot in slots {
+        if let Some(news) = news_of(records, slot) {
             return Some(news);
         }
     }

@@ -25,7 +25,7 @@ impl Model for Numbers {
 }
 
 /// Where the number stands, or where it would go.
-fn place_of(items: &[u32], x: u32) -> usize
+fn number_place(items: &[u32], x: u32) -> usize
     requires { Rising items.now }
     ensures { IsPlaceOf items.now x result }
 {
@@ -70,7 +70,7 @@ impl Numbers {
         ensures length { length self.new.items ≡ length self.old.items + 1 }
         ensures room { self.old.room ≤ self.new.room }
     {
-        let place = place_of(self.items.as_slice(), x);
+        let place = number_place(self.items.as_slice(), x);
         let _inserted = self.items.insert(place, x);
     }
 
@@ -82,7 +82,7 @@ impl Numbers {
         ensures length { length self.new.items + 1 ≡ length self.old.items }
         ensures room { self.old.room ≤ self.new.room }
     {
-        let place = place_of(self.items.as_slice(), x);
+        let place = number_place(self.items.as_slice(), x);
         let _removed = self.items.remove(place);
     }
 

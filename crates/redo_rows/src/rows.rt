@@ -6,11 +6,11 @@ ghost use Rattle.redo_model.specs.Renaming.{AllBelow};
 ghost use Rattle.redo_records.specs.Meaning.{row_mark_of};
 ghost use Rattle.redo_rows.specs.News.{IsNews, name_of};
 ghost use Rattle.redo_rows.specs.Target.{Ascending};
-ghost use Rattle.redo_rows.specs.Rows.{rows_count, rows_of, room_of, target_at, has_seat, with_change, with_created, with_always, without_rows, HasRowOn, HasChangeRowOn, HasCreatedRowOn, by_number, with_rows};
+ghost use Rattle.redo_rows.specs.Rows.{rows_count, rows_of, room_of, target_at, has_slot, with_change, with_created, with_always, without_rows, HasRowOn, HasChangeRowOn, HasCreatedRowOn, by_number, with_rows};
 
 use crate::news::{News, first_news};
 use crate::numbers::Numbers;
-use crate::target::{Seat, Target};
+use crate::target::{Slot, Target};
 use crate::{inverse, made};
 use redo_records::{Mark, Records, extended};
 use std::alloc::{AllocError, Global};
@@ -26,7 +26,7 @@ pub struct DepRows {
     // and those with a created row on it
     awaited: Vec<Numbers>,
     // and how many targets have room for rows on it
-    seated: Vec<usize>,
+    sloted: Vec<usize>,
 }
 
 impl Model for DepRows {
@@ -39,7 +39,7 @@ impl Model for DepRows {
     ghost view = { λ inside. inside.targets.items };
 
     ghost invariant = { λ inside.
-        IsKept inside.targets.items inside.needed.items inside.awaited.items inside.seated.items };
+        IsKept inside.targets.items inside.needed.items inside.awaited.items inside.sloted.items };
 }
 
 impl DepRows {
@@ -54,7 +54,7 @@ impl DepRows {
             targets: made::bare_targets(alloc, count)?,
             needed: made::empty_lists(alloc, count)?,
             awaited: made::empty_lists(alloc, count)?,
-            seated: vec![in alloc; 0; count]?,
+            sloted: vec![in alloc; 0; count]?,
         })
     }
 
@@ -71,12 +71,12 @@ impl DepRows {
         let mut targets = made::bare_targets(alloc, more)?;
         let mut needed = made::empty_lists(alloc, more)?;
         let mut awaited = made::empty_lists(alloc, more)?;
-        let seated = extended(alloc, &self.seated, names as usize, 0)?;
+        let sloted = extended(alloc, &self.sloted, names as usize, 0)?;
         made::reserve_each(&mut self.targets, &mut self.needed, &mut self.awaited, more)?;
         let _targets = self.targets.append(&mut targets);
         let _needed = self.needed.append(&mut needed);
         let _awaited = self.awaited.append(&mut awaited);
-        self.seated = seated;
+        self.sloted = sloted;
         Ok(())
     }
 
@@ -94,13 +94,13 @@ impl DepRows {
         ensures count { rows_count self.new ≡ rows_count self.old }
     {
         for &n in names {
-            self.reserve_seat(t, n)?;
+            self.reserve_slot(t, n)?;
         }
         Ok(())
     }
 
     /// Makes room for rows of `t` on `n`.
-    fn reserve_seat(&mut self, t: u32, n: u32) -> Result<(), AllocError>
+    fn reserve_slot(&mut self, t: u32, n: u32) -> Result<(), AllocError>
         requires target { t < rows_count self.old }
         requires name { n < rows_count self.old }
         ensures rows { rows_of self.new ≡ rows_of self.old }
@@ -112,11 +112,11 @@ impl DepRows {
         if self.has_room(t, n) {
             return Ok(());
         }
-        let seats = self.seated[n as usize] + 1;
-        self.needed[n as usize].reserve(seats)?;
-        self.awaited[n as usize].reserve(seats)?;
-        self.targets[t as usize].add_seat(n)?;
-        self.seated[n as usize] = seats;
+        let slots = self.sloted[n as usize] + 1;
+        self.needed[n as usize].reserve(slots)?;
+        self.awaited[n as usize].reserve(slots)?;
+        self.targets[t as usize].add_slot(n)?;
+        self.sloted[n as usize] = slots;
         Ok(())
     }
 
@@ -125,7 +125,7 @@ impl DepRows {
         requires { t < rows_count self.now }
         ensures { result ≡ room_of self.now t n }
     {
-        self.targets[t as usize].has_seat(n)
+        self.targets[t as usize].has_slot(n)
     }
 
     /// A change row of `t` on `n`, in place of an earlier one.
@@ -176,7 +176,7 @@ impl DepRows {
             t,
             &mut self.needed,
             &mut self.awaited,
-            &mut self.seated,
+            &mut self.sloted,
         );
         self.targets[t as usize].clear();
     }
@@ -214,14 +214,14 @@ impl DepRows {
         self.targets[t as usize].names()
     }
 
-    /// The seats of `t`, by their names' ascending numbers: each has the rows of `t` on its name.
-    pub fn seats_of(&self, t: u32) -> &[Seat]
+    /// The slots of `t`, by their names' ascending numbers: each has the rows of `t` on its name.
+    pub fn slots_of(&self, t: u32) -> &[Slot]
         requires { t < rows_count self.now }
-        ensures same { result.now ≡ (target_at self.now t).seats }
+        ensures same { result.now ≡ (target_at self.now t).slots }
         ensures ascending { Ascending result.now }
-        ensures below { (n : ℕ) → has_seat result.now n ≡ true → n < rows_count self.now }
+        ensures below { (n : ℕ) → has_slot result.now n ≡ true → n < rows_count self.now }
     {
-        self.targets[t as usize].seats()
+        self.targets[t as usize].slots()
     }
 
     /// The first name, by ascending number, that has a file now and on which `t` has a created row, or that has another
@@ -234,7 +234,7 @@ impl DepRows {
             (IsNews (with_rows records.now self.now) t) }
         ensures below { IfSome result (λ news. name_of news < rows_count self.now) }
     {
-        first_news(records, self.seats_of(t))
+        first_news(records, self.slots_of(t))
     }
 
     /// The targets with a change row on `n`, by ascending number.

@@ -2,8 +2,8 @@ ghost use Rattle.std.specs.Prelude.{◌≡◌, ◌⊎◌, ◌↔◌, ℕ, ◌+�
 ghost use Rattle.redo_model.specs.Names.{IsListed};
 ghost use Rattle.redo_model.specs.State.{mark_in};
 ghost use Rattle.redo_records.specs.Meaning.{row_mark_of};
-ghost use Rattle.redo_rows.specs.Rows.{bare, seat_at, has_seat, by_number};
-ghost use Rattle.redo_rows.specs.Target.{blank, has_row, HasRowIn, HasChangeBut, Ascending, IsSeatOf, IsGapFor};
+ghost use Rattle.redo_rows.specs.Rows.{bare, slot_at, has_slot, by_number};
+ghost use Rattle.redo_rows.specs.Target.{blank, has_row, HasRowIn, HasChangeBut, Ascending, IsSlotOf, IsGapFor};
 
 use crate::kept_mark::KeptMark;
 use crate::numbers::Numbers;
@@ -14,34 +14,34 @@ use std::mem::size_of;
 
 /// Room for a target's rows on one name, and those of them that there are.
 #[derive(Clone, Copy, Debug)]
-pub struct Seat {
+pub struct Slot {
     name: u32,
     change: Option<KeptMark>,
     created: bool,
 }
 
-// A large store has many seats.
-const _: () = prove!(size_of::<Seat>() <= 72);
+// A large store has many slots.
+const _: () = prove!(size_of::<Slot>() <= 72);
 
-impl Model for Seat {
+impl Model for Slot {
     ghost use Rattle.redo_rows.specs.Rows as rows;
 
-    ghost Value = { rows.Seat };
+    ghost Value = { rows.Slot };
 
-    ghost use Rattle.redo_rows.specs.Seat.{seat_of, fields_for, fields_for-seat_of};
+    ghost use Rattle.redo_rows.specs.Slot.{slot_of, fields_for, fields_for-slot_of};
 
-    ghost view = { seat_of };
+    ghost view = { slot_of };
 
     ghost inverse = { fields_for };
 
-    ghost inverse_ok = { λ seat i. fields_for-seat_of seat };
+    ghost inverse_ok = { λ slot i. fields_for-slot_of slot };
 }
 
-impl Seat {
-    fn blank(name: u32) -> Seat
+impl Slot {
+    fn blank(name: u32) -> Slot
         ensures { result ≡ blank name }
     {
-        Seat {
+        Slot {
             name,
             change: None,
             created: false,
@@ -101,22 +101,22 @@ impl Seat {
     }
 }
 
-/// The place of the name's seat, or that of the gap for it.
-fn search(seats: &[Seat], n: u32) -> Result<usize, usize>
-    requires { Ascending seats.now }
-    ensures found { IfOk result (IsSeatOf seats.now n) }
-    ensures absent { IfErr result (IsGapFor seats.now n) }
+/// The place of the name's slot, or that of the gap for it.
+fn search(slots: &[Slot], n: u32) -> Result<usize, usize>
+    requires { Ascending slots.now }
+    ensures found { IfOk result (IsSlotOf slots.now n) }
+    ensures absent { IfErr result (IsGapFor slots.now n) }
 {
-    seats.binary_search_by_key(&n, |seat| seat.name())
+    slots.binary_search_by_key(&n, |slot| slot.name())
 }
 
-/// Where the name's seat stands, or where it would go.
-fn place_of(seats: &[Seat], n: u32) -> usize
-    requires { Ascending seats.now }
-    ensures there { has_seat seats.now n ≡ true → IsSeatOf seats.now n result }
-    ensures absent { has_seat seats.now n ≡ false → IsGapFor seats.now n result }
+/// Where the name's slot stands, or where it would go.
+fn slot_place(slots: &[Slot], n: u32) -> usize
+    requires { Ascending slots.now }
+    ensures there { has_slot slots.now n ≡ true → IsSlotOf slots.now n result }
+    ensures absent { has_slot slots.now n ≡ false → IsGapFor slots.now n result }
 {
-    match search(seats, n) {
+    match search(slots, n) {
         Ok(place) => place,
         Err(place) => place,
     }
@@ -138,7 +138,7 @@ fn list_name(names: &mut Numbers, n: u32, listed: bool)
 /// The rows of one target, and the room for more.
 #[derive(Drop)]
 pub struct Target {
-    seats: Vec<Seat>,
+    slots: Vec<Slot>,
     names: Numbers,
     always: bool,
 }
@@ -149,9 +149,9 @@ impl Model for Target {
 
     ghost Value = { TargetRows };
 
-    ghost view = { λ inside. record { seats = inside.seats.items; always = inside.always } };
+    ghost view = { λ inside. record { slots = inside.slots.items; always = inside.always } };
 
-    ghost invariant = { λ inside. IsKept inside.seats.items inside.names };
+    ghost invariant = { λ inside. IsKept inside.slots.items inside.names };
 }
 
 impl Target {
@@ -160,46 +160,46 @@ impl Target {
         ensures { result ≡ bare }
     {
         Target {
-            seats: Vec::new(alloc),
+            slots: Vec::new(alloc),
             names: Numbers::new(alloc),
             always: false,
         }
     }
 
-    fn find(&self, n: u32) -> Option<&Seat>
-        ensures there { is_some result ≡ has_seat self.now.seats n }
-        ensures seat { MatchOption result (seat_at self.now.seats n ≡ blank n)
-            (λ seat. seat.now ≡ seat_at self.now.seats n) }
+    fn find(&self, n: u32) -> Option<&Slot>
+        ensures there { is_some result ≡ has_slot self.now.slots n }
+        ensures slot { MatchOption result (slot_at self.now.slots n ≡ blank n)
+            (λ slot. slot.now ≡ slot_at self.now.slots n) }
     {
-        match search(self.seats.as_slice(), n) {
-            Ok(place) => Some(&self.seats[place]),
+        match search(self.slots.as_slice(), n) {
+            Ok(place) => Some(&self.slots[place]),
             Err(_) => None,
         }
     }
 
     /// Whether there is room for rows on the name.
-    pub fn has_seat(&self, n: u32) -> bool
-        ensures { result ≡ has_seat self.now.seats n }
+    pub fn has_slot(&self, n: u32) -> bool
+        ensures { result ≡ has_slot self.now.slots n }
     {
         self.find(n).is_some()
     }
 
     /// The mark of the change row on the name.
     pub fn change_of(&self, n: u32) -> Option<Mark>
-        ensures { option_map row_mark_of result ≡ (seat_at self.now.seats n).change }
+        ensures { option_map row_mark_of result ≡ (slot_at self.now.slots n).change }
     {
         match self.find(n) {
-            Some(seat) => seat.change(),
+            Some(slot) => slot.change(),
             None => None,
         }
     }
 
     /// Whether there is a created row on the name.
     pub fn created(&self, n: u32) -> bool
-        ensures { result ≡ (seat_at self.now.seats n).created }
+        ensures { result ≡ (slot_at self.now.slots n).created }
     {
         match self.find(n) {
-            Some(seat) => seat.created(),
+            Some(slot) => slot.created(),
             None => false,
         }
     }
@@ -213,67 +213,67 @@ impl Target {
 
     /// The names with a row, by ascending number.
     pub fn names(&self) -> &[u32]
-        ensures listed { IsListed by_number (λ n. HasRowIn self.now.seats n) result.now }
+        ensures listed { IsListed by_number (λ n. HasRowIn self.now.slots n) result.now }
     {
         self.names.as_slice()
     }
 
-    /// The seats, by their names' ascending numbers.
-    pub fn seats(&self) -> &[Seat]
-        ensures same { result.now ≡ self.now.seats }
+    /// The slots, by their names' ascending numbers.
+    pub fn slots(&self) -> &[Slot]
+        ensures same { result.now ≡ self.now.slots }
         ensures ascending { Ascending result.now }
     {
-        self.seats.as_slice()
+        self.slots.as_slice()
     }
 
     /// Makes room for rows on a name. No other call takes memory.
-    pub fn add_seat(&mut self, n: u32) -> Result<(), AllocError>
-        requires new { has_seat self.old.seats n ≡ false }
-        ensures rows { (k : ℕ) → seat_at self.new.seats k ≡ seat_at self.old.seats k }
+    pub fn add_slot(&mut self, n: u32) -> Result<(), AllocError>
+        requires new { has_slot self.old.slots n ≡ false }
+        ensures rows { (k : ℕ) → slot_at self.new.slots k ≡ slot_at self.old.slots k }
         ensures always { self.new.always ≡ self.old.always }
         ensures made { OnOk result
-            ((k : ℕ) → has_seat self.new.seats k ≡ (k == n || has_seat self.old.seats k)) }
+            ((k : ℕ) → has_slot self.new.slots k ≡ (k == n || has_slot self.old.slots k)) }
         ensures err { OnErr result (self.new ≡ self.old) }
     {
-        self.names.reserve(self.seats.len() + 1)?;
-        let place = place_of(self.seats.as_slice(), n);
-        Ok(self.seats.insert(place, Seat::blank(n))?)
+        self.names.reserve(self.slots.len() + 1)?;
+        let place = slot_place(self.slots.as_slice(), n);
+        Ok(self.slots.insert(place, Slot::blank(n))?)
     }
 
-    /// A change row on a name with a seat, in place of an earlier one. Answers whether there was one.
+    /// A change row on a name with a slot, in place of an earlier one. Answers whether there was one.
     pub fn put_change(&mut self, n: u32, mark: Mark) -> bool
-        requires { has_seat self.old.seats n ≡ true }
-        ensures was { result ≡ is_some (seat_at self.old.seats n).change }
+        requires { has_slot self.old.slots n ≡ true }
+        ensures was { result ≡ is_some (slot_at self.old.slots n).change }
         ensures rows { (k : ℕ)
-            → seat_at self.new.seats k ≡ (if n == k then record (seat_at self.old.seats k)
-            { change = Some (row_mark_of mark) } else seat_at self.old.seats k) }
-        ensures room { (k : ℕ) → has_seat self.new.seats k ≡ has_seat self.old.seats k }
+            → slot_at self.new.slots k ≡ (if n == k then record (slot_at self.old.slots k)
+            { change = Some (row_mark_of mark) } else slot_at self.old.slots k) }
+        ensures room { (k : ℕ) → has_slot self.new.slots k ≡ has_slot self.old.slots k }
         ensures always { self.new.always ≡ self.old.always }
     {
-        let place = place_of(self.seats.as_slice(), n);
-        let seat = &mut self.seats[place];
-        let was = seat.has_change();
-        let listed = seat.has_row();
-        seat.put_change(mark);
+        let place = slot_place(self.slots.as_slice(), n);
+        let slot = &mut self.slots[place];
+        let was = slot.has_change();
+        let listed = slot.has_row();
+        slot.put_change(mark);
         list_name(&mut self.names, n, listed);
         was
     }
 
-    /// A created row on a name with a seat. Answers whether there was one.
+    /// A created row on a name with a slot. Answers whether there was one.
     pub fn put_created(&mut self, n: u32) -> bool
-        requires { has_seat self.old.seats n ≡ true }
-        ensures was { result ≡ (seat_at self.old.seats n).created }
+        requires { has_slot self.old.slots n ≡ true }
+        ensures was { result ≡ (slot_at self.old.slots n).created }
         ensures rows { (k : ℕ)
-            → seat_at self.new.seats k ≡ (if n == k then record (seat_at self.old.seats k)
-            { created = true } else seat_at self.old.seats k) }
-        ensures room { (k : ℕ) → has_seat self.new.seats k ≡ has_seat self.old.seats k }
+            → slot_at self.new.slots k ≡ (if n == k then record (slot_at self.old.slots k)
+            { created = true } else slot_at self.old.slots k) }
+        ensures room { (k : ℕ) → has_slot self.new.slots k ≡ has_slot self.old.slots k }
         ensures always { self.new.always ≡ self.old.always }
     {
-        let place = place_of(self.seats.as_slice(), n);
-        let seat = &mut self.seats[place];
-        let was = seat.created();
-        let listed = seat.has_row();
-        seat.put_created();
+        let place = slot_place(self.slots.as_slice(), n);
+        let slot = &mut self.slots[place];
+        let was = slot.created();
+        let listed = slot.has_row();
+        slot.put_created();
         list_name(&mut self.names, n, listed);
         was
     }
@@ -289,7 +289,7 @@ impl Target {
     pub fn clear(&mut self)
         ensures { self.new ≡ bare }
     {
-        self.seats.clear();
+        self.slots.clear();
         self.names.clear();
         self.always = false;
     }

@@ -3,7 +3,7 @@ use Rattle.std.proofs.Common.{◌≡◌, ℕ, ◌≤◌, None, sym, ap, subst}
 use Rattle.std.proofs.lemmas.List.{get_or_past}
 use Rattle.redo_model.specs.Inside.Unknown.{IsUnknown}
 use Rattle.redo_model.specs.State.{idle}
-use Rattle.redo_rows.specs.Rows.{TargetRows, bare, seat_at, target_at}
+use Rattle.redo_rows.specs.Rows.{TargetRows, bare, slot_at, target_at}
 use Rattle.redo_store.specs.Stored.{IsStored}
 use Rattle.redo_store.specs.Tables.{Tables, AreTables, state_of, tables_count}
 
@@ -15,8 +15,8 @@ unknown_past tables stored are n past =
     get_or_past rows n bare (subst (λ k. k ≤ n) (sym stored.rows_for_each) past) in
     record {
       cell = get_or_past tables.store.cells n idle past;
-      change = λ m. ap (λ (t : TargetRows). (seat_at t.seats m).change) bare_there;
-      created = λ m. ap (λ (t : TargetRows). (seat_at t.seats m).created) bare_there;
+      change = λ m. ap (λ (t : TargetRows). (slot_at t.slots m).change) bare_there;
+      created = λ m. ap (λ (t : TargetRows). (slot_at t.slots m).created) bare_there;
       always = ap (λ (t : TargetRows). t.always) bare_there;
       holder = get_or_past tables.holders n None
           (subst (λ k. k ≤ n) (sym are.holder_for_each) past);

@@ -14,7 +14,7 @@ use std::alloc::{AllocError, Global};
 use std::marker::Model;
 
 mod questions;
-mod slots;
+mod spare;
 mod steps;
 
 /// The database with its locks, for one thread. Names are numbers below the number of names it was made for.

@@ -23,7 +23,7 @@ pub(crate) mod lists;
 mod questions;
 mod refusals;
 mod room;
-mod slots;
+mod spare;
 mod stale;
 
 /// The database without its locks, for one thread. Names are numbers below the number of names it was made for.

@@ -14,7 +14,7 @@ use Rattle.redo_text.proofs.Inquired.{asked_of_command}
 use Rattle.redo_history.specs.Histories.{line_text_of}
 use Rattle.redo_live.specs.Answers.{AnswersInquiry}
 use Rattle.redo_live.specs.Inside.LiveState.{LiveState, state_in, IsAsKnown}
-use Rattle.redo_live.specs.Inside.Told.{AnswersText, EndsSession, IsCause}
+use Rattle.redo_live.specs.Inside.Told.{AnswersText, EndsSession, IsUnansweredFor}
 use Rattle.redo_live.specs.Inside.Withheld.{WouldAnswer, WouldEnd, IsWithheldFor, IsUnendedFor}
 use Rattle.redo_live.specs.declared.fault.Unanswered.{Unanswered as Why}
 use Rattle.redo_live.specs.declared.fault.Unanswered.TheVariants.{Memory, Worn, Fault}
@@ -30,7 +30,7 @@ use Rattle.redo_talk.proofs.Steps.{answering_step, ending_step, telling_step, he
 
 -- why a command is refused
 pub command_cause : (live : LiveState) (text : Text) (why : Why)
-    → inquiry_in (words_of text) ≡ None → IsCause live text why → IsRefusedFor live.names text why
+    → inquiry_in (words_of text) ≡ None → IsUnansweredFor live text why → IsRefusedFor live.names text why
 command_cause live text Memory none cause = tt
 command_cause live text Worn none cause = tt
 command_cause live text (Fault fault) none cause =

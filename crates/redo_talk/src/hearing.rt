@@ -6,7 +6,7 @@ ghost use Rattle.redo_talk.specs.Rounds.{Round, fault_text_of};
 ghost use Rattle.redo_talk.specs.Logs.{logged_of};
 ghost use Rattle.redo_talk.specs.Inside.Steps.{IsStep, Refusing};
 ghost use Rattle.redo_talk.specs.Inside.KeptLines.{IsHeardOf, IsFrontOf, kept_of};
-ghost use Rattle.redo_talk.specs.Inside.Hearing.{GoesOn, GoesOnInLine, BreaksOff, known_of, place_of};
+ghost use Rattle.redo_talk.specs.Inside.Hearing.{GoesOn, GoesOnInLine, BreaksOff, known_of, as_place};
 
 use crate::asked::asked;
 use crate::fault::Refusal;
@@ -90,12 +90,12 @@ fn respond<L: Write, W: Write>(
     out: &mut Watched<W>,
 ) -> Result<(), WriteFault>
     ensures talk { OnOk result ((whole more : Text) → IsHeardOf whole line.now → GoesOn
-        (place_of live.old (known_in L.contents log.old) (known_in W.contents out.old) unsent.old)
-        (place_of live.new (known_in L.contents log.new) (known_in W.contents out.new) unsent.new)
+        (as_place live.old (known_in L.contents log.old) (known_in W.contents out.old) unsent.old)
+        (as_place live.new (known_in L.contents log.new) (known_in W.contents out.new) unsent.new)
         (ended whole ++ more) more) }
     ensures broken { OnErr result ((whole more : Text) → IsHeardOf whole line.now → BreaksOff
-        (place_of live.old (known_in L.contents log.old) (known_in W.contents out.old) unsent.old)
-        (place_of live.new (known_in L.contents log.new) (known_in W.contents out.new) unsent.new)
+        (as_place live.old (known_in L.contents log.old) (known_in W.contents out.old) unsent.old)
+        (as_place live.new (known_in L.contents log.new) (known_in W.contents out.new) unsent.new)
         (ended whole ++ more)) }
 {
     match answer(alloc, live, line, unsent) {
@@ -117,12 +117,12 @@ fn respond_to_piece<L: Write, W: Write>(
     requires room { MOST_KEPT ≤ vec_capacity front.old }
     requires few { length front.old.items ≤ MOST_KEPT }
     ensures talk { OnOk result ((begun more : Text) → IsFrontOf begun front.old.items → GoesOn
-        (place_of live.old (known_in L.contents log.old) (known_in W.contents out.old) unsent.old)
-        (place_of live.new (known_in L.contents log.new) (known_in W.contents out.new) unsent.new)
+        (as_place live.old (known_in L.contents log.old) (known_in W.contents out.old) unsent.old)
+        (as_place live.new (known_in L.contents log.new) (known_in W.contents out.new) unsent.new)
         (ended (begun ++ piece.now) ++ more) more) }
     ensures broken { OnErr result ((begun more : Text) → IsFrontOf begun front.old.items → BreaksOff
-        (place_of live.old (known_in L.contents log.old) (known_in W.contents out.old) unsent.old)
-        (place_of live.new (known_in L.contents log.new) (known_in W.contents out.new) unsent.new)
+        (as_place live.old (known_in L.contents log.old) (known_in W.contents out.old) unsent.old)
+        (as_place live.new (known_in L.contents log.new) (known_in W.contents out.new) unsent.new)
         (ended (begun ++ piece.now) ++ more)) }
     ensures room { MOST_KEPT ≤ vec_capacity front.new }
     ensures none { OnOk result (front.new.items ≡ []) }
@@ -144,12 +144,12 @@ fn send_much<L: Write, W: Write>(
     out: &mut Watched<W>,
 ) -> Result<(), WriteFault>
     ensures talk { OnOk result ((more : Text) → GoesOn
-        (place_of live.now (known_in L.contents log.old) (known_in W.contents out.old) unsent.old)
-        (place_of live.now (known_in L.contents log.new) (known_in W.contents out.new) unsent.new)
+        (as_place live.now (known_in L.contents log.old) (known_in W.contents out.old) unsent.old)
+        (as_place live.now (known_in L.contents log.new) (known_in W.contents out.new) unsent.new)
         more more) }
     ensures broken { OnErr result ((more : Text) → BreaksOff
-        (place_of live.now (known_in L.contents log.old) (known_in W.contents out.old) unsent.old)
-        (place_of live.now (known_in L.contents log.new) (known_in W.contents out.new) unsent.new)
+        (as_place live.now (known_in L.contents log.old) (known_in W.contents out.old) unsent.old)
+        (as_place live.now (known_in L.contents log.new) (known_in W.contents out.new) unsent.new)
         more) }
 {
     if unsent.is_much() {
@@ -171,12 +171,12 @@ pub(crate) fn hear<L: Write, W: Write>(
     requires room { MOST_KEPT ≤ vec_capacity front.old }
     requires few { length front.old.items ≤ MOST_KEPT }
     ensures talk { OnOk result ((begun : Text) → IsFrontOf begun front.old.items → GoesOnInLine
-        (place_of live.old (known_in L.contents log.old) (known_in W.contents out.old) unsent.old)
-        (place_of live.new (known_in L.contents log.new) (known_in W.contents out.new) unsent.new)
+        (as_place live.old (known_in L.contents log.old) (known_in W.contents out.old) unsent.old)
+        (as_place live.new (known_in L.contents log.new) (known_in W.contents out.new) unsent.new)
         (begun ++ bytes.now) front.new.items []) }
     ensures broken { OnErr result ((begun : Text) → IsFrontOf begun front.old.items → BreaksOff
-        (place_of live.old (known_in L.contents log.old) (known_in W.contents out.old) unsent.old)
-        (place_of live.new (known_in L.contents log.new) (known_in W.contents out.new) unsent.new)
+        (as_place live.old (known_in L.contents log.old) (known_in W.contents out.old) unsent.old)
+        (as_place live.new (known_in L.contents log.new) (known_in W.contents out.new) unsent.new)
         (begun ++ bytes.now)) }
     ensures room { MOST_KEPT ≤ vec_capacity front.new }
     ensures few { OnOk result (length front.new.items ≤ MOST_KEPT) }

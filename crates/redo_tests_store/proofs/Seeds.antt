@@ -9,7 +9,7 @@ use Rattle.redo_model.specs.Inside.OutOfDate.{DifferAt}
 use Rattle.redo_model.specs.Renaming.{AllBelow}
 use Rattle.redo_model.specs.State.{Cell, empty, idle}
 use Rattle.redo_records.specs.Cells.{cell_at}
-use Rattle.redo_rows.specs.Rows.{TargetRows, bare, rows_count, with_rows, seat_at, target_at}
+use Rattle.redo_rows.specs.Rows.{TargetRows, bare, rows_count, with_rows, slot_at, target_at}
 use Rattle.redo_ood.proofs.Listing.{each_below}
 
 numbered : (count n : ℕ) → n < count → Contains (range_with_len 0 count) n
@@ -50,8 +50,8 @@ module _ (count : ℕ) (cells : List Cell) (rows : List TargetRows)
   differ_everywhere = record {
     cell = λ n far. idle_past n (past n far);
     change = λ t n far.
-        ap (λ (target : TargetRows). (seat_at target.seats n).change) (bare_past t (past t far));
+        ap (λ (target : TargetRows). (slot_at target.slots n).change) (bare_past t (past t far));
     created = λ t n far.
-        ap (λ (target : TargetRows). (seat_at target.seats n).created) (bare_past t (past t far));
+        ap (λ (target : TargetRows). (slot_at target.slots n).created) (bare_past t (past t far));
     always = λ t far. ap (λ (target : TargetRows). target.always) (bare_past t (past t far));
   }

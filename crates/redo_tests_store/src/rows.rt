@@ -66,10 +66,10 @@ fn check_rows(rt: &impl Abort, rows: &DepRows)
     assert!(rt; rows.of(0) == [1, 2].as_slice());
     assert!(rt; rows.change_of(0, 1) == Some(Mark::Absent));
     assert!(rt; rows.change_of(0, 2).is_none());
-    let seats = rows.seats_of(0);
-    assert!(rt; seats.len() == 2);
-    assert!(rt; seats[0].name() == 1 && seats[0].has_change() && !seats[0].created());
-    assert!(rt; seats[1].name() == 2 && !seats[1].has_change() && seats[1].created());
+    let slots = rows.slots_of(0);
+    assert!(rt; slots.len() == 2);
+    assert!(rt; slots[0].name() == 1 && slots[0].has_change() && !slots[0].created());
+    assert!(rt; slots[1].name() == 2 && !slots[1].has_change() && slots[1].created());
     assert!(rt; rows.created(0, 2) && !rows.created(0, 1));
     assert!(rt; rows.always(0) && !rows.always(3));
     assert!(rt; !rows.has_room(3, 2));

@@ -33,4 +33,4 @@ pub record IsKept (names : List Text) (st : State ℕ) (calls : ℕ) : Type 0 wh
 
 pub record KeepsLive (inside : Inside) : Type 0 where
   pub state : IsKept inside.names (state_of inside.redo) (calls_of inside.redo)
-  pub slots : inside.slots ≡ tables_count inside.redo
+  pub numbers : inside.numbers ≡ tables_count inside.redo

@@ -28,10 +28,10 @@ unread read.Memory = Memory
 unread (read.Line number fault) = Fault fault
 
 -- the cause: the line's fault, or that fewer calls are left than closing may take
-abbrev pub IsCause : LiveState → Text → Unanswered → Type 0
-IsCause live text Memory = ⊤
-IsCause live text Worn = 4294836223 ≤ calls_in live
-IsCause live text (Fault fault) = line_fault live.names text ≡ Some fault
+abbrev pub IsUnansweredFor : LiveState → Text → Unanswered → Type 0
+IsUnansweredFor live text Memory = ⊤
+IsUnansweredFor live text Worn = 4294836223 ≤ calls_in live
+IsUnansweredFor live text (Fault fault) = line_fault live.names text ≡ Some fault
 
 -- the line has the database's reply to the session's command, with its names in the order of their
 -- texts, and this is its text

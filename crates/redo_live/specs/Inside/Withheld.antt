@@ -11,7 +11,7 @@ use Rattle.redo_text.specs.Grammar.{IsCommandLine, AddsNames}
 use Rattle.redo_history.specs.Histories.{line_text_of}
 use Rattle.redo_live.specs.Inside.Ended.{IsEnded, end_text}
 use Rattle.redo_live.specs.Inside.LiveState.{LiveState, state_in}
-use Rattle.redo_live.specs.Inside.Told.{IsCause}
+use Rattle.redo_live.specs.Inside.Told.{IsUnansweredFor}
 use Rattle.redo_live.specs.declared.fault.Unanswered.TheVariants.{Memory}
 use Rattle.redo_live.specs.declared.fault.Withheld.{Withheld}
 use Rattle.redo_live.specs.declared.fault.Withheld.TheVariants.{Unanswered, TooLong}
@@ -44,7 +44,7 @@ pub record WouldAnswer (live : LiveState) (session : ℕ) (text : Text) (size : 
 
 -- the cause, or that line is longer than what was given
 abbrev pub IsWithheldFor : LiveState → ℕ → Text → ℕ → Withheld → Type 0
-IsWithheldFor live session text most (Unanswered why) = IsCause live text why
+IsWithheldFor live session text most (Unanswered why) = IsUnansweredFor live text why
 IsWithheldFor live session text most (TooLong size) =
     (most < size) × WouldAnswer live session text size
 

@@ -18,8 +18,8 @@ pub record Place : Type 0 where
   pub out : Option Text
   pub waiting : Waiting
 
-abbrev pub place_of : LiveState → Option Text → Option Text → Unsent → Place
-place_of live log out unsent = record {
+abbrev pub as_place : LiveState → Option Text → Option Text → Unsent → Place
+as_place live log out unsent = record {
   known = known_of live;
   log = log;
   out = out;

@@ -1,6 +1,6 @@
 use Rattle.std.proofs.Common.{◌+◌, take}
 use Rattle.std.specs.List.{Contains}
-use Rattle.redo_ood.specs.Marks.{Enters}
+use Rattle.redo_ood.specs.NameSet.{Enters}
 use Rattle.redo_ood.proofs.Marking.{at_take_all, enters_then, one_more}
 use Rattle.redo_ood.proofs.region.enter_each.Goals as goal
 

@@ -1,6 +1,6 @@
 use Rattle.std.proofs.Common.{◌↔◌, ◌∙◌, IsTrue, sym, get_or}
 use Rattle.std.specs.List.{Contains}
-use Rattle.redo_ood.specs.Marks.{IsMarked, Enters}
+use Rattle.redo_ood.specs.NameSet.{IsMarked, Enters}
 use Rattle.redo_ood.proofs.Marking.{at_take_all, enters_one_more}
 use Rattle.redo_ood.proofs.region.enter_marked.Goals as goal
 

@@ -1,5 +1,5 @@
 use Rattle.redo_rows.specs.Rows.{with_rows}
-use Rattle.redo_ood.specs.Marks.{Enters}
+use Rattle.redo_ood.specs.NameSet.{Enters}
 use Rattle.redo_ood.proofs.Marking.{at_take_all}
 use Rattle.redo_ood.proofs.Spreading.{Touches, touches_more}
 use Rattle.redo_ood.proofs.region.enter_touched.Goals as goal

@@ -2,16 +2,16 @@ use Rattle.std.proofs.Common.{◌≡◌, ◌<◌, ◌≤◌, ◌∙◌, [], IsTr
 use Rattle.std.proofs.lemmas.Bool.{false≢true}
 use Rattle.std.proofs.lemmas.List.{append-nil, get_or-map, length-map}
 use Rattle.redo_model.specs.OutOfDate.{IsTarget}
-use Rattle.redo_rows.specs.Rows.{Seat, with_rows, rows_count}
-use Rattle.redo_rows.proofs.Walked.{seat_names, name_below_all, row_of_seat, name_of_row}
-use Rattle.redo_ood.specs.Marks.{size_of}
+use Rattle.redo_rows.specs.Rows.{Slot, with_rows, rows_count}
+use Rattle.redo_rows.proofs.Walked.{slot_names, name_below_all, row_of_slot, name_of_row}
+use Rattle.redo_ood.specs.NameSet.{size_of}
 use Rattle.redo_ood.specs.Search.{IsSearch}
 use Rattle.redo_ood.proofs.Marking.{at_take_all}
 use Rattle.redo_ood.proofs.Searching.{StepsPartly, partly_begun, partly_more, partly_done, finds_sized, finds_behind, due_at}
 use Rattle.redo_ood.proofs.why.find_needs.Goals as goal
 
-pub loop-seat-init : goal.loop-seat-init
-loop-seat-init c =
+pub loop-slot-init : goal.loop-slot-init
+loop-slot-init c =
     let queue = c.args.seen.now.queue in
     record {
       sized = refl;
@@ -24,9 +24,9 @@ pub needs_marked-is_due-requires : goal.needs_marked-is_due-requires
 needs_marked-is_due-requires c = omega (
   arith,
   c.requires.out,
-  name_below_all c.seats_of-seat-items.result.now (rows_count c.args.rows.now)
-      c.loop-seat.seat-index c.seat-item.result c.seats_of-seat-items.ensures.ascending
-      c.seats_of-seat-items.ensures.below c.loop-seat-test.true c.seat-item.is,
+  name_below_all c.slots_of-slot-items.result.now (rows_count c.args.rows.now)
+      c.loop-slot.slot-index c.slot-item.result c.slots_of-slot-items.ensures.ascending
+      c.slots_of-slot-items.ensures.below c.loop-slot-test.true c.slot-item.is,
 )
 
 pub find_if-requires : goal.find_if-requires
@@ -34,76 +34,76 @@ find_if-requires c = omega (
   arith,
   c.name.ensures,
   c.requires.sized,
-  c.loop-seat.invariant.sized,
-  name_below_all c.seats_of-seat-items.result.now (rows_count c.args.rows.now)
-      c.loop-seat.seat-index c.seat-item.result c.seats_of-seat-items.ensures.ascending
-      c.seats_of-seat-items.ensures.below c.loop-seat-test.true c.seat-item.is,
+  c.loop-slot.invariant.sized,
+  name_below_all c.slots_of-slot-items.result.now (rows_count c.args.rows.now)
+      c.loop-slot.slot-index c.slot-item.result c.slots_of-slot-items.ensures.ascending
+      c.slots_of-slot-items.ensures.below c.loop-slot-test.true c.slot-item.is,
 )
 
-pub loop-seat-preserved : goal.loop-seat-preserved
-loop-seat-preserved c =
+pub loop-slot-preserved : goal.loop-slot-preserved
+loop-slot-preserved c =
     let r = with_rows c.args.records.now c.args.rows.now in
     let out = c.args.out.now in
     let queue = c.args.seen.now.queue in
     let t = c.queued-t.result in
-    let seats = c.seats_of-seat-items.result.now in
-    let given = c.seats_of-seat-items.ensures in
-    let k = c.loop-seat.seat-index in
-    let in' = c.loop-seat-test.true in
-    let seat = c.seat-item.result in
+    let slots = c.slots_of-slot-items.result.now in
+    let given = c.slots_of-slot-items.ensures in
+    let k = c.loop-slot.slot-index in
+    let in' = c.loop-slot-test.true in
+    let slot = c.slot-item.result in
     let n = c.name.result in
-    let a = c.loop-seat.seen in
+    let a = c.loop-slot.seen in
     let b = c.find_if.new.seen in
-    let ps = c.loop-seat.parents.items in
+    let ps = c.loop-slot.parents.items in
     let qs = c.find_if.new.parents.items in
     let from = c.args.from in
     let P = IsTrue c.needs_marked-is_due.result in
     let finds = c.in_ok-find_if.ensures.found in
-    let sized = c.loop-seat.invariant.sized in
-    let under : seat.name < rows_count c.args.rows.now =
-    name_below_all seats (rows_count c.args.rows.now) k seat given.ascending given.below in'
-    c.seat-item.is in
+    let sized = c.loop-slot.invariant.sized in
+    let under : slot.name < rows_count c.args.rows.now =
+    name_below_all slots (rows_count c.args.rows.now) k slot given.ascending given.below in'
+    c.slot-item.is in
     let below : n < size_of a = omega (arith, c.name.ensures, c.requires.sized, sized, under) in
     let target : IsTarget r t = c.is_target.ensures.0 c.if-is_target.true in
-    let behind = c.loop-seat.invariant.behind in
-    let within : k < length (seat_names seats) =
-    omega (arith, in', length-map seats (λ (s : Seat). s.name)) in
-    let named : get_or (seat_names seats) k 0 ≡ n =
-    get_or-map (λ (s : Seat). s.name) seats k seat 0 in'
-    ∙ sym (c.name.ensures ∙ ap (λ (s : Seat). s.name) c.seat-item.is) in
-    let row : r.rows.change t n ≡ seat.change =
+    let behind = c.loop-slot.invariant.behind in
+    let within : k < length (slot_names slots) =
+    omega (arith, in', length-map slots (λ (s : Slot). s.name)) in
+    let named : get_or (slot_names slots) k 0 ≡ n =
+    get_or-map (λ (s : Slot). s.name) slots k slot 0 in'
+    ∙ sym (c.name.ensures ∙ ap (λ (s : Slot). s.name) c.slot-item.is) in
+    let row : r.rows.change t n ≡ slot.change =
     ap (r.rows.change t) c.name.ensures
-    ∙ row_of_seat c.args.rows.now t seats given.same given.ascending k seat in' c.seat-item.is in
-    let due = due_at P out (r.rows.change t n) seat.change n seat.name row c.name.ensures
+    ∙ row_of_slot c.args.rows.now t slots given.same given.ascending k slot in' c.slot-item.is in
+    let due = due_at P out (r.rows.change t n) slot.change n slot.name row c.name.ensures
     c.needs_marked-is_due.ensures in
     record {
       sized = finds_sized P n from a b ps qs finds ∙ sized;
       behind = finds_behind P n from queue a b ps qs finds behind;
       search = partly_more r out queue from t c.requires.from c.queued-t.ensures.name
-          (seat_names seats) k n a b ps qs behind.0 P within named below behind.1 target due finds
-          c.loop-seat.invariant.search;
+          (slot_names slots) k n a b ps qs behind.0 P within named below behind.1 target due finds
+          c.loop-slot.invariant.search;
     }
 
-pub returns-after-loop-seat-clause-search : goal.returns-after-loop-seat-clause-search
-returns-after-loop-seat-clause-search c =
+pub returns-after-loop-slot-clause-search : goal.returns-after-loop-slot-clause-search
+returns-after-loop-slot-clause-search c =
     let r = with_rows c.args.records.now c.args.rows.now in
     let out = c.args.out.now in
     let queue = c.args.seen.now.queue in
     let from = c.args.from in
     let t = c.queued-t.result in
-    let seats = c.seats_of-seat-items.result.now in
-    let given = c.seats_of-seat-items.ensures in
-    let names = seat_names seats in
-    let seen = c.loop-seat.seen in
-    let parents = c.loop-seat.parents.items in
-    let behind = c.loop-seat.invariant.behind in
-    let end : length names ≤ c.loop-seat.seat-index =
-    omega (arith, c.loop-seat-test.false, length-map seats (λ (s : Seat). s.name)) in
+    let slots = c.slots_of-slot-items.result.now in
+    let given = c.slots_of-slot-items.ensures in
+    let names = slot_names slots in
+    let seen = c.loop-slot.seen in
+    let parents = c.loop-slot.parents.items in
+    let behind = c.loop-slot.invariant.behind in
+    let end : length names ≤ c.loop-slot.slot-index =
+    omega (arith, c.loop-slot-test.false, length-map slots (λ (s : Slot). s.name)) in
     let whole = at_take_all (λ ns. IsSearch r (StepsPartly r out queue from t ns) from seen parents)
-    names c.loop-seat.seat-index end c.loop-seat.invariant.search in
+    names c.loop-slot.slot-index end c.loop-slot.invariant.search in
     partly_done r out queue from t c.requires.from c.queued-t.ensures.name names seen parents
     behind.0 behind.1
-    (λ _ n has. name_of_row c.args.rows.now t seats given.same given.ascending n has) whole
+    (λ _ n has. name_of_row c.args.rows.now t slots given.same given.ascending n has) whole
 
 pub returns-else-is_target-clause-search : goal.returns-else-is_target-clause-search
 returns-else-is_target-clause-search c =

@@ -1,15 +1,15 @@
 use Rattle.std.proofs.Common.{◌≡◌, ◌++◌, List, ℕ, take}
 use Rattle.redo_rows.specs.Rows.{with_rows}
-use Rattle.redo_rows.proofs.Walked.{seat_names}
-use Rattle.redo_ood.specs.Marks.{size_of}
+use Rattle.redo_rows.proofs.Walked.{slot_names}
+use Rattle.redo_ood.specs.NameSet.{size_of}
 use Rattle.redo_ood.specs.Search.{IsSearch}
 use Rattle.redo_ood.proofs.Searching.{StepsPartly}
 use Rattle.redo_ood.proofs.why.find_needs.Given as goal
 
-abbrev pub invariant-loop-seat : goal.invariant-loop-seat
-invariant-loop-seat l =
+abbrev pub invariant-loop-slot : goal.invariant-loop-slot
+invariant-loop-slot l =
     let r = with_rows l.records l.rows in
-    let names = take l.seat-index (seat_names l.seat-items) in
+    let names = take l.slot-index (slot_names l.slot-items) in
     record {
       sized : size_of l.seen ≡ size_of l.fn.seen;
       behind : (ns : List ℕ) × (l.seen.queue ≡ l.fn.seen.queue ++ ns);

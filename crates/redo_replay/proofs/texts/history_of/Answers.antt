@@ -4,7 +4,7 @@ use Rattle.redo_model.specs.Names.{Text}
 use Rattle.redo_whole.specs.Watched.{has_failed, inner_of}
 use Rattle.redo_history.specs.HistoryTexts.{IsHistory}
 use Rattle.redo_history.specs.HistoryFaults.{IsHistoryFault}
-use Rattle.redo_replay.proofs.Inputs.{whole_known, memory_alone, read_alone, IsCause-read}
+use Rattle.redo_replay.proofs.Inputs.{whole_known, memory_alone, read_alone, IsReplayCause-read}
 use Rattle.redo_replay.proofs.texts.history_of.Goals as goal
 
 pub returns-in_err-read_history-clause-only : goal.returns-in_err-read_history-clause-only
@@ -22,7 +22,7 @@ returns-in_err-read_history-clause-cause g c =
     let fault = c.in_err-read_history.field-0.0 in
     let is = subst (λ (input : Text). IsHistoryFault input fault) c.deref.ensures.value
     c.in_err-read_history.ensures.fault in
-    let cause = IsCause-read (g.R.Read.remaining (inner_of c.args.input.now)) c.in-Ok.bytes.items
+    let cause = IsReplayCause-read (g.R.Read.remaining (inner_of c.args.input.now)) c.in-Ok.bytes.items
     (has_failed c.args.input.now c.read_whole.new.reader) false fault c.in-Ok.ensures.whole c.in-Ok.ensures.few
     is in
     let p = err_from_is_err_and c.from_residual.result c.from_residual.ensures.1 in

@@ -1,14 +1,14 @@
 use Rattle.std.proofs.Common.{rules}
 use Rattle.std.proofs.lemmas.List.Sorted.{answers_always}
-use Rattle.redo_rows.specs.Rows.{Seat}
-use Rattle.redo_rows.proofs.Seats.{searched}
+use Rattle.redo_rows.specs.Rows.{Slot}
+use Rattle.redo_rows.proofs.Slots.{searched}
 use Rattle.redo_rows.proofs.target.search.Goals as goal
 
--- the closure gives a seat's name
+-- the closure gives a slot's name
 pub returns : goal.returns
 returns c =
     let facts = c.binary_search_by_key.ensures in
     let by_name =
-    facts.position (λ (seat : Seat). seat.name)
+    facts.position (λ (slot : Slot). slot.name)
     (answers_always _ _ _ (λ f a r g called. search rules)) in
-    searched c.args.seats.now c.requires c.args.n c.binary_search_by_key.result facts.bound by_name
+    searched c.args.slots.now c.requires c.args.n c.binary_search_by_key.result facts.bound by_name

@@ -1,7 +1,7 @@
 use Rattle.std.proofs.Common.{◌≤◌, [], ◌∷◌, ◌++◌, sym, ap, subst, length, length-append, append-nil, arith}
 use Rattle.redo_whole.specs.Watched.{inner_of}
 use Rattle.redo_talk.specs.Inside.KeptLines.{IsFrontOf}
-use Rattle.redo_talk.specs.Inside.Hearing.{TalksAt, known_of, place_of}
+use Rattle.redo_talk.specs.Inside.Hearing.{TalksAt, known_of, as_place}
 use Rattle.redo_talk.proofs.Fronts.{front_more, front_of_none, next_line}
 use Rattle.redo_talk.proofs.Outcomes.{on_err, ok_by_four, err_then}
 use Rattle.redo_talk.proofs.Responding.{sending_goes_on, sending_breaks_off}
@@ -25,7 +25,7 @@ pub returns-in_err-respond_to_piece-clause-broken :
 returns-in_err-respond_to_piece-clause-broken g c =
     on_err c.from_residual.result _ (λ begun is first left talk.
     let (line, front, at) = c.lines.invariant.talk begun is first left talk in
-    let place = place_of c.lines.live (g.L.Write.contents (inner_of c.lines.log))
+    let place = as_place c.lines.live (g.L.Write.contents (inner_of c.lines.log))
     (g.W.Write.contents (inner_of c.lines.out)) c.lines.unsent in
     c.in_err-respond_to_piece.ensures.broken line c.in-Some.after.now front first left
     (subst (TalksAt first left place)
@@ -36,7 +36,7 @@ pub returns-in_err-send_much-clause-broken : goal.returns-in_err-send_much-claus
 returns-in_err-send_much-clause-broken g c =
     on_err c.from_residual-in_err-send_much.result _ (λ begun is first left talk.
     let (line, front, at) = c.lines.invariant.talk begun is first left talk in
-    let place = place_of c.lines.live (g.L.Write.contents (inner_of c.lines.log))
+    let place = as_place c.lines.live (g.L.Write.contents (inner_of c.lines.log))
     (g.W.Write.contents (inner_of c.lines.out)) c.lines.unsent in
     c.in_err-send_much.ensures.broken c.in-Some.after.now first left
     (c.in_ok-respond_to_piece.ensures.talk line c.in-Some.after.now front first left
@@ -58,7 +58,7 @@ lines-preserved g c = record {
   few = subst (λ t. length t ≤ 8196) (sym c.in_ok-respond_to_piece.ensures.none) (omega arith);
   talk = λ begun is first left talk.
       let (line, front, at) = c.lines.invariant.talk begun is first left talk in
-      let place = place_of c.lines.live (g.L.Write.contents (inner_of c.lines.log))
+      let place = as_place c.lines.live (g.L.Write.contents (inner_of c.lines.log))
       (g.W.Write.contents (inner_of c.lines.out)) c.lines.unsent in (
         [],
         front_of_none c.respond_to_piece.new.front.items c.in_ok-respond_to_piece.ensures.none,
@@ -86,7 +86,7 @@ returns-clause-talk g c =
       line ++ rest,
       subst (IsFrontOf (line ++ rest)) (sym c.keep.ensures.kept)
           (front_more line rest c.lines.front.items c.in_default.ensures front),
-      subst (TalksAt first left (place_of c.lines.live
+      subst (TalksAt first left (as_place c.lines.live
           (g.L.Write.contents (inner_of c.send.new.log))
           (g.W.Write.contents (inner_of c.send.new.out)) c.send.new.unsent))
           (sym (append-nil (line ++ rest)))

@@ -3,7 +3,7 @@ use Rattle.std.specs.Io.KnownBytes.{Consumes}
 use Rattle.std.proofs.lemmas.Grind.{common_steps}
 use Rattle.std.proofs.lemmas.Result.{err_from_is_err_and}
 use Rattle.redo_whole.specs.Watched.{inner_of}
-use Rattle.redo_talk.specs.Inside.Hearing.{TalksAt, known_of, moment_at, place_of}
+use Rattle.redo_talk.specs.Inside.Hearing.{TalksAt, known_of, moment_at, as_place}
 use Rattle.redo_talk.proofs.Conversations.{nothing_heard, all_heard, kept_left, read_more, cut_short}
 use Rattle.redo_talk.proofs.Fronts.{front_of_none}
 use Rattle.redo_talk.proofs.Outcomes.{any_err}
@@ -88,7 +88,7 @@ returns-then-count-eq0-clause-talk g c = λ before is.
       left = left0;
       log = log0;
       out = out0;
-    }) left' (place_of c.reads.live log out c.reads.unsent) t) (append-nil begun)
+    }) left' (as_place c.reads.live log out c.reads.unsent) t) (append-nil begun)
     (read_more c.args.live.now c.reads.live left0 left log0 log out0 out logged said begun at left'
     [] taken)) c.reads.invariant.none_logged c.reads.invariant.none_said front.unended before is
 
@@ -124,7 +124,7 @@ returns-in_err-hear-clause-write g c = λ is_write before is.
     (g.W.Write.contents (inner_of c.reads.out)) c.reads.unsent.logged.items
     c.reads.unsent.said.items begun at left' bytes c.in-Some.ensures.given in
     cut_short c.args.live.now left0 log0 out0
-    (moment_at (place_of c.hear.new.live (g.L.Write.contents (inner_of c.hear.new.log))
+    (moment_at (as_place c.hear.new.live (g.L.Write.contents (inner_of c.hear.new.log))
     (g.W.Write.contents (inner_of c.hear.new.out)) c.hear.new.unsent) left')
     (c.in_err-hear.ensures.broken begun front
     (record { known = known_of c.args.live.now; left = left0; log = log0; out = out0 }) left'
@@ -133,7 +133,7 @@ returns-in_err-hear-clause-write g c = λ is_write before is.
       left = left0;
       log = log0;
       out = out0;
-    }) left' (place_of c.reads.live (g.L.Write.contents (inner_of c.reads.log))
+    }) left' (as_place c.reads.live (g.L.Write.contents (inner_of c.reads.log))
     (g.W.Write.contents (inner_of c.reads.out)) c.reads.unsent) (begun ++ take c.in-Some.count t))
     (sym same) heard))
     before is
@@ -159,7 +159,7 @@ reads-preserved g c =
       left = left0;
       log = log0;
       out = out0;
-    }) left' (place_of c.reads.live (g.L.Write.contents (inner_of c.reads.log))
+    }) left' (as_place c.reads.live (g.L.Write.contents (inner_of c.reads.log))
     (g.W.Write.contents (inner_of c.reads.out)) c.reads.unsent) (begun ++ take c.in-Some.count t))
     (sym same) heard) in
     record {
@@ -177,7 +177,7 @@ reads-preserved g c =
           log = log0;
           out = out0;
         }) left'
-            (place_of c.hear.new.live (g.L.Write.contents (inner_of c.hear.new.log))
+            (as_place c.hear.new.live (g.L.Write.contents (inner_of c.hear.new.log))
             (g.W.Write.contents (inner_of c.hear.new.out)) c.hear.new.unsent))
             (append-nil later) new_at,
       );

@@ -2,7 +2,7 @@ use Rattle.std.proofs.Common.{◌≡◌, ◌<◌, ◌≤◌, [], length, vec_cap
 use Rattle.redo_model.specs.Names.{Text}
 use Rattle.redo_whole.specs.Watched.{inner_of}
 use Rattle.redo_talk.specs.Inside.KeptLines.{IsFrontOf}
-use Rattle.redo_talk.specs.Inside.Hearing.{TalksAt, known_of, place_of}
+use Rattle.redo_talk.specs.Inside.Hearing.{TalksAt, known_of, as_place}
 use Rattle.redo_talk.proofs.talking.talk.Given as goal
 
 abbrev pub invariant-reads : goal.invariant-reads
@@ -19,6 +19,6 @@ invariant-reads g l = record {
         log = g.L.Write.contents (inner_of l.initial.log);
         out = g.W.Write.contents (inner_of l.initial.out);
       }) (g.R.Read.remaining (inner_of l.input))
-      (place_of l.live (g.L.Write.contents (inner_of l.log))
+      (as_place l.live (g.L.Write.contents (inner_of l.log))
       (g.W.Write.contents (inner_of l.out)) l.unsent) begun;
 }

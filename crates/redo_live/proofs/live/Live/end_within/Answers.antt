@@ -87,7 +87,7 @@ invariant_of-self c =
           (map line_of ls)) c.deref-5.ensures.value)
           (c.close.ensures.calls
           ∙ ap (λ (ls : List Line). calls_of tables + length ls) c.deref-5.ensures.value);
-      slots = c.self.invariant.slots ∙ sym c.close.ensures.count;
+      numbers = c.self.invariant.numbers ∙ sym c.close.ensures.count;
     }
 
 pub returns-clause-ended : goal.returns-clause-ended

@@ -19,7 +19,7 @@ invariant_of-self c =
       state = IsKept-Extends c.self.inside.names c.read_command-read.new.names old_are
           c.len.ensures.names c.read_command-read.ensures.kept (state_of c.self.inside.redo)
           (calls_of c.self.inside.redo) c.self.invariant.state;
-      slots = c.self.invariant.slots;
+      numbers = c.self.invariant.numbers;
     }
 
 pub invariant_of-self-2 : goal.invariant_of-self-2
@@ -30,7 +30,7 @@ invariant_of-self-2 c =
       state = IsKept-Extends c.self.inside.names c.read_command-read.new.names old_are
           c.len.ensures.names c.read_command-read.ensures.kept (state_of c.self.inside.redo)
           (calls_of c.self.inside.redo) c.self.invariant.state;
-      slots = c.self.invariant.slots;
+      numbers = c.self.invariant.numbers;
     }
 
 pub returns-clause-answered : goal.returns-clause-answered

@@ -14,7 +14,7 @@ invariant_of-result c =
       state = subst (λ (st : State ℕ). IsKept names st (calls_of c.in_ok-redo.redo))
           (sym c.in_ok-redo.ensures.empty)
           (subst (IsKept names empty) (sym c.in_ok-redo.ensures.calls) (IsKept-empty names));
-      slots = sym c.in_ok-redo.ensures.count;
+      numbers = sym c.in_ok-redo.ensures.count;
     }
 
 pub returns-clause-state : goal.returns-clause-state

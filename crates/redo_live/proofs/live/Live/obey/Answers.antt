@@ -145,7 +145,7 @@ invariant_of-self c =
           c.in_ok-reply.reply text.items is c.change.new.self c.change.ensures.after
           c.change.ensures.calls
           (subst (λ (n : ℕ). n < 4294836223) (sym old_calls) c.requires.calls);
-      slots = c.self.invariant.slots ∙ sym c.change.ensures.count;
+      numbers = c.self.invariant.numbers ∙ sym c.change.ensures.count;
     }
 
 pub returns-clause-obeyed : goal.returns-clause-obeyed

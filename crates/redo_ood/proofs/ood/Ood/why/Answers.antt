@@ -1,5 +1,5 @@
 use Rattle.std.proofs.Common.{◌∙◌}
-use Rattle.redo_ood.specs.Marks.{size_of}
+use Rattle.redo_ood.specs.NameSet.{size_of}
 use Rattle.redo_ood.proofs.Deriving.{cleared_again}
 use Rattle.redo_ood.proofs.ood.Ood.why.Goals as goal
 

@@ -7,7 +7,7 @@ use Rattle.redo_rows.proofs.numbers.Numbers.insert.Goals.{After-insert-inserted}
 
 -- there is room, so the number was put in
 placed : (c : After-insert-inserted) → c.insert-inserted.new.self.items
-    ≡ insert c.self.inside.items.items c.place_of-place.result c.args.x
+    ≡ insert c.self.inside.items.items c.number_place-place.result c.args.x
 placed c =
     let xs = c.self.inside.items.items in
     let long : length c.as_slice.result.now ≡ length xs =
@@ -19,28 +19,28 @@ placed c =
     let roomy : vec_len c.self.inside.items < vec_capacity c.self.inside.items =
     omega (arith, c.as_slice.ensures.len, c.requires.room) in
     c.insert-inserted.ensures.items
-    ∙ ap (λ b. cond b (insert xs c.place_of-place.result c.args.x) xs)
+    ∙ ap (λ b. cond b (insert xs c.number_place-place.result c.args.x) xs)
     (c.insert-inserted.ensures.succeeds roomy)
 
 pub invariant_of-self : goal.invariant_of-self
 invariant_of-self c =
     let xs = c.self.inside.items.items in
     let place =
-    subst (λ ys. IsPlaceOf ys c.args.x c.place_of-place.result) c.as_slice.ensures.value
-    c.place_of-place.ensures in
+    subst (λ ys. IsPlaceOf ys c.args.x c.number_place-place.result) c.as_slice.ensures.value
+    c.number_place-place.ensures in
     let out =
     subst (λ (n : NumberList). Contains n.items c.args.x → ⊥) (sym c.self.view_is) c.requires.out in
     subst Rising (sym (placed (goal.at.invariant_of-self c).After-insert-inserted))
-    (insert_rises xs c.args.x c.place_of-place.result c.self.invariant place out)
+    (insert_rises xs c.args.x c.number_place-place.result c.self.invariant place out)
 
 pub returns-clause-each : goal.returns-clause-each
 returns-clause-each c =
     let xs = c.self.inside.items.items in
     let same = ap (λ (n : NumberList). n.items) c.self.view_is in
     let old =
-    subst (λ (ys : List ℕ). (u : ℕ) → Contains (insert xs c.place_of-place.result c.args.x) u
+    subst (λ (ys : List ℕ). (u : ℕ) → Contains (insert xs c.number_place-place.result c.args.x) u
     ↔ (Contains ys u ⊎ (u ≡ c.args.x))) same
-    (Contains-insert xs c.place_of-place.result c.args.x) in
+    (Contains-insert xs c.number_place-place.result c.args.x) in
     subst
     (λ (ys : List ℕ). (u : ℕ) → Contains ys u ↔ (Contains c.args.self.now.items u ⊎ (u ≡ c.args.x)))
     (sym (placed (goal.at.returns-clause-each c).After-insert-inserted)) old

@@ -10,7 +10,7 @@ invariant_of-result c = record {
       let grants = c.in_ok-grants.grants.items in
       let none : get_or grants n 0 ≡ 0 =
       ap (λ (gs : List ℕ). get_or gs n 0) (c.in_ok-grants.ensures.items_if_clones_equal (λ y e. e))
-      ∙ same_everywhere c.args.slots n 0 in
+      ∙ same_everywhere c.args.numbers n 0 in
       omega (arith, none);
   few_applied = search rules;
 }

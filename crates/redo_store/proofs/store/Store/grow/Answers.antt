@@ -14,7 +14,7 @@ invariant_of-self c =
 
 pub invariant_of-self-2 : goal.invariant_of-self-2
 invariant_of-self-2 c =
-    let slots = c.args.slots in
+    let numbers = c.args.numbers in
     let old = c.self.inside in
     let cells = c.in_ok-records.records in
     let rows = c.grow.new.self in
@@ -23,12 +23,12 @@ invariant_of-self-2 c =
     record { cells = cells; rows = rows; sorted = sorted; applied = old.applied } in
     let same = c.in_ok-records.ensures.same in
     record {
-      stored = IsStored-by_number stored slots c.in_ok-sorted.ensures c.in_ok-records.ensures.count
+      stored = IsStored-by_number stored numbers c.in_ok-sorted.ensures c.in_ok-records.ensures.count
           c.in_ok-grow.ensures.count
           (λ n. subst (λ (x : Cell). x.builds ≤ old.applied) (sym (same n))
           (c.self.invariant.stored.few_builds n))
           (omega arith);
-      ranked = ranked_by_number slots sorted c.in_ok-ranks.ranks.items c.in_ok-sorted.ensures
+      ranked = ranked_by_number numbers sorted c.in_ok-ranks.ranks.items c.in_ok-sorted.ensures
           c.in_ok-ranks.ensures;
       memo_for_each = c.in_ok-memo.ensures.count ∙ sym c.in_ok-records.ensures.count;
       memo_right = still_right old.memo c.in_ok-memo.memo (with_rows old.records old.rows)
@@ -46,4 +46,4 @@ returns-clause-records c =
 
 pub returns-clause-order : goal.returns-clause-order
 returns-clause-order c =
-    ordered_by_number c.args.slots c.in_ok-sorted.sorted.items c.in_ok-sorted.ensures
+    ordered_by_number c.args.numbers c.in_ok-sorted.sorted.items c.in_ok-sorted.ensures

@@ -1,0 +1,14 @@
+use Rattle.std.proofs.Common.{ℕ, List, sym, subst, arith}
+use Rattle.redo_ood.specs.NameSet.{IsQueue}
+use Rattle.redo_ood.proofs.Marking.{queue_emptied}
+use Rattle.redo_ood.proofs.name_set.NameSet.grown.Goals as goal
+
+pub invariant_of-result : goal.invariant_of-result
+invariant_of-result c =
+    let marks = c.in_ok-marks.marks.items in
+    record {
+      queue = subst (λ (queue : List ℕ). IsQueue (record { marks = marks; queue = queue }))
+          (sym c.in_ok-queue.ensures.items)
+          (queue_emptied marks (omega (arith, c.in_ok-marks.ensures.count)));
+      room = omega (arith, c.in_ok-marks.ensures.count, c.in_ok-queue.ensures.capacity);
+    }

@@ -1,0 +1,59 @@
+-- A set of names by marks, and a queue of the names that were marked.
+use Rattle.std.specs.Prelude.{◌≡◌, ◌≢◌, ◌⊎◌, ◌↔◌, ◌<◌, ◌≤◌, ◌+◌, ◌^◌, ◌++◌, ◌∷◌, [], ℕ, Bool, true, false, not, List, Contains, IsTrue, AllPairs, length, slice_index_or, slice_set, count_by}
+
+-- whether each name is marked, and the names that were marked since the queue was emptied
+pub record Marked : Type 0 where
+  pub marks : List Bool
+  pub queue : List ℕ
+
+-- how many names there are
+abbrev pub size_of : Marked → ℕ
+size_of m = length m.marks
+
+abbrev pub IsSet : List Bool → ℕ → Type 0
+IsSet flags t = IsTrue (slice_index_or flags t false)
+
+abbrev pub IsMarked : Marked → ℕ → Type 0
+IsMarked m t = IsSet m.marks t
+
+abbrev pub IsQueued : Marked → ℕ → Type 0
+IsQueued m t = Contains m.queue t
+
+-- each marked name is queued
+abbrev pub AreQueued : Marked → Type 0
+AreQueued m = (t : ℕ) → IsMarked m t → IsQueued m t
+
+-- the marks and the queue with one more name
+abbrev pub with_name : Marked → ℕ → Marked
+with_name m t = record { marks = slice_set m.marks t true; queue = m.queue ++ t ∷ [] }
+
+-- the queue holds marked names, each once
+pub record IsQueue (m : Marked) : Type 0 where
+  pub marked : (t : ℕ) → IsQueued m t → IsMarked m t
+  pub once : AllPairs (λ s t. s ≢ t) m.queue
+  pub counted : length m.queue + count_by not m.marks ≤ size_of m
+  pub few : size_of m < 2 ^ 32
+
+-- more names may be marked, and those that are stand at the queue's end
+pub record Grows (old new : Marked) : Type 0 where
+  pub sized : size_of new ≡ size_of old
+  pub keeps : (t : ℕ) → IsMarked old t → IsMarked new t
+  pub behind : (ns : List ℕ) × (new.queue ≡ old.queue ++ ns)
+  pub queued : (t : ℕ) → IsQueued new t
+      ↔ (IsQueued old t ⊎ (IsMarked new t × (IsMarked old t → ⊥)))
+
+-- the names with P are marked too
+pub record Enters (P : ℕ → Type 0) (old new : Marked) : Type 0 where
+  pub grown : Grows old new
+  pub each : (t : ℕ) → IsMarked new t ↔ (IsMarked old t ⊎ P t)
+
+-- exactly the names with P are marked, and all of them are queued
+pub record HoldsOnly (P : ℕ → Type 0) (m : Marked) : Type 0 where
+  pub queued : (t : ℕ) → IsQueued m t ↔ P t
+  pub marked : AreQueued m
+
+-- the queue is empty, and the marks are taken from the names with P
+pub record Unmarks (P : ℕ → Type 0) (old new : Marked) : Type 0 where
+  pub sized : size_of new ≡ size_of old
+  pub none : (t : ℕ) → IsQueued new t → ⊥
+  pub each : (t : ℕ) → IsMarked new t ↔ (IsMarked old t × (P t → ⊥))

@@ -1,0 +1,67 @@
+//! A store with numbers for names that are still to come.
+
+ghost use Rattle.std.specs.Prelude.{◌≡◌, ◌≤◌, IfOk, OnOk, OnErr};
+ghost use Rattle.std.specs.List.{range_with_len};
+ghost use Rattle.redo_model.specs.State.{empty};
+ghost use Rattle.redo_store.specs.Orders.{IsByNumber};
+ghost use Rattle.redo_store.specs.Stored.{records_of, order_of, count_of, applied_of};
+
+use crate::store::Store;
+use redo_ood::Ood;
+use redo_records::Records;
+use redo_rows::DepRows;
+use std::alloc::{AllocError, Global};
+
+/// All numbers below the count, in order.
+fn numbers_below(alloc: Global, count: u32) -> Result<Vec<u32>, AllocError>
+    ensures { IfOk result (λ numbers. numbers.items ≡ range_with_len 0 count) }
+{
+    (0..count).collect(alloc)
+}
+
+impl Store {
+    /// The empty store with that many numbers for names, in their own order: each is idle, and without a file.
+    pub fn blank(alloc: Global, numbers: u32) -> Result<Store, AllocError>
+        ensures empty { IfOk result (λ store. records_of store ≡ empty.records) }
+        ensures count { IfOk result (λ store. count_of store ≡ numbers) }
+        ensures order { IfOk result (λ store. IsByNumber numbers (order_of store)) }
+        ensures applied { IfOk result (λ store. applied_of store ≡ 0) }
+    {
+        let records = Records::new(alloc, numbers)?;
+        let rows = DepRows::new(alloc, numbers)?;
+        let memo = Ood::new(alloc, numbers)?;
+        let sorted = numbers_below(alloc, numbers)?;
+        let ranks = numbers_below(alloc, numbers)?;
+        Ok(Store {
+            records,
+            rows,
+            memo,
+            sorted,
+            ranks,
+            applied: 0,
+        })
+    }
+
+    /// More numbers for names, up to `numbers` in all, and all of them in their own order. What takes memory is done before
+    /// anything changes.
+    pub fn grow(&mut self, numbers: u32) -> Result<(), AllocError>
+        requires { count_of self.old ≤ numbers }
+        ensures records { records_of self.new ≡ records_of self.old }
+        ensures applied { applied_of self.new ≡ applied_of self.old }
+        ensures count { OnOk result (count_of self.new ≡ numbers) }
+        ensures order { OnOk result (IsByNumber numbers (order_of self.new)) }
+        ensures err { OnErr result (self.new ≡ self.old) }
+    {
+        let alloc = *self.sorted.allocator();
+        let records = self.records.grown(alloc, numbers)?;
+        let memo = self.memo.grown(alloc, numbers)?;
+        let sorted = numbers_below(alloc, numbers)?;
+        let ranks = numbers_below(alloc, numbers)?;
+        self.rows.grow(numbers)?;
+        self.records = records;
+        self.memo = memo;
+        self.sorted = sorted;
+        self.ranks = ranks;
+        Ok(())
+    }
+}
