@@ -14,7 +14,7 @@ use Rattle.redo_board.specs.Rule.{HasPart}
 use Rattle.redo_board.specs.Kept.{SitsAt, WorksAt}
 use Rattle.redo_board.specs.Outcomes.{Leaves}
 use Rattle.redo_board.specs.Shown.{session_of, journal_of, parts_of, IsForAll}
-use Rattle.redo_bench.specs.Workers.{HasSession, AreWorkers}
+use Rattle.redo_bench.specs.Inside.Workers.{HasSession, AreWorkers}
 
 has_more : (ws : List Worker) (w : Worker) (t : ℕ) → HasSession ws t → HasSession (ws ++ w ∷ []) t
 has_more [] w t h = absurd h

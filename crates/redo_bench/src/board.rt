@@ -1,7 +1,7 @@
 ghost use Rattle.std.specs.Prelude.{◌≡◌, ◌+◌, ◌<◌, ℕ, length, IfOk, OnOk};
 ghost use Rattle.redo_board.specs.Kept.{IsBoardOf, SitsAt, IsFreshOf, WorksAt};
 ghost use Rattle.redo_board.specs.Shown.{IsForAll, session_of, first_of, end_of};
-ghost use Rattle.redo_bench.specs.Workers.{AreWorkers};
+ghost use Rattle.redo_bench.specs.Inside.Workers.{AreWorkers};
 
 use crate::plans::plan_of;
 use anyhow::{Result, bail};

@@ -19,7 +19,8 @@ use Rattle.redo_joint.proofs.Closed.{IsScripted, IsFailing, Tells, AllTell, all_
 use Rattle.redo_joint.proofs.Replayed as joint
 use Rattle.redo_journal.specs.Plans.{PlanOf, IsPlan, script_of}
 use Rattle.redo_board.specs.Rows.{naming_of, command}
-use Rattle.redo_board.specs.Core.{Core, start, Line, Way, row, claim, free, rows_then, place_at, has, way_at, done, IsNext, IsLegal, after_all, row_words, word, IsWord, replay}
+use Rattle.redo_board.specs.Core.{Core, start, Line, Way, row, claim, free, rows_then, place_at, has, way_at, done, IsNext, IsLegal, after_all, row_words, word, replay}
+use Rattle.redo_board.specs.Inside.Core.{IsWord}
 use Rattle.redo_board.proofs.Bridge.{legal_from, below_told, of_plan_told, placed_told}
 use Rattle.redo_board.proofs.ClaimWords.{claim_no_row}
 use Rattle.redo_board.proofs.Orders.{by_text_is_naming}

@@ -12,8 +12,8 @@ use Rattle.redo_model.proofs.VerdictsByName.{RefusesBelow, verdict_below}
 use Rattle.redo_terms.specs.Meaning.{reply_of}
 use Rattle.redo_terms.specs.declared.reply.Reply as coded
 use Rattle.redo_store.specs.Stored.{count_of, order_of, records_of, lists_names}
-use Rattle.redo_board.specs.Own.{has}
-use Rattle.redo_board.specs.Steps.{IsSaidBy, IsReadyBy}
+use Rattle.redo_board.specs.Inside.Own.{holds_its_target}
+use Rattle.redo_board.specs.Inside.Steps.{IsSaidBy, IsReadyBy}
 use Rattle.redo_board.specs.declared.worker.Worker.{Worker}
 
 module _ (count : ℕ) (order : ℕ → ℕ → Ordering) (r : Records ℕ) (s : ℕ) (h : Bool) where
@@ -67,6 +67,6 @@ pub ready_said : (w : Worker) (x : Command ℕ) (list : Option coded.Reply) → 
 ready_said w x (Some reply) a below ready = (reply_of reply, ready)
 ready_said w x None a below ready =
     let y =
-    briefly (count_of w.store) (order_of w.store) (records_of w.store) w.session (has w.own x) x a
+    briefly (count_of w.store) (order_of w.store) (records_of w.store) w.session (holds_its_target w.own x) x a
     ready below in
     (y.0, record { replies = y.1; below = y.2 })

@@ -9,7 +9,7 @@ use Rattle.redo_model.specs.Reply as replies
 use Rattle.redo_model.specs.Step.{lock_reply, locks_granted, locks_freed}
 use Rattle.redo_model.specs.Placed.{Place, Granted, Busy, is_row}
 use Rattle.redo_board.specs.Core.{claim_word, claim_of, claim_place}
-use Rattle.redo_board.specs.Plays.{lock_said, lock_place}
+use Rattle.redo_board.specs.Inside.Plays.{lock_said, lock_place}
 
 or-bit : (n : ℕ) → bit_or n 1 ≡ n / 2 * 2 + max (n % 2) 1
 or-bit n = or_step n 1 ∙ ap (λ x. x * 2 + max (n % 2) 1) (or_zero_r (n / 2))

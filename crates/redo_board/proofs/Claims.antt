@@ -19,7 +19,8 @@ use Rattle.redo_board.specs.Rows.{naming_of, rows_of}
 use Rattle.redo_board.specs.Core.{Line, Core, Way, claim, free, rows_then, place_at, has, way_at, done, word, Begins, claim_of, claim_word}
 use Rattle.redo_board.specs.Views.{ViewOf, view}
 use Rattle.redo_board.specs.Rule.{Orderly}
-use Rattle.redo_board.specs.Plays.{next, made, own_way, Goes, lock_line, free_line, Claims, claimed, freed}
+use Rattle.redo_board.specs.Plays.{next, own_way}
+use Rattle.redo_board.specs.Inside.Plays.{made, Goes, lock_line, free_line, Claims, claimed, freed}
 use Rattle.redo_board.proofs.Ways as ways
 use Rattle.redo_board.proofs.Sound.{Sound}
 use Rattle.redo_board.proofs.Totals.{few_grants}

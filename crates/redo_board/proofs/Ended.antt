@@ -25,7 +25,7 @@ use Rattle.redo_board.specs.Histories.{IsHistoryOf, EndsWith, words_of}
 use Rattle.redo_board.specs.Shown.{lines_in}
 use Rattle.redo_board.specs.Views.{Part, ViewOf}
 use Rattle.redo_board.specs.Rule.{HasPart, Fits}
-use Rattle.redo_board.specs.Plays.{Ends}
+use Rattle.redo_board.specs.Inside.Plays.{Ends}
 use Rattle.redo_board.proofs.Bounds.{no_script, below_most}
 use Rattle.redo_board.proofs.Orders.{by_text_is_naming}
 use Rattle.redo_board.proofs.Bridge.{legal_from, below_told, placed_told, of_plan_told}

@@ -10,8 +10,9 @@ use Rattle.atomic_table.proofs.Lists.{at_set, at_snoc, at_longer, at_last, set_e
 use Rattle.redo_journal.specs.Plans.{PlanOf}
 use Rattle.redo_board.specs.Core.{Line, row_words}
 use Rattle.redo_board.specs.Views.{Part, ViewOf, view, nobody}
-use Rattle.redo_board.specs.Rule.{HasPart, Fits, Apart, AllStand, AllFit, Orderly, below, from, left_of, right_of, met, longer}
-use Rattle.redo_board.specs.Plays.{looked}
+use Rattle.redo_board.specs.Rule.{HasPart, Fits, Apart, AllStand, AllFit, Orderly, longer}
+use Rattle.redo_board.specs.Inside.Rule.{below, from, left_of, right_of, met}
+use Rattle.redo_board.specs.Inside.Plays.{looked}
 use Rattle.redo_board.proofs.Kept.{kept, fits_set, apart_set, set_there, begins_longer}
 
 -- a load on the seat word

@@ -6,7 +6,8 @@ use Rattle.redo_model.specs.Journals.{Numbered}
 use Rattle.redo_board.specs.Core.{Line, row}
 use Rattle.redo_board.specs.Views.{Part, ViewOf}
 use Rattle.redo_board.specs.Rule.{HasPart, Told}
-use Rattle.redo_board.specs.Plays.{Lone, next, own, own_build, own_way}
+use Rattle.redo_board.specs.Plays.{next, own, own_build, own_way}
+use Rattle.redo_board.specs.Inside.Plays.{Lone}
 use Rattle.redo_board.specs.Rows.{rows_of}
 use Rattle.redo_board.proofs.Below.{AskBelow}
 use Rattle.redo_board.proofs.OwnLines.{IsOwn, own_told, own_numbers, room_small}

@@ -19,11 +19,13 @@ use Rattle.redo_journal.specs.Journals.{line_told, command_by}
 use Rattle.redo_board.specs.Rows.{rows_of, naming_of}
 use Rattle.redo_board.specs.Core.{row}
 use Rattle.redo_board.specs.Views.{ViewOf}
-use Rattle.redo_board.specs.Plays.{Lone, next, own, own_way}
-use Rattle.redo_board.specs.Shown.{NeedsNoRow, IsNextBy, journal_of, seen_by, next_by, told}
+use Rattle.redo_board.specs.Plays.{next, own, own_way}
+use Rattle.redo_board.specs.Inside.Plays.{Lone}
+use Rattle.redo_board.specs.Shown.{NeedsNoRow, journal_of, seen_by, next_by, told}
+use Rattle.redo_board.specs.Inside.Shown.{IsNextBy}
 use Rattle.redo_board.specs.Kept.{IsBoardOf, Works, view_of}
-use Rattle.redo_board.specs.Own.{has, way_by}
-use Rattle.redo_board.specs.Steps.{LetsGo}
+use Rattle.redo_board.specs.Inside.Own.{holds_its_target, way_by}
+use Rattle.redo_board.specs.Inside.Steps.{LetsGo}
 use Rattle.redo_board.specs.declared.board.Board.{Board}
 use Rattle.redo_board.specs.declared.worker.Worker.{Worker}
 use Rattle.redo_board.proofs.Below.{AskBelow, next-below}
@@ -76,7 +78,7 @@ own_below p w n k is =
     subst (λ m. IsBelow m n.command) (sym k.own.one_each) (next_below p w n k is)
 
 pub own_has : (p : PlanOf) (w : Worker) (n : Numbered ℕ) → Works p w → next_by p w ≡ Some n
-    → has w.own n.command ≡ own (journal_of p w) n.command
+    → holds_its_target w.own n.command ≡ own (journal_of p w) n.command
 own_has p w n k is =
     has_is p.names w.own (journal_of p w) n.command k.own (next_below p w n k is)
 

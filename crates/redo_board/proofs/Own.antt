@@ -9,7 +9,7 @@ use Rattle.redo_journal.specs.Holds.{Says}
 use Rattle.redo_journal.specs.declared.holds.Hold.{Hold}
 use Rattle.redo_board.specs.Core.{Line, way}
 use Rattle.redo_board.specs.Plays.{held_name, built_name, own, own_build, own_way}
-use Rattle.redo_board.specs.Own.{holds_name, builds_name, has, way_by}
+use Rattle.redo_board.specs.Inside.Own.{table_holds, table_builds, holds_its_target, way_by}
 use Rattle.redo_board.proofs.Held.{holds_alike, builds_alike}
 
 -- what the command's target is
@@ -32,14 +32,14 @@ at_target count Sources b P none some = none
 
 module _ (names : List Text) (o : List Hold) (ls : List Line) (x : Command ℕ)
     (says : Says names o (map line_of ls)) (below : IsBelow (length names) x) where
-  pub has_is : has o x ≡ own ls x
+  pub has_is : holds_its_target o x ≡ own ls x
   has_is =
-      at_target (length names) x below (λ t. holds_name o t ≡ held_name t ls) refl
+      at_target (length names) x below (λ t. table_holds o t ≡ held_name t ls) refl
       (λ t less. says.held t less ∙ sym (holds_alike (by_text names).order ls t))
 
   pub way_is : way_by o x ≡ own_way ls x
   way_is =
-      let builds : builds_name o (target_of x) ≡ own_build ls x =
-      at_target (length names) x below (λ t. builds_name o t ≡ built_name t ls) refl
+      let builds : table_builds o (target_of x) ≡ own_build ls x =
+      at_target (length names) x below (λ t. table_builds o t ≡ built_name t ls) refl
       (λ t less. says.building t less ∙ sym (builds_alike (by_text names).order ls t)) in
       λ i. way x (has_is i) (builds i)

@@ -19,7 +19,8 @@ use Rattle.redo_joint.proofs.Closed.{Tells, AllTell}
 use Rattle.redo_joint.proofs.Own.{part_of-own, part_of-other}
 use Rattle.redo_journal.specs.Plans.{PlanOf, IsPlan, script_of}
 use Rattle.redo_board.specs.Core.{Line, start, IsLegal, row, free}
-use Rattle.redo_board.specs.Plays.{made, own_way}
+use Rattle.redo_board.specs.Plays.{own_way}
+use Rattle.redo_board.specs.Inside.Plays.{made}
 use Rattle.redo_board.specs.Rows as rows
 use Rattle.redo_board.specs.Rows.{naming_of}
 use Rattle.redo_board.proofs.Bounds.{lock_asked, RowAsked, rows_asked, all_told}

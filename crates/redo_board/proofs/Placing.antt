@@ -18,7 +18,8 @@ use Rattle.redo_board.specs.Rows.{naming_of, rows_of}
 use Rattle.redo_board.specs.Core.{Line, Core, start, way, place_at, has, way_at, builds_target, builds_name, done, IsLegal, after_all, Begins, claim_of}
 use Rattle.redo_board.specs.Views.{Part, ViewOf, view}
 use Rattle.redo_board.specs.Rule.{Fits, Orderly}
-use Rattle.redo_board.specs.Plays.{held_name, built_name, next, made, own, own_build, own_way, Goes}
+use Rattle.redo_board.specs.Plays.{held_name, built_name, next, own, own_build, own_way}
+use Rattle.redo_board.specs.Inside.Plays.{made, Goes}
 use Rattle.redo_joint.proofs.Closed.{part_lines}
 use Rattle.redo_joint.proofs.Own.{push_own}
 use Rattle.redo_board.proofs.Bounds.{state_from}

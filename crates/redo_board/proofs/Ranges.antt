@@ -10,7 +10,8 @@ use Rattle.redo_journal.specs.Plans.{PlanOf, IsPlan}
 use Rattle.redo_board.specs.Rows.{rows_of}
 use Rattle.redo_board.specs.Core.{Line, row_words}
 use Rattle.redo_board.specs.Views.{Part, ViewOf, view}
-use Rattle.redo_board.specs.Rule.{HasPart, Fits, AllFit, Orderly, Told, range, first_view, below, from}
+use Rattle.redo_board.specs.Rule.{HasPart, Fits, AllFit, Orderly, Told, range}
+use Rattle.redo_board.specs.Inside.Rule.{first_view, below, from}
 use Rattle.redo_board.proofs.Bounds.{words_name}
 use Rattle.redo_board.proofs.Totals.{few}
 use Rattle.redo_board.proofs.Kept.{St}

@@ -14,7 +14,8 @@ use Rattle.redo_model.proofs.Nexts.{next_cases, next_line_from}
 use Rattle.redo_journal.specs.Plans.{PlanOf, IsPlan, script_of}
 use Rattle.redo_board.specs.Rows.{naming_of}
 use Rattle.redo_board.specs.Core.{Line, word, replay, row}
-use Rattle.redo_board.specs.Plays.{next, own_way, made}
+use Rattle.redo_board.specs.Plays.{next, own_way}
+use Rattle.redo_board.specs.Inside.Plays.{made}
 use Rattle.redo_board.proofs.Below.{AskBelow, next-below}
 use Rattle.redo_board.proofs.OwnLines.{IsOwn, own_entries, own_next, closing_fails}
 use Rattle.redo_board.proofs.Words.{closing_word, word-of-line, word-of-closing, replay-line, replay-closing}

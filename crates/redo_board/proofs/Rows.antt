@@ -20,7 +20,8 @@ use Rattle.redo_board.specs.Rows.{naming_of, rows_of}
 use Rattle.redo_board.specs.Core.{Line, Core, row, rows_then, place_at, has, way_at, done, replay, word, Begins, claim_of}
 use Rattle.redo_board.specs.Views.{ViewOf, view}
 use Rattle.redo_board.specs.Rule.{Fits, Orderly}
-use Rattle.redo_board.specs.Plays.{own, own_way, next, made, SaysRow, row_line, Goes, Lost, Won, tried, passed, missed}
+use Rattle.redo_board.specs.Plays.{own, own_way, next}
+use Rattle.redo_board.specs.Inside.Plays.{made, SaysRow, row_line, Goes, Lost, Won, tried, passed, missed}
 use Rattle.redo_board.proofs.Bounds.{records_replayed}
 use Rattle.redo_board.proofs.Orders.{by_text_is_naming}
 use Rattle.redo_board.proofs.Ways as ways

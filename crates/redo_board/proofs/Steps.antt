@@ -11,7 +11,8 @@ use Rattle.redo_board.specs.Rows.{rows_of}
 use Rattle.redo_board.specs.Core.{Line, word, row, claim, free}
 use Rattle.redo_board.specs.Views.{ViewOf, view}
 use Rattle.redo_board.specs.Rule.{Orderly, Told}
-use Rattle.redo_board.specs.Plays.{own, own_way, next, SaysRow, row_line, Goes, Lone, Lost, Won, tried, passed, missed, claimed, freed}
+use Rattle.redo_board.specs.Plays.{own, own_way, next}
+use Rattle.redo_board.specs.Inside.Plays.{SaysRow, row_line, Goes, Lone, Lost, Won, tried, passed, missed, claimed, freed}
 use Rattle.redo_board.proofs.Rows.{misses, passes, tries}
 use Rattle.redo_board.proofs.Claims.{locks, frees}
 

@@ -11,7 +11,8 @@ use Rattle.redo_model.specs.Inside.Renaming.{OrdersAlike, numbering}
 use Rattle.redo_store.specs.Stored.{Stored, records_of, count_of, order_of, applied_of, naming_of}
 use Rattle.redo_journal.specs.Plans.{PlanOf, script_of}
 use Rattle.redo_board.specs.Rows as rows
-use Rattle.redo_board.specs.Core.{replay, row_words, IsWord, Begins}
+use Rattle.redo_board.specs.Core.{replay, row_words, Begins}
+use Rattle.redo_board.specs.Inside.Core.{IsWord}
 use Rattle.redo_board.specs.Views.{ViewOf}
 use Rattle.redo_board.specs.Rule.{Told}
 use Rattle.redo_board.specs.Kept.{Lags}

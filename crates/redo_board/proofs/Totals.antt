@@ -8,7 +8,8 @@ use Rattle.redo_model.specs.Placed.{Row, part_of, is_row, is_grant, rows_in}
 use Rattle.redo_model.specs.Journals.{Numbered, next_of}
 use Rattle.redo_journal.specs.Plans.{PlanOf, IsPlan, script_of}
 use Rattle.redo_board.specs.Core.{Core, Line, start, done, IsLegal, after_all, row_words, row}
-use Rattle.redo_board.specs.Plays.{made, own_way}
+use Rattle.redo_board.specs.Plays.{own_way}
+use Rattle.redo_board.specs.Inside.Plays.{made}
 use Rattle.redo_board.specs.Rows as rows
 use Rattle.redo_board.specs.Rows.{naming_of, rows_of}
 use Rattle.redo_board.proofs.Bridge.{stood_told}

@@ -12,7 +12,8 @@ use Rattle.redo_joint.specs.Replayed.{is_closing, session_in, number_in, flag_in
 use Rattle.redo_joint.proofs.Exchange.{cond_same, cond_other}
 use Rattle.redo_journal.specs.Plans.{PlanOf, script_of}
 use Rattle.redo_board.specs.Rows.{naming_of, command, bit}
-use Rattle.redo_board.specs.Core.{word, IsWord, replay, set_at}
+use Rattle.redo_board.specs.Core.{word, replay, set_at}
+use Rattle.redo_board.specs.Inside.Core.{IsWord}
 
 pub below_test : (m n : ℕ) → n ≤ m → nat_lt m n ≡ false
 below_test m n from =

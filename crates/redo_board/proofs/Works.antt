@@ -23,11 +23,13 @@ use Rattle.redo_board.specs.Core.{Line, Begins, row}
 use Rattle.redo_board.specs.Histories.{EndsWith}
 use Rattle.redo_board.specs.Views.{Part, ViewOf, view}
 use Rattle.redo_board.specs.Rule.{HasPart}
-use Rattle.redo_board.specs.Plays.{Goes, Claims, Lost, made, next, own_way}
-use Rattle.redo_board.specs.Shown.{IsNextBy, session_of, journal_of, seen_by, entries_of, next_by, told, past, rows_up_to}
+use Rattle.redo_board.specs.Plays.{next, own_way}
+use Rattle.redo_board.specs.Inside.Plays.{Goes, Claims, Lost, made}
+use Rattle.redo_board.specs.Shown.{session_of, journal_of, seen_by, entries_of, next_by, told, past, rows_up_to}
+use Rattle.redo_board.specs.Inside.Shown.{IsNextBy}
 use Rattle.redo_board.specs.Kept.{IsBoardOf, Works, WorksAt, Lags, view_of}
 use Rattle.redo_board.specs.Outcomes.{Made, Waits}
-use Rattle.redo_board.specs.Steps.{Enters}
+use Rattle.redo_board.specs.Inside.Steps.{Enters}
 use Rattle.redo_board.specs.declared.board.Board.{Board}
 use Rattle.redo_board.specs.declared.worker.Worker.{Worker}
 use Rattle.redo_board.proofs.Ended.{ends-with}

@@ -2,12 +2,12 @@
 use Rattle.std.specs.Prelude.{◌≡◌, ℕ, ◌+◌, ◌-◌, ◌*◌, ◌<◌, ◌==◌, Bool, false, not, ◌&&◌, List, [], ◌∷◌, ◌++◌, length, Option, Some, None, cond, nat_lt}
 use Rattle.std.specs.Option.{unwrap_or}
 use Rattle.redo_model.specs.State.{State, Records, Locks, empty, target_state}
-use Rattle.redo_model.specs.Command.{Command, Lock, Unlock, target_of, asked_lock}
+use Rattle.redo_model.specs.Command.{Command, Lock, Unlock, target_of}
 use Rattle.redo_model.specs.Step.{Answers, after, holds_target, is_built_by}
-use Rattle.redo_model.specs.Renaming.{IsBelow, IsReplyBelow}
+use Rattle.redo_model.specs.Renaming.{IsReplyBelow}
 use Rattle.redo_model.specs.Placed.{Place, Row, Granted, Busy, Released, PlacedLine}
 use Rattle.redo_model.specs.Journals.{next_of, numbered}
-use Rattle.redo_joint.specs.Replayed.{is_closing, session_in, number_in, command_in, no_records, replayed}
+use Rattle.redo_joint.specs.Replayed.{no_records, replayed}
 use Rattle.redo_journal.specs.Plans.{PlanOf, script_of}
 use Rattle.redo_board.specs.Rows.{naming_of, command, bit}
 
@@ -20,14 +20,6 @@ abbrev pub word : PlanOf → ℕ → ℕ → Command ℕ → Bool → ℕ
 word p s k x holds =
     cond (nat_lt k (length (script_of p s))) (1 + 2 * (4096 * s + k) + bit holds)
     (4294967296 + 65536 * s + unwrap_or (target_of x) 0)
-
--- the word names a command of a session of the plan, which is no lock
-pub record IsWord (p : PlanOf) (w : ℕ) : Type 0 where
-  pub some : 0 < w
-  pub session : session_in w < length p.scripts
-  pub number : is_closing w ≡ false → number_in w < length (script_of p (session_in w))
-  pub row : asked_lock (command_in (script_of p) w) ≡ None
-  pub below : IsBelow (length p.names) (command_in (script_of p) w)
 
 -- the records after the commands that the words name
 abbrev pub replay : PlanOf → List ℕ → Records ℕ

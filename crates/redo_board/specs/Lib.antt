@@ -1,11 +1,10 @@
-pub mod Rows
 pub mod Core
-pub mod Views
-pub mod Rule
-pub mod Plays
-pub mod Own
 pub mod Histories
-pub mod Shown
+pub mod Inside
 pub mod Kept
 pub mod Outcomes
-pub mod Steps
+pub mod Plays
+pub mod Rows
+pub mod Rule
+pub mod Shown
+pub mod Views

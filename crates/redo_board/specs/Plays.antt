@@ -1,27 +1,14 @@
--- What each step tells its seat.
-use Rattle.std.specs.Prelude.{◌≡◌, ◌≢◌, ℕ, ◌<◌, ◌+◌, ◌/◌, ◌%◌, ◌==◌, Bool, true, false, cond, List, [], ◌∷◌, ◌++◌, length, map, Option, Some, None}
-use Rattle.atomic_table.specs.Table.{Me, Step}
+-- What a session does next by its own lines.
+use Rattle.std.specs.Prelude.{ℕ, Bool, false, List, map, Option, Some, None}
 use Rattle.std.specs.Ordering.{nat_cmp}
 use Rattle.redo_model.specs.Names.{Naming, numbers}
 use Rattle.redo_model.specs.Command.{Command, target_of}
-use Rattle.redo_model.specs.Reply.{Reply, Okay}
-use Rattle.redo_model.specs.Reply as replies
-use Rattle.redo_model.specs.Step.{Replies}
-use Rattle.redo_model.specs.Renaming.{IsReplyBelow}
-use Rattle.redo_model.specs.Placed.{Place, Row, Granted, Busy, Released, line_of, is_row}
+use Rattle.redo_model.specs.Placed.{line_of}
 use Rattle.redo_model.specs.Closing.{holds, builds}
 use Rattle.redo_model.specs.Journals.{Numbered, next_of}
-use Rattle.redo_journal.specs.Plans.{PlanOf, IsPlan, script_of}
-use Rattle.redo_board.specs.Rows.{rows_of, naming_of}
-use Rattle.redo_board.specs.Core.{Line, word, replay, IsLegal, start, row_words, way, Way}
-use Rattle.redo_board.specs.Views.{ViewOf, view}
-use Rattle.redo_board.specs.Rule.{Fits, Told, longer}
-
-abbrev pub Sat : Type 0
-Sat = Me (Unit {0}) ViewOf
-
-abbrev pub PlayOf : Type 1
-PlayOf = Step (Unit {0}) → Sat → ℕ → Sat → Type 0
+use Rattle.redo_journal.specs.Plans.{PlanOf, script_of}
+use Rattle.redo_board.specs.Rows.{naming_of}
+use Rattle.redo_board.specs.Core.{Line, way, Way}
 
 -- numbers, told apart and ordered as numbers
 abbrev pub by_number : Naming ℕ
@@ -50,102 +37,3 @@ own_build j x = built_name (target_of x) j
 -- the word that the command steps on, by the session's own lines
 abbrev pub own_way : List Line → Command ℕ → Way
 own_way j x = way x (own j x) (own_build j x)
-
--- the session's line of this command
-abbrev pub made : ℕ → Numbered ℕ → Reply ℕ → Place ℕ → Line
-made s n reply place = record {
-  session = s;
-  number = n.number;
-  command = n.command;
-  reply = reply;
-  place = place;
-}
-
--- what a `fetch_or` that found the word w is answered, and where it stands
-abbrev pub lock_said : ℕ → Reply ℕ
-lock_said w = cond (w % 2 == 0) (replies.Granted (w / 2 + 1)) (replies.Busy (w / 2 + 1))
-
-abbrev pub lock_place : ℕ → ℕ → Place ℕ
-lock_place t w = cond (w % 2 == 0) (Granted t (w / 2 + 1)) (Busy t (w / 2 + 1))
-
-abbrev pub lock_line : ℕ → Numbered ℕ → ℕ → ℕ → Line
-lock_line s n t w = made s n (lock_said w) (lock_place t w)
-
--- the line of a `fetch_add` that found the word w
-abbrev pub free_line : ℕ → Numbered ℕ → ℕ → ℕ → Line
-free_line s n t w = made s n Okay (Released t (w / 2 + 1))
-
--- the line at the row after those that were seen
-abbrev pub row_line : ViewOf → ℕ → Numbered ℕ → Reply ℕ → Line
-row_line v s n reply = made s n reply (Row (length v.seen))
-
--- a legal history ends with this line. After a row it has no rows but those that were seen
-pub record Ends (v : ViewOf) (l : Line) : Type 0 where
-  pub before : List Line
-  pub plan : IsPlan v.plan
-  pub legal : IsLegal v.plan start (before ++ l ∷ [])
-  pub fits : Fits v.plan (before ++ l ∷ []) v
-  pub only : is_row l.place ≡ true → row_words v.plan (before ++ l ∷ []) ≡ v.seen
-
--- one line more of the session s, and the rows that were seen
-pub record Goes (v : ViewOf) (s : ℕ) (j : List Line) (l : Line) (seen : List ℕ) (w : ViewOf) :
-    Type 0 where
-  pub now : w ≡ view v.plan ((s, j ++ l ∷ []) ∷ []) seen v.also
-  pub ends : Ends w l
-
--- the session s is the seat's only one, with these lines
-abbrev pub Lone : ViewOf → ℕ → List Line → Type 0
-Lone v s j = v.parts ≡ (s, j) ∷ []
-
-pub record Lost (v : ViewOf) (found : ℕ) (w : ViewOf) : Type 0 where
-  pub now : w ≡ view v.plan v.parts (v.seen ++ found ∷ []) v.also
-  pub told : Told w
-
--- the reply is the database's after the rows that were seen
-abbrev pub SaysRow : ViewOf → ℕ → List Line → Command ℕ → Reply ℕ → Type 0
-SaysRow v s j x reply =
-    Replies (naming_of v.plan) (replay v.plan v.seen) s (own j x) x reply
-    × IsReplyBelow (length v.plan.names) reply
-
--- what a won exchange tells the session s
-abbrev pub Won : ViewOf → ViewOf → Type 0
-Won v w =
-    (s : ℕ) (j : List Line) (n : Numbered ℕ) (reply : Reply ℕ) → Lone v s j
-    → next v.plan s j ≡ Some n → SaysRow v s j n.command reply
-    → Goes v s j (row_line v s n reply)
-    (v.seen ++ word v.plan s n.number n.command (own j n.command) ∷ []) w
-
-abbrev pub tried : PlayOf
-tried st m r n = (r ≡ 0 → Won m.0 n.0) × (r ≢ 0 → Lost m.0 r n.0) × (n.1 ≡ m.1)
-
--- what a look at the first row that was not seen tells: its word, where it is filled
-abbrev pub passed : PlayOf
-passed st m r n = (r ≡ 0 → n.0 ≡ m.0) × (r ≢ 0 → Lost m.0 r n.0) × (n.1 ≡ m.1)
-
--- what an exchange on a row that was seen tells: it is lost, and there is nothing new
-abbrev pub missed : PlayOf
-missed st m r n = (r ≢ 0) × (n.0 ≡ m.0) × (n.1 ≡ m.1)
-
--- what a step on a claim word that found r tells
-abbrev pub Claims : (ℕ → Numbered ℕ → ℕ → ℕ → Line) → ℕ → ViewOf → ℕ → ViewOf → Type 0
-Claims line word v r w =
-    (s t : ℕ) (j : List Line) (n : Numbered ℕ) → Lone v s j → next v.plan s j ≡ Some n
-    → word ≡ rows_of v.plan + 1 + t → Goes v s j (line s n t r) v.seen w
-
-abbrev pub claimed : PlayOf
-claimed st m r n = Claims lock_line st.word m.0 r n.0 × (r < 4294967296) × (n.1 ≡ m.1)
-
-abbrev pub freed : PlayOf
-freed st m r n = Claims free_line st.word m.0 r n.0 × (r < 4294967296) × (n.1 ≡ m.1)
-
--- the longer of what was seen, which both begin
-pub record Looked (v w : ViewOf) : Type 0 where
-  pub now : w ≡ view v.plan v.parts (longer v.seen v.also) []
-  pub log : List Line
-  pub plan : IsPlan v.plan
-  pub legal : IsLegal v.plan start log
-  pub before : Fits v.plan log v
-  pub fits : Fits v.plan log w
-
-abbrev pub looked : PlayOf
-looked st m r n = Looked m.0 n.0 × (n.1 ≡ m.1)

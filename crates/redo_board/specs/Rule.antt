@@ -1,5 +1,5 @@
 -- The running rule: between any two steps there is one legal history, whose words are the board's.
-use Rattle.std.specs.Prelude.{◌≡◌, ℕ, zero, suc, ◌+◌, ◌<◌, ◌⊎◌, List, [], ◌∷◌, ◌++◌, length, slice_index, nat_lt, cond}
+use Rattle.std.specs.Prelude.{◌≡◌, ℕ, zero, suc, ◌+◌, ◌<◌, ◌⊎◌, List, [], ◌∷◌, length, slice_index, nat_lt, cond}
 use mathlib.Core.Option.{some}
 use lib.ListN.{get_elem?}
 use Rattle.atomic_table.specs.Table.{State}
@@ -7,7 +7,7 @@ use Rattle.redo_model.specs.Placed.{part_of}
 use Rattle.redo_journal.specs.Plans.{PlanOf, IsPlan}
 use Rattle.redo_board.specs.Rows.{rows_of}
 use Rattle.redo_board.specs.Core.{Line, IsLegal, start, after_all, row_words, Begins, claim_of}
-use Rattle.redo_board.specs.Views.{Part, ViewOf, view}
+use Rattle.redo_board.specs.Views.{Part, ViewOf}
 
 -- the session's lines are j there
 abbrev pub HasPart : List Part → ℕ → List Line → Type 0
@@ -60,27 +60,6 @@ pub record Told (v : ViewOf) : Type 0 where
 abbrev pub range : ℕ → ℕ → List Part
 range s zero = []
 range s (suc n) = (s, []) ∷ range (s + 1) n
-
-abbrev pub first_view : PlanOf → ViewOf
-first_view p = view p (range 0 (length p.scripts)) [] []
-
--- the parts of the sessions below m, and the others
-abbrev pub below : ℕ → List Part → List Part
-below m [] = []
-below m (x ∷ xs) = cond (nat_lt x.0 m) (x ∷ below m xs) (below m xs)
-
-abbrev pub from : ℕ → List Part → List Part
-from m [] = []
-from m (x ∷ xs) = cond (nat_lt x.0 m) (from m xs) (x ∷ from m xs)
-
-abbrev pub left_of : ℕ → ViewOf → ViewOf
-left_of m v = view v.plan (below m v.parts) v.seen v.also
-
-abbrev pub right_of : ℕ → ViewOf → ViewOf
-right_of m v = view v.plan (from m v.parts) v.seen v.also
-
-abbrev pub met : ViewOf → ViewOf → ViewOf
-met v w = view v.plan (v.parts ++ w.parts) v.seen w.seen
 
 abbrev pub longer : List ℕ → List ℕ → List ℕ
 longer xs ys = cond (nat_lt (length xs) (length ys)) ys xs

@@ -1,12 +1,11 @@
 -- What boards, seats and workers show.
-use Rattle.std.specs.Prelude.{◌≡◌, ◌≢◌, ◌↔◌, ℕ, ◌+◌, ◌<◌, ◌≤◌, ◌==◌, cond, List, [], ◌∷◌, ◌++◌, length, Option, Some, None, IsSome}
+use Rattle.std.specs.Prelude.{◌≡◌, ◌≢◌, ℕ, ◌+◌, ◌<◌, ◌==◌, cond, List, [], ◌∷◌, ◌++◌, length, Option, Some, None}
 use Rattle.std.specs.Borrow.{Bor}
-use Rattle.redo_model.specs.Command.{Command, Item}
+use Rattle.redo_model.specs.Command.{Item}
 use Rattle.redo_model.specs.Placed.{Place, Row, Granted, Busy, Released}
 use Rattle.redo_model.specs.Journals.{Numbered}
 use Rattle.redo_journal.specs.Plans.{PlanOf, script_of}
-use Rattle.redo_terms.specs.declared.command.Command as terms
-use Rattle.redo_journal.specs.Journals.{command_by, lines_told}
+use Rattle.redo_journal.specs.Journals.{lines_told}
 use Rattle.redo_journal.specs.declared.entry.Entry.{Entry}
 use Rattle.redo_board.specs.declared.board.Board.{Board}
 use Rattle.redo_board.specs.declared.seat.Seat.{Seat}
@@ -95,13 +94,6 @@ IsAtEnd p w = next_by p w ≡ None
 abbrev pub NeedsNoRow : PlanOf → Worker → Type 0
 NeedsNoRow p w =
     (n : Numbered ℕ) → next_by p w ≡ Some n → own_way (journal_of p w) n.command ≢ row
-
--- the command with this number is next: that of a line of the script, or a closing one
-pub record IsNextBy (p : PlanOf) (w : Worker) (number : ℕ) (closing : Option terms.Command)
-    (x : Command ℕ) : Type 0 where
-  pub next : next_by p w ≡ Some (record { number = number; command = x })
-  pub told : command_by (script_of p w.session) closing number ≡ x
-  pub marked : IsSome closing ↔ (length (script_of p w.session) ≤ number)
 
 abbrev pub IsLast : List Entry → Option (Bor Entry) → Type 0
 IsLast entries None = entries ≡ []

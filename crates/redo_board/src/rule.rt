@@ -7,7 +7,8 @@ use std::marker::{Brand, PhantomData};
 pub struct Running;
 
 impl TableRule<(), View, Plan> for Running {
-    ghost use Rattle.redo_board.specs.Rule.{Orderly, first_view};
+    ghost use Rattle.redo_board.specs.Rule.{Orderly};
+    ghost use Rattle.redo_board.specs.Inside.Rule.{first_view};
 
     ghost holds = { Orderly };
 
@@ -17,7 +18,7 @@ impl TableRule<(), View, Plan> for Running {
 pub struct Try;
 
 impl Play<(), View> for Try {
-    ghost use Rattle.redo_board.specs.Plays.{tried};
+    ghost use Rattle.redo_board.specs.Inside.Plays.{tried};
 
     ghost then = { tried };
 }
@@ -25,7 +26,7 @@ impl Play<(), View> for Try {
 pub struct Pass;
 
 impl Play<(), View> for Pass {
-    ghost use Rattle.redo_board.specs.Plays.{passed};
+    ghost use Rattle.redo_board.specs.Inside.Plays.{passed};
 
     ghost then = { passed };
 }
@@ -33,7 +34,7 @@ impl Play<(), View> for Pass {
 pub struct Miss;
 
 impl Play<(), View> for Miss {
-    ghost use Rattle.redo_board.specs.Plays.{missed};
+    ghost use Rattle.redo_board.specs.Inside.Plays.{missed};
 
     ghost then = { missed };
 }
@@ -41,7 +42,7 @@ impl Play<(), View> for Miss {
 pub struct Claim;
 
 impl Play<(), View> for Claim {
-    ghost use Rattle.redo_board.specs.Plays.{claimed};
+    ghost use Rattle.redo_board.specs.Inside.Plays.{claimed};
 
     ghost then = { claimed };
 }
@@ -49,7 +50,7 @@ impl Play<(), View> for Claim {
 pub struct Free;
 
 impl Play<(), View> for Free {
-    ghost use Rattle.redo_board.specs.Plays.{freed};
+    ghost use Rattle.redo_board.specs.Inside.Plays.{freed};
 
     ghost then = { freed };
 }
@@ -57,7 +58,7 @@ impl Play<(), View> for Free {
 pub struct Look;
 
 impl Play<(), View> for Look {
-    ghost use Rattle.redo_board.specs.Plays.{looked};
+    ghost use Rattle.redo_board.specs.Inside.Plays.{looked};
 
     ghost then = { looked };
 }
@@ -76,7 +77,7 @@ impl Middle for Brand {
 pub struct Cut<M>(PhantomData<M>);
 
 impl<M: Middle> Split<View> for Cut<M> {
-    ghost use Rattle.redo_board.specs.Rule.{left_of, right_of};
+    ghost use Rattle.redo_board.specs.Inside.Rule.{left_of, right_of};
 
     ghost left = { left_of M.middle };
 
@@ -86,7 +87,7 @@ impl<M: Middle> Split<View> for Cut<M> {
 pub struct Both;
 
 impl Join<View> for Both {
-    ghost use Rattle.redo_board.specs.Rule.{met};
+    ghost use Rattle.redo_board.specs.Inside.Rule.{met};
     ghost use Rattle.redo_board.specs.Views.{nobody};
 
     ghost both = { met };

@@ -1,5 +1,6 @@
 ghost use Rattle.std.specs.Prelude.{◌≡◌, ℕ, ◌<◌, ◌++◌, []};
-ghost use Rattle.redo_board.specs.Rule.{left_of, right_of, longer};
+ghost use Rattle.redo_board.specs.Rule.{longer};
+ghost use Rattle.redo_board.specs.Inside.Rule.{left_of, right_of};
 ghost use Rattle.redo_board.specs.Shown.{plan_of, first_of, end_of, parts_of, seen_at};
 ghost use Rattle.redo_board.specs.Kept.{IsBoardOf, SitsAt, IsFresh, IsFreshOf};
 ghost use Rattle.redo_board.specs.Outcomes.{Together};

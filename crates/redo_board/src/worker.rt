@@ -9,9 +9,10 @@ ghost use Rattle.redo_board.specs.declared.board.Board.{Board as BoardOf};
 ghost use Rattle.redo_board.specs.Shown.{session_of, journal_of, tries_of, seen_by, first_of};
 ghost use Rattle.redo_board.specs.Shown.{end_of};
 ghost use Rattle.redo_board.specs.Kept.{IsBoardOf, IsSeatOf, SitsAt, IsFresh, Works, WorksAt};
-ghost use Rattle.redo_board.specs.Shown.{entries_of, NeedsNoRow, IsNextBy, IsAtEnd, IsLast};
+ghost use Rattle.redo_board.specs.Shown.{entries_of, NeedsNoRow, IsAtEnd, IsLast};
+ghost use Rattle.redo_board.specs.Inside.Shown.{IsNextBy};
 ghost use Rattle.redo_board.specs.Outcomes.{Made, Waits, Leaves};
-ghost use Rattle.redo_board.specs.Steps.{Enters};
+ghost use Rattle.redo_board.specs.Inside.Steps.{Enters};
 
 use crate::board::Board;
 use crate::gate::Gate;

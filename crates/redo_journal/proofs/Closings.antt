@@ -16,7 +16,8 @@ use Rattle.redo_terms.specs.Meaning.{by_text}
 use Rattle.redo_journal.specs.declared.entry.Entry.{Entry}
 use Rattle.redo_journal.specs.declared.holds.Hold.{Hold}
 use Rattle.redo_journal.specs.Journals.{command_told, lines_told}
-use Rattle.redo_journal.specs.Holds.{Says, hold_at, is_held, locked_in, lesser_held}
+use Rattle.redo_journal.specs.Holds.{Says, hold_at}
+use Rattle.redo_journal.specs.Inside.Holds.{is_held, locked_in, lesser_held}
 
 -- one name more in front
 module _ (naming : Naming ℕ) (holds : List Hold) where

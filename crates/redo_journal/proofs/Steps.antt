@@ -18,7 +18,8 @@ use Rattle.redo_terms.specs.Meaning.{by_text}
 use Rattle.redo_terms.specs.declared.command.Command.{Command}
 use Rattle.redo_journal.specs.declared.entry.Entry.{Entry}
 use Rattle.redo_journal.specs.Journals.{command_told, command_by, line_told, lines_told, IsMarked}
-use Rattle.redo_journal.specs.Numbers.{numbered_in, next_after, IsNextAfter, IsNextAt}
+use Rattle.redo_journal.specs.Numbers.{numbered_in, next_after}
+use Rattle.redo_journal.specs.Inside.Numbers.{IsNextAfter, IsNextAt}
 use Rattle.redo_journal.proofs.Closings.{TellsBelow, closing_told_below}
 
 eqb-same : (n : ℕ) → (n == n) ≡ true

@@ -1,7 +1,7 @@
 -- What a table says of the names that a session holds and builds.
-use Rattle.std.specs.Prelude.{◌≡◌, ℕ, ◌<◌, Bool, false, cond, List, map, filter_map, length, All, Option, Some, None, slice_index_or}
-use Rattle.redo_model.specs.Names.{Text, Naming}
-use Rattle.redo_model.specs.Command.{Command, asked_lock}
+use Rattle.std.specs.Prelude.{◌≡◌, ℕ, ◌<◌, false, List, map, length, All, slice_index_or}
+use Rattle.redo_model.specs.Names.{Text}
+use Rattle.redo_model.specs.Command.{Command}
 use Rattle.redo_model.specs.Command as commands
 use Rattle.redo_model.specs.Reply.{Reply}
 use Rattle.redo_model.specs.History.{Line}
@@ -18,9 +18,6 @@ no_hold = record { held = false; building = false }
 
 abbrev pub hold_at : List Hold → ℕ → Hold
 hold_at holds t = slice_index_or holds t no_hold
-
-abbrev pub is_held : List Hold → ℕ → Bool
-is_held holds t = (hold_at holds t).held
 
 -- it says what a session with these lines holds and builds
 pub record Says (names : List Text) (holds : List Hold) (lines : List (Line ℕ)) : Type 0 where
@@ -47,13 +44,3 @@ own_lines s script entries = map line_of (lines_told s script entries)
 -- their commands are over so many names
 abbrev pub AreToldBelow : ℕ → List (commands.Item ℕ) → List Entry → Type 0
 AreToldBelow n script entries = All (λ entry. IsBelow n (command_told script entry)) entries
-
--- the names that the entries' commands lock
-abbrev pub locked_in : List (commands.Item ℕ) → List Entry → List ℕ
-locked_in script entries = filter_map (λ entry. asked_lock (command_told script entry)) entries
-
--- the lesser of a name, where it is asked for and held, and of the least so far
-abbrev pub lesser_held : Naming ℕ → List Hold → Option ℕ → Option ℕ → Option ℕ
-lesser_held naming holds None so_far = so_far
-lesser_held naming holds (Some t) so_far =
-    cond (is_held holds t) (Some (closing.lesser_of naming t so_far)) so_far

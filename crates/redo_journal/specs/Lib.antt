@@ -1,5 +1,6 @@
-pub mod Plans
-pub mod Kept
-pub mod Journals
 pub mod Holds
+pub mod Inside
+pub mod Journals
+pub mod Kept
 pub mod Numbers
+pub mod Plans

@@ -6,7 +6,8 @@ ghost use Rattle.redo_model.specs.Closing.{lesser_of, least, closing_of};
 ghost use Rattle.redo_terms.specs.Meaning.{command_of, by_text};
 ghost use Rattle.redo_terms.specs.Inside.Meaning.{item_of};
 ghost use Rattle.redo_journal.specs.Journals.{command_told};
-ghost use Rattle.redo_journal.specs.Holds.{Says, AreToldBelow, own_lines, is_held, locked_in, lesser_held};
+ghost use Rattle.redo_journal.specs.Holds.{Says, AreToldBelow, own_lines};
+ghost use Rattle.redo_journal.specs.Inside.Holds.{is_held, locked_in, lesser_held};
 
 use crate::entry::Entry;
 use crate::holds::{Hold, Holds};

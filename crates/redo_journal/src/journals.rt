@@ -7,7 +7,7 @@ ghost use Rattle.redo_terms.specs.Inside.Meaning.{item_of};
 ghost use Rattle.redo_journal.specs.Plans.{AreBelow};
 ghost use Rattle.redo_journal.specs.Journals.{command_told, told_by, AreJournals, IsMarked};
 ghost use Rattle.redo_journal.specs.Holds.{Says, Notes};
-ghost use Rattle.redo_journal.specs.Numbers.{IsNextAt};
+ghost use Rattle.redo_journal.specs.Inside.Numbers.{IsNextAt};
 
 use crate::entry::{Entry, Journal};
 use crate::holds::Holds;

@@ -6,7 +6,8 @@ ghost use Rattle.redo_terms.specs.Meaning.{command_of, by_text};
 ghost use Rattle.redo_terms.specs.Inside.Meaning.{item_of};
 ghost use Rattle.redo_journal.specs.Holds.{Says, AreToldBelow, own_lines};
 ghost use Rattle.redo_journal.specs.Journals.{line_told, lines_told, IsMarked};
-ghost use Rattle.redo_journal.specs.Numbers.{numbered_in, numbered_by, next_after, IsNextAfter};
+ghost use Rattle.redo_journal.specs.Numbers.{numbered_in, numbered_by, next_after};
+ghost use Rattle.redo_journal.specs.Inside.Numbers.{IsNextAfter};
 
 use crate::closing::lets_go;
 use crate::entry::Entry;

@@ -27,7 +27,8 @@ use Rattle.redo_model.proofs.RecordsByName.{value_at_name}
 use Rattle.redo_model.proofs.RepliesByName.{Carries, listing}
 use Rattle.redo_terms.specs.Meaning.{by_text, command_of, line_of, line_at}
 use Rattle.redo_terms.specs.declared.reply.Line.{Line}
-use Rattle.redo_store.specs.Tables.{Tables, state_of, tables_count, tables_naming, tables_order, calls_of}
+use Rattle.redo_store.specs.Tables.{Tables, state_of, tables_count, tables_order, calls_of}
+use Rattle.redo_store.specs.Inside.Tables.{tables_naming}
 use Rattle.redo_history.specs.Histories.{line_text_of}
 use Rattle.redo_history.specs.Recorded.{AreLinesBelow}
 use Rattle.redo_live.specs.Inside.Ended.{end_text}

@@ -17,7 +17,8 @@ use Rattle.redo_terms.specs.declared.command.Command.{Command as Asked}
 use Rattle.redo_terms.specs.declared.reply.Line.{Line}
 use Rattle.redo_terms.specs.declared.reply.Reply.{Reply}
 use Rattle.redo_text.specs.Grammar.{IsCommandLine, AddsNames}
-use Rattle.redo_store.specs.Tables.{Tables, state_of, tables_records, tables_naming, tables_order, calls_of}
+use Rattle.redo_store.specs.Tables.{Tables, state_of, tables_records, tables_order, calls_of}
+use Rattle.redo_store.specs.Inside.Tables.{tables_naming}
 use Rattle.redo_history.specs.Histories.{line_text_of}
 use Rattle.redo_live.specs.Inside.Answered.{logged_text}
 use Rattle.redo_live.specs.Inside.LiveState.{LiveState, state_in, calls_in}

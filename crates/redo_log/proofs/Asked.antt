@@ -14,7 +14,7 @@ use Rattle.redo_history.specs.Inside.HistoryTexts.{IsLineSaid, IsSaid}
 use Rattle.redo_history.proofs.CutOnce.{Without, without_append, without_from, one_cut_at_space, one_cut_at_arrow}
 use Rattle.redo_history.proofs.FreeWords.{command_is_one_line}
 use Rattle.redo_history.proofs.HistoryLines.{number_is_without, command_cut}
-use Rattle.redo_log.specs.Steps.{AsksFor}
+use Rattle.redo_log.specs.Inside.Steps.{AsksFor}
 
 pub line_said : (command : Command Text) → IsSaid command
     → IsCommandLine (command_text_of command) command

@@ -16,7 +16,7 @@ use Rattle.redo_live.specs.Inside.LiveState.{LiveState}
 use Rattle.redo_live.specs.Lines.{names_after}
 use Rattle.redo_log.specs.Logs.{AreLogged}
 use Rattle.redo_log.specs.Restores.{IsLeftBy}
-use Rattle.redo_log.specs.Steps.{CanFollow}
+use Rattle.redo_log.specs.Inside.Steps.{CanFollow}
 
 abbrev own_names : Line Text → List Text
 own_names line = names_in line.command

@@ -16,7 +16,7 @@ use Rattle.redo_history.specs.Histories.{line_text_of}
 use Rattle.redo_history.proofs.CommandsSaid.{command_said}
 use Rattle.redo_live.specs.Inside.LiveState.{LiveState, state_in}
 use Rattle.redo_live.specs.Inside.Told.{AnswersText}
-use Rattle.redo_log.specs.Steps.{CanFollow, NothingFollows, DoesNext}
+use Rattle.redo_log.specs.Inside.Steps.{CanFollow, NothingFollows, DoesNext}
 use Rattle.redo_log.proofs.Asked.{line_said}
 
 -- a line that can follow is asked for by this session and text

@@ -18,7 +18,7 @@ use Rattle.redo_log.specs.Logs.{log_header, AreLogged, IsLogOf}
 use Rattle.redo_log.specs.Restores.{IsLeftBy, IsRestoredTo, DiffersBehind, IsRestoreCause, IsOfRoom}
 use Rattle.redo_log.specs.declared.restoring.RestoreFault.{RestoreFault}
 use Rattle.redo_log.specs.declared.restoring.RestoreFault.TheVariants.{Memory, Worn, Differs}
-use Rattle.redo_log.specs.Steps.{NothingFollows, DoesNext, IsDoneUpTo}
+use Rattle.redo_log.specs.Inside.Steps.{NothingFollows, DoesNext, IsDoneUpTo}
 use Rattle.redo_log.proofs.Grown.{logged_more, can_follow}
 
 -- a line's text ends with a line feed

@@ -1,3 +1,3 @@
+pub mod Inside
 pub mod Logs
 pub mod Restores
-pub mod Steps

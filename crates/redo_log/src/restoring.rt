@@ -7,7 +7,7 @@ ghost use Rattle.redo_live.specs.Inside.LiveState.{calls_in};
 ghost use Rattle.redo_history.specs.Inside.HistoryFaults.{IsCutAt};
 ghost use Rattle.redo_log.specs.Logs.{log_header, IsLogOf, IsTornHeader};
 ghost use Rattle.redo_log.specs.Restores.{IsRestored, IsRestoredTo, IsRestoreCause, IsOfRoom};
-ghost use Rattle.redo_log.specs.Steps.{AsksFor, DoesNext, NothingFollows};
+ghost use Rattle.redo_log.specs.Inside.Steps.{AsksFor, DoesNext, NothingFollows};
 
 use redo_history::{cut_at, cut_at_arrow, cut_at_space, session_of};
 use redo_live::{Live, Unanswered};

@@ -12,10 +12,11 @@ use Rattle.redo_model.proofs.Members.{contains_first, contains_cases, contains_n
 use Rattle.redo_model.proofs.Region.{out_of_date_by_step, as_before_outside, was_out_of_date, derived_along}
 use Rattle.redo_model.proofs.UpToDate.{idle_up_to_date}
 use Rattle.redo_records.proofs.MorePlaces.{same_everywhere}
-use Rattle.redo_ood.specs.NameSet.{Marked, IsMarked, IsQueued, IsQueue, Enters, Grows, HoldsOnly, Unmarks, size_of}
+use Rattle.redo_ood.specs.NameSet.{Marked, IsMarked, IsQueued, IsQueue, Enters, Grows, Unmarks, size_of}
+use Rattle.redo_ood.specs.Inside.NameSet.{HoldsOnly}
 use Rattle.redo_ood.specs.KeptMemo.{IsCleared}
 use Rattle.redo_ood.specs.Memo.{is_out, IsRight, WasRight, HasCount}
-use Rattle.redo_ood.specs.Regions.{Spreads, IsDue, IsClosed, IsSound, EntersDue}
+use Rattle.redo_ood.specs.Inside.Regions.{Spreads, IsDue, IsClosed, IsSound, EntersDue}
 use Rattle.redo_ood.proofs.Listing.{listed_or_not}
 use Rattle.redo_ood.proofs.Marking.{front_of, grows_then, one_more, marked_or_not}
 use Rattle.redo_ood.proofs.Spreading.{reaches_queued, reaches_out_of_date}

@@ -9,7 +9,7 @@ use Rattle.std.specs.List.{Contains}
 use Rattle.redo_model.specs.State.{Records}
 use Rattle.redo_model.specs.OutOfDate.{Depends}
 use Rattle.redo_ood.specs.NameSet.{Marked, IsMarked, IsQueued, with_name, size_of}
-use Rattle.redo_ood.specs.Search.{IsSearchTree, IsNear, IsSearch}
+use Rattle.redo_ood.specs.Inside.Search.{IsSearchTree, IsNear, IsSearch}
 use Rattle.redo_ood.proofs.Marking.{set_cases}
 
 -- a depth for one more place

@@ -6,7 +6,7 @@ use Rattle.redo_model.specs.OutOfDate.{HasReason, Depends, Chain, OutOfDate}
 use Rattle.redo_model.specs.Why.{Reason, IsReason, Explains, end_of}
 use Rattle.redo_model.proofs.Reasons.{reason_holds}
 use Rattle.redo_ood.specs.NameSet.{Marked, IsMarked}
-use Rattle.redo_ood.specs.Search.{IsSearchTree, IsSearch, StepsBefore, IsWay}
+use Rattle.redo_ood.specs.Inside.Search.{IsSearchTree, IsSearch, StepsBefore, IsWay}
 
 -- a way along parents is a chain, as long as its end is deeper
 module _ (r : Records ℕ) (queue parents : List ℕ) (tree : IsSearchTree r queue parents) (to : ℕ)

@@ -6,8 +6,9 @@ use Rattle.redo_model.specs.State.{Records}
 use Rattle.redo_model.specs.OutOfDate.{IsTarget, HasRow, Chain, Depends, OutOfDate}
 use Rattle.redo_model.specs.Inside.OutOfDate.{TouchesSeed, InRegion}
 use Rattle.redo_model.proofs.Region.{out_of_date_by_step}
-use Rattle.redo_ood.specs.NameSet.{Marked, IsMarked, IsQueued, Enters, HoldsOnly}
-use Rattle.redo_ood.specs.Regions.{Reaches, Spreads}
+use Rattle.redo_ood.specs.NameSet.{Marked, IsMarked, IsQueued, Enters}
+use Rattle.redo_ood.specs.Inside.NameSet.{HoldsOnly}
+use Rattle.redo_ood.specs.Inside.Regions.{Reaches, Spreads}
 use Rattle.redo_ood.proofs.Marking.{grows_then, front_of, enters_then, one_more}
 
 module _ (r : Records ℕ) where

@@ -1,7 +1,6 @@
-pub mod NameSet
-pub mod KeptNames
-pub mod Memo
+pub mod Inside
 pub mod KeptMemo
+pub mod KeptNames
 pub mod Meaning
-pub mod Regions
-pub mod Search
+pub mod Memo
+pub mod NameSet

@@ -19,10 +19,6 @@ IsMarked m t = IsSet m.marks t
 abbrev pub IsQueued : Marked → ℕ → Type 0
 IsQueued m t = Contains m.queue t
 
--- each marked name is queued
-abbrev pub AreQueued : Marked → Type 0
-AreQueued m = (t : ℕ) → IsMarked m t → IsQueued m t
-
 -- the marks and the queue with one more name
 abbrev pub with_name : Marked → ℕ → Marked
 with_name m t = record { marks = slice_set m.marks t true; queue = m.queue ++ t ∷ [] }
@@ -46,11 +42,6 @@ pub record Grows (old new : Marked) : Type 0 where
 pub record Enters (P : ℕ → Type 0) (old new : Marked) : Type 0 where
   pub grown : Grows old new
   pub each : (t : ℕ) → IsMarked new t ↔ (IsMarked old t ⊎ P t)
-
--- exactly the names with P are marked, and all of them are queued
-pub record HoldsOnly (P : ℕ → Type 0) (m : Marked) : Type 0 where
-  pub queued : (t : ℕ) → IsQueued m t ↔ P t
-  pub marked : AreQueued m
 
 -- the queue is empty, and the marks are taken from the names with P
 pub record Unmarks (P : ℕ → Type 0) (old new : Marked) : Type 0 where

@@ -5,7 +5,7 @@ ghost use Rattle.redo_model.specs.OutOfDate.{Depends};
 ghost use Rattle.redo_model.specs.Renaming.{AllBelow};
 ghost use Rattle.redo_rows.specs.Rows.{with_rows, rows_of, rows_count};
 ghost use Rattle.redo_ood.specs.NameSet.{IsMarked, size_of};
-ghost use Rattle.redo_ood.specs.Regions.{IsDue, IsClosed, EntersDue};
+ghost use Rattle.redo_ood.specs.Inside.Regions.{IsDue, IsClosed, EntersDue};
 
 use crate::name_set::NameSet;
 use crate::reason::has_reason;

@@ -8,8 +8,9 @@ ghost use Rattle.redo_model.specs.Renaming.{AllBelow};
 ghost use Rattle.redo_model.specs.State.{Idle};
 ghost use Rattle.redo_records.specs.Cells.{cell_at};
 ghost use Rattle.redo_rows.specs.Rows.{with_rows, rows_count};
-ghost use Rattle.redo_ood.specs.NameSet.{IsMarked, IsQueued, Enters, HoldsOnly, size_of};
-ghost use Rattle.redo_ood.specs.Regions.{Spreads, IsClosed};
+ghost use Rattle.redo_ood.specs.NameSet.{IsMarked, IsQueued, Enters, size_of};
+ghost use Rattle.redo_ood.specs.Inside.NameSet.{HoldsOnly};
+ghost use Rattle.redo_ood.specs.Inside.Regions.{Spreads, IsClosed};
 
 use crate::name_set::NameSet;
 use redo_records::{Records, State};

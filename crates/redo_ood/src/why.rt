@@ -7,9 +7,10 @@ ghost use Rattle.redo_model.specs.Inside.Why.{IsReasonBelow, IsWhyBelow};
 ghost use Rattle.redo_model.specs.OutOfDate.{OutOfDate};
 ghost use Rattle.redo_model.specs.Renaming.{AllBelow};
 ghost use Rattle.redo_rows.specs.Rows.{with_rows, rows_count};
-ghost use Rattle.redo_ood.specs.NameSet.{IsMarked, IsQueued, AreQueued, size_of};
+ghost use Rattle.redo_ood.specs.NameSet.{IsMarked, IsQueued, size_of};
+ghost use Rattle.redo_ood.specs.Inside.NameSet.{AreQueued};
 ghost use Rattle.redo_ood.specs.Meaning.{reason_of, why_of};
-ghost use Rattle.redo_ood.specs.Search.{IsSearch, StepsBefore, Finds, IsWay, HaveNoReason, IsFirstReason};
+ghost use Rattle.redo_ood.specs.Inside.Search.{IsSearch, StepsBefore, Finds, IsWay, HaveNoReason, IsFirstReason};
 
 use crate::derive::needs_marked;
 use crate::name_set::NameSet;

@@ -1,7 +1,7 @@
 -- The fields of rows without a row.
 use Rattle.std.proofs.Common.{◌≡◌, List, [], ◌∷◌, ◌++◌, refl, zero, suc}
 use Rattle.redo_rows.specs.Numbers.{NumberList}
-use Rattle.redo_rows.specs.Kept.{AreEmpty}
+use Rattle.redo_rows.specs.Inside.Kept.{AreEmpty}
 
 -- one more empty list
 pub empty_push : (lists : List NumberList) (list : NumberList) → AreEmpty lists → list.items ≡ []

@@ -5,7 +5,8 @@ use Rattle.std.proofs.lemmas.List.{length-set, set-set, get_or_default, drop_mor
 use Rattle.std.specs.List.{Contains, AllPairs}
 use Rattle.redo_rows.specs.Rows.{Slot, TargetRows, slot_at, has_slot, target_at, bare, room_of}
 use Rattle.redo_rows.specs.Numbers.{NumberList}
-use Rattle.redo_rows.specs.Kept.{has_change, has_created, passes_on, sits_on, numbers_at, IsInverse, IsKept, FollowsOn}
+use Rattle.redo_rows.specs.Kept.{has_change, has_created, passes_on, sits_on, numbers_at, IsInverse, IsKept}
+use Rattle.redo_rows.specs.Inside.Kept.{FollowsOn}
 use Rattle.redo_rows.proofs.Inverses.{flag, IsRowTest, target_same, target_other, inverse_stays, inverse_set, counts_set, counts_stay, no_slot_no_row, slot_counted}
 
 pub below_set : (targets : List TargetRows) (t : ℕ) (new : TargetRows) → t < length targets
@@ -23,18 +24,18 @@ below_set targets t new below old own u n sits =
 
 -- a target with the same rows and slots
 pub kept_stays : (targets : List TargetRows) (t : ℕ) (new : TargetRows)
-    (needed awaited : List NumberList) (sloted : List ℕ) → t < length targets
+    (needed awaited : List NumberList) (slotted : List ℕ) → t < length targets
     → ((k : ℕ) → slot_at new.slots k ≡ slot_at (target_at targets t).slots k)
     → ((k : ℕ) → sits_on k new ≡ sits_on k (target_at targets t))
-    → IsKept targets needed awaited sloted → IsKept (set targets t new) needed awaited sloted
-kept_stays targets t new needed awaited sloted below rows sits h = record {
+    → IsKept targets needed awaited slotted → IsKept (set targets t new) needed awaited slotted
+kept_stays targets t new needed awaited slotted below rows sits h = record {
   small = subst (λ m. m < 2 ^ 32) (sym (length-set targets t new)) h.small;
   below = below_set targets t new below h.below (λ n s. h.below t n (sym (sits n) ∙ s));
   needs = inverse_stays has_change targets t new needed below
       (λ k. ap has_change (rows k)) sits h.needs;
   awaits = inverse_stays has_created targets t new awaited below
       (λ k. ap has_created (rows k)) sits h.awaits;
-  counts = counts_stay targets t new sloted below sits h.counts;
+  counts = counts_stay targets t new slotted below sits h.counts;
 }
 
 -- the first slot goes
@@ -65,15 +66,15 @@ inverse_drop test blank targets t slot rest lists lists' below e none f h =
     h
 
 kept_drop : (targets : List TargetRows) (t : ℕ) (slot : Slot) (rest : List Slot)
-    (needed awaited needed' awaited' : List NumberList) (sloted : List ℕ) (m : ℕ)
+    (needed awaited needed' awaited' : List NumberList) (slotted : List ℕ) (m : ℕ)
     → t < length targets
     → (target_at targets t).slots ≡ slot ∷ rest → has_slot rest slot.name ≡ false
     → FollowsOn slot.name t (has_change slot) false needed needed' → FollowsOn slot.name t
-    (has_created slot) false awaited awaited' → m + 1 ≡ get_or sloted slot.name 0
-    → IsKept targets needed awaited sloted
+    (has_created slot) false awaited awaited' → m + 1 ≡ get_or slotted slot.name 0
+    → IsKept targets needed awaited slotted
     → IsKept (set targets t (record { slots = rest; always = false })) needed' awaited'
-    (set sloted slot.name m)
-kept_drop targets t slot rest needed awaited needed' awaited' sloted m below e none f g less h =
+    (set slotted slot.name m)
+kept_drop targets t slot rest needed awaited needed' awaited' slotted m below e none f g less h =
     let n : ℕ = slot.name in
     let new : TargetRows = record { slots = rest; always = false } in
     let here : eqb n n ≡ true = eq-eqb n n refl in
@@ -87,7 +88,7 @@ kept_drop targets t slot rest needed awaited needed' awaited' sloted m below e n
           (λ k. refl) targets t slot rest needed needed' below e none f h.needs;
       awaits = inverse_drop has_created
           (λ k. refl) targets t slot rest awaited awaited' below e none g h.awaits;
-      counts = counts_set targets t new n m sloted below
+      counts = counts_set targets t new n m slotted below
           (λ k d. sym (ap (λ ss. has_slot ss k) e
           ∙ ap (λ b. b || has_slot rest k) (ne_eqb n k (λ s. d (sym s)))))
           (λ n_in. omega (arith, less, ap flag old_sits, ap flag none))
@@ -160,13 +161,13 @@ at_slot targets t i target slots slot n changed created below at is rise in' fou
     }
 
 pub kept_rest : (targets : List TargetRows) (t i : ℕ) (slot : Slot) (n : ℕ) (changed created : Bool)
-    (needed awaited needed' awaited' : List NumberList) (sloted : List ℕ) (m : ℕ)
+    (needed awaited needed' awaited' : List NumberList) (slotted : List ℕ) (m : ℕ)
     → AtSlot targets t i slot n changed created
     → FollowsOn n t changed false needed needed' → FollowsOn n t created false awaited awaited'
-    → m + 1 ≡ get_or sloted n 0
-    → IsKept (with_rest targets t i) needed awaited sloted
-    → IsKept (with_rest targets t (i + 1)) needed' awaited' (set sloted n m)
-kept_rest targets t i slot n changed created needed awaited needed' awaited' sloted m a f g less h =
+    → m + 1 ≡ get_or slotted n 0
+    → IsKept (with_rest targets t i) needed awaited slotted
+    → IsKept (with_rest targets t (i + 1)) needed' awaited' (set slotted n m)
+kept_rest targets t i slot n changed created needed awaited needed' awaited' slotted m a f g less h =
     let slots : List Slot = (target_at targets t).slots in
     let old : TargetRows = record { slots = drop i slots; always = false } in
     let new : TargetRows = record { slots = drop (i + 1) slots; always = false } in
@@ -176,32 +177,32 @@ kept_rest targets t i slot n changed created needed awaited needed' awaited' slo
     let g' : FollowsOn slot.name t (has_created slot) false awaited awaited' =
     subst (λ b. FollowsOn slot.name t b false awaited awaited') (sym a.create)
     (subst (λ k. FollowsOn k t created false awaited awaited') (sym a.name) g) in
-    let less' : m + 1 ≡ get_or sloted slot.name 0 =
-    subst (λ k. m + 1 ≡ get_or sloted k 0) (sym a.name) less in
-    subst (λ k. IsKept (with_rest targets t (i + 1)) needed' awaited' (set sloted k m)) a.name
-    (subst (λ targets'. IsKept targets' needed' awaited' (set sloted slot.name m))
+    let less' : m + 1 ≡ get_or slotted slot.name 0 =
+    subst (λ k. m + 1 ≡ get_or slotted k 0) (sym a.name) less in
+    subst (λ k. IsKept (with_rest targets t (i + 1)) needed' awaited' (set slotted k m)) a.name
+    (subst (λ targets'. IsKept targets' needed' awaited' (set slotted slot.name m))
     (set-set targets t old new)
     (kept_drop (with_rest targets t i) t slot (drop (i + 1) slots) needed awaited needed' awaited'
-    sloted m (subst (λ k. t < k) (sym (length-set targets t old)) a.below)
+    slotted m (subst (λ k. t < k) (sym (length-set targets t old)) a.below)
     (rest_slots targets t i slot a.below a.inside a.found)
     (no_later slots i slot a.rise a.inside a.found) f' g' less' h))
 
 -- what the fields say of a slot of t, where those before it are gone
 pub record KnowsSlot (t n : ℕ) (changed created : Bool) (needed awaited : List NumberList)
-    (sloted : List ℕ) : Type 0 where
+    (slotted : List ℕ) : Type 0 where
   pub needed_in : n < length needed
   pub awaited_in : n < length awaited
-  pub sloted_in : n < length sloted
+  pub slotted_in : n < length slotted
   pub needs : Contains (numbers_at needed n).items t ↔ IsTrue changed
   pub awaits : Contains (numbers_at awaited n).items t ↔ IsTrue created
-  pub counted : 0 < get_or sloted n 0
+  pub counted : 0 < get_or slotted n 0
 
 pub knows_slot : (targets : List TargetRows) (t i : ℕ) (slot : Slot) (n : ℕ)
-    (changed created : Bool) (needed awaited : List NumberList) (sloted : List ℕ)
+    (changed created : Bool) (needed awaited : List NumberList) (slotted : List ℕ)
     → AtSlot targets t i slot n changed created
-    → IsKept (with_rest targets t i) needed awaited sloted
-    → KnowsSlot t n changed created needed awaited sloted
-knows_slot targets t i slot n changed created needed awaited sloted a h =
+    → IsKept (with_rest targets t i) needed awaited slotted
+    → KnowsSlot t n changed created needed awaited slotted
+knows_slot targets t i slot n changed created needed awaited slotted a h =
     let rest : List Slot = drop (i + 1) (target_at targets t).slots in
     let targets' : List TargetRows = with_rest targets t i in
     let e : (target_at targets' t).slots ≡ slot ∷ rest =
@@ -218,7 +219,7 @@ knows_slot targets t i slot n changed created needed awaited sloted a h =
     record {
       needed_in = omega (arith, n_in, h.needs.sized);
       awaited_in = omega (arith, n_in, h.awaits.sized);
-      sloted_in = omega (arith, n_in, h.counts.sized);
+      slotted_in = omega (arith, n_in, h.counts.sized);
       needs = subst (λ b. Contains (numbers_at needed n).items t ↔ IsTrue b)
           (ap has_change stands ∙ a.change) ((h.needs.each n n_in).listed t);
       awaits = subst (λ b. Contains (numbers_at awaited n).items t ↔ IsTrue b)
@@ -228,8 +229,8 @@ knows_slot targets t i slot n changed created needed awaited sloted a h =
 
 -- before the first slot goes, and after the last
 pub rest_begins : (targets : List TargetRows) (t : ℕ) (needed awaited : List NumberList)
-    (sloted : List ℕ) → t < length targets → IsKept targets needed awaited sloted
-    → IsKept (with_rest targets t 0) needed awaited sloted
-rest_begins targets t needed awaited sloted below h =
+    (slotted : List ℕ) → t < length targets → IsKept targets needed awaited slotted
+    → IsKept (with_rest targets t 0) needed awaited slotted
+rest_begins targets t needed awaited slotted below h =
     kept_stays targets t (record { slots = drop 0 (target_at targets t).slots; always = false })
-    needed awaited sloted below (λ k. refl) (λ k. refl) h
+    needed awaited slotted below (λ k. refl) (λ k. refl) h

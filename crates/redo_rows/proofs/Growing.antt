@@ -8,8 +8,9 @@ use Rattle.std.specs.List.{count_by, Contains}
 use Rattle.redo_records.proofs.MorePlaces.{get_or-extended}
 use Rattle.redo_rows.specs.Rows.{Slot, TargetRows, slot_at, has_slot, target_at, bare, room_of, rows_of}
 use Rattle.redo_rows.specs.Numbers.{NumberList}
-use Rattle.redo_rows.specs.Kept.{has_change, has_created, no_numbers, passes_on, sits_on, slots_on, numbers_at, AreEmpty, IsInverseOn, IsInverse, CountsSlots, IsKept}
-use Rattle.redo_rows.proofs.Inverses.{flag, IsRowTest, no_slot_no_row, sloted_row}
+use Rattle.redo_rows.specs.Kept.{has_change, has_created, no_numbers, passes_on, sits_on, slots_on, numbers_at, IsInverseOn, IsInverse, CountsSlots, IsKept}
+use Rattle.redo_rows.specs.Inside.Kept.{AreEmpty}
+use Rattle.redo_rows.proofs.Inverses.{flag, IsRowTest, no_slot_no_row, slotted_row}
 
 -- the lists with empty ones behind
 lists_more : (lists more : List NumberList) → AreEmpty more → (n : ℕ)
@@ -127,30 +128,30 @@ module _ (targets : List TargetRows) (k : ℕ) where
           (inverse_at test blank lists h n) longer.0 longer.1;
     }
 
-    counts_grown : (sloted more : List ℕ) → length more ≡ length targets + k
-        → ((n : ℕ) → get_or more n 0 ≡ get_or sloted n 0) → CountsSlots targets sloted
+    counts_grown : (slotted more : List ℕ) → length more ≡ length targets + k
+        → ((n : ℕ) → get_or more n 0 ≡ get_or slotted n 0) → CountsSlots targets slotted
         → CountsSlots grown more
-    counts_grown sloted more sized same h = record {
+    counts_grown slotted more sized same h = record {
       sized = sized ∙ sym length-grown;
       each = λ n in'. elim (cases_lt n (length targets)) [
         | inl was ↦ same n ∙ h.each n was ∙ sym (count_grown (sits_on n) refl)
         | inr past ↦
-            let none : get_or sloted n 0 ≡ 0 =
-            get_or_past sloted n 0 (omega (arith, h.sized)) in
-            let unsloted = none_passes (sits_on n) targets (no_slots n past) in
-            same n ∙ none ∙ sym unsloted ∙ sym (count_grown (sits_on n) refl)
+            let none : get_or slotted n 0 ≡ 0 =
+            get_or_past slotted n 0 (omega (arith, h.sized)) in
+            let unslotted = none_passes (sits_on n) targets (no_slots n past) in
+            same n ∙ none ∙ sym unslotted ∙ sym (count_grown (sits_on n) refl)
       ];
     }
 
   pub kept_grown : (needed more_needed awaited more_awaited : List NumberList)
-      (sloted more_sloted : List ℕ) → length targets + k < 2 ^ 32
+      (slotted more_slotted : List ℕ) → length targets + k < 2 ^ 32
       → length more_needed ≡ k → AreEmpty more_needed
       → length more_awaited ≡ k → AreEmpty more_awaited
-      → length more_sloted ≡ length targets + k
-      → ((n : ℕ) → get_or more_sloted n 0 ≡ get_or sloted n 0)
-      → IsKept targets needed awaited sloted
-      → IsKept grown (needed ++ more_needed) (awaited ++ more_awaited) more_sloted
-  kept_grown needed more_needed awaited more_awaited sloted more_sloted small need_sized need_none
+      → length more_slotted ≡ length targets + k
+      → ((n : ℕ) → get_or more_slotted n 0 ≡ get_or slotted n 0)
+      → IsKept targets needed awaited slotted
+      → IsKept grown (needed ++ more_needed) (awaited ++ more_awaited) more_slotted
+  kept_grown needed more_needed awaited more_awaited slotted more_slotted small need_sized need_none
       await_sized await_none slot_sized slot_same h = record {
         small = omega (arith, length-grown);
         below = λ t n on.
@@ -160,5 +161,5 @@ module _ (targets : List TargetRows) (k : ℕ) where
             h.needs;
         awaits = inverse_grown h.below has_created (λ n. refl) awaited more_awaited await_sized
             await_none h.awaits;
-        counts = counts_grown h.below sloted more_sloted slot_sized slot_same h.counts;
+        counts = counts_grown h.below slotted more_slotted slot_sized slot_same h.counts;
       }

@@ -6,7 +6,8 @@ use Rattle.std.proofs.lemmas.List.Sums.{sum_by-set, sum_by-cons, get_or-le-sum_b
 use Rattle.std.specs.List.{count_by, Contains}
 use Rattle.redo_rows.specs.Rows.{Slot, TargetRows, slot_at, has_slot, target_at, bare}
 use Rattle.redo_rows.specs.Numbers.{NumberList}
-use Rattle.redo_rows.specs.Kept.{no_numbers, passes_on, sits_on, slots_on, numbers_at, IsInverseOn, IsInverse, CountsSlots, Follows, FollowsOn}
+use Rattle.redo_rows.specs.Kept.{no_numbers, passes_on, sits_on, slots_on, numbers_at, IsInverseOn, IsInverse, CountsSlots}
+use Rattle.redo_rows.specs.Inside.Kept.{Follows, FollowsOn}
 
 abbrev pub flag : Bool → ℕ
 flag b = cond b 1 0
@@ -152,24 +153,24 @@ follows_on_same t n was lists own = record {
 }
 
 -- one of the counts changes
-pub counts_set : (targets : List TargetRows) (t : ℕ) (new : TargetRows) (n m : ℕ) (sloted : List ℕ)
+pub counts_set : (targets : List TargetRows) (t : ℕ) (new : TargetRows) (n m : ℕ) (slotted : List ℕ)
     → t < length targets
     → ((k : ℕ) → k ≢ n → sits_on k new ≡ sits_on k (target_at targets t))
     → (n < length targets
-    → m + flag (sits_on n (target_at targets t)) ≡ get_or sloted n 0 + flag (sits_on n new))
-    → CountsSlots targets sloted → CountsSlots (set targets t new) (set sloted n m)
-counts_set targets t new n m sloted below sits more h = record {
-  sized = length-set sloted n m ∙ (h.sized ∙ sym (length-set targets t new));
+    → m + flag (sits_on n (target_at targets t)) ≡ get_or slotted n 0 + flag (sits_on n new))
+    → CountsSlots targets slotted → CountsSlots (set targets t new) (set slotted n m)
+counts_set targets t new n m slotted below sits more h = record {
+  sized = length-set slotted n m ∙ (h.sized ∙ sym (length-set targets t new));
   each = λ k in'.
       let old_in : k < length targets = subst (λ j. k < j) (length-set targets t new) in' in
       elim (cases_eq k n) [
         | inl here ↦
             let n_in : n < length targets = subst (λ j. j < length targets) here old_in in
-            let sloted_in : n < length sloted = subst (λ j. n < j) (sym h.sized) n_in in
-            subst (λ j. get_or (set sloted n m) j 0 ≡ slots_on (set targets t new) j) (sym here)
+            let slotted_in : n < length slotted = subst (λ j. n < j) (sym h.sized) n_in in
+            subst (λ j. get_or (set slotted n m) j 0 ≡ slots_on (set targets t new) j) (sym here)
             (omega (
               arith,
-              get_or-set_same sloted n m 0 sloted_in,
+              get_or-set_same slotted n m 0 slotted_in,
               count_set (sits_on n) targets t new below,
               more n_in,
               h.each n n_in,
@@ -177,7 +178,7 @@ counts_set targets t new n m sloted below sits more h = record {
         | inr off ↦
             omega (
               arith,
-              get_or-set_other sloted n k m 0 off,
+              get_or-set_other slotted n k m 0 off,
               count_set (sits_on k) targets t new below,
               ap flag (sits k off),
               h.each k old_in,
@@ -186,10 +187,10 @@ counts_set targets t new n m sloted below sits more h = record {
 }
 
 -- no count changes
-pub counts_stay : (targets : List TargetRows) (t : ℕ) (new : TargetRows) (sloted : List ℕ)
+pub counts_stay : (targets : List TargetRows) (t : ℕ) (new : TargetRows) (slotted : List ℕ)
     → t < length targets → ((k : ℕ) → sits_on k new ≡ sits_on k (target_at targets t))
-    → CountsSlots targets sloted → CountsSlots (set targets t new) sloted
-counts_stay targets t new sloted below sits h = record {
+    → CountsSlots targets slotted → CountsSlots (set targets t new) slotted
+counts_stay targets t new slotted below sits h = record {
   sized = h.sized ∙ sym (length-set targets t new);
   each = λ k in'. omega (
     arith,
@@ -200,20 +201,20 @@ counts_stay targets t new sloted below sits h = record {
 }
 
 -- a row stands on a slot
-pub sloted_row : (test : Slot → Bool) → IsRowTest test → (slots : List Slot) (n : ℕ)
+pub slotted_row : (test : Slot → Bool) → IsRowTest test → (slots : List Slot) (n : ℕ)
     → test (slot_at slots n) ≡ true → has_slot slots n ≡ true
-sloted_row test blank [] n row = absurd (false≢true (sym (blank n) ∙ row))
-sloted_row test blank (slot ∷ slots) n row = elim (cases_eq slot.name n) [
+slotted_row test blank [] n row = absurd (false≢true (sym (blank n) ∙ row))
+slotted_row test blank (slot ∷ slots) n row = elim (cases_eq slot.name n) [
   | inl here ↦ rw (eq-eqb slot.name n here) refl
   | inr off ↦
       let e : eqb slot.name n ≡ false = ne_eqb slot.name n off in
-      rw e (sloted_row test blank slots n (rw e at row))
+      rw e (slotted_row test blank slots n (rw e at row))
 ]
 
 pub no_slot_no_row : (test : Slot → Bool) → IsRowTest test → (slots : List Slot) (n : ℕ)
     → has_slot slots n ≡ false → test (slot_at slots n) ≡ false
 no_slot_no_row test blank slots n none = elim (cases_Bool (test (slot_at slots n))) [
-  | inl row ↦ absurd (false≢true (sym none ∙ sloted_row test blank slots n row))
+  | inl row ↦ absurd (false≢true (sym none ∙ slotted_row test blank slots n row))
   | inr no_row ↦ no_row
 ]
 
@@ -246,7 +247,7 @@ has_room_for test blank targets t n list below h sits no_row =
     let slots = count_set (sits_on n) targets t bare below in
     let le =
     count_le (passes_on test n) (sits_on n) (set targets t bare)
-    (λ x. sloted_row test blank x.slots n) in
+    (λ x. slotted_row test blank x.slots n) in
     omega (
       arith,
       rows,

@@ -8,7 +8,8 @@ use Rattle.std.proofs.lemmas.List.Sums.{sum_by-append, sum_by-set}
 use Rattle.std.specs.List.{Contains, insert, count_by}
 use Rattle.redo_rows.specs.Numbers.{NumberList}
 use Rattle.redo_rows.specs.Rows.{Slot, slot_at}
-use Rattle.redo_rows.specs.Target.{blank, Ascending, has_row, IsSlotOf, IsGapFor, IsKept}
+use Rattle.redo_rows.specs.Target.{Ascending, has_row, IsKept}
+use Rattle.redo_rows.specs.Inside.Target.{blank, IsSlotOf, IsGapFor}
 use Rattle.redo_rows.proofs.Slots.{slot_stands, slot_named, none_in_gap}
 use Rattle.redo_rows.proofs.SlotEdits.{slot_at-set, set_ascends, slot_at-insert, insert_ascends}
 

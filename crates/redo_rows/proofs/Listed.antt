@@ -8,7 +8,7 @@ use Rattle.redo_rows.specs.Rows.{Slot, TargetRows, has_slot, target_at, bare}
 use Rattle.redo_rows.specs.Target.{HasRowIn}
 use Rattle.redo_rows.specs.Numbers.{NumberList}
 use Rattle.redo_rows.specs.Kept.{passes_on, has_change, has_created, IsKept, IsInverse, numbers_at, no_numbers}
-use Rattle.redo_rows.proofs.Inverses.{found_target, IsRowTest, sloted_row}
+use Rattle.redo_rows.proofs.Inverses.{found_target, IsRowTest, slotted_row}
 
 -- a list whose members are below the count
 all_below : (count : ℕ) (xs : List ℕ) → ((x : ℕ) → Contains xs x → x < count) → AllBelow count xs
@@ -26,12 +26,12 @@ target_below test blank targets t n row = elim (cases_lt t (length targets)) [
 ]
 
 -- and only on names
-pub name_below : (targets : List TargetRows) (needed awaited : List NumberList) (sloted : List ℕ)
-    (t n : ℕ) → IsKept targets needed awaited sloted → HasRowIn (target_at targets t).slots n
+pub name_below : (targets : List TargetRows) (needed awaited : List NumberList) (slotted : List ℕ)
+    (t n : ℕ) → IsKept targets needed awaited slotted → HasRowIn (target_at targets t).slots n
     → n < length targets
-name_below targets needed awaited sloted t n h row = h.below t n (elim row [
-  | inl change ↦ sloted_row has_change (λ k. refl) (target_at targets t).slots n change
-  | inr created ↦ sloted_row has_created (λ k. refl) (target_at targets t).slots n created
+name_below targets needed awaited slotted t n h row = h.below t n (elim row [
+  | inl change ↦ slotted_row has_change (λ k. refl) (target_at targets t).slots n change
+  | inr created ↦ slotted_row has_created (λ k. refl) (target_at targets t).slots n created
 ])
 
 -- the same in the terms of the code
@@ -49,22 +49,22 @@ inverse_below test blank targets now n lists list xs is n_in at items h =
     (((h.each n name).listed t).0 (subst (λ ys. Contains ys t) same in'))))
 
 pub names_below : (targets now : List TargetRows) (t : ℕ) (target : TargetRows)
-    (needed awaited : List NumberList) (sloted : List ℕ) (xs : List ℕ) → targets ≡ now
+    (needed awaited : List NumberList) (slotted : List ℕ) (xs : List ℕ) → targets ≡ now
     → t < length now → target ≡ get_or targets t target
-    → ((n : ℕ) → Contains xs n → HasRowIn target.slots n) → IsKept targets needed awaited sloted
+    → ((n : ℕ) → Contains xs n → HasRowIn target.slots n) → IsKept targets needed awaited slotted
     → AllBelow (length now) xs
-names_below targets now t target needed awaited sloted xs is t_in at rows h =
+names_below targets now t target needed awaited slotted xs is t_in at rows h =
     let found = found_target targets now t target is t_in at in
     subst (λ (ts : List TargetRows). AllBelow (length ts) xs) is
-    (all_below (length targets) xs (λ n in'. name_below targets needed awaited sloted t n h
+    (all_below (length targets) xs (λ n in'. name_below targets needed awaited slotted t n h
     (subst (λ (x : TargetRows). HasRowIn x.slots n) found.1 (rows n in'))))
 
 pub slots_below : (targets now : List TargetRows) (t : ℕ) (target : TargetRows) (slots : List Slot)
-    (needed awaited : List NumberList) (sloted : List ℕ) → targets ≡ now → t < length now
+    (needed awaited : List NumberList) (slotted : List ℕ) → targets ≡ now → t < length now
     → target ≡ get_or targets t target
-    → slots ≡ target.slots → IsKept targets needed awaited sloted → (n : ℕ)
+    → slots ≡ target.slots → IsKept targets needed awaited slotted → (n : ℕ)
     → has_slot slots n ≡ true → n < length now
-slots_below targets now t target slots needed awaited sloted is t_in at same h n there =
+slots_below targets now t target slots needed awaited slotted is t_in at same h n there =
     let found = found_target targets now t target is t_in at in
     let own : has_slot (target_at targets t).slots n ≡ true =
     subst (λ (x : TargetRows). has_slot x.slots n ≡ true) found.1

@@ -8,7 +8,8 @@ use Rattle.std.proofs.lemmas.List.Sorted.{IsPermutation-insert, IsPermutation-re
 use Rattle.std.specs.List.{Contains, insert, remove}
 use Rattle.std.specs.List.Sorted.{IsBinarySearchResult}
 use Rattle.std.specs.Ordering.{nat_cmp}
-use Rattle.redo_rows.specs.Numbers.{Rising, IsPlaceOf}
+use Rattle.redo_rows.specs.Numbers.{Rising}
+use Rattle.redo_rows.specs.Inside.Numbers.{IsPlaceOf}
 
 -- a later number is not smaller
 rises_to : (xs : List ℕ) → Rising xs → (i j : ℕ) → i ≤ j → j < length xs

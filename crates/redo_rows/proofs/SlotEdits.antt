@@ -6,7 +6,8 @@ use Rattle.std.proofs.lemmas.List.Edits.{length-insert, get_or-insert_below, get
 use Rattle.std.proofs.lemmas.List.Sorted.{IsPermutation-insert, list_any-IsPermutation}
 use Rattle.std.specs.List.{insert}
 use Rattle.redo_rows.specs.Rows.{Slot, slot_at, has_slot}
-use Rattle.redo_rows.specs.Target.{blank, Ascending, name_at, IsSlotOf, IsGapFor}
+use Rattle.redo_rows.specs.Target.{Ascending}
+use Rattle.redo_rows.specs.Inside.Target.{blank, name_at, IsSlotOf, IsGapFor}
 use Rattle.redo_rows.proofs.Slots.{name_read, nothing_stands}
 
 same_twice : {X : Type 0} (b : Bool) (x y z : X) → cond b x y ≡ cond b x (cond b z y)

@@ -9,7 +9,8 @@ use Rattle.std.proofs.lemmas.List.Sorted.{IsNonDecreasingBy-from_default}
 use Rattle.std.specs.List.Sorted.{IsSearchInRange, IsBinarySearchResult, IsNonDecreasingBy}
 use Rattle.std.specs.Ordering.{nat_cmp, ordering_index}
 use Rattle.redo_rows.specs.Rows.{Slot, slot_at, has_slot}
-use Rattle.redo_rows.specs.Target.{blank, Ascending, name_at, IsSlotOf, IsGapFor}
+use Rattle.redo_rows.specs.Target.{Ascending}
+use Rattle.redo_rows.specs.Inside.Target.{blank, name_at, IsSlotOf, IsGapFor}
 
 -- whatever stands past the end, the name is that of the place
 pub name_read : (slots : List Slot) (i : ℕ) (d : Slot) → i < length slots

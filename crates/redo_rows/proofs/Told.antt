@@ -5,12 +5,14 @@ use Rattle.std.proofs.lemmas.Option.{none-some, same_Some}
 use Rattle.redo_model.specs.State.{Cell, Records, Mark}
 use Rattle.redo_model.specs.OutOfDate.{SomeAppeared, SomeChanged}
 use Rattle.redo_rows.specs.Rows.{Slot, TargetRows, slot_at, has_slot, target_at, with_rows}
-use Rattle.redo_rows.specs.Target.{Ascending, blank}
-use Rattle.redo_rows.specs.News.{known, name_of, IsNews, HasAppeared, HasChanged, HasNews, SomeNews, IsNewsOf, IsNewsIn}
+use Rattle.redo_rows.specs.Target.{Ascending}
+use Rattle.redo_rows.specs.Inside.Target.{blank}
+use Rattle.redo_rows.specs.News.{name_of, IsNews}
+use Rattle.redo_rows.specs.Inside.News.{known, HasAppeared, HasChanged, HasNews, SomeNews, IsNewsOf, IsNewsIn}
 use Rattle.redo_rows.specs.declared.news.News.{News}
 use Rattle.redo_rows.specs.declared.news.News.TheVariants.{Appeared, Changed}
 use Rattle.redo_rows.specs.Kept.{has_change, has_created}
-use Rattle.redo_rows.proofs.Inverses.{sloted_row}
+use Rattle.redo_rows.proofs.Inverses.{slotted_row}
 use Rattle.redo_rows.proofs.Slots.{slot_found, slot_there, nothing_stands}
 
 -- the name of a slot has one
@@ -93,11 +95,11 @@ news_told cells targets t slots found same told =
     same told)
 
 -- the name that news are of has a slot
-news_sloted : (r : Records ℕ) (slots : List Slot) (news : News) → IsNewsIn r slots news
+news_slotted : (r : Records ℕ) (slots : List Slot) (news : News) → IsNewsIn r slots news
     → has_slot slots (name_of news) ≡ true
-news_sloted r slots (Appeared n) is = sloted_row has_created (λ k. refl) slots n is.0
-news_sloted r slots (Changed n) is =
-    sloted_row has_change (λ k. refl) slots n (subst IsSome (sym is.1) refl)
+news_slotted r slots (Appeared n) is = slotted_row has_created (λ k. refl) slots n is.0
+news_slotted r slots (Changed n) is =
+    slotted_row has_change (λ k. refl) slots n (subst IsSome (sym is.1) refl)
 
 -- so it is below a count that the slots' names are below
 pub news_below : (r : Records ℕ) (slots : List Slot) (count : ℕ) (found : Option News)
@@ -106,4 +108,4 @@ pub news_below : (r : Records ℕ) (slots : List Slot) (count : ℕ) (found : Op
     → IfSome found (λ news. name_of news < count)
 news_below r slots count None below told = tt
 news_below r slots count (Some news) below told =
-    below (name_of news) (news_sloted r slots news told)
+    below (name_of news) (news_slotted r slots news told)

@@ -4,9 +4,10 @@ use Rattle.std.proofs.lemmas.List.Elements.{Contains-get_or}
 use Rattle.std.specs.List.{Contains}
 use Rattle.redo_model.proofs.Members.{contains_map}
 use Rattle.redo_rows.specs.Rows.{Slot, TargetRows, slot_at, has_slot, target_at, rows_of}
-use Rattle.redo_rows.specs.Target.{Ascending, blank}
+use Rattle.redo_rows.specs.Target.{Ascending}
+use Rattle.redo_rows.specs.Inside.Target.{blank}
 use Rattle.redo_rows.specs.Kept.{has_change}
-use Rattle.redo_rows.proofs.Inverses.{found_target, sloted_row}
+use Rattle.redo_rows.proofs.Inverses.{found_target, slotted_row}
 use Rattle.redo_rows.proofs.Slots.{slot_found, slot_there}
 use Rattle.redo_rows.proofs.Told.{named_slot}
 
@@ -51,7 +52,7 @@ module _ (targets : List TargetRows) (t : ℕ) (slots : List Slot)
     slot_of_row n row =
         let own : IsSome (slot_at slots n).change =
         subst (λ ss. IsSome (slot_at ss n).change) (sym same) row in
-        let at = slot_there slots n (sloted_row has_change (λ k. refl) slots n own) in
+        let at = slot_there slots n (slotted_row has_change (λ k. refl) slots n own) in
         let named : (get_or slots at.0 (blank 0)).name ≡ n = at.2 (blank 0) in
         let found = (slot_found slots at.0 (blank 0) ascending at.1).0 in
         let stands = ap (slot_at slots) (sym named) ∙ found in

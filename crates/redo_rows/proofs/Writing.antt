@@ -6,7 +6,8 @@ use Rattle.std.specs.List.{Contains}
 use Rattle.redo_model.specs.State.{Mark}
 use Rattle.redo_rows.specs.Rows.{Slot, TargetRows, slot_at, has_slot, room_of, target_at}
 use Rattle.redo_rows.specs.Numbers.{NumberList}
-use Rattle.redo_rows.specs.Kept.{no_numbers, has_change, has_created, passes_on, sits_on, slots_on, numbers_at, IsInverseOn, IsInverse, IsKept, FollowsOn}
+use Rattle.redo_rows.specs.Kept.{no_numbers, has_change, has_created, passes_on, sits_on, slots_on, numbers_at, IsInverseOn, IsInverse, IsKept}
+use Rattle.redo_rows.specs.Inside.Kept.{FollowsOn}
 use Rattle.redo_rows.proofs.Inverses.{found_target, flag, IsRowTest, inverse_stays, inverse_set, follows_on_same, counts_set, counts_stay, has_room_for}
 use Rattle.redo_rows.proofs.Forgetting.{kept_stays, below_set}
 use Rattle.redo_rows.proofs.Changed.{WritesChange, WritesCreated, AddsSlot, field_of_cond, cond_same}
@@ -27,11 +28,11 @@ inverse_put test targets t n new was lists lists' below others sits row was_is f
     h
 
 keeps_change : (targets : List TargetRows) (t n : ℕ) (new : TargetRows) (mark : Mark) (was : Bool)
-    (needed needed' awaited : List NumberList) (sloted : List ℕ) → t < length targets
+    (needed needed' awaited : List NumberList) (slotted : List ℕ) → t < length targets
     → WritesChange (target_at targets t) new n mark → was
     ≡ has_change (slot_at (target_at targets t).slots n) → FollowsOn n t was true needed needed'
-    → IsKept targets needed awaited sloted → IsKept (set targets t new) needed' awaited sloted
-keeps_change targets t n new mark was needed needed' awaited sloted below w was_is f h =
+    → IsKept targets needed awaited slotted → IsKept (set targets t new) needed' awaited slotted
+keeps_change targets t n new mark was needed needed' awaited slotted below w was_is f h =
     let old : ℕ → Slot = slot_at (target_at targets t).slots in
     let written : ℕ → Slot = λ k. record (old k) { change = Some mark } in
     record {
@@ -47,15 +48,15 @@ keeps_change targets t n new mark was needed needed' awaited sloted below w was_
           (λ k. ap has_created (w.rows k) ∙ (field_of_cond has_created (eqb n k) (written k) (old k)
           ∙ cond_same (eqb n k) (has_created (old k))))
           w.room h.awaits;
-      counts = counts_stay targets t new sloted below w.room h.counts;
+      counts = counts_stay targets t new slotted below w.room h.counts;
     }
 
 keeps_created : (targets : List TargetRows) (t n : ℕ) (new : TargetRows) (was : Bool)
-    (needed awaited awaited' : List NumberList) (sloted : List ℕ) → t < length targets
+    (needed awaited awaited' : List NumberList) (slotted : List ℕ) → t < length targets
     → WritesCreated (target_at targets t) new n → was
     ≡ has_created (slot_at (target_at targets t).slots n) → FollowsOn n t was true awaited awaited'
-    → IsKept targets needed awaited sloted → IsKept (set targets t new) needed awaited' sloted
-keeps_created targets t n new was needed awaited awaited' sloted below w was_is f h =
+    → IsKept targets needed awaited slotted → IsKept (set targets t new) needed awaited' slotted
+keeps_created targets t n new was needed awaited awaited' slotted below w was_is f h =
     let old : ℕ → Slot = slot_at (target_at targets t).slots in
     let written : ℕ → Slot = λ k. record (old k) { created = true } in
     record {
@@ -71,7 +72,7 @@ keeps_created targets t n new was needed awaited awaited' sloted below w was_is 
           w.room
           (ap has_created (w.rows n ∙ ap (λ b. cond b (written n) (old n)) (eq-eqb n n refl)))
           was_is f h.awaits;
-      counts = counts_stay targets t new sloted below w.room h.counts;
+      counts = counts_stay targets t new slotted below w.room h.counts;
     }
 
 -- what the inverses say of the row of t on n, before it is written
@@ -122,10 +123,10 @@ inverse_grown test targets n lists old new n_in at same larger h =
     }
 
 pub kept_needed : (targets : List TargetRows) (n : ℕ) (needed awaited : List NumberList)
-    (sloted : List ℕ) (old new : NumberList) → n < length targets → old ≡ get_or needed n old
+    (slotted : List ℕ) (old new : NumberList) → n < length targets → old ≡ get_or needed n old
     → new.items ≡ old.items → old.room ≤ new.room
-    → IsKept targets needed awaited sloted → IsKept targets (set needed n new) awaited sloted
-kept_needed targets n needed awaited sloted old new n_in at same larger h = record {
+    → IsKept targets needed awaited slotted → IsKept targets (set needed n new) awaited slotted
+kept_needed targets n needed awaited slotted old new n_in at same larger h = record {
   small = h.small;
   below = h.below;
   needs = inverse_grown has_change targets n needed old new n_in at same larger h.needs;
@@ -134,10 +135,10 @@ kept_needed targets n needed awaited sloted old new n_in at same larger h = reco
 }
 
 pub kept_awaited : (targets : List TargetRows) (n : ℕ) (needed awaited : List NumberList)
-    (sloted : List ℕ) (old new : NumberList) → n < length targets → old ≡ get_or awaited n old
+    (slotted : List ℕ) (old new : NumberList) → n < length targets → old ≡ get_or awaited n old
     → new.items ≡ old.items → old.room ≤ new.room
-    → IsKept targets needed awaited sloted → IsKept targets needed (set awaited n new) sloted
-kept_awaited targets n needed awaited sloted old new n_in at same larger h = record {
+    → IsKept targets needed awaited slotted → IsKept targets needed (set awaited n new) slotted
+kept_awaited targets n needed awaited slotted old new n_in at same larger h = record {
   small = h.small;
   below = h.below;
   needs = h.needs;
@@ -165,13 +166,13 @@ inverse_slot test targets t n new lists below n_in w room h =
     h
 
 keeps_slot : (targets : List TargetRows) (t n : ℕ) (new : TargetRows)
-    (needed awaited : List NumberList) (sloted : List ℕ) (m : ℕ) → t < length targets
+    (needed awaited : List NumberList) (slotted : List ℕ) (m : ℕ) → t < length targets
     → n < length targets
     → AddsSlot (target_at targets t) new n → has_slot (target_at targets t).slots n ≡ false
-    → m ≡ get_or sloted n 0 + 1 → m ≤ (numbers_at needed n).room → m ≤ (numbers_at awaited n).room
-    → IsKept targets needed awaited sloted
-    → IsKept (set targets t new) needed awaited (set sloted n m)
-keeps_slot targets t n new needed awaited sloted m below n_in w none more needed_room awaited_room
+    → m ≡ get_or slotted n 0 + 1 → m ≤ (numbers_at needed n).room → m ≤ (numbers_at awaited n).room
+    → IsKept targets needed awaited slotted
+    → IsKept (set targets t new) needed awaited (set slotted n m)
+keeps_slot targets t n new needed awaited slotted m below n_in w none more needed_room awaited_room
     h =
     let now : sits_on n new ≡ true =
     w.room n ∙ ap (λ b. b || has_slot (target_at targets t).slots n) (eq-eqb n n refl) in
@@ -187,7 +188,7 @@ keeps_slot targets t n new needed awaited sloted m below n_in w none more needed
           (omega (arith, needed_room, more, h.counts.each n n_in)) h.needs;
       awaits = inverse_slot has_created targets t n new awaited below n_in w
           (omega (arith, awaited_room, more, h.counts.each n n_in)) h.awaits;
-      counts = counts_set targets t new n m sloted below
+      counts = counts_set targets t new n m slotted below
           (λ k off. w.room k
           ∙ ap (λ b. b || has_slot (target_at targets t).slots k) (ne_eqb k n off))
           (λ in'. omega (arith, more, ap flag none, ap flag now))
@@ -196,26 +197,26 @@ keeps_slot targets t n new needed awaited sloted m below n_in w none more needed
 
 -- the same in the terms of the code
 pub kept_change : (targets now : List TargetRows) (t n : ℕ) (old new : TargetRows) (mark : Mark)
-    (was : Bool) (needed needed' awaited : List NumberList) (sloted : List ℕ) → targets ≡ now
+    (was : Bool) (needed needed' awaited : List NumberList) (slotted : List ℕ) → targets ≡ now
     → t < length now → old ≡ get_or targets t old
     → WritesChange old new n mark → was ≡ has_change (slot_at old.slots n)
     → FollowsOn n t was true needed needed'
-    → IsKept targets needed awaited sloted → IsKept (set targets t new) needed' awaited sloted
-kept_change targets now t n old new mark was needed needed' awaited sloted is t_in at w was_is f h =
+    → IsKept targets needed awaited slotted → IsKept (set targets t new) needed' awaited slotted
+kept_change targets now t n old new mark was needed needed' awaited slotted is t_in at w was_is f h =
     let found = found_target targets now t old is t_in at in
-    keeps_change targets t n new mark was needed needed' awaited sloted found.0
+    keeps_change targets t n new mark was needed needed' awaited slotted found.0
     (subst (λ x. WritesChange x new n mark) found.1 w)
     (was_is ∙ ap (λ (x : TargetRows). has_change (slot_at x.slots n)) found.1) f h
 
 pub kept_created : (targets now : List TargetRows) (t n : ℕ) (old new : TargetRows) (was : Bool)
-    (needed awaited awaited' : List NumberList) (sloted : List ℕ) → targets ≡ now → t < length now
+    (needed awaited awaited' : List NumberList) (slotted : List ℕ) → targets ≡ now → t < length now
     → old ≡ get_or targets t old
     → WritesCreated old new n → was ≡ has_created (slot_at old.slots n)
     → FollowsOn n t was true awaited awaited'
-    → IsKept targets needed awaited sloted → IsKept (set targets t new) needed awaited' sloted
-kept_created targets now t n old new was needed awaited awaited' sloted is t_in at w was_is f h =
+    → IsKept targets needed awaited slotted → IsKept (set targets t new) needed awaited' slotted
+kept_created targets now t n old new was needed awaited awaited' slotted is t_in at w was_is f h =
     let found = found_target targets now t old is t_in at in
-    keeps_created targets t n new was needed awaited awaited' sloted found.0
+    keeps_created targets t n new was needed awaited awaited' slotted found.0
     (subst (λ x. WritesCreated x new n) found.1 w)
     (was_is ∙ ap (λ (x : TargetRows). has_created (slot_at x.slots n)) found.1) f h
 
@@ -231,15 +232,15 @@ knows_row test blank targets now t n old was lists is t_in n_in at room was_is h
     ∙ room) (was_is ∙ ap (λ (x : TargetRows). test (slot_at x.slots n)) found.1) h
 
 pub kept_always : (targets now : List TargetRows) (t : ℕ) (old new : TargetRows)
-    (needed awaited : List NumberList) (sloted : List ℕ) → targets ≡ now → t < length now
+    (needed awaited : List NumberList) (slotted : List ℕ) → targets ≡ now → t < length now
     → old ≡ get_or targets t old
-    → new.slots ≡ old.slots → IsKept targets needed awaited sloted
-    → IsKept (set targets t new) needed awaited sloted
-kept_always targets now t old new needed awaited sloted is t_in at same h =
+    → new.slots ≡ old.slots → IsKept targets needed awaited slotted
+    → IsKept (set targets t new) needed awaited slotted
+kept_always targets now t old new needed awaited slotted is t_in at same h =
     let found = found_target targets now t old is t_in at in
     let slots : new.slots ≡ (target_at targets t).slots =
     same ∙ ap (λ (x : TargetRows). x.slots) found.1 in
-    kept_stays targets t new needed awaited sloted found.0 (λ k. ap (λ ss. slot_at ss k) slots)
+    kept_stays targets t new needed awaited slotted found.0 (λ k. ap (λ ss. slot_at ss k) slots)
     (λ k. ap (λ ss. has_slot ss k) slots) h
 
 -- the list of n in other lists has room
@@ -249,14 +250,14 @@ room_there lists n m new n_in room =
     subst (λ (x : NumberList). m ≤ x.room) (sym (get_or-set_same lists n new no_numbers n_in)) room
 
 pub kept_slot : (targets now : List TargetRows) (t n : ℕ) (old new : TargetRows) (needed
-    awaited : List NumberList) (sloted : List ℕ) (grown_needed grown_awaited : NumberList) (m : ℕ)
+    awaited : List NumberList) (slotted : List ℕ) (grown_needed grown_awaited : NumberList) (m : ℕ)
     → targets ≡ now → t < length now → n < length now → old ≡ get_or targets t old
-    → AddsSlot old new n → room_of now t n ≡ false → m ≡ get_or sloted n m
+    → AddsSlot old new n → room_of now t n ≡ false → m ≡ get_or slotted n m
     → m + 1 ≤ grown_needed.room → m + 1 ≤ grown_awaited.room
-    → IsKept targets (set needed n grown_needed) (set awaited n grown_awaited) sloted
+    → IsKept targets (set needed n grown_needed) (set awaited n grown_awaited) slotted
     → IsKept (set targets t new) (set needed n grown_needed) (set awaited n grown_awaited)
-    (set sloted n (m + 1))
-kept_slot targets now t n old new needed awaited sloted grown_needed grown_awaited m is t_in n_in at
+    (set slotted n (m + 1))
+kept_slot targets now t n old new needed awaited slotted grown_needed grown_awaited m is t_in n_in at
     w none counted needed_room awaited_room h =
     let found = found_target targets now t old is t_in at in
     let name : n < length targets = subst (λ (ts : List TargetRows). n < length ts) (sym is) n_in in
@@ -264,10 +265,10 @@ kept_slot targets now t n old new needed awaited sloted grown_needed grown_await
     omega (arith, name, h.needs.sized, length-set needed n grown_needed) in
     let awaited_in : n < length awaited =
     omega (arith, name, h.awaits.sized, length-set awaited n grown_awaited) in
-    let sloted_in : n < length sloted = omega (arith, name, h.counts.sized) in
-    keeps_slot targets t n new (set needed n grown_needed) (set awaited n grown_awaited) sloted
+    let slotted_in : n < length slotted = omega (arith, name, h.counts.sized) in
+    keeps_slot targets t n new (set needed n grown_needed) (set awaited n grown_awaited) slotted
     (m + 1) found.0 name (subst (λ x. AddsSlot x new n) found.1 w)
     (ap (λ ts. room_of ts t n) is ∙ none)
-    (ap (λ k. k + 1) (counted ∙ get_or_default sloted n m 0 sloted_in))
+    (ap (λ k. k + 1) (counted ∙ get_or_default slotted n m 0 slotted_in))
     (room_there needed n (m + 1) grown_needed needed_in needed_room)
     (room_there awaited n (m + 1) grown_awaited awaited_in awaited_room) h

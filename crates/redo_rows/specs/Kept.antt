@@ -1,6 +1,6 @@
 -- What the fields of the rows keep: the inverses of the rows, and how many targets have a slot for
 -- each name.
-use Rattle.std.specs.Prelude.{◌≡◌, ◌≢◌, ◌↔◌, ◌<◌, ◌≤◌, ◌+◌, ◌^◌, ℕ, Bool, List, [], IsTrue, cond, is_some, slice_index_or, length, Contains, count_by}
+use Rattle.std.specs.Prelude.{◌≡◌, ◌↔◌, ◌<◌, ◌≤◌, ◌^◌, ℕ, Bool, List, [], IsTrue, is_some, slice_index_or, length, Contains, count_by}
 use Rattle.redo_rows.specs.Rows.{Slot, TargetRows, slot_at, has_slot, target_at, room_of}
 use Rattle.redo_rows.specs.Numbers.{NumberList}
 
@@ -32,10 +32,6 @@ no_numbers = record { items = []; room = 0 }
 abbrev pub numbers_at : List NumberList → ℕ → NumberList
 numbers_at lists n = slice_index_or lists n no_numbers
 
--- no list has a number
-abbrev pub AreEmpty : List NumberList → Type 0
-AreEmpty lists = (n : ℕ) → (numbers_at lists n).items ≡ []
-
 -- the targets whose slot for n passes, and room for each that has a slot for n
 pub record IsInverseOn (test : Slot → Bool) (targets : List TargetRows) (n : ℕ)
     (list : NumberList) : Type 0 where
@@ -50,29 +46,15 @@ pub record IsInverse (test : Slot → Bool) (targets : List TargetRows)
   pub each : (n : ℕ) → n < length targets → IsInverseOn test targets n (numbers_at lists n)
 
 -- for each name, how many targets have a slot for it
-pub record CountsSlots (targets : List TargetRows) (sloted : List ℕ) : Type 0 where
-  pub sized : length sloted ≡ length targets
-  pub each : (n : ℕ) → n < length targets → slice_index_or sloted n 0 ≡ slots_on targets n
+pub record CountsSlots (targets : List TargetRows) (slotted : List ℕ) : Type 0 where
+  pub sized : length slotted ≡ length targets
+  pub each : (n : ℕ) → n < length targets → slice_index_or slotted n 0 ≡ slots_on targets n
 
 -- rows are on names alone, and each inverse and count is right
 pub record IsKept (targets : List TargetRows) (needed awaited : List NumberList)
-    (sloted : List ℕ) : Type 0 where
+    (slotted : List ℕ) : Type 0 where
   pub small : length targets < 2 ^ 32
   pub below : (t n : ℕ) → IsTrue (room_of targets t n) → n < length targets
   pub needs : IsInverse has_change targets needed
   pub awaits : IsInverse has_created targets awaited
-  pub counts : CountsSlots targets sloted
-
--- the list of a name before and after a call that puts t there or takes it away: `was` and `is` say
--- whether t is there, and every other target stays
-pub record Follows (t : ℕ) (was is : Bool) (old new : NumberList) : Type 0 where
-  pub others : (u : ℕ) → u ≢ t → Contains new.items u ↔ Contains old.items u
-  pub own : Contains new.items t ↔ IsTrue is
-  pub counted : length new.items + cond was 1 0 ≡ length old.items + cond is 1 0
-  pub room : old.room ≤ new.room
-
--- the same of the list of n, where the other lists stay
-pub record FollowsOn (n t : ℕ) (was is : Bool) (old new : List NumberList) : Type 0 where
-  pub sized : length new ≡ length old
-  pub others : (k : ℕ) → k ≢ n → numbers_at new k ≡ numbers_at old k
-  pub own : Follows t was is (numbers_at old n) (numbers_at new n)
+  pub counts : CountsSlots targets slotted

@@ -1,5 +1,5 @@
 -- Numbers in ascending order.
-use Rattle.std.specs.Prelude.{ℕ, ◌<◌, ◌≤◌, List, length, slice_index, AllPairs}
+use Rattle.std.specs.Prelude.{ℕ, ◌<◌, List, AllPairs}
 
 -- the numbers, and for how many there is memory
 pub record NumberList : Type 0 where
@@ -9,9 +9,3 @@ pub record NumberList : Type 0 where
 -- each number is greater than those before it
 abbrev pub Rising : List ℕ → Type 0
 Rising xs = AllPairs (λ x y. x < y) xs
-
--- where x stands, or where it would go: smaller numbers before it, and none from it on
-pub record IsPlaceOf (xs : List ℕ) (x i : ℕ) : Type 0 where
-  pub within : i ≤ length xs
-  pub before : (k : ℕ) → k < i → slice_index xs k < x
-  pub after : (k : ℕ) → i ≤ k → k < length xs → x ≤ slice_index xs k

@@ -1,12 +1,8 @@
 -- What the rows of one target keep.
-use Rattle.std.specs.Prelude.{◌≡◌, ◌≢◌, ◌↔◌, ◌⊎◌, ℕ, ◌+◌, ◌<◌, ◌≤◌, Bool, false, not, ◌||◌, List, None, Some, IsSome, is_some, IsTrue, length, slice_index_or, AllPairs, Contains, count_by}
+use Rattle.std.specs.Prelude.{◌≡◌, ◌≢◌, ◌↔◌, ◌⊎◌, ℕ, ◌+◌, ◌<◌, ◌≤◌, Bool, not, ◌||◌, List, Some, IsSome, is_some, IsTrue, length, AllPairs, Contains, count_by}
 use Rattle.redo_model.specs.State.{Mark}
 use Rattle.redo_rows.specs.Numbers.{NumberList}
 use Rattle.redo_rows.specs.Rows.{Slot, slot_at}
-
--- room on the name, and no row
-abbrev pub blank : ℕ → Slot
-blank n = record { name = n; change = None; created = false }
 
 abbrev pub has_row : Slot → Bool
 has_row slot = is_some slot.change || slot.created
@@ -22,20 +18,6 @@ HasChangeBut mark slot = (kept : Mark) × (slot.change ≡ Some kept) × (kept �
 -- the slots stand in the order of their names, one for each
 abbrev pub Ascending : List Slot → Type 0
 Ascending slots = AllPairs (λ x y. x.name < y.name) slots
-
-abbrev pub name_at : List Slot → ℕ → ℕ
-name_at slots i = (slice_index_or slots i (blank 0)).name
-
--- the slot at place i is that of the name
-pub record IsSlotOf (slots : List Slot) (n i : ℕ) : Type 0 where
-  pub within : i < length slots
-  pub named : name_at slots i ≡ n
-
--- a slot of the name would go at place i: smaller names before it, and greater names from it on
-pub record IsGapFor (slots : List Slot) (n i : ℕ) : Type 0 where
-  pub within : i ≤ length slots
-  pub before : (k : ℕ) → k < i → name_at slots k < n
-  pub after : (k : ℕ) → i ≤ k → k < length slots → n < name_at slots k
 
 -- the names are those with a row, and there is memory for all that have a slot
 pub record IsKept (slots : List Slot) (names : NumberList) : Type 0 where

@@ -1,6 +1,7 @@
 ghost use Rattle.std.specs.Prelude.{◌≡◌, ◌<◌, ◌↔◌, true, false, IsTrue, IsFalse, length, slice_set, Contains};
 ghost use Rattle.redo_rows.specs.Rows.{bare};
-ghost use Rattle.redo_rows.specs.Kept.{FollowsOn, IsKept, numbers_at};
+ghost use Rattle.redo_rows.specs.Kept.{IsKept, numbers_at};
+ghost use Rattle.redo_rows.specs.Inside.Kept.{FollowsOn};
 
 use crate::numbers::Numbers;
 use crate::target::Target;
@@ -35,17 +36,17 @@ pub(crate) fn forget(
     t: u32,
     needed: &mut Vec<Numbers>,
     awaited: &mut Vec<Numbers>,
-    sloted: &mut Vec<usize>,
+    slotted: &mut Vec<usize>,
 )
     requires target { t < length targets.now.items }
-    requires kept { IsKept targets.now.items needed.old.items awaited.old.items sloted.old.items }
+    requires kept { IsKept targets.now.items needed.old.items awaited.old.items slotted.old.items }
     ensures { IsKept
-        (slice_set targets.now.items t bare) needed.new.items awaited.new.items sloted.new.items }
+        (slice_set targets.now.items t bare) needed.new.items awaited.new.items slotted.new.items }
 {
     for slot in targets[t as usize].slots() {
         let n = slot.name();
         take_out(needed, n, t, slot.has_change());
         take_out(awaited, n, t, slot.created());
-        sloted[n as usize] -= 1;
+        slotted[n as usize] -= 1;
     }
 }

@@ -1,6 +1,6 @@
 ghost use Rattle.std.specs.Prelude.{◌≡◌, ◌+◌, ◌≤◌, length, replicate, vec_capacity, IfOk, OnOk};
 ghost use Rattle.redo_rows.specs.Rows.{bare};
-ghost use Rattle.redo_rows.specs.Kept.{AreEmpty};
+ghost use Rattle.redo_rows.specs.Inside.Kept.{AreEmpty};
 
 use crate::numbers::Numbers;
 use crate::target::Target;

@@ -3,7 +3,7 @@
 ghost use Rattle.std.specs.Prelude.{◌≡◌, ◌↔◌, ◌<◌, ℕ, IsTrue, MatchOption, length, true};
 ghost use Rattle.redo_rows.specs.Rows.{has_slot};
 ghost use Rattle.redo_rows.specs.Target.{Ascending};
-ghost use Rattle.redo_rows.specs.News.{known, HasAppeared, HasChanged, HasNews, SomeNews, IsNewsOf, IsNewsIn};
+ghost use Rattle.redo_rows.specs.Inside.News.{known, HasAppeared, HasChanged, HasNews, SomeNews, IsNewsOf, IsNewsIn};
 
 use crate::target::Slot;
 use redo_records::Records;

@@ -1,5 +1,6 @@
 ghost use Rattle.std.specs.Prelude.{◌≡◌, ◌⊎◌, ◌↔◌, ℕ, ◌+◌, ◌<◌, ◌≤◌, [], length, Contains, OnOk};
-ghost use Rattle.redo_rows.specs.Numbers.{Rising, IsPlaceOf};
+ghost use Rattle.redo_rows.specs.Numbers.{Rising};
+ghost use Rattle.redo_rows.specs.Inside.Numbers.{IsPlaceOf};
 
 use std::alloc::{AllocError, Global};
 use std::marker::Model;

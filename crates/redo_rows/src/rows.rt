@@ -26,7 +26,7 @@ pub struct DepRows {
     // and those with a created row on it
     awaited: Vec<Numbers>,
     // and how many targets have room for rows on it
-    sloted: Vec<usize>,
+    slotted: Vec<usize>,
 }
 
 impl Model for DepRows {
@@ -39,7 +39,7 @@ impl Model for DepRows {
     ghost view = { λ inside. inside.targets.items };
 
     ghost invariant = { λ inside.
-        IsKept inside.targets.items inside.needed.items inside.awaited.items inside.sloted.items };
+        IsKept inside.targets.items inside.needed.items inside.awaited.items inside.slotted.items };
 }
 
 impl DepRows {
@@ -54,7 +54,7 @@ impl DepRows {
             targets: made::bare_targets(alloc, count)?,
             needed: made::empty_lists(alloc, count)?,
             awaited: made::empty_lists(alloc, count)?,
-            sloted: vec![in alloc; 0; count]?,
+            slotted: vec![in alloc; 0; count]?,
         })
     }
 
@@ -71,12 +71,12 @@ impl DepRows {
         let mut targets = made::bare_targets(alloc, more)?;
         let mut needed = made::empty_lists(alloc, more)?;
         let mut awaited = made::empty_lists(alloc, more)?;
-        let sloted = extended(alloc, &self.sloted, names as usize, 0)?;
+        let slotted = extended(alloc, &self.slotted, names as usize, 0)?;
         made::reserve_each(&mut self.targets, &mut self.needed, &mut self.awaited, more)?;
         let _targets = self.targets.append(&mut targets);
         let _needed = self.needed.append(&mut needed);
         let _awaited = self.awaited.append(&mut awaited);
-        self.sloted = sloted;
+        self.slotted = slotted;
         Ok(())
     }
 
@@ -112,11 +112,11 @@ impl DepRows {
         if self.has_room(t, n) {
             return Ok(());
         }
-        let slots = self.sloted[n as usize] + 1;
+        let slots = self.slotted[n as usize] + 1;
         self.needed[n as usize].reserve(slots)?;
         self.awaited[n as usize].reserve(slots)?;
         self.targets[t as usize].add_slot(n)?;
-        self.sloted[n as usize] = slots;
+        self.slotted[n as usize] = slots;
         Ok(())
     }
 
@@ -176,7 +176,7 @@ impl DepRows {
             t,
             &mut self.needed,
             &mut self.awaited,
-            &mut self.sloted,
+            &mut self.slotted,
         );
         self.targets[t as usize].clear();
     }

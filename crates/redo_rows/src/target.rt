@@ -3,7 +3,8 @@ ghost use Rattle.redo_model.specs.Names.{IsListed};
 ghost use Rattle.redo_model.specs.State.{mark_in};
 ghost use Rattle.redo_records.specs.Meaning.{row_mark_of};
 ghost use Rattle.redo_rows.specs.Rows.{bare, slot_at, has_slot, by_number};
-ghost use Rattle.redo_rows.specs.Target.{blank, has_row, HasRowIn, HasChangeBut, Ascending, IsSlotOf, IsGapFor};
+ghost use Rattle.redo_rows.specs.Target.{has_row, HasRowIn, HasChangeBut, Ascending};
+ghost use Rattle.redo_rows.specs.Inside.Target.{blank, IsSlotOf, IsGapFor};
 
 use crate::kept_mark::KeptMark;
 use crate::numbers::Numbers;

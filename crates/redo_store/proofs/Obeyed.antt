@@ -12,9 +12,10 @@ use Rattle.redo_model.specs.Command.{Command, File, Gone, Lock, Unlock, Start, I
 use Rattle.redo_model.specs.Reply.{Refusal, Reply, Okay, Refused, lets_through}
 use Rattle.redo_model.specs.Step.{Answers, Replies, records_after, after, verdict_of, holds_target, locks_after, locks_freed, unless_refused}
 use Rattle.redo_model.proofs.LetThrough.{accepted_through, stopped_same, told_without_lock}
-use Rattle.redo_store.specs.Changes.{HasEffect}
+use Rattle.redo_store.specs.Inside.Changes.{HasEffect}
 use Rattle.redo_store.specs.Stored.{Stored, records_of}
-use Rattle.redo_store.specs.Tables.{Tables, tables_records, locks_of, state_of, tables_naming, calls_of, freed_by, IsAsBefore}
+use Rattle.redo_store.specs.Tables.{Tables, tables_records, locks_of, state_of, calls_of, IsAsBefore}
+use Rattle.redo_store.specs.Inside.Tables.{tables_naming, freed_by}
 use Rattle.redo_store.proofs.Rooms.{accepted_of_holder, changed_accepted}
 
 -- the locks without that of the target, if there is one

@@ -16,7 +16,8 @@ use Rattle.redo_model.specs.Names.{Ascending}
 use Rattle.redo_ood.proofs.Listing.{each_below}
 use Rattle.redo_ood.proofs.Marking.{one_more}
 use Rattle.redo_store.specs.Orders.{AreRanks}
-use Rattle.redo_store.specs.Stored.{Stored, IsStored, AreInOrder, ArePlaces, count_of, naming_of}
+use Rattle.redo_store.specs.Stored.{Stored, IsStored, count_of, naming_of}
+use Rattle.redo_store.specs.Inside.Stored.{AreInOrder, ArePlaces}
 use Rattle.redo_store.proofs.Sorting.{AllPairs-map}
 
 -- the first k numbers of the list have their ranks

@@ -20,7 +20,7 @@ use Rattle.redo_model.specs.Renaming.{AllBelow}
 use Rattle.redo_ood.proofs.Listing.{each_below as all_from}
 use Rattle.redo_names.specs.Names.{text_at}
 use Rattle.redo_names.specs.Inside.Names.{AreNames}
-use Rattle.redo_store.specs.Numbered.{AreNumbered}
+use Rattle.redo_store.specs.Inside.Numbered.{AreNumbered}
 use Rattle.redo_store.specs.Orders.{AreSorted}
 
 pub AreNumbered-none : (names : List (List ℕ)) → AreNumbered names 0 []

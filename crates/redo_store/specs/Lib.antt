@@ -1,8 +1,7 @@
+pub mod Inside
+pub mod Kept
+pub mod KeptStore
+pub mod Meaning
 pub mod Orders
 pub mod Stored
-pub mod Changes
-pub mod KeptStore
 pub mod Tables
-pub mod Kept
-pub mod Numbered
-pub mod Meaning

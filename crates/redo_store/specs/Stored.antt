@@ -1,11 +1,10 @@
 -- What the store holds.
-use Rattle.std.specs.Prelude.{◌≡◌, ℕ, ◌<◌, ◌≤◌, ◌^◌, Bool, true, false, IsTrue, List, All, Contains, length, slice_index}
+use Rattle.std.specs.Prelude.{◌≡◌, ℕ, ◌<◌, ◌≤◌, ◌^◌, Bool, true, false, IsTrue, List, length}
 use Rattle.std.specs.List.{list_all}
 use Rattle.redo_model.specs.Command.{Command, IfChange, IfCreate, Ood, Targets, Sources}
 use Rattle.std.specs.declared.cmp.Ordering.{Ordering}
 use Rattle.redo_model.specs.Names.{Naming, IsListed, numbers}
 use Rattle.redo_model.specs.State.{Cell, Records}
-use Rattle.redo_model.specs.Renaming.{AllBelow}
 use Rattle.redo_records.specs.Cells.{cell_at}
 use Rattle.redo_rows.specs.Rows.{TargetRows, room_of, rows_count, with_rows}
 use Rattle.redo_store.specs.Orders.{by_place}
@@ -44,17 +43,6 @@ pub record IsStored (stored : Stored) : Type 0 where
   pub few_builds : (n : ℕ) → (cell_at stored.cells n).builds ≤ stored.applied
   pub few_names : count_of stored < 2 ^ 32
 
--- no name was built as often as commands were applied
-pub record HasBuildsLeft (stored : Stored) : Type 0 where
-  pub builds : (n : ℕ) → (cell_at stored.cells n).builds < stored.applied
-  pub applied : stored.applied < 2 ^ 32
-
--- the same names in the same order, with as many commands applied
-pub record KeepsNames (old new : Stored) : Type 0 where
-  pub count : count_of new ≡ count_of old
-  pub sorted : new.sorted ≡ old.sorted
-  pub applied : new.applied ≡ old.applied
-
 -- whether there is room for all rows of the command
 abbrev pub has_room_for : Stored → Command ℕ → Bool
 has_room_for stored (IfChange t ns) = list_all (room_of stored.rows t) ns
@@ -76,14 +64,3 @@ pub record IsSameButRoom (old new : Stored) : Type 0 where
   pub sorted : new.sorted ≡ old.sorted
   pub applied : new.applied ≡ old.applied
   pub room : (t n : ℕ) → IsTrue (room_of old.rows t n) → IsTrue (room_of new.rows t n)
-
--- the names with P, in order, each a number below the count
-pub record AreInOrder (stored : Stored) (P : ℕ → Type 0) (names : List ℕ) : Type 0 where
-  pub listed : IsListed (naming_of stored) P names
-  pub below : AllBelow (count_of stored) names
-
--- the places of the names with P in the order
-pub record ArePlaces (stored : Stored) (P : ℕ → Type 0) (ranks : List ℕ) : Type 0 where
-  pub below : All (λ k. k < length stored.sorted) ranks
-  pub from : (k : ℕ) → Contains ranks k → P (slice_index stored.sorted k)
-  pub all : (n : ℕ) → P n → (k : ℕ) × Contains ranks k × (slice_index stored.sorted k ≡ n)

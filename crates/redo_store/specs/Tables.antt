@@ -1,10 +1,7 @@
 -- What the tables of the one-thread database hold.
-use Rattle.std.specs.Prelude.{◌≡◌, ℕ, ◌<◌, ◌≤◌, ◌^◌, List, Option, None, Some, slice_index, slice_index_or, length}
+use Rattle.std.specs.Prelude.{◌≡◌, ℕ, ◌≤◌, List, Option, None, slice_index, slice_index_or, length}
 use Rattle.std.specs.declared.cmp.Ordering.{Ordering}
-use Rattle.redo_model.specs.Names.{Naming, numbers}
 use Rattle.redo_model.specs.State.{Records, Locks, State}
-use Rattle.redo_model.specs.Command.{Command, Unlock}
-use Rattle.redo_model.specs.Reply.{Reply, Okay}
 use Rattle.redo_store.specs.Stored.{Stored}
 use Rattle.redo_store.specs.Stored as stored
 
@@ -36,9 +33,6 @@ tables_count tables = stored.count_of tables.store
 abbrev pub tables_order : Tables → ℕ → ℕ → Ordering
 tables_order tables = stored.order_of tables.store
 
-abbrev pub tables_naming : Tables → Naming ℕ
-tables_naming tables = numbers (tables_order tables)
-
 -- the calls that gave a reply
 abbrev pub calls_of : Tables → ℕ
 calls_of tables = tables.calls
@@ -49,17 +43,6 @@ pub record AreTables (tables : Tables) : Type 0 where
   pub grants_for_each : length tables.grants ≡ tables_count tables
   pub few_grants : (n : ℕ) → slice_index tables.grants n ≤ tables.calls
   pub few_applied : tables.store.applied ≤ tables.calls
-
--- neither a count of grants nor that of the commands applied has come to the calls
-pub record HasCallsLeft (tables : Tables) : Type 0 where
-  pub grants : (n : ℕ) → slice_index tables.grants n < tables.calls
-  pub applied : tables.store.applied < tables.calls
-  pub calls : tables.calls < 2 ^ 32
-
--- the target that a command with this reply sets free
-abbrev pub freed_by : Command ℕ → Reply ℕ → Option ℕ
-freed_by (Unlock t) Okay = Some t
-freed_by command reply = None
 
 -- the same state, names and calls
 pub record IsAsBefore (old new : Tables) : Type 0 where

@@ -2,7 +2,7 @@ ghost use Rattle.std.specs.Prelude.{◌≡◌, ◌<◌, ◌^◌, length, map, If
 ghost use Rattle.redo_model.specs.Renaming.{AllBelow};
 ghost use Rattle.redo_store.specs.Orders.{AreSorted, AreRanks};
 ghost use Rattle.redo_names.specs.Inside.Names.{AreNames};
-ghost use Rattle.redo_store.specs.Numbered.{AreNumbered};
+ghost use Rattle.redo_store.specs.Inside.Numbered.{AreNumbered};
 
 use redo_names::Names;
 use std::alloc::{AllocError, Global};

@@ -53,8 +53,9 @@ impl Model for Store {
 }
 
 impl Store {
-    ghost use Rattle.redo_store.specs.Changes.{HasEffect};
-    ghost use Rattle.redo_store.specs.Stored.{records_of, order_of, naming_of, count_of, applied_of, HasBuildsLeft, KeepsNames, IsSameButRoom, has_room_for, lists_names};
+    ghost use Rattle.redo_store.specs.Inside.Changes.{HasEffect};
+    ghost use Rattle.redo_store.specs.Stored.{records_of, order_of, naming_of, count_of, applied_of, IsSameButRoom, has_room_for, lists_names};
+    ghost use Rattle.redo_store.specs.Inside.Stored.{HasBuildsLeft, KeepsNames};
 
     /// The empty store: each name is idle, and without a file.
     pub fn new(alloc: Global, names: &Names) -> Result<Store, AllocError>

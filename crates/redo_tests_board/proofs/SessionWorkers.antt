@@ -13,7 +13,7 @@ use Rattle.redo_board.specs.Rule.{HasPart}
 use Rattle.redo_board.specs.Shown.{IsForAll, parts_of, session_of, journal_of}
 use Rattle.redo_board.specs.Kept.{SitsAt}
 use Rattle.redo_board.specs.Outcomes.{Leaves}
-use Rattle.redo_tests_board.specs.Workers.{HasFrom}
+use Rattle.redo_tests_board.specs.Inside.Workers.{HasFrom}
 
 has_first : (xs ys : List Part) (s : ℕ) (own : List Line) → HasPart xs s own
     → HasPart (xs ++ ys) s own

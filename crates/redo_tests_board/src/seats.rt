@@ -2,7 +2,7 @@
 ghost use Rattle.std.specs.Prelude.{ℕ, ◌<◌, length};
 ghost use Rattle.redo_board.specs.Shown.{first_of, end_of};
 ghost use Rattle.redo_board.specs.Kept.{IsBoardOf, SitsAt, IsFresh, IsFreshOf};
-ghost use Rattle.redo_tests_board.specs.Workers.{HasFrom};
+ghost use Rattle.redo_tests_board.specs.Inside.Workers.{HasFrom};
 
 use redo_board::{Board, Seat};
 use redo_journal::Plan;

@@ -2,7 +2,7 @@
 ghost use Rattle.std.specs.Prelude.{◌≡◌, ◌+◌, ◌<◌, length, IfOk};
 ghost use Rattle.redo_board.specs.Shown.{first_of, end_of, session_of};
 ghost use Rattle.redo_board.specs.Kept.{IsBoardOf, SitsAt, IsFresh, WorksAt};
-ghost use Rattle.redo_tests_board.specs.Workers.{HasFrom};
+ghost use Rattle.redo_tests_board.specs.Inside.Workers.{HasFrom};
 
 use redo_board::{Board, Gate, Seat, Worker};
 use redo_journal::{Journal, Place, Plan};

@@ -4,10 +4,10 @@ ghost use Rattle.redo_model.specs.Journals.{Numbered};
 ghost use Rattle.redo_journal.specs.Journals.{line_told};
 ghost use Rattle.redo_board.specs.Core as core;
 ghost use Rattle.redo_board.specs.Plays.{own_way};
-ghost use Rattle.redo_board.specs.Steps.{TellsLock};
+ghost use Rattle.redo_board.specs.Inside.Steps.{TellsLock};
 ghost use Rattle.redo_board.specs.Shown.{session_of, journal_of, tries_of};
 ghost use Rattle.redo_board.specs.Kept.{IsBoardOf, WorksAt};
-ghost use Rattle.redo_board.specs.Shown.{IsNextBy};
+ghost use Rattle.redo_board.specs.Inside.Shown.{IsNextBy};
 ghost use Rattle.redo_board.specs.Outcomes.{Made};
 
 use crate::board::Board;

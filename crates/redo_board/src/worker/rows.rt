@@ -9,12 +9,13 @@ ghost use Rattle.redo_store.specs.Stored.{has_room_for, IsSameButRoom};
 ghost use Rattle.redo_joint.specs.Replayed.{session_in, flag_in, command_in};
 ghost use Rattle.redo_journal.specs.Plans.{IsPlan, script_of};
 ghost use Rattle.redo_board.specs.Rows.{rows_of};
-ghost use Rattle.redo_board.specs.Core.{row, IsWord};
+ghost use Rattle.redo_board.specs.Core.{row};
+ghost use Rattle.redo_board.specs.Inside.Core.{IsWord};
 ghost use Rattle.redo_board.specs.Plays.{own_way};
 ghost use Rattle.redo_board.specs.Shown.{session_of, journal_of, tries_of};
 ghost use Rattle.redo_board.specs.Kept.{IsBoardOf, Works, WorksAt};
-ghost use Rattle.redo_board.specs.Shown.{IsNextBy};
-ghost use Rattle.redo_board.specs.Steps.{IsSaidBy, IsReadyBy};
+ghost use Rattle.redo_board.specs.Inside.Shown.{IsNextBy};
+ghost use Rattle.redo_board.specs.Inside.Steps.{IsSaidBy, IsReadyBy};
 ghost use Rattle.redo_board.specs.Outcomes.{Made, Waits};
 
 use crate::board::Board;
@@ -22,7 +23,7 @@ use crate::gate::Gate;
 use crate::plan::command_at;
 use crate::rule::{Miss, Pass, Try};
 use crate::worker::Worker;
-use crate::worker::ways::has;
+use crate::worker::ways::holds_its_target;
 use crate::worker::words::{again, flag_of, is_closing, number_of, session_of, target_of, word_of};
 use redo_journal::{Entry, Next, Place, Plan};
 use redo_store::Store;
@@ -80,7 +81,7 @@ impl Worker {
     {
         match command {
             Command::IfChange(..) | Command::Ood | Command::Targets | Command::Sources => {
-                let holds = has(&self.own, command);
+                let holds = holds_its_target(&self.own, command);
                 Ok(Some(self.store.reply(alloc, self.session, command, holds)?))
             }
             _ => Ok(None),
@@ -98,7 +99,7 @@ impl Worker {
         if let Some(reply) = list {
             return reply;
         }
-        let holds = has(&self.own, command);
+        let holds = holds_its_target(&self.own, command);
         let Ok(reply) = self.store.reply(alloc, self.session, command, holds) else {
             unreachable!()
         };
@@ -133,7 +134,12 @@ impl Worker {
             return false;
         }
         gate.ready(self.session, next.line, self.tries);
-        let own = word_of(self.session, next, command, has(&self.own, command));
+        let own = word_of(
+            self.session,
+            next,
+            command,
+            holds_its_target(&self.own, command),
+        );
         board
             .table
             .shared
@@ -167,7 +173,7 @@ impl Worker {
         ensures tries { tries_of self.new ≡ tries_of self.old + 1 }
         ensures row { tries_of self.old < rows_of plan.now }
     {
-        let holds = has(&self.own, command);
+        let holds = holds_its_target(&self.own, command);
         let word = word_of(self.session, next, command, holds);
         let row = self.tries;
         let found = board

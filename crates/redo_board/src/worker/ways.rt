@@ -3,8 +3,8 @@ ghost use Rattle.redo_model.specs.Renaming.{IsBelow};
 ghost use Rattle.redo_terms.specs.Meaning.{command_of};
 ghost use Rattle.redo_journal.specs.Holds.{hold_at};
 ghost use Rattle.redo_board.specs.Core as core;
-ghost use Rattle.redo_board.specs.Own.{has, way_by};
-ghost use Rattle.redo_board.specs.Steps.{way_of};
+ghost use Rattle.redo_board.specs.Inside.Own.{holds_its_target, way_by};
+ghost use Rattle.redo_board.specs.Inside.Steps.{way_of};
 
 use redo_journal::Holds;
 use redo_terms::Command;
@@ -18,9 +18,9 @@ pub(crate) enum Way {
 }
 
 /// Whether the session holds the command's target.
-pub(crate) fn has(holds: &Holds, command: &Command) -> bool
+pub(crate) fn holds_its_target(holds: &Holds, command: &Command) -> bool
     requires { IsBelow (length holds.now) (command_of command.now) }
-    ensures { result ≡ has holds.now (command_of command.now) }
+    ensures { result ≡ holds_its_target holds.now (command_of command.now) }
 {
     match command.target() {
         Some(target) => holds.at(target).held,

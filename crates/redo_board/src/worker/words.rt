@@ -6,7 +6,7 @@ ghost use Rattle.redo_joint.specs.Replayed.{is_closing, session_in, number_in, f
 ghost use Rattle.redo_journal.specs.Plans.{PlanOf, script_of};
 ghost use Rattle.redo_board.specs.Rows.{bit};
 ghost use Rattle.redo_board.specs.Core.{word};
-ghost use Rattle.redo_board.specs.Steps.{LetsGo};
+ghost use Rattle.redo_board.specs.Inside.Steps.{LetsGo};
 
 use redo_journal::Next;
 use redo_terms::Command;

@@ -13,7 +13,8 @@ use Rattle.redo_terms.specs.declared.reply.Reply.{Reply as ReplyOfNumbers}
 use Rattle.redo_text.specs.Questions.{line_fault}
 use Rattle.redo_text.specs.declared.fault.ReadFault.{ReadFault}
 use Rattle.redo_text.specs.declared.fault.ReadFault.TheVariants as read
-use Rattle.redo_store.specs.Tables.{tables_naming, state_of}
+use Rattle.redo_store.specs.Tables.{state_of}
+use Rattle.redo_store.specs.Inside.Tables.{tables_naming}
 use Rattle.redo_history.specs.Histories.{line_text_of}
 use Rattle.redo_live.specs.Inside.Answered.{IsAnswered, logged_text}
 use Rattle.redo_live.specs.Inside.Ended.{IsEnded, end_text}

@@ -8,7 +8,8 @@ ghost use Rattle.redo_model.specs.Step.{Answers, after, is_held_by, holds_target
 ghost use Rattle.redo_model.specs.Renaming.{IsBelow, IsReplyBelow};
 ghost use Rattle.redo_terms.specs.Meaning.{command_of, reply_of};
 ghost use Rattle.redo_store.specs.Stored.{has_room_for};
-ghost use Rattle.redo_store.specs.Tables.{freed_by, state_of, tables_records, locks_of, tables_order, tables_naming, tables_count, calls_of, HasCallsLeft, IsAsBefore};
+ghost use Rattle.redo_store.specs.Tables.{state_of, tables_records, locks_of, tables_order, tables_count, calls_of, IsAsBefore};
+ghost use Rattle.redo_store.specs.Inside.Tables.{freed_by, tables_naming, HasCallsLeft};
 
 use crate::redo::Redo;
 use redo_terms::{Command, Reply};

@@ -5,8 +5,9 @@ ghost use Rattle.redo_model.specs.Command as commands;
 ghost use Rattle.redo_model.specs.Renaming.{AllBelow};
 ghost use Rattle.redo_ood.specs.Memo.{IsRight, WasRight, memo_count};
 ghost use Rattle.redo_rows.specs.Rows.{room_of, rows_count, with_rows};
-ghost use Rattle.redo_store.specs.Changes.{HasEffect, HasEffectOfAny, AreRowsAfter, records_with_file};
-ghost use Rattle.redo_store.specs.Stored.{records_of, count_of, HasBuildsLeft, KeepsNames, has_room_for};
+ghost use Rattle.redo_store.specs.Inside.Changes.{HasEffect, HasEffectOfAny, AreRowsAfter, records_with_file};
+ghost use Rattle.redo_store.specs.Stored.{records_of, count_of, has_room_for};
+ghost use Rattle.redo_store.specs.Inside.Stored.{HasBuildsLeft, KeepsNames};
 
 use crate::store::Store;
 use redo_ood::Ood;

@@ -6,7 +6,8 @@ ghost use Rattle.redo_model.specs.OutOfDate.{HasFile, IsTarget, OutOfDate, IsSou
 ghost use Rattle.redo_model.specs.Step.{Tells, stale_reply};
 ghost use Rattle.redo_model.specs.Renaming.{AllBelow, IsReplyBelow};
 ghost use Rattle.redo_terms.specs.Meaning.{reply_of};
-ghost use Rattle.redo_store.specs.Stored.{IsStored, records_of, naming_of, count_of, AreInOrder};
+ghost use Rattle.redo_store.specs.Stored.{IsStored, records_of, naming_of, count_of};
+ghost use Rattle.redo_store.specs.Inside.Stored.{AreInOrder};
 
 use crate::store::Store;
 use redo_records::State;

@@ -1,7 +1,8 @@
 ghost use Rattle.std.specs.Prelude.{◌≡◌, ◌<◌, ◌↔◌, ℕ, IsTrue, IfOk, All, AllPairs, Contains, length, map, slice_index};
 ghost use Rattle.redo_model.specs.OutOfDate.{IsStale};
 ghost use Rattle.redo_model.specs.Renaming.{AllBelow};
-ghost use Rattle.redo_store.specs.Stored.{AreInOrder, ArePlaces, count_of, records_of};
+ghost use Rattle.redo_store.specs.Stored.{count_of, records_of};
+ghost use Rattle.redo_store.specs.Inside.Stored.{AreInOrder, ArePlaces};
 
 use crate::store::Store;
 use crate::store::lists::push_if;

@@ -1,5 +1,5 @@
 use Rattle.redo_board.specs.Kept.{IsBoardOf}
-use Rattle.redo_bench.specs.Workers.{AreWorkers}
+use Rattle.redo_bench.specs.Inside.Workers.{AreWorkers}
 use Rattle.redo_bench.proofs.board.once.Given as goal
 
 abbrev pub invariant-loop : goal.invariant-loop

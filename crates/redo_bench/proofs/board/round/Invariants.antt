@@ -1,5 +1,5 @@
 use Rattle.std.proofs.Common.{◌≡◌, vec_len}
-use Rattle.redo_bench.specs.Workers.{AreWorkers}
+use Rattle.redo_bench.specs.Inside.Workers.{AreWorkers}
 use Rattle.redo_bench.proofs.board.round.Given as goal
 
 abbrev pub invariant-loop-at : goal.invariant-loop-at

@@ -3,7 +3,7 @@ use Rattle.std.proofs.lemmas.List.{length-map}
 use Rattle.std.proofs.lemmas.List.Elements.{All-push}
 use Rattle.redo_terms.specs.Inside.Meaning.{item_of}
 use Rattle.redo_board.specs.Kept.{SitsAt, WorksAt, IsFreshOf}
-use Rattle.redo_bench.specs.Workers.{HasSession}
+use Rattle.redo_bench.specs.Inside.Workers.{HasSession}
 use Rattle.redo_bench.proofs.Workers.{has_next}
 use Rattle.redo_bench.proofs.board.workers_of.Goals as goal
 

@@ -1,6 +1,6 @@
 use Rattle.std.proofs.Common.{ℕ, ◌<◌, length, All}
 use Rattle.redo_board.specs.Kept.{SitsAt, IsFreshOf, WorksAt}
-use Rattle.redo_bench.specs.Workers.{HasSession}
+use Rattle.redo_bench.specs.Inside.Workers.{HasSession}
 use Rattle.redo_bench.proofs.board.workers_of.Given as goal
 
 abbrev pub invariant-loop-session : goal.invariant-loop-session

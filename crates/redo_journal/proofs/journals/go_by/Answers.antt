@@ -9,7 +9,7 @@ use Rattle.redo_terms.specs.Inside.Meaning.{item_of}
 use Rattle.redo_journal.specs.declared.entry.Entry.{Entry}
 use Rattle.redo_journal.specs.Journals.{IsMarked, command_told, line_told, lines_told}
 use Rattle.redo_journal.specs.Holds.{Says}
-use Rattle.redo_journal.specs.Numbers.{IsNextAt}
+use Rattle.redo_journal.specs.Inside.Numbers.{IsNextAt}
 use Rattle.redo_journal.proofs.Plans.{below_in}
 use Rattle.redo_journal.proofs.Says.{says_on}
 use Rattle.redo_journal.proofs.Steps.{at_place, below_next, next_below}

@@ -4,7 +4,7 @@ use Rattle.redo_model.specs.Renaming.{IsBelow}
 use Rattle.redo_terms.specs.Inside.Meaning.{item_of}
 use Rattle.redo_journal.specs.Journals.{command_told, lines_told}
 use Rattle.redo_journal.specs.Holds.{Says}
-use Rattle.redo_journal.specs.Numbers.{IsNextAt}
+use Rattle.redo_journal.specs.Inside.Numbers.{IsNextAt}
 use Rattle.redo_journal.proofs.journals.go_by.Given as goal
 
 abbrev pub invariant-loop-at : goal.invariant-loop-at

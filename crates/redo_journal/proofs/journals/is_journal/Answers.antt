@@ -4,7 +4,7 @@ use Rattle.redo_terms.specs.Meaning.{by_text}
 use Rattle.redo_terms.specs.Inside.Meaning.{item_of}
 use Rattle.redo_journal.specs.declared.entry.Entry.{Entry}
 use Rattle.redo_journal.specs.Journals.{IsMarked}
-use Rattle.redo_journal.specs.Numbers.{IsNextAt}
+use Rattle.redo_journal.specs.Inside.Numbers.{IsNextAt}
 use Rattle.redo_journal.proofs.Told.{is_told, told_own, told_next}
 use Rattle.redo_journal.proofs.journals.is_journal.Goals as goal
 

@@ -5,7 +5,7 @@ use Rattle.redo_model.specs.Names.{Text}
 use Rattle.redo_model.specs.History.{Line}
 use Rattle.redo_history.proofs.TextCuts.{has_lf}
 use Rattle.redo_log.specs.Restores.{IsRestoredTo}
-use Rattle.redo_log.specs.Steps.{DoesNext, NothingFollows}
+use Rattle.redo_log.specs.Inside.Steps.{DoesNext, NothingFollows}
 use Rattle.redo_log.proofs.Stepping.{done_at_first, done_more, done_all, log_done, differs_behind, no_log, sizes, room_cause, restored_to}
 use Rattle.redo_log.proofs.restoring.restore_lines.Goals as goal
 

@@ -1,7 +1,7 @@
 use Rattle.std.proofs.Common.{◌≡◌, List, length}
 use Rattle.redo_model.specs.Names.{Text}
 use Rattle.redo_model.specs.History.{Line}
-use Rattle.redo_log.specs.Steps.{IsDoneUpTo}
+use Rattle.redo_log.specs.Inside.Steps.{IsDoneUpTo}
 use Rattle.redo_log.proofs.restoring.restore_lines.Given as goal
 
 abbrev pub invariant-lines : goal.invariant-lines

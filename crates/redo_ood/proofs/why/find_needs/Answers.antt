@@ -5,7 +5,7 @@ use Rattle.redo_model.specs.OutOfDate.{IsTarget}
 use Rattle.redo_rows.specs.Rows.{Slot, with_rows, rows_count}
 use Rattle.redo_rows.proofs.Walked.{slot_names, name_below_all, row_of_slot, name_of_row}
 use Rattle.redo_ood.specs.NameSet.{size_of}
-use Rattle.redo_ood.specs.Search.{IsSearch}
+use Rattle.redo_ood.specs.Inside.Search.{IsSearch}
 use Rattle.redo_ood.proofs.Marking.{at_take_all}
 use Rattle.redo_ood.proofs.Searching.{StepsPartly, partly_begun, partly_more, partly_done, finds_sized, finds_behind, due_at}
 use Rattle.redo_ood.proofs.why.find_needs.Goals as goal

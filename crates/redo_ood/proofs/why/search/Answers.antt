@@ -2,7 +2,7 @@ use Rattle.std.proofs.Common.{◌≡◌, ◌∙◌, ◌<◌, ◌≤◌, ◌+◌,
 use Rattle.redo_model.specs.Renaming.{AllBelow}
 use Rattle.redo_rows.specs.Rows.{with_rows}
 use Rattle.redo_ood.specs.Meaning.{reason_of}
-use Rattle.redo_ood.specs.Search.{HaveNoReason, IsFirstReason}
+use Rattle.redo_ood.specs.Inside.Search.{HaveNoReason, IsFirstReason}
 use Rattle.redo_ood.proofs.Searching.{one_name, one_name_sized, search_at_first, none_before, none_still, first_kept}
 use Rattle.redo_ood.proofs.Shortest.{way_explains, none_found}
 use Rattle.redo_ood.proofs.why.search.Goals as goal

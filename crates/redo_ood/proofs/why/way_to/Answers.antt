@@ -2,7 +2,7 @@ use Rattle.std.proofs.Common.{◌<◌, ◌≡◌, ◌∙◌, [], ◌∷◌, get_
 use Rattle.std.proofs.lemmas.List.{get_or_default, reverse-append}
 use Rattle.redo_model.specs.Renaming.{AllBelow}
 use Rattle.redo_ood.specs.NameSet.{size_of}
-use Rattle.redo_ood.specs.Search.{IsWay}
+use Rattle.redo_ood.specs.Inside.Search.{IsWay}
 use Rattle.redo_ood.proofs.why.way_to.Goals as goal
 
 pub back-preserved : goal.back-preserved

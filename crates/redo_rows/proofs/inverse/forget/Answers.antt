@@ -6,7 +6,7 @@ use Rattle.redo_rows.proofs.inverse.forget.Goals as goal
 pub loop-slot-init : goal.loop-slot-init
 loop-slot-init c =
     rest_begins c.args.targets.now.items c.args.t c.args.needed.now.items c.args.awaited.now.items
-    c.args.sloted.now.items c.requires.target c.requires.kept
+    c.args.slotted.now.items c.requires.target c.requires.kept
 
 pub take_out-requires-clause-name : goal.take_out-requires-clause-name
 take_out-requires-clause-name c =
@@ -19,7 +19,7 @@ take_out-requires-clause-name c =
     let k =
     knows_slot c.args.targets.now.items c.args.t c.loop-slot.slot-index c.slot-item.result
     c.name-n.result c.has_change.result c.slot-item.result.created c.loop-slot.needed.items
-    c.loop-slot.awaited.items c.loop-slot.sloted.items a c.loop-slot.invariant in
+    c.loop-slot.awaited.items c.loop-slot.slotted.items a c.loop-slot.invariant in
     k.needed_in
 
 pub take_out-requires-clause-was : goal.take_out-requires-clause-was
@@ -33,7 +33,7 @@ take_out-requires-clause-was c =
     let k =
     knows_slot c.args.targets.now.items c.args.t c.loop-slot.slot-index c.slot-item.result
     c.name-n.result c.has_change.result c.slot-item.result.created c.loop-slot.needed.items
-    c.loop-slot.awaited.items c.loop-slot.sloted.items a c.loop-slot.invariant in
+    c.loop-slot.awaited.items c.loop-slot.slotted.items a c.loop-slot.invariant in
     k.needs
 
 pub take_out-requires-in-loop-slot-clause-name : goal.take_out-requires-in-loop-slot-clause-name
@@ -47,7 +47,7 @@ take_out-requires-in-loop-slot-clause-name c =
     let k =
     knows_slot c.args.targets.now.items c.args.t c.loop-slot.slot-index c.slot-item.result
     c.name-n.result c.has_change.result c.created.result c.loop-slot.needed.items
-    c.loop-slot.awaited.items c.loop-slot.sloted.items a c.loop-slot.invariant in
+    c.loop-slot.awaited.items c.loop-slot.slotted.items a c.loop-slot.invariant in
     k.awaited_in
 
 pub take_out-requires-in-loop-slot-clause-was : goal.take_out-requires-in-loop-slot-clause-was
@@ -61,7 +61,7 @@ take_out-requires-in-loop-slot-clause-was c =
     let k =
     knows_slot c.args.targets.now.items c.args.t c.loop-slot.slot-index c.slot-item.result
     c.name-n.result c.has_change.result c.created.result c.loop-slot.needed.items
-    c.loop-slot.awaited.items c.loop-slot.sloted.items a c.loop-slot.invariant in
+    c.loop-slot.awaited.items c.loop-slot.slotted.items a c.loop-slot.invariant in
     k.awaits
 
 pub index_mut-requires : goal.index_mut-requires
@@ -75,8 +75,8 @@ index_mut-requires c =
     let k =
     knows_slot c.args.targets.now.items c.args.t c.loop-slot.slot-index c.slot-item.result
     c.name-n.result c.has_change.result c.created.result c.loop-slot.needed.items
-    c.loop-slot.awaited.items c.loop-slot.sloted.items a c.loop-slot.invariant in
-    omega (arith, k.sloted_in)
+    c.loop-slot.awaited.items c.loop-slot.slotted.items a c.loop-slot.invariant in
+    omega (arith, k.slotted_in)
 
 pub overflow_sub-index_mut : goal.overflow_sub-index_mut
 overflow_sub-index_mut c =
@@ -89,11 +89,11 @@ overflow_sub-index_mut c =
     let k =
     knows_slot c.args.targets.now.items c.args.t c.loop-slot.slot-index c.slot-item.result
     c.name-n.result c.has_change.result c.created.result c.loop-slot.needed.items
-    c.loop-slot.awaited.items c.loop-slot.sloted.items a c.loop-slot.invariant in
+    c.loop-slot.awaited.items c.loop-slot.slotted.items a c.loop-slot.invariant in
     omega (
       arith,
       k.counted,
-      get_or_default c.loop-slot.sloted.items c.name-n.result 0 c.index_mut.result.now k.sloted_in,
+      get_or_default c.loop-slot.slotted.items c.name-n.result 0 c.index_mut.result.now k.slotted_in,
       c.index_mut.ensures.value,
     )
 
@@ -108,16 +108,16 @@ loop-slot-preserved c =
     let k =
     knows_slot c.args.targets.now.items c.args.t c.loop-slot.slot-index c.slot-item.result
     c.name-n.result c.has_change.result c.created.result c.loop-slot.needed.items
-    c.loop-slot.awaited.items c.loop-slot.sloted.items a c.loop-slot.invariant in
-    let less : c.index_mut.result.now - 1 + 1 ≡ get_or c.loop-slot.sloted.items c.name-n.result 0 =
+    c.loop-slot.awaited.items c.loop-slot.slotted.items a c.loop-slot.invariant in
+    let less : c.index_mut.result.now - 1 + 1 ≡ get_or c.loop-slot.slotted.items c.name-n.result 0 =
     omega (
       arith,
       k.counted,
-      get_or_default c.loop-slot.sloted.items c.name-n.result 0 c.index_mut.result.now k.sloted_in,
+      get_or_default c.loop-slot.slotted.items c.name-n.result 0 c.index_mut.result.now k.slotted_in,
       c.index_mut.ensures.value,
     ) in
     kept_rest c.args.targets.now.items c.args.t c.loop-slot.slot-index c.slot-item.result
     c.name-n.result c.has_change.result c.created.result c.loop-slot.needed.items
     c.loop-slot.awaited.items c.take_out.new.lists.items c.take_out-in-loop-slot.new.lists.items
-    c.loop-slot.sloted.items (c.index_mut.result.now - 1) a c.take_out.ensures
+    c.loop-slot.slotted.items (c.index_mut.result.now - 1) a c.take_out.ensures
     c.take_out-in-loop-slot.ensures less c.loop-slot.invariant

@@ -5,4 +5,4 @@ use Rattle.redo_rows.proofs.inverse.forget.Given as goal
 abbrev pub invariant-loop-slot : goal.invariant-loop-slot
 invariant-loop-slot l =
     IsKept
-    (with_rest l.targets.items l.t l.slot-index) l.needed.items l.awaited.items l.sloted.items
+    (with_rest l.targets.items l.t l.slot-index) l.needed.items l.awaited.items l.slotted.items

@@ -1,7 +1,7 @@
 use Rattle.std.proofs.Common.{sym, subst, arith, List}
 use Rattle.std.proofs.lemmas.Grind.{common_steps}
 use Rattle.redo_rows.specs.Numbers.{NumberList}
-use Rattle.redo_rows.specs.Kept.{AreEmpty}
+use Rattle.redo_rows.specs.Inside.Kept.{AreEmpty}
 use Rattle.redo_rows.proofs.Begun.{empty_push}
 use Rattle.redo_rows.proofs.made.empty_lists.Goals as goal
 

@@ -1,5 +1,5 @@
 use Rattle.std.proofs.Common.{◌≡◌, length}
-use Rattle.redo_rows.specs.Kept.{AreEmpty}
+use Rattle.redo_rows.specs.Inside.Kept.{AreEmpty}
 use Rattle.redo_rows.proofs.made.empty_lists.Given as goal
 
 abbrev pub invariant-fill : goal.invariant-fill

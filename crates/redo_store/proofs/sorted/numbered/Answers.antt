@@ -1,5 +1,5 @@
 use Rattle.std.proofs.Common.{◌≡◌, ℕ, length, refl, subst, arith}
-use Rattle.redo_store.specs.Numbered.{AreNumbered}
+use Rattle.redo_store.specs.Inside.Numbered.{AreNumbered}
 use Rattle.redo_store.proofs.Sorting.{AreNumbered-none, AreNumbered-push}
 use Rattle.redo_store.proofs.sorted.numbered.Goals as goal
 

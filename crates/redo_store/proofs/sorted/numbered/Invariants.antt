@@ -1,4 +1,4 @@
-use Rattle.redo_store.specs.Numbered.{AreNumbered}
+use Rattle.redo_store.specs.Inside.Numbered.{AreNumbered}
 use Rattle.redo_store.proofs.sorted.numbered.Given as goal
 
 abbrev pub invariant-loop-n : goal.invariant-loop-n

@@ -1,5 +1,5 @@
 use Rattle.std.proofs.Common.{ℕ, length, ◌∙◌, subst}
-use Rattle.redo_tests_board.specs.Workers.{HasFrom}
+use Rattle.redo_tests_board.specs.Inside.Workers.{HasFrom}
 use Rattle.redo_tests_board.proofs.leaving.leave_apart.Goals as goal
 
 pub close-rows-requires-clause-seat : goal.close-rows-requires-clause-seat

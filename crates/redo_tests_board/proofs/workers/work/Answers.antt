@@ -1,7 +1,7 @@
 use Rattle.std.proofs.Common.{◌≡◌, sym, ◌∙◌, subst}
 use Rattle.redo_board.specs.declared.worker.Worker.{Worker}
 use Rattle.redo_board.specs.Shown.{first_of, session_of}
-use Rattle.redo_tests_board.specs.Workers.{HasFrom}
+use Rattle.redo_tests_board.specs.Inside.Workers.{HasFrom}
 use Rattle.redo_tests_board.proofs.SessionWorkers.{left_from}
 use Rattle.redo_tests_board.proofs.workers.work.Goals as goal
 

@@ -1,6 +1,7 @@
 use Rattle.std.proofs.Common.{◌≡◌, ℕ, ◌+◌, ◌-◌, ◌++◌, [], ap, subst, sym, ◌∙◌, arith, List}
 use Rattle.redo_board.specs.Views.{ViewOf, view}
-use Rattle.redo_board.specs.Rule.{range, met, longer}
+use Rattle.redo_board.specs.Rule.{range, longer}
+use Rattle.redo_board.specs.Inside.Rule.{met}
 use Rattle.redo_board.specs.Core.{Begins, row_words}
 use Rattle.redo_board.specs.Histories.{IsHistoryOf, words_of}
 use Rattle.redo_board.proofs.Ended.{history-of, seen-of}

@@ -1,6 +1,7 @@
 use Rattle.std.proofs.Common.{◌≡◌, ◌+◌, ◌-◌, sym, ap, ◌∙◌, arith, refl, []}
 use Rattle.redo_board.specs.Views.{ViewOf}
-use Rattle.redo_board.specs.Rule.{range, left_of, right_of}
+use Rattle.redo_board.specs.Rule.{range}
+use Rattle.redo_board.specs.Inside.Rule.{left_of, right_of}
 use Rattle.redo_board.specs.Views.{view}
 use Rattle.redo_board.proofs.Ranges.{below-range, from-range}
 use Rattle.redo_board.proofs.seat.Seat.split.Goals as goal

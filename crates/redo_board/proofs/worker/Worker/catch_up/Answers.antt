@@ -1,7 +1,7 @@
 use Rattle.std.proofs.Common.{◌≡◌, ℕ, refl, ap, subst, Some}
 use Rattle.redo_joint.specs.Replayed.{command_in}
 use Rattle.redo_journal.specs.Plans.{PlanOf, script_of}
-use Rattle.redo_board.specs.Core.{IsWord}
+use Rattle.redo_board.specs.Inside.Core.{IsWord}
 use Rattle.redo_board.specs.Views.{ViewOf}
 use Rattle.redo_board.specs.Kept.{Works, Lags, view_of}
 use Rattle.redo_board.specs.declared.worker.Worker.{Worker}

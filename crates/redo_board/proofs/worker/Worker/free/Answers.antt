@@ -5,7 +5,7 @@ use Rattle.redo_model.specs.Placed.{Released}
 use Rattle.redo_model.specs.Journals.{Numbered}
 use Rattle.redo_journal.specs.Plans.{script_of}
 use Rattle.redo_board.specs.Core.{Way, row, free}
-use Rattle.redo_board.specs.Plays.{free_line}
+use Rattle.redo_board.specs.Inside.Plays.{free_line}
 use Rattle.redo_board.specs.Shown.{journal_of}
 use Rattle.redo_board.specs.Kept.{WorksAt, view_of}
 use Rattle.redo_board.specs.Outcomes.{Made}

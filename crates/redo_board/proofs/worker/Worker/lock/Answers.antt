@@ -4,7 +4,7 @@ use Rattle.redo_terms.specs.Meaning.{command_of}
 use Rattle.redo_model.specs.Placed.{Granted, Busy}
 use Rattle.redo_model.specs.Journals.{Numbered}
 use Rattle.redo_board.specs.Core.{row, claim}
-use Rattle.redo_board.specs.Plays.{lock_line, lock_said, lock_place}
+use Rattle.redo_board.specs.Inside.Plays.{lock_line, lock_said, lock_place}
 use Rattle.redo_board.specs.Shown.{journal_of, past}
 use Rattle.redo_board.specs.Kept.{WorksAt, view_of}
 use Rattle.redo_board.specs.Outcomes.{Made}

@@ -3,7 +3,7 @@ use Rattle.std.proofs.lemmas.List.{length_push}
 use Rattle.redo_model.specs.Journals.{Numbered}
 use Rattle.redo_terms.specs.Meaning.{command_of}
 use Rattle.redo_board.specs.Views.{ViewOf}
-use Rattle.redo_board.specs.Plays.{Lost}
+use Rattle.redo_board.specs.Inside.Plays.{Lost}
 use Rattle.redo_board.specs.Shown.{journal_of, seen_by}
 use Rattle.redo_board.specs.Kept.{view_of}
 use Rattle.redo_board.specs.declared.worker.Worker.{Worker}
@@ -43,8 +43,8 @@ returns-then-word-eq0-clause-same g c = λ empty.
       };
     }
 
-pub has-requires : goal.has-requires
-has-requires g c =
+pub holds_its_target-requires : goal.holds_its_target-requires
+holds_its_target-requires g c =
     let n : Numbered ℕ =
     record { number = c.args.next.now.line; command = command_of c.args.command.now } in
     own_below c.args.plan.now c.args.self.now n c.requires.belongs.1.works c.requires.command.next

@@ -6,10 +6,11 @@ use Rattle.redo_journal.specs.Plans.{script_of}
 use Rattle.redo_journal.specs.Journals.{command_by}
 use Rattle.redo_board.specs.Core.{claim, free}
 use Rattle.redo_board.specs.Plays.{own, own_build, own_way}
-use Rattle.redo_board.specs.Own.{way_by}
-use Rattle.redo_board.specs.Steps.{way_of}
+use Rattle.redo_board.specs.Inside.Own.{way_by}
+use Rattle.redo_board.specs.Inside.Steps.{way_of}
 use Rattle.redo_board.specs.Kept.{WorksAt}
-use Rattle.redo_board.specs.Shown.{IsNextBy, journal_of, tries_of}
+use Rattle.redo_board.specs.Shown.{journal_of, tries_of}
+use Rattle.redo_board.specs.Inside.Shown.{IsNextBy}
 use Rattle.redo_board.proofs.NextSteps.{needs-row, own_below, own_steps, lock_next}
 use Rattle.redo_board.proofs.Told.{way-claim, way-free}
 use Rattle.redo_board.proofs.worker.Worker.step.Goals as goal

@@ -10,11 +10,12 @@ use Rattle.redo_terms.specs.Meaning.{command_of, reply_of}
 use Rattle.redo_journal.specs.Plans.{PlanOf}
 use Rattle.redo_board.specs.Core.{word}
 use Rattle.redo_board.specs.Views.{view}
-use Rattle.redo_board.specs.Plays.{own, own_build, SaysRow, Goes, row_line}
+use Rattle.redo_board.specs.Plays.{own, own_build}
+use Rattle.redo_board.specs.Inside.Plays.{SaysRow, Goes, row_line}
 use Rattle.redo_board.specs.Shown.{journal_of, seen_by}
 use Rattle.redo_board.specs.Kept.{Works, WorksAt, Lags, view_of}
 use Rattle.redo_board.specs.Outcomes.{Made}
-use Rattle.redo_board.specs.Own.{has}
+use Rattle.redo_board.specs.Inside.Own.{holds_its_target}
 use Rattle.redo_board.specs.declared.worker.Worker.{Worker}
 use Rattle.redo_board.proofs.Rooms.{next_word}
 use Rattle.redo_board.proofs.Steps.{tries_as, won_goes}
@@ -40,8 +41,8 @@ compare_exchange-found-requires c =
     let n : Numbered ℕ = record { number = c.args.next.now.line; command = x } in
     let is-next = c.requires.command.next in
     let near = row_next p w n k.works is-next c.requires.way in
-    let holds : c.has-holds.result ≡ own (journal_of p w) x =
-    c.has-holds.ensures ∙ own_has p w n k.works is-next in
+    let holds : c.holds_its_target-holds.result ≡ own (journal_of p w) x =
+    c.holds_its_target-holds.ensures ∙ own_has p w n k.works is-next in
     let no-lock : asked_lock x ≡ None =
     way-row x (own (journal_of p w) x) (own_build (journal_of p w) x) c.requires.way in
     let below : IsBelow (count_of w.store) x =
@@ -57,7 +58,7 @@ compare_exchange-found-requires c =
           ∙ ap (word p w.session c.args.next.now.line x) holds)
           k.works.tries near c.requires.way
           some.0
-          (says p w.store (seen_by w) w.session (has w.own x) (own (journal_of p w) x) x some.0
+          (says p w.store (seen_by w) w.session (holds_its_target w.own x) (own (journal_of p w) x) x some.0
           (lags_now p w k.works c.requires.none) (own_has p w n k.works is-next) some.1.replies
           some.1.below),
     )
@@ -170,10 +171,10 @@ done c =
     } in
     let w' : Worker =
     record w₁ { entries = c.enter.new.self.entries; own = c.enter.new.self.own } in
-    let holds : c.has-holds.result ≡ h = c.has-holds.ensures ∙ own_has p w n k.works is-next in
+    let holds : c.holds_its_target-holds.result ≡ h = c.holds_its_target-holds.ensures ∙ own_has p w n k.works is-next in
     let said : SaysRow (view p ((w.session, journal_of p w) ∷ []) (seen_by w) (view_of w).also)
     w.session (journal_of p w) x reply =
-    says p w.store (seen_by w) w.session (has w.own x) h x reply lags
+    says p w.store (seen_by w) w.session (holds_its_target w.own x) h x reply lags
     (own_has p w n k.works is-next) r.replies r.below in
     let goes : Goes (view_of w) w.session (journal_of p w) (row_line (view_of w) w.session n reply)
     seen (view_of w') =
@@ -209,8 +210,8 @@ returns-clause-works c = (done (goal.at.returns-clause-works c).After-enter).0
 pub returns-clause-result : goal.returns-clause-result
 returns-clause-result c = (done (goal.at.returns-clause-result c).After-enter).1
 
-pub has-holds-requires : goal.has-holds-requires
-has-holds-requires c =
+pub holds_its_target-holds-requires : goal.holds_its_target-holds-requires
+holds_its_target-holds-requires c =
     let n : Numbered ℕ =
     record { number = c.args.next.now.line; command = command_of c.args.command.now } in
     own_below c.args.plan.now c.args.self.now n c.requires.belongs.1.works c.requires.command.next

@@ -3,7 +3,7 @@ use Rattle.std.specs.Option.{ForSome, IfSome}
 use Rattle.redo_model.specs.Closing.{least}
 use Rattle.redo_terms.specs.Meaning.{by_text}
 use Rattle.redo_terms.specs.Inside.Meaning.{item_of}
-use Rattle.redo_journal.specs.Holds.{is_held, locked_in, lesser_held}
+use Rattle.redo_journal.specs.Inside.Holds.{is_held, locked_in, lesser_held}
 use Rattle.redo_journal.proofs.Closings.{least_from}
 use Rattle.redo_journal.proofs.holds.Holds.least_held.Goals as goal
 

@@ -6,7 +6,8 @@ use Rattle.redo_model.specs.History.{left_by}
 use Rattle.redo_model.specs.Step.{Answers, after}
 use Rattle.redo_terms.specs.Meaning.{command_of, reply_of, line_of}
 use Rattle.redo_terms.specs.declared.reply.Line.{Line}
-use Rattle.redo_store.specs.Tables.{state_of, tables_naming}
+use Rattle.redo_store.specs.Tables.{state_of}
+use Rattle.redo_store.specs.Inside.Tables.{tables_naming}
 use Rattle.redo_live.proofs.Lines.{answer_at, left_more}
 use Rattle.redo_live.proofs.live.ending.close.Goals as goal
 

@@ -1,7 +1,8 @@
 use Rattle.std.proofs.Common.{◌≡◌, ◌+◌, map, take}
 use Rattle.redo_model.specs.History.{left_by}
 use Rattle.redo_terms.specs.Meaning.{line_of}
-use Rattle.redo_store.specs.Tables.{state_of, tables_count, tables_order, tables_naming, calls_of}
+use Rattle.redo_store.specs.Tables.{state_of, tables_count, tables_order, calls_of}
+use Rattle.redo_store.specs.Inside.Tables.{tables_naming}
 use Rattle.redo_live.proofs.live.ending.close.Given as goal
 
 abbrev pub invariant-loop-line : goal.invariant-loop-line

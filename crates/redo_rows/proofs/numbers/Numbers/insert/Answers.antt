@@ -1,6 +1,7 @@
 use Rattle.std.proofs.Common.{◌≡◌, ◌∙◌, ◌⊎◌, ◌↔◌, ◌<◌, ℕ, List, ap, sym, subst, cond, arith, length, Contains, vec_len, vec_capacity}
 use Rattle.std.specs.List.{insert}
-use Rattle.redo_rows.specs.Numbers.{NumberList, Rising, IsPlaceOf}
+use Rattle.redo_rows.specs.Numbers.{NumberList, Rising}
+use Rattle.redo_rows.specs.Inside.Numbers.{IsPlaceOf}
 use Rattle.redo_rows.proofs.Rises.{insert_rises, Contains-insert}
 use Rattle.redo_rows.proofs.numbers.Numbers.insert.Goals as goal
 use Rattle.redo_rows.proofs.numbers.Numbers.insert.Goals.{After-insert-inserted}

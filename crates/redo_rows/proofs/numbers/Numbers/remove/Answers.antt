@@ -1,7 +1,8 @@
 use Rattle.std.proofs.Common.{◌≡◌, ◌↔◌, ◌<◌, ℕ, List, ap, sym, subst, length, get_or, Contains}
 use Rattle.std.specs.List.{remove}
 use Rattle.std.proofs.lemmas.List.Quantifiers.{all_pairs_remove}
-use Rattle.redo_rows.specs.Numbers.{NumberList, Rising, IsPlaceOf}
+use Rattle.redo_rows.specs.Numbers.{NumberList, Rising}
+use Rattle.redo_rows.specs.Inside.Numbers.{IsPlaceOf}
 use Rattle.redo_rows.proofs.Rises.{stands_there, Contains-remove}
 use Rattle.redo_rows.proofs.numbers.Numbers.remove.Goals as goal
 

@@ -55,22 +55,22 @@ invariant_of-self-2 c =
       c.in_ok-awaited.ensures.count,
     )))
     c.append-awaited.ensures.items same.awaited in
-    let sloted = c.in_ok-sloted.sloted.items in
+    let slotted = c.in_ok-slotted.slotted.items in
     let kept =
     kept_grown old.targets.items more old.needed.items needed.items old.awaited.items awaited.items
-    old.sloted.items sloted (omega (arith, count))
+    old.slotted.items slotted (omega (arith, count))
     c.in_ok-needed.ensures.count c.in_ok-needed.ensures.empty
     c.in_ok-awaited.ensures.count c.in_ok-awaited.ensures.empty
-    (c.in_ok-sloted.ensures.count ∙ sym count)
-    (λ n. c.in_ok-sloted.ensures.same n
+    (c.in_ok-slotted.ensures.count ∙ sym count)
+    (λ n. c.in_ok-slotted.ensures.same n
     ∙ ap (λ (xs : List ℕ). get_or xs n 0) c.deref.ensures.value)
     c.self.invariant in
     subst (λ (ts : List TargetRows). IsKept ts c.append-needed.new.self.items
-    c.append-awaited.new.self.items sloted) (sym targets)
+    c.append-awaited.new.self.items slotted) (sym targets)
     (subst (λ (ns : List NumberList). IsKept (old.targets.items ++ replicate more bare) ns
-    c.append-awaited.new.self.items sloted) (sym need)
+    c.append-awaited.new.self.items slotted) (sym need)
     (subst (λ (ns : List NumberList). IsKept (old.targets.items ++ replicate more bare)
-    (old.needed.items ++ needed.items) ns sloted) (sym await) kept))
+    (old.needed.items ++ needed.items) ns slotted) (sym await) kept))
 
 pub returns-clause-rows : goal.returns-clause-rows
 returns-clause-rows c =

@@ -7,5 +7,5 @@ pub invariant_of-self : goal.invariant_of-self
 invariant_of-self c =
     kept_always c.self.inside.targets.items c.args.self.now c.args.t c.index_mut.result.now
     c.put_always.new.self c.self.inside.needed.items c.self.inside.awaited.items
-    c.self.inside.sloted.items c.self.view_is c.requires c.index_mut.ensures.value
+    c.self.inside.slotted.items c.self.view_is c.requires c.index_mut.ensures.value
     (ap (λ (x : TargetRows). x.slots) c.put_always.ensures) c.self.invariant

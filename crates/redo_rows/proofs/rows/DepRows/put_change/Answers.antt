@@ -25,7 +25,7 @@ invariant_of-self c =
     kept_change c.self.inside.targets.items c.args.self.now c.args.t c.args.n c.index_mut.result.now
     c.put_change-was.new.self (row_mark_of c.args.mark) c.put_change-was.result
     c.self.inside.needed.items c.put_in.new.lists.items c.self.inside.awaited.items
-    c.self.inside.sloted.items c.self.view_is c.requires.target c.index_mut.ensures.value
+    c.self.inside.slotted.items c.self.view_is c.requires.target c.index_mut.ensures.value
     (record { rows = e.rows; room = e.room; always = e.always }) e.was c.put_in.ensures
     c.self.invariant
 

@@ -11,5 +11,5 @@ pub returns-clause-below : goal.returns-clause-below
 returns-clause-below c =
     slots_below c.self.inside.targets.items c.args.self.now c.args.t c.index.result.now
     c.slots.result.now c.self.inside.needed.items c.self.inside.awaited.items
-    c.self.inside.sloted.items c.self.view_is c.requires c.index.ensures c.slots.ensures.same
+    c.self.inside.slotted.items c.self.view_is c.requires c.index.ensures c.slots.ensures.same
     c.self.invariant

@@ -1,7 +1,8 @@
 use Rattle.std.proofs.Common.{◌≡◌, ◌∙◌, ◌||◌, ap, sym, subst, arith, false, eqb, List, length}
 use Rattle.std.specs.List.{insert}
 use Rattle.redo_rows.specs.Rows.{Slot, TargetRows, slot_at, has_slot}
-use Rattle.redo_rows.specs.Target.{blank, IsGapFor, IsKept}
+use Rattle.redo_rows.specs.Target.{IsKept}
+use Rattle.redo_rows.specs.Inside.Target.{blank, IsGapFor}
 use Rattle.redo_rows.proofs.SlotEdits.{slot_at-insert, has_slot-insert}
 use Rattle.redo_rows.proofs.Keeping.{kept_added}
 use Rattle.redo_rows.proofs.target.Target.add_slot.Goals as goal

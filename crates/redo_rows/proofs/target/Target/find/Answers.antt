@@ -1,6 +1,6 @@
 use Rattle.std.proofs.Common.{sym, ap, ◌∙◌, subst}
 use Rattle.redo_rows.specs.Rows.{TargetRows, slot_at, has_slot}
-use Rattle.redo_rows.specs.Target.{IsSlotOf, IsGapFor}
+use Rattle.redo_rows.specs.Inside.Target.{IsSlotOf, IsGapFor}
 use Rattle.redo_rows.proofs.Slots.{slot_stands, none_in_gap, nothing_stands}
 use Rattle.redo_rows.proofs.target.Target.find.Goals as goal
 

@@ -1,7 +1,8 @@
 use Rattle.std.proofs.Common.{◌≡◌, ◌∙◌, sym, subst}
 use Rattle.redo_model.specs.Step.{after}
 use Rattle.redo_terms.specs.Meaning.{command_of, reply_of}
-use Rattle.redo_store.specs.Tables.{Tables, state_of, tables_naming}
+use Rattle.redo_store.specs.Tables.{Tables, state_of}
+use Rattle.redo_store.specs.Inside.Tables.{tables_naming}
 use Rattle.redo_store.proofs.Obeyed.{stopped_call}
 use Rattle.redo_store.proofs.redo.Redo.change.Goals as goal
 

@@ -3,7 +3,8 @@ use Rattle.redo_model.specs.Command.{Command}
 use Rattle.redo_model.specs.Step.{Answers}
 use Rattle.redo_model.proofs.LetThrough.{lock_asked}
 use Rattle.redo_terms.specs.Meaning.{command_of, reply_of}
-use Rattle.redo_store.specs.Tables.{state_of, tables_naming}
+use Rattle.redo_store.specs.Tables.{state_of}
+use Rattle.redo_store.specs.Inside.Tables.{tables_naming}
 use Rattle.redo_store.proofs.redo.Redo.reply.Goals as goal
 
 pub returns-in-Some-clause-answers : goal.returns-in-Some-clause-answers

@@ -1,7 +1,7 @@
 use Rattle.std.proofs.Common.{◌≡◌, true, None, sym, subst}
 use Rattle.redo_model.specs.Step.{verdict_of}
 use Rattle.redo_terms.specs.Meaning.{command_of}
-use Rattle.redo_store.specs.Changes.{HasEffect}
+use Rattle.redo_store.specs.Inside.Changes.{HasEffect}
 use Rattle.redo_store.specs.Stored.{Stored, naming_of, records_of}
 use Rattle.redo_store.proofs.store.Store.apply_accepted.Goals as goal
 

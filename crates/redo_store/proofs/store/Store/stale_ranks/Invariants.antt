@@ -1,7 +1,8 @@
 use Rattle.std.proofs.Common.{take}
 use Rattle.std.specs.List.{Contains}
 use Rattle.redo_model.specs.OutOfDate.{IsStale}
-use Rattle.redo_store.specs.Stored.{ArePlaces, records_of}
+use Rattle.redo_store.specs.Stored.{records_of}
+use Rattle.redo_store.specs.Inside.Stored.{ArePlaces}
 use Rattle.redo_store.proofs.store.Store.stale_ranks.Given as goal
 
 abbrev pub invariant-loop-n : goal.invariant-loop-n

@@ -5,18 +5,18 @@ use Rattle.redo_journal.specs.declared.holds.Hold.{Hold}
 use Rattle.redo_journal.specs.Holds.{hold_at}
 use Rattle.redo_board.specs.Core.{Way, way}
 
-abbrev pub holds_name : List Hold → Option ℕ → Bool
-holds_name holds None = false
-holds_name holds (Some t) = (hold_at holds t).held
+abbrev pub table_holds : List Hold → Option ℕ → Bool
+table_holds holds None = false
+table_holds holds (Some t) = (hold_at holds t).held
 
-abbrev pub builds_name : List Hold → Option ℕ → Bool
-builds_name holds None = false
-builds_name holds (Some t) = (hold_at holds t).building
+abbrev pub table_builds : List Hold → Option ℕ → Bool
+table_builds holds None = false
+table_builds holds (Some t) = (hold_at holds t).building
 
 -- whether the command's target is held
-abbrev pub has : List Hold → Command ℕ → Bool
-has holds x = holds_name holds (target_of x)
+abbrev pub holds_its_target : List Hold → Command ℕ → Bool
+holds_its_target holds x = table_holds holds (target_of x)
 
 -- the word that the command steps on
 abbrev pub way_by : List Hold → Command ℕ → Way
-way_by holds x = way x (has holds x) (builds_name holds (target_of x))
+way_by holds x = way x (holds_its_target holds x) (table_builds holds (target_of x))

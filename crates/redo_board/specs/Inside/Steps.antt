@@ -12,8 +12,8 @@ use Rattle.redo_journal.specs.Journals.{place_of}
 use Rattle.redo_journal.specs.Holds.{Notes}
 use Rattle.redo_journal.specs.declared.entry.Entry.{Entry}
 use Rattle.redo_board.specs.Core as core
-use Rattle.redo_board.specs.Own.{has}
-use Rattle.redo_board.specs.Plays.{lock_said, lock_place}
+use Rattle.redo_board.specs.Inside.Own.{holds_its_target}
+use Rattle.redo_board.specs.Inside.Plays.{lock_said, lock_place}
 use Rattle.redo_board.specs.declared.worker.Worker.{Worker}
 use Rattle.redo_board.specs.declared.worker.ways.Way.{Way}
 use Rattle.redo_board.specs.declared.worker.ways.Way.TheVariants.{Row, Claim, Free}
@@ -38,7 +38,7 @@ LetsGo command = ⊥
 
 -- the reply is that of the worker's store, by what the session holds
 pub record IsSaidBy (w : Worker) (x : Command ℕ) (reply : Reply ℕ) : Type 0 where
-  pub replies : Replies (naming_of w.store) (records_of w.store) w.session (has w.own x) x reply
+  pub replies : Replies (naming_of w.store) (records_of w.store) w.session (holds_its_target w.own x) x reply
   pub below : IsReplyBelow (count_of w.store) reply
 
 -- the reply is there, or takes no memory

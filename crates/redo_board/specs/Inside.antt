@@ -1,0 +1,6 @@
+pub mod Core
+pub mod Own
+pub mod Plays
+pub mod Rule
+pub mod Shown
+pub mod Steps

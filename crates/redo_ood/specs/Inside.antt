@@ -1,0 +1,3 @@
+pub mod NameSet
+pub mod Regions
+pub mod Search

@@ -1,0 +1,12 @@
+-- A set of names by marks, and a queue of the names that were marked.
+use Rattle.std.specs.Prelude.{◌↔◌, ℕ}
+use Rattle.redo_ood.specs.NameSet.{Marked, IsMarked, IsQueued}
+
+-- each marked name is queued
+abbrev pub AreQueued : Marked → Type 0
+AreQueued m = (t : ℕ) → IsMarked m t → IsQueued m t
+
+-- exactly the names with P are marked, and all of them are queued
+pub record HoldsOnly (P : ℕ → Type 0) (m : Marked) : Type 0 where
+  pub queued : (t : ℕ) → IsQueued m t ↔ P t
+  pub marked : AreQueued m

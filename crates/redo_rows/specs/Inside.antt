@@ -1,0 +1,4 @@
+pub mod Kept
+pub mod News
+pub mod Numbers
+pub mod Target

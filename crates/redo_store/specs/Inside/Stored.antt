@@ -1,0 +1,28 @@
+-- What the store holds.
+use Rattle.std.specs.Prelude.{◌≡◌, ℕ, ◌<◌, ◌^◌, List, All, Contains, length, slice_index}
+use Rattle.redo_model.specs.Names.{IsListed}
+use Rattle.redo_model.specs.Renaming.{AllBelow}
+use Rattle.redo_records.specs.Cells.{cell_at}
+use Rattle.redo_store.specs.Stored.{Stored, count_of, naming_of}
+
+-- no name was built as often as commands were applied
+pub record HasBuildsLeft (stored : Stored) : Type 0 where
+  pub builds : (n : ℕ) → (cell_at stored.cells n).builds < stored.applied
+  pub applied : stored.applied < 2 ^ 32
+
+-- the same names in the same order, with as many commands applied
+pub record KeepsNames (old new : Stored) : Type 0 where
+  pub count : count_of new ≡ count_of old
+  pub sorted : new.sorted ≡ old.sorted
+  pub applied : new.applied ≡ old.applied
+
+-- the names with P, in order, each a number below the count
+pub record AreInOrder (stored : Stored) (P : ℕ → Type 0) (names : List ℕ) : Type 0 where
+  pub listed : IsListed (naming_of stored) P names
+  pub below : AllBelow (count_of stored) names
+
+-- the places of the names with P in the order
+pub record ArePlaces (stored : Stored) (P : ℕ → Type 0) (ranks : List ℕ) : Type 0 where
+  pub below : All (λ k. k < length stored.sorted) ranks
+  pub from : (k : ℕ) → Contains ranks k → P (slice_index stored.sorted k)
+  pub all : (n : ℕ) → P n → (k : ℕ) × Contains ranks k × (slice_index stored.sorted k ≡ n)
