@@ -58,6 +58,16 @@ fn workers_of(
     Ok(workers)
 }
 
+/// Does the worker's next command.
+fn step(alloc: Global, board: &Board, plan: &Plan, worker: &mut Worker) -> Result<(), AllocError>
+    requires { IsBoardOf plan.now board.now × WorksAt plan.now board.now worker.old }
+    ensures works { WorksAt plan.now board.now worker.new }
+    ensures session { session_of worker.new ≡ session_of worker.old }
+{
+    worker.step(alloc, board, plan, &Open)?;
+    Ok(())
+}
+
 /// Does the next command of each session.
 fn round(
     alloc: Global,
@@ -70,7 +80,7 @@ fn round(
     ensures { OnOk result (AreWorkers plan.now board.now workers.new.items) }
 {
     for at in 0..workers.len() {
-        workers[at].step(alloc, board, plan, &Open)?;
+        step(alloc, board, plan, &mut workers[at])?;
     }
     Ok(())
 }

@@ -16,6 +16,7 @@ pub mod Totals
 pub mod Lone
 pub mod Rooms
 pub mod Kept
+pub mod Lent
 pub mod Placing
 pub mod Rows
 pub mod ClaimWords

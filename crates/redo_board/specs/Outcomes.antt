@@ -1,10 +1,13 @@
 -- What the calls leave.
-use Rattle.std.specs.Prelude.{◌≡◌, ℕ, ◌+◌, ◌<◌, ◌≤◌, List, [], ◌∷◌, ◌++◌, length, All, Some, slice_index}
+use Rattle.std.specs.Prelude.{◌≡◌, ℕ, ◌+◌, ◌<◌, ◌≤◌, List, [], ◌∷◌, ◌++◌, length, All, Option, Some, MatchOption, Result, IfOk, OnErr, ⊤, slice_index}
+use Rattle.std.specs.Borrow.{Bor, Fml, MutBor, RattleType, follows_so}
+use mathlib.Core.Option.{none}
 use Rattle.redo_model.specs.Placed.{rows_in}
 use Rattle.redo_model.specs.Journals.{numbered, IsJointOrder}
 use Rattle.redo_model.specs.Inside.Words.{claim_word_of}
 use Rattle.redo_journal.specs.Plans.{PlanOf, script_of}
 use Rattle.redo_journal.specs.Journals.{told_by, IsMarked}
+use Rattle.redo_journal.specs.declared.entry.Entry.{Entry}
 use Rattle.redo_journal.specs.declared.entry.Journal.{Journal}
 use Rattle.redo_board.specs.declared.board.Board.{Board}
 use Rattle.redo_board.specs.declared.seat.Seat.{Seat}
@@ -13,8 +16,8 @@ use Rattle.redo_board.specs.Rows.{rows_of, naming_of}
 use Rattle.redo_board.specs.Core.{Line, Begins}
 use Rattle.redo_board.specs.Views.{Part}
 use Rattle.redo_board.specs.Histories.{IsHistoryOf, HasParts, EndsWith, words_of}
-use Rattle.redo_board.specs.Shown.{parts_of, seen_at, lines_in, session_of, journal_of, seen_by, tries_of, rows_up_to, next_by}
-use Rattle.redo_board.specs.Kept.{SitsAt}
+use Rattle.redo_board.specs.Shown.{parts_of, seen_at, lines_in, session_of, journal_of, entries_of, seen_by, tries_of, rows_up_to, next_by, IsAtEnd, IsLast, NeedsNoRow}
+use Rattle.redo_board.specs.Kept.{SitsAt, WorksAt}
 
 -- one command more was done: that of the line that the session does next. A legal history ends with
 -- its line, and no row word that was seen is forgotten
@@ -32,6 +35,20 @@ pub record Waits (p : PlanOf) (old new : Worker) : Type 0 where
   pub same : journal_of p new ≡ journal_of p old
   pub next : next_by p new ≡ next_by p old
   pub begins : Begins (seen_by new) (seen_by old)
+
+-- the result lends from s by `&` alone, and s ends as a value of which this holds
+abbrev pub Rests : (R : RattleType) → MutBor R.Denot → (R.Denot → Type 0) → Fml
+Rests R s P = follows_so R R s.ghost_name none (λ _ _. ⊤) P
+
+-- what a step leaves: the command's entry is the last, and is lent; at the end there is none
+pub record Stepped (p : PlanOf) (b : Board) (old : Worker)
+    {E : Type 0} (result : Result (Option (Bor Entry)) E) (new : Worker) : Type 0 where
+  pub works : WorksAt p b new
+  pub session : session_of new ≡ session_of old
+  pub ok : IfOk result (λ lent. MatchOption lent (IsAtEnd p old × (new ≡ old))
+      (λ entry. Made p old new × IsLast (entries_of new) (Some entry)))
+  pub err : OnErr result (Waits p old new)
+  pub no_row : NeedsNoRow p old → tries_of new ≡ tries_of old
 
 -- the seat that a worker leaves, with its journal
 pub record Leaves (p : PlanOf) (b : Board) (w : Worker) (seat : Seat) (journal : Journal) : Type 0

@@ -1,17 +1,19 @@
 ghost use Rattle.std.specs.Prelude.{◌≡◌, ◌+◌, ◌<◌, [], ◌++◌, ◌∷◌, length, IfOk, IfErr, IsOk};
 ghost use Rattle.std.specs.Prelude.{OnErr, MatchBool, None, IfSome, vec_len, vec_capacity};
+ghost use Rattle.std.specs.Borrow.{sem};
 ghost use Rattle.std.specs.Option.{IfNone};
 ghost use Rattle.redo_model.specs.Renaming.{IsBelow};
 ghost use Rattle.redo_terms.specs.Meaning.{command_of};
 ghost use Rattle.redo_journal.specs.Plans.{PlanOf, script_of};
 ghost use Rattle.redo_journal.specs.Journals.{command_by};
 ghost use Rattle.redo_board.specs.declared.board.Board.{Board as BoardOf};
+ghost use Rattle.redo_board.specs.contracts.worker.Worker.{the_row};
 ghost use Rattle.redo_board.specs.Shown.{session_of, journal_of, tries_of, seen_by, first_of};
 ghost use Rattle.redo_board.specs.Shown.{end_of};
 ghost use Rattle.redo_board.specs.Kept.{IsBoardOf, IsSeatOf, SitsAt, IsFresh, Works, WorksAt};
 ghost use Rattle.redo_board.specs.Shown.{entries_of, NeedsNoRow, IsAtEnd, IsLast};
 ghost use Rattle.redo_board.specs.Inside.Shown.{IsNextBy};
-ghost use Rattle.redo_board.specs.Outcomes.{Made, Waits, Leaves};
+ghost use Rattle.redo_board.specs.Outcomes.{Made, Waits, Leaves, Rests, Stepped};
 ghost use Rattle.redo_board.specs.Inside.Steps.{Enters};
 
 use crate::board::Board;
@@ -81,9 +83,29 @@ impl Worker {
     }
 
     /// Does the next line of the script that is unguarded, or that the latest reply lets through;
-    /// or after these a closing command, while the session holds a target. Says whether there was
-    /// one. Where memory runs out its command isn't done, and the next step does it.
+    /// or after these a closing command, while the session holds a target. Lends its entry; at the
+    /// end there is none. Where memory runs out its command isn't done, and the next step does it.
+    #[tactic(auto, using(crate::proofs::Lent::lent))]
     pub fn step<G: Gate>(
+        &mut self,
+        alloc: Global,
+        board: &Board,
+        plan: &Plan,
+        gate: &G,
+    ) -> Result<Option<&Entry>, AllocError>
+        requires { IsBoardOf plan.now board.now × WorksAt plan.now board.now self.old }
+        ensures* after { sem 𝓛 (Rests the_row self.entry
+            (Stepped plan.now board.now self.old result)) }
+        ensures no_memory { NeedsNoRow plan.now self.old → IsOk result }
+    {
+        if !self.advance(alloc, board, plan, gate)? {
+            return Ok(None);
+        }
+        Ok(self.last())
+    }
+
+    /// Does what `step` does, and says whether there was a command.
+    fn advance<G: Gate>(
         &mut self,
         alloc: Global,
         board: &Board,
@@ -141,7 +163,7 @@ impl Worker {
     }
 
     /// The last entry, if there is one.
-    pub fn last(&self) -> Option<&Entry>
+    fn last(&self) -> Option<&Entry>
         ensures { IsLast (entries_of self.now) result }
     {
         self.entries.last()

@@ -62,7 +62,7 @@ fn work<G: Gate>(
     let Ok(mut worker) = Worker::new(alloc, plan, sessions.seat) else {
         return Err(AllocError);
     };
-    while worker.step(alloc, board, plan, gate)? {}
+    while let Some(_entry) = worker.step(alloc, board, plan, gate)? {}
     Ok(worker.leave())
 }
 

@@ -10,7 +10,7 @@ use crate::seats::split;
 use crate::workers::worker_of;
 use redo_board::{Board, Seat, Worker};
 use redo_command::Line;
-use redo_journal::{Journal, Place, Plan};
+use redo_journal::{Entry, Journal, Place, Plan};
 use std::alloc::{AllocError, Global};
 use std::process::Abort;
 
@@ -72,6 +72,17 @@ fn workers_of(
     Ok(workers)
 }
 
+/// How many rows were passed by this entry, where so many were passed before it.
+fn rows_passed(entry: Option<&Entry>, passed: u32) -> u32 {
+    match entry {
+        Some(entry) => match entry.place {
+            Place::Row(row) => row.wrapping_add(1),
+            _ => passed,
+        },
+        None => passed,
+    }
+}
+
 /// Takes one step, whose command was ready as often as it tried an exchange: as often as its row is
 /// past the session's row before it. So many rows were passed by then. A session that is at its end
 /// tries none.
@@ -88,14 +99,7 @@ fn take_turn(
     ensures { WorksAt plan.now board.now worker.new }
 {
     let (ready, tries) = (gate.all(), worker.tries());
-    let passes = if worker.step(alloc, board, plan, gate)? {
-        match worker.last().expect(rt, "an entry").place {
-            Place::Row(row) => row.wrapping_add(1),
-            _ => passed,
-        }
-    } else {
-        passed
-    };
+    let passes = rows_passed(worker.step(alloc, board, plan, gate)?, passed);
     let passing = passes.wrapping_sub(passed);
     assert!(rt; gate.all().wrapping_sub(ready) == passing);
     assert!(rt; worker.tries().wrapping_sub(tries) == passing);

@@ -5,7 +5,7 @@ ghost use Rattle.redo_board.specs.Kept.{IsBoardOf, SitsAt, IsFresh, WorksAt};
 ghost use Rattle.redo_tests_board.specs.Inside.Workers.{HasFrom};
 
 use redo_board::{Board, Gate, Seat, Worker};
-use redo_journal::{Journal, Place, Plan};
+use redo_journal::{Entry, Journal, Place, Plan};
 use redo_testing::tell;
 use std::alloc::{AllocError, Global};
 use std::process::Abort;
@@ -37,12 +37,6 @@ pub(crate) fn worker_of(
     }
 }
 
-/// The number and the place of the last entry.
-fn last_of(worker: &Worker) -> Option<(u32, Place)> {
-    let entry = worker.last()?;
-    Some((entry.line, entry.place))
-}
-
 fn are_same(one: Option<(u32, Place)>, other: Option<(u32, Place)>) -> bool {
     match (one, other) {
         (Some(one), Some(other)) => one.0 == other.0 && one.1 == other.1,
@@ -51,31 +45,57 @@ fn are_same(one: Option<(u32, Place)>, other: Option<(u32, Place)>) -> bool {
     }
 }
 
-/// One step. Where it is refused, the journal is as it was, and the next step does the command.
-pub(crate) fn step<G: Gate>(
-    rt: &impl Abort,
+/// What a worker's steps have made: so many entries, and the number and the place of the last.
+#[derive(Drop)]
+struct Steps {
+    count: usize,
+    last: Option<(u32, Place)>,
+}
+
+impl Steps {
+    /// Notes an entry that a step lends.
+    fn note(&mut self, entry: Option<&Entry>) {
+        if let Some(entry) = entry {
+            self.count = self.count.wrapping_add(1);
+            self.last = Some((entry.line, entry.place));
+        }
+    }
+
+    /// Whether these are the entries that were made.
+    fn are(&self, entries: &[Entry]) -> bool {
+        let last = match entries.last() {
+            Some(entry) => Some((entry.line, entry.place)),
+            None => None,
+        };
+        entries.len() == self.count && are_same(last, self.last)
+    }
+}
+
+/// One step. Where it is refused, the next step does the command.
+fn step<G: Gate>(
     alloc: Global,
     board: &Board,
     plan: &Plan,
     gate: &G,
     worker: &mut Worker,
-) -> Result<bool, AllocError>
+    steps: &mut Steps,
+) -> Result<(), AllocError>
     requires { IsBoardOf plan.now board.now × WorksAt plan.now board.now worker.old }
     ensures works { WorksAt plan.now board.now worker.new }
     ensures session { session_of worker.new ≡ session_of worker.old }
 {
-    let last = last_of(worker);
     match worker.step(alloc, board, plan, gate) {
-        Ok(made) => Ok(made),
+        Ok(entry) => steps.note(entry),
         Err(_) => {
             tell(alloc);
-            assert!(rt; are_same(last_of(worker), last));
-            worker.step(alloc, board, plan, gate)
+            steps.note(worker.step(alloc, board, plan, gate)?);
         }
     }
+    Ok(())
 }
 
-/// Does so many commands of the seat's session, or all where there are fewer, and leaves.
+/// Does so many commands of the seat's session, or all where there are fewer, and leaves. Its
+/// journal has what the steps have made, and a refused step nothing.
 pub(crate) fn work<G: Gate>(
     rt: &impl Abort,
     alloc: Global,
@@ -83,7 +103,7 @@ pub(crate) fn work<G: Gate>(
     plan: &Plan,
     gate: &G,
     seat: Seat,
-    steps: u32,
+    count: u32,
 ) -> Result<(Seat, Journal), AllocError>
     requires board { IsBoardOf plan.now board.now × SitsAt plan.now board.now seat }
     requires fresh { IsFresh seat × (end_of seat ≡ first_of seat + 1) }
@@ -91,8 +111,14 @@ pub(crate) fn work<G: Gate>(
     ensures { IfOk result (λ r. HasFrom plan.now board.now (first_of seat) (end_of seat) r.0) }
 {
     let mut worker = worker_of(alloc, board, plan, seat)?;
-    for _ in 0..steps {
-        step(rt, alloc, board, plan, gate, &mut worker)?;
+    let mut steps = Steps {
+        count: 0,
+        last: None,
+    };
+    for _ in 0..count {
+        step(alloc, board, plan, gate, &mut worker, &mut steps)?;
     }
-    Ok(worker.leave())
+    let (seat, journal) = worker.leave();
+    assert!(rt; steps.are(&journal.entries));
+    Ok((seat, journal))
 }

@@ -13,8 +13,8 @@ use Rattle.redo_board.specs.Shown.{journal_of, tries_of}
 use Rattle.redo_board.specs.Inside.Shown.{IsNextBy}
 use Rattle.redo_board.proofs.NextSteps.{needs-row, own_below, own_steps, lock_next}
 use Rattle.redo_board.proofs.Told.{way-claim, way-free}
-use Rattle.redo_board.proofs.worker.Worker.step.Goals as goal
-use Rattle.redo_board.proofs.worker.Worker.step.Goals.{in-Claim, in-Free, in-Row+in_ok-place-in-Row}
+use Rattle.redo_board.proofs.worker.Worker.advance.Goals as goal
+use Rattle.redo_board.proofs.worker.Worker.advance.Goals.{in-Claim, in-Free, in-Row+in_ok-place-in-Row}
 
 -- the way that the step goes is the one by the session's own lines
 pub way_for-requires : goal.way_for-requires
