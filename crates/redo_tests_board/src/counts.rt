@@ -1,4 +1,4 @@
-//! A gate that counts how often each command was ready, and what its counts have to be.
+//! A gate that counts the steps and the tries of each command, and what its counts have to be.
 use redo_board::Gate;
 use redo_command::Line;
 use redo_journal::{Journal, Place};
@@ -17,8 +17,14 @@ pub(crate) struct Counts {
     all: AtomicU32,
     of_sessions: Vec<AtomicU32>,
     of_commands: Vec<AtomicU32>,
-    /// How often a session was ready for another row than the one after its last try.
-    jumps: AtomicU32,
+    /// How many steps have ended, and how many of each command.
+    steps: AtomicU32,
+    ends: Vec<AtomicU32>,
+    /// One more than the number of each session's command whose step goes on, or 0.
+    open: Vec<AtomicU32>,
+    /// How many calls were out of turn: in no step or another command's, or on another row than the one after the
+    /// session's last try.
+    strays: AtomicU32,
 }
 
 /// So many zeros.
@@ -46,6 +52,14 @@ fn add(counts: &[AtomicU32], at: usize) -> u32 {
     }
 }
 
+/// Puts another count at this place, and answers what the count was.
+fn swap(counts: &[AtomicU32], at: usize, count: u32) -> u32 {
+    match counts.get(at) {
+        Some(old) => old.swap(count, Ordering::SeqCst),
+        None => u32::MAX,
+    }
+}
+
 /// The place of a command among those of all sessions.
 fn place_of(session: u8, line: u32) -> usize {
     session as usize * COMMANDS + line as usize % COMMANDS
@@ -57,8 +71,18 @@ impl Counts {
             all: AtomicU32::new(0),
             of_sessions: zeros(alloc, SESSIONS)?,
             of_commands: zeros(alloc, SESSIONS * COMMANDS)?,
-            jumps: AtomicU32::new(0),
+            steps: AtomicU32::new(0),
+            ends: zeros(alloc, SESSIONS * COMMANDS)?,
+            open: zeros(alloc, SESSIONS)?,
+            strays: AtomicU32::new(0),
         })
+    }
+
+    /// A call is out of turn unless this is so.
+    fn expect(&self, in_turn: bool) {
+        if !in_turn {
+            self.strays.fetch_add(1, Ordering::SeqCst);
+        }
     }
 
     /// How often any command was ready.
@@ -68,17 +92,22 @@ impl Counts {
 }
 
 impl Gate for Counts {
-    fn before(&self, _session: u8, _line: u32) {}
+    fn before(&self, session: u8, line: u32) {
+        self.expect(swap(&self.open, session as usize, line.wrapping_add(1)) == 0);
+    }
 
     fn ready(&self, session: u8, line: u32, row: u32) {
         self.all.fetch_add(1, Ordering::SeqCst);
         add(&self.of_commands, place_of(session, line));
-        if add(&self.of_sessions, session as usize) != row {
-            self.jumps.fetch_add(1, Ordering::SeqCst);
-        }
+        self.expect(load(&self.open, session as usize) == line.wrapping_add(1));
+        self.expect(add(&self.of_sessions, session as usize) == row);
     }
 
-    fn after(&self, _session: u8, _line: u32) {}
+    fn after(&self, session: u8, line: u32) {
+        self.steps.fetch_add(1, Ordering::SeqCst);
+        add(&self.ends, place_of(session, line));
+        self.expect(swap(&self.open, session as usize, 0) == line.wrapping_add(1));
+    }
 }
 
 /// How many of a session's entries were passed, and how many rows it had tried by them.
@@ -88,11 +117,13 @@ struct Passed {
     tried: u32,
 }
 
-/// Passes the session's next entry, whose row, where it has one, is the history's next: the command
-/// was ready as often as that is past the session's row before.
+/// Passes the session's next entry, whose command had one step. Its row, where it has one, is the
+/// history's next: the command was ready as often as that is past the session's row before.
 fn pass(rt: &impl Abort, gate: &Counts, journal: &Journal, passed: &mut Passed, rows: &mut u32) {
     let entry = journal.entries.get(passed.entries).expect(rt, "an entry");
-    let ready = load(&gate.of_commands, place_of(journal.session, entry.line));
+    let place = place_of(journal.session, entry.line);
+    let ready = load(&gate.of_commands, place);
+    assert!(rt; load(&gate.ends, place) == 1);
     passed.entries = passed.entries.wrapping_add(1);
     match entry.place {
         Place::Row(row) => {
@@ -105,8 +136,8 @@ fn pass(rt: &impl Abort, gate: &Counts, journal: &Journal, passed: &mut Passed, 
     }
 }
 
-/// The history's rows, of which there are so many, agree with the journals' tries and with the
-/// gate's counts: of each command, of each session, and of all.
+/// The history's lines and rows, of which there are so many, agree with the journals' tries and with
+/// the gate's counts: of each command, of each session, and of all.
 pub(crate) fn check_counts(
     rt: &impl Abort,
     lines: &[Line],
@@ -132,6 +163,7 @@ pub(crate) fn check_counts(
         );
     }
     check_sums(rt, journals, &passed, gate);
+    assert!(rt; gate.steps.load(Ordering::SeqCst) as usize == lines.len());
     rows
 }
 
@@ -151,5 +183,5 @@ fn check_sums(rt: &impl Abort, journals: &[Journal], passed: &[Passed], gate: &C
         all = all.wrapping_add(passed[at].tried);
     }
     assert!(rt; gate.all() == all);
-    assert!(rt; gate.jumps.load(Ordering::SeqCst) == 0);
+    assert!(rt; gate.strays.load(Ordering::SeqCst) == 0);
 }

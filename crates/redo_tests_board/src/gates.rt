@@ -50,7 +50,8 @@ impl Hold {
 }
 
 /// A gate with some holds. It knows how often the first session was ready, and keeps which lines of
-/// that session it was told of: a bit for each.
+/// that session it was told of: a bit for each. It counts those that it was told of again before or
+/// after.
 #[derive(Drop)]
 pub(crate) struct Holds {
     holds: Vec<Hold>,
@@ -58,13 +59,16 @@ pub(crate) struct Holds {
     before: AtomicU64,
     ready: AtomicU64,
     after: AtomicU64,
+    again: AtomicU64,
 }
 
-/// Notes a line of the first session.
-fn note(lines: &AtomicU64, session: u8, line: u32) {
-    if session == 0 {
-        lines.fetch_or(1 << (line % 64), Ordering::SeqCst);
+/// Notes a line of the first session. Whether it was noted already.
+fn note(lines: &AtomicU64, session: u8, line: u32) -> bool {
+    if session != 0 {
+        return false;
     }
+    let bit = 1 << (line % 64);
+    lines.fetch_or(bit, Ordering::SeqCst) & bit != 0
 }
 
 impl Holds {
@@ -79,6 +83,7 @@ impl Holds {
             before: AtomicU64::new(0),
             ready: AtomicU64::new(0),
             after: AtomicU64::new(0),
+            again: AtomicU64::new(0),
         })
     }
 
@@ -97,11 +102,19 @@ impl Holds {
     }
 
     /// Whether these are the lines of the first session of which it was told before, when ready and
-    /// after.
+    /// after: before and after once of each.
     pub(crate) fn was_told(&self, lines: [u64; 3]) -> bool {
         self.before.load(Ordering::SeqCst) == lines[0]
             && self.ready.load(Ordering::SeqCst) == lines[1]
             && self.after.load(Ordering::SeqCst) == lines[2]
+            && self.again.load(Ordering::SeqCst) == 0
+    }
+
+    /// Notes a line of the first session, of which it is told but once.
+    fn note_once(&self, lines: &AtomicU64, session: u8, line: u32) {
+        if note(lines, session, line) {
+            self.again.fetch_add(1, Ordering::SeqCst);
+        }
     }
 
     /// Lets go of who waits for this moment.
@@ -126,7 +139,7 @@ impl Holds {
 
 impl Gate for Holds {
     fn before(&self, session: u8, line: u32) {
-        note(&self.before, session, line);
+        self.note_once(&self.before, session, line);
         self.come(Moment::Before(session, line));
     }
 
@@ -139,7 +152,7 @@ impl Gate for Holds {
     }
 
     fn after(&self, session: u8, line: u32) {
-        note(&self.after, session, line);
+        self.note_once(&self.after, session, line);
         self.come(Moment::After(session, line));
     }
 }

@@ -11,8 +11,8 @@ returns g c =
     let b = c.args.board.now in
     let w : Worker = c.loop.worker in
     let at = c.loop.invariant in
-    let seat = c.leave.result.0 in
+    let seat = c.leave-seat.result.0 in
     let first = first_of c.args.seat in
     let is : session_of w ≡ first = at.1 ∙ c.in_ok-worker.ensures.session in
     subst (λ n. HasFrom p b first n seat) (sym c.requires.fresh.1)
-    (left_from p b w seat c.leave.result.1 (c.leave.ensures.leaves p b at.0) first is)
+    (left_from p b w seat c.leave-seat.result.1 (c.leave-seat.ensures.leaves p b at.0) first is)
