@@ -19,10 +19,10 @@ _MODULES = ("errors", "replies")
 
 
 def __getattr__(name: str) -> object:
+    if name not in _HOMES and name not in _MODULES:  # as the modules of `from redodb import names`
+        raise AttributeError(f"module {__name__!r} has no attribute {name!r}")
     from importlib import import_module
 
     if name in _HOMES:
         return getattr(import_module("." + _HOMES[name], __name__), name)
-    if name in _MODULES:
-        return import_module("." + name, __name__)
-    raise AttributeError(f"module {__name__!r} has no attribute {name!r}")
+    return import_module("." + name, __name__)

@@ -1,6 +1,4 @@
 """What this package raises."""
-from __future__ import annotations
-
 TYPE_CHECKING = False
 if TYPE_CHECKING:
     from .replies import FaultWord, Refusal
@@ -24,7 +22,7 @@ class RefusedError(RedodbError):
     refusal is the reason; name is the name that exists, where that is the reason, and else None.
     """
 
-    def __init__(self, refusal: Refusal, name: bytes | None, request: bytes) -> None:
+    def __init__(self, refusal: "Refusal", name: bytes | None, request: bytes) -> None:
         text = f"{request.decode()}: refused {refusal.value}"
         super().__init__(text if name is None else f"{text} {name.decode()}")
         self.refusal = refusal
@@ -35,7 +33,7 @@ class RefusedError(RedodbError):
 class FaultError(RedodbError):
     """A request was faulty, and changed nothing. word says what was wrong with it."""
 
-    def __init__(self, word: FaultWord, request: bytes) -> None:
+    def __init__(self, word: "FaultWord", request: bytes) -> None:
         super().__init__(f"{request.decode(errors='replace')}: fault {word.value}")
         self.word = word
         self.request = request

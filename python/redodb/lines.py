@@ -3,8 +3,6 @@
 A program that starts often asks by `Lines.ask` and reads the answers itself; `client.Client` has a
 method for each command instead.
 """
-from __future__ import annotations
-
 import select
 import time
 from _socket import AF_UNIX, MSG_DONTWAIT, SOCK_CLOEXEC, SOCK_STREAM, socket
@@ -65,7 +63,7 @@ class Lines:
             return data[len(head) : -1]  # this answer, whole and alone, as it is nearly always
         return self._answers(range(self.number, self.number + 1), data, deadline)[0]
 
-    def ask_all(self, requests: Iterable[bytes], deadline: float | None = None) -> list[bytes]:
+    def ask_all(self, requests: "Iterable[bytes]", deadline: float | None = None) -> list[bytes]:
         """Return the answers to requests that are sent ahead, in their order. Raises as `ask`."""
         first = self.number + 1
         lines = [b"%d %b\n" % (number, request) for number, request in enumerate(requests, first)]

@@ -3,8 +3,6 @@
 A name is the path of the file relative to the top of the tree, with symbolic links in the folder
 part resolved. Bytes that no name may have are written %XX. Paths and names are bytes.
 """
-from __future__ import annotations
-
 import os
 
 from .errors import BadName, NameTooLong

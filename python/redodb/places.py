@@ -1,6 +1,4 @@
 """The top of a tree, the paths under its .redo, and the program that is the database."""
-from __future__ import annotations
-
 import os
 
 HOME = b".redo"

@@ -1,6 +1,4 @@
 """Reaching the server of a tree, which is started where there is none."""
-from __future__ import annotations
-
 import fcntl
 import os
 import sys

@@ -1,6 +1,4 @@
 """The stamp of a file: what the database compares to see whether a file changed."""
-from __future__ import annotations
-
 import os
 
 FOLDER = "folder"

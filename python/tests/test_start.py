@@ -102,8 +102,8 @@ class Start(ServedTree):
 class Imports(unittest.TestCase):
     def test_of_the_light_path_are_few(self) -> None:
         program = (
-            "import sys, redodb.reach, redodb.lines, redodb.names; "
-            "heavy = {'asyncio', 'dataclasses', 'typing', 're', 'enum', 'socket', 'subprocess'}; "
+            "import sys, redodb.redo.questions; heavy = {'asyncio', 'dataclasses', 'typing', 're', "
+            "'enum', 'socket', 'subprocess', 'importlib', 'warnings', '__future__'}; "
             "print(sorted(heavy & set(sys.modules)))"
         )
         run = subprocess.run(

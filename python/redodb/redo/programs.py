@@ -1,5 +1,6 @@
 """The programs redo, redo-ifchange, and so on: each begins here."""
 import posix
+import sys
 
 from redodb.redo import inner
 
@@ -14,7 +15,21 @@ def main(program: str, arguments: list[str], file: str) -> int:
 
     if is_question:
         return outer.print_text(program, arguments)
-    return outer.run(program, arguments, file)
+    status = outer.run(program, arguments, file)
+    if is_written():
+        posix._exit(status)  # tidying up would take a tenth of what a question takes
+    return status
+
+
+def is_written() -> bool:
+    """Returns whether all that was printed has left this process."""
+    try:
+        for stream in (sys.stdout, sys.stderr):
+            if stream is not None:
+                stream.flush()
+    except (OSError, ValueError):
+        return False
+    return True
 
 
 def asks_for_text(arguments: list[str]) -> bool:

@@ -1,6 +1,4 @@
 """redo-ood, redo-targets, redo-sources and redo-whichdo."""
-from __future__ import annotations
-
 import os
 
 from redodb import names
@@ -15,7 +13,11 @@ if TYPE_CHECKING:
 
 def print_paths(paths: list[bytes]) -> None:
     """Prints paths, one a line."""
-    text = b"".join(path + b"\n" for path in paths)
+    print_text(b"".join([path + b"\n" for path in paths]))
+
+
+def print_text(text: bytes) -> None:
+    """Prints a text."""
     while text:
         text = text[os.write(1, text) :]
 
@@ -37,9 +39,19 @@ def listed(question: bytes, arguments: list[str]) -> int:
         return 0
     lines = connect(top)
     _, answers = look_and_ask(lines, [question])
-    found = answers[0].split(b" ")[1:]
-    print_paths(relative_paths([name for name in found if name != names.ALWAYS], top))
+    told = answers[0].partition(b" ")[2]
+    if told:
+        print_names(told, top)
     return 0
+
+
+def print_names(told: bytes, top: bytes) -> None:
+    """Prints the paths of names, which spaces part. At the top most names are paths."""
+    if b"%" not in told and names.ALWAYS not in told and os.getcwdb() == top:
+        print_text(told.replace(b" ", b"\n") + b"\n")
+    else:
+        found = [name for name in told.split(b" ") if name != names.ALWAYS]
+        print_paths(relative_paths(found, top))
 
 
 def redo_ood(arguments: list[str]) -> int:
@@ -76,7 +88,7 @@ def redo_whichdo(arguments: list[str]) -> int:
     return 1
 
 
-PROGRAMS: dict[str, Callable[[list[str]], int]] = {
+PROGRAMS: "dict[str, Callable[[list[str]], int]]" = {
     "redo-ood": redo_ood,
     "redo-targets": redo_targets,
     "redo-sources": redo_sources,
