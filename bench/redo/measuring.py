@@ -45,9 +45,9 @@ def passed(task: Callable[[], object]) -> float:
 
 
 def used_by(process: int) -> float:
-    """Seconds of the processor that a process has used."""
+    """Seconds of the processor that a process has used, and those of its children that ended."""
     words = Path(f"/proc/{process}/stat").read_text().rpartition(")")[2].split()
-    return (int(words[11]) + int(words[12])) / TICK
+    return sum(int(word) for word in words[11:15]) / TICK
 
 
 def children_of(process: int) -> list[int]:

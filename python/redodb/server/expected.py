@@ -4,12 +4,13 @@ from __future__ import annotations
 import os
 from collections.abc import Callable
 from functools import partial
-from itertools import compress
+from itertools import compress, islice
 from operator import attrgetter, ne
 from stat import S_ISREG
 
 from ..errors import BadName
 from ..names import ALWAYS, escape, unescape
+from .shares import found_in, shares_of
 
 PlainStatus = tuple[int, int, int, int]
 """The size of a file in bytes, its mtime in nanoseconds, its inode, and its mode."""
@@ -24,8 +25,9 @@ class Expected:
     """The paths of names, by what is to be there: a plain file, nothing, or what has a stamp.
 
     A look is one lstat for each plain file, whose status is compared as numbers, and one faccessat
-    for each path where nothing is to be. The status of a file is kept while its stamp is the one
-    that is expected, which it was found to have.
+    for each path where nothing is to be. Where these are very many, processes share them. The
+    status of a file is kept while its stamp is the one that is expected, which it was found to
+    have.
     """
 
     def __init__(self) -> None:
@@ -53,17 +55,23 @@ class Expected:
 
     def suspects(self) -> list[bytes]:
         """Return the names whose files aren't as expected, and those that need another look."""
-        paths = [*self._changed(), *self._unlike(), *filter(self._is_there, self._absent)]
-        return [escape(path) for path in paths]
+        shares = shares_of(len(self._plain) + len(self._absent))
+        found = found_in(shares, self._changed)
+        return [escape(path) for path in (*self._unlike(), *found)]
 
-    def _changed(self) -> list[bytes]:
-        """Return the paths where the plain file isn't there, or is another one."""
-        plain = self._plain
+    def _changed(self, share: int, shares: int) -> list[bytes]:
+        """Return the paths in a share where the plain file isn't there, or is another one, and
+        those where something is, and was to be nothing."""
+        plain, absent = self._plain, self._absent
+        part = _part_of(len(plain), share, shares)
+        paths = list(islice(plain, *part))
+        statuses = islice(plain.values(), *part)
         try:
-            seen = map(_status, map(os.lstat, plain))
-            return list(compress(plain, map(ne, seen, plain.values())))
+            changed = list(compress(paths, map(ne, map(_status, map(os.lstat, paths)), statuses)))
         except OSError:
-            return [path for path, status in plain.items() if _seen(path) != status]
+            changed = [path for path in paths if _seen(path) != plain[path]]
+        appeared = islice(absent, *_part_of(len(absent), share, shares))
+        return [*changed, *filter(self._is_there, appeared)]
 
     def _unlike(self) -> list[bytes]:
         """Return the paths that have another stamp, or no plain file. Keep the status of others."""
@@ -91,6 +99,11 @@ def _path_of(name: bytes) -> bytes | None:
         return unescape(name) if b"%" in name else name
     except BadName:
         return None
+
+
+def _part_of(count: int, share: int, shares: int) -> tuple[int, int]:
+    """Return where a share of so many begins, and where it ends."""
+    return count * share // shares, count * (share + 1) // shares
 
 
 def _seen(path: bytes) -> PlainStatus | None:
