@@ -25,9 +25,19 @@ def print_text(text: bytes) -> None:
 def relative_paths(found: list[bytes], top: bytes) -> list[bytes]:
     """Returns the paths of names from the working folder."""
     here = os.path.realpath(b".")
+    paths = [names.unescape(name) if b"%" in name else name for name in found]
     if here == top:
-        return [names.unescape(name) if b"%" in name else name for name in found]
-    return [os.path.relpath(names.path_of(name, top), here) for name in found]
+        return paths
+    inside = os.path.relpath(here, top) + b"/"
+    upwards = b"../" * inside.count(b"/")
+    near = (inside.partition(b"/")[0], b"..", b".")
+
+    def relative(path: bytes) -> bytes:
+        if path.partition(b"/")[0] not in near:
+            return upwards + path  # as relpath does, in a tenth of the time
+        return os.path.relpath(os.path.join(top, path), here)
+
+    return list(map(relative, paths))
 
 
 def listed(question: bytes, arguments: list[str]) -> int:
