@@ -33,11 +33,12 @@ extern "C" {
 enum redodb_status {
     /* It was done. */
     REDODB_OK = 0,
-    /* The line was answered by its fault, `SESSION fault WORD`, and changed nothing. */
+    /* The line was answered by its fault, `SESSION fault WORD`, and changed nothing. Where the word would be `memory`,
+     * REDODB_MEMORY is returned. */
     REDODB_FAULT = 1,
     /* The answer is longer than the room, and so the line was not done. */
     REDODB_TOO_SMALL = 2,
-    /* There was no memory. */
+    /* There was no memory. The same call can be made again. */
     REDODB_MEMORY = 3,
     /* The bytes are no log. */
     REDODB_DIFFERS = 4,
@@ -61,11 +62,12 @@ typedef struct redodb_restored {
     size_t line;
 } redodb_restored;
 
-/* Makes an empty database, and puts it at *database. Returns REDODB_OK; or REDODB_MEMORY, and then *database is null; or
- * REDODB_MISUSE where `database` is null. */
+/* Makes an empty database, and puts it at *database. What stood there is not looked at: a database that is open there stays
+ * open, and can be used and closed by a copy of the pointer alone. Returns REDODB_OK; or REDODB_MEMORY, and then *database
+ * is null; or REDODB_MISUSE where `database` is null. */
 int redodb_open(redodb **database);
 
-/* Makes a database as the `size` bytes at `log` leave it, and puts it at *database. The bytes are the line `redodb-log 1`
+/* Makes a database as the `size` bytes at `log` leave it, and puts it at *database, as redodb_open does. The bytes are the line `redodb-log 1`
  * and then what was logged; a last line without its LF was torn, and is left out. No bytes make an empty database; then
  * `log` may be null. What was restored is put at *restored, which may be null. Sessions hold what they held: a caller
  * whose sessions have ended ends them. Returns REDODB_OK; or REDODB_DIFFERS, REDODB_WORN or REDODB_MEMORY, and then
@@ -83,7 +85,7 @@ int redodb_restore(redodb **database, const void *log, size_t size, redodb_resto
  * where `most` is 0, and `line` where `length` is 0.
  *
  * Returns REDODB_OK, REDODB_FAULT, REDODB_TOO_SMALL, REDODB_MEMORY or REDODB_MISUSE; the last two set *size and *logged
- * to 0. The line and the room must not overlap, and neither may be in use by another thread meanwhile. */
+ * to 0. After REDODB_MEMORY what is at `room` is no answer. The line and the room must not overlap, and neither may be in use by another thread meanwhile. */
 int redodb_answer(redodb *database, const char *line, size_t length, char *room, size_t most, size_t *size,
                   size_t *logged);
 

@@ -3,6 +3,7 @@
 
 #include <stdint.h>
 #include <stdlib.h>
+#include <string.h>
 
 #define EXPORTED __attribute__((visibility("default")))
 
@@ -21,7 +22,8 @@ struct redodb {
     handle handle;
 };
 
-/* The calls of crates/redo_c. A slice is a pointer, which is never null, and a length. */
+/* The calls of crates/redo_c. A slice is a pointer, which is never null, and a length. Where a database is open at the
+ * handle, redo_c_open and redo_c_restore end it if they return REDODB_OK, and else leave it; here none ever is. */
 size_t redo_c_room(void);
 void redo_c_place(unsigned char *at);
 uint32_t redo_c_open(handle *handle);
@@ -87,6 +89,13 @@ static int overlap(const void *one, size_t size, const void *other, size_t lengt
     return size > 0 && length > 0 && (first < second ? second - first < size : first - second < length);
 }
 
+/* Whether a fault is want of memory: the answer is `SESSION fault memory`. Then a caller is told so by the status. */
+static int lacks_memory(const char *answer, size_t size) {
+    static const char end[] = " fault memory\n";
+    size_t length = sizeof end - 1;
+    return size > length && memcmp(answer + size - length, end, length) == 0;
+}
+
 EXPORTED int redodb_answer(redodb *database, const char *line, size_t length, char *room, size_t most, size_t *size,
                            size_t *logged) {
     told told = {0, 0};
@@ -96,6 +105,10 @@ EXPORTED int redodb_answer(redodb *database, const char *line, size_t length, ch
         && most <= PTRDIFF_MAX && !overlap(line, length, room, most))
         status = (int)redo_c_answer(&database->handle, line == NULL ? &no_line : (const unsigned char *)line, length,
                                     room == NULL ? &no_room : (unsigned char *)room, most, &told);
+    if (status == REDODB_FAULT && lacks_memory(room, told.size)) {
+        status = REDODB_MEMORY;
+        told.size = 0;
+    }
     if (size != NULL) *size = told.size;
     if (logged != NULL) *logged = told.logged;
     return status;

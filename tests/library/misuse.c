@@ -107,6 +107,20 @@ static void two(void) {
     EXPECT(redodb_close(&other) == REDODB_OK);
 }
 
+/* What is put where a database is open leaves that one as it is. */
+static void reopened(void) {
+    redodb *database = NULL, *first;
+    EXPECT(redodb_open(&database) == REDODB_OK);
+    first = database;
+    EXPECT(told(first, "1 lock a", "1 lock a => granted 1\n") == REDODB_OK);
+    EXPECT(redodb_open(&database) == REDODB_OK && database != first);
+    EXPECT(told(database, "2 lock a", "2 lock a => granted 1\n") == REDODB_OK);
+    EXPECT(redodb_close(&database) == REDODB_OK);
+    EXPECT(redodb_restore(&database, "no log", 6, NULL) == REDODB_DIFFERS && database == NULL);
+    EXPECT(told(first, "2 lock a", "2 lock a => busy 1\n") == REDODB_OK);
+    EXPECT(redodb_close(&first) == REDODB_OK);
+}
+
 static void restoring(void) {
     static const char log[] = "redodb-log 1\n1 file a 10 => ok\n1 lock b => granted 1\n1 unlo";
     static const char bad[] = "redodb-log 1\n1 file a 10 => ok\n1 lock b => granted 2\n";
@@ -137,6 +151,7 @@ int main(void) {
     EXPECT(redodb_close(&database) == REDODB_OK);
     closed();
     two();
+    reopened();
     restoring();
     for (int status = -1; status <= REDODB_MISUSE + 1; status++) EXPECT(redodb_status_text(status)[0] != '\0');
     printf("%d held, %d failed\n", held, failed);
