@@ -218,7 +218,7 @@ impl Worker {
         ensures ok { OnOk result (Made plan.now self.old self.new) }
         ensures err { OnErr result (Waits plan.now self.old self.new) }
     {
-        loop {
+        'rows: loop {
             self.catch_up(plan)?;
             if self.pass_row(board, plan, gate, next, command) {
                 continue;

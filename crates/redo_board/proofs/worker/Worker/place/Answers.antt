@@ -34,7 +34,7 @@ list_first-requires-clause-numbers g c =
     numbers_at p w x
     (record { number = c.args.next.now.line; command = command_of c.args.command.now })
     c.requires.command.next
-    (still p w c.loop-self.self c.catch_up.new.self x c.loop-self.invariant.2 e.same.0 e.same.1
+    (still p w c.rows.self c.catch_up.new.self x c.rows.invariant.2 e.same.0 e.same.1
     e.seat (c.pass_row.ensures.same c.if-pass_row.false))
     c.pass_row.ensures.works.works
 
@@ -49,7 +49,7 @@ reserve-requires g c =
           numbers_at p w x
           (record { number = c.args.next.now.line; command = command_of c.args.command.now })
           c.requires.command.next
-          (still p w c.loop-self.self c.catch_up.new.self x c.loop-self.invariant.2 e.same.0
+          (still p w c.rows.self c.catch_up.new.self x c.rows.invariant.2 e.same.0
           e.same.1 e.seat (c.pass_row.ensures.same c.if-pass_row.false))
           c.pass_row.ensures.works.works;
     }
@@ -63,7 +63,7 @@ returns-in_err-reserve-clause-err g c =
     let e = c.catch_up.ensures in
     let waits : Waits p w u =
     waits-same p w x u
-    (still p w c.loop-self.self c.catch_up.new.self x c.loop-self.invariant.2 e.same.0 e.same.1
+    (still p w c.rows.self c.catch_up.new.self x c.rows.invariant.2 e.same.0 e.same.1
     e.seat (c.pass_row.ensures.same c.if-pass_row.false))
     refl refl refl in
     search rules

@@ -3,10 +3,10 @@ use Rattle.redo_board.specs.Kept.{WorksAt}
 use Rattle.redo_board.specs.Outcomes.{Waits}
 use Rattle.redo_board.proofs.worker.Worker.place.Given as goal
 
-abbrev pub invariant-loop-self : goal.invariant-loop-self
-invariant-loop-self g l =
+abbrev pub invariant-rows : goal.invariant-rows
+invariant-rows g l =
     WorksAt l.plan l.board l.self × (l.self.session ≡ l.initial.self.session)
     × Waits l.plan l.initial.self l.self
 
-abbrev pub decreases-loop-self : goal.decreases-loop-self
-decreases-loop-self g l = l.board.rows - l.self.tries
+abbrev pub decreases-rows : goal.decreases-rows
+decreases-rows g l = l.board.rows - l.self.tries
