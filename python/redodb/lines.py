@@ -16,6 +16,8 @@ if TYPE_CHECKING:
 
 _MOST_READ = 1 << 16
 _LONGEST_PATH = 100
+_LOOKS = 60
+"""So often it is looked for an answer before the program sleeps: most come as soon."""
 
 
 class Lines:
@@ -113,10 +115,7 @@ class Lines:
     def _receive(self, deadline: float | None) -> bytes:
         """Return what comes next; b"" at the end. What is unsent goes out meanwhile."""
         if deadline is None and not self._unsent:
-            try:
-                return self._socket.recv(_MOST_READ)
-            except ConnectionResetError:
-                return b""
+            return self._received()
         poll = select.poll()
         while True:
             poll.register(self._socket, select.POLLIN | (select.POLLOUT if self._unsent else 0))
@@ -130,6 +129,19 @@ class Lines:
                 except ConnectionResetError:
                     return b""
             self._send()
+
+    def _received(self) -> bytes:
+        """Return what comes next; b"" at the end."""
+        receive = self._socket.recv
+        try:
+            for _ in range(_LOOKS):
+                try:
+                    return receive(_MOST_READ, MSG_DONTWAIT)
+                except BlockingIOError:
+                    pass
+            return receive(_MOST_READ)
+        except ConnectionResetError:
+            return b""
 
     def _take(self, data: bytes, wanted: range, answers: dict[int, bytes]) -> None:
         lines = (self._rest + data).split(b"\n")

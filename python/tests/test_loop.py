@@ -4,6 +4,7 @@ import signal
 import socket
 import time
 import unittest
+import unittest.mock
 
 import beside  # noqa: F401
 from redodb.server.loop import READABLE, Loop
@@ -67,6 +68,34 @@ class Calls(unittest.TestCase):
         self.loop.run()
         os.close(telling)
         self.assertEqual(self.said, ["1", "2"])
+
+    def test_come_without_a_sleep_where_the_last_came_soon(self) -> None:
+        waits: list[float | None] = []
+        poll = self.loop._epoll.poll
+
+        def noted(wait: float | None, most: int) -> list[tuple[int, int]]:
+            waits.append(wait)
+            return poll(wait, most)
+
+        told, telling = os.pipe()
+        self.addCleanup(os.close, told)
+        self.addCleanup(os.close, telling)
+
+        def read(_: int) -> None:
+            self.said.append(os.read(told, 1).decode())
+            if len(self.said) == 1:
+                os.write(telling, b"2")
+            else:
+                self.loop.later(0.01, self.loop.stop)
+
+        self.loop._epoll = unittest.mock.Mock(wraps=self.loop._epoll, poll=noted)
+        self.loop.watch(told, READABLE, read)
+        os.write(telling, b"1")
+        self.loop.run()
+        self.assertEqual(self.said, ["1", "2"])
+        self.assertEqual(waits[:2], [None, 0])
+        self.assertEqual(set(waits[2:-1]), {0})  # the looks before the sleep
+        self.assertGreater(waits[-1] or 0, 0)
 
 
 class Taker(Owner):

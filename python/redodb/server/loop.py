@@ -18,6 +18,9 @@ ENDING = (signal.SIGTERM, signal.SIGINT)
 """The signals that end the server."""
 
 _MOST_READY = 64
+_LOOKS = 80
+_SOON = 100e-6
+"""What comes within so many seconds comes soon. So many looks take about as long."""
 
 
 class Timer:
@@ -44,6 +47,7 @@ class Loop:
         self._timers: list[Timer] = []
         self._signals: dict[int, Callable[[], None]] = {}
         self._stopped = False
+        self._comes_soon = False
 
     def watch(self, file: int, events: int, call: Callable[[int], None]) -> None:
         """Call with what a file is ready for, whenever that is one of the events or its end.
@@ -90,7 +94,7 @@ class Loop:
 
     def run(self) -> None:
         """Do what comes until the stop."""
-        calls, poll = self._calls, self._epoll.poll
+        calls = self._calls
         while True:
             if self._soon or self._timers:
                 self._do_the_rest()
@@ -100,10 +104,26 @@ class Loop:
             if self._stopped:
                 self._stopped = False
                 return
-            for file, events in poll(self._left() if self._timers else None, _MOST_READY):
+            for file, events in self._ready():
                 call = calls.get(file)
                 if call is not None:
                     call(events)
+
+    def _ready(self) -> list[tuple[int, int]]:
+        """Wait, and return the files that are ready, each with what it is ready for.
+
+        To sleep and be woken takes longer than all else that is done for a line. So where the last
+        came soon, this looks for the next one a while before it sleeps.
+        """
+        poll = self._epoll.poll
+        if self._comes_soon:
+            for _ in range(_LOOKS):
+                if ready := poll(0, _MOST_READY):
+                    return ready
+        begun = time.monotonic()
+        ready = poll(self._left() if self._timers else None, _MOST_READY)
+        self._comes_soon = time.monotonic() - begun < _SOON
+        return ready
 
     def _left(self) -> float:
         """Return the seconds to the first timer."""
