@@ -17,7 +17,7 @@ if TYPE_CHECKING:
 _MOST_READ = 1 << 16
 _LONGEST_PATH = 100
 _LOOKS = 60
-"""So often it is looked for an answer before the program sleeps: most come as soon."""
+"""So often an answer is looked for before the program sleeps. Most come within that."""
 
 
 class Lines:
