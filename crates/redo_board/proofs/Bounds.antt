@@ -1,4 +1,4 @@
--- What the row words of a legal history tell, and how many rows, lines and grants it has.
+-- What the row words of a legal history say, and how many rows, lines and grants it has.
 use Rattle.std.proofs.Common.{◌≡◌, ℕ, ◌+◌, ◌*◌, ◌<◌, ◌≤◌, true, false, List, [], ◌∷◌, length, map, get_or, None, refl, sym, ap, ◌∙◌, subst, inl, inr, arith}
 use Rattle.std.specs.List.{AllByRecursion, count_by}
 use Rattle.std.proofs.lemmas.Bool.{false≢true}

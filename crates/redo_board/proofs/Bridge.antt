@@ -1,4 +1,4 @@
--- What the core allows is a legal history of the plan, and its places are in order.
+-- What the core allows is a legal history of the plan, with its places in order.
 use Rattle.std.proofs.Common.{◌≡◌, ℕ, ◌+◌, List, [], ◌∷◌, ◌++◌, length, map, Option, Some, None, is_some, refl, sym, ap, ◌∙◌, subst, arith, append_assoc}
 use Rattle.std.specs.Prelude.{MatchOption}
 use Rattle.std.specs.List.{AllByRecursion}
@@ -70,7 +70,7 @@ pub of_plan_told : (p : PlanOf) (log : List Line) → IsPlan p → IsLegal p sta
 of_plan_told p log plan h =
     record { journals = λ s. journal_from p start log s h; short = plan.short }
 
--- the lines before are those that the core has behind it
+-- the lines before are those of the core
 pub record Stood (p : PlanOf) (c : Core) (before : List Line) : Type 0 where
   pub rows : rows_in before ≡ length c.rows
   pub tied : Tied (naming_of p) c.state before
@@ -85,7 +85,7 @@ module _ (p : PlanOf) (c : Core) (l : Line) (before : List Line) (so : Stood p c
   abbrev order : ℕ → ℕ → Rattle.std.specs.declared.cmp.Ordering.Ordering
   order = (naming_of p).order
 
-  -- a lock's place and reply tell the same
+  -- a lock's place and reply agree
   lock_fits : (t : ℕ) (reply : Reply ℕ) (a : Option ℕ) (g : ℕ) → reply ≡ lock_reply a g
       → Fits (claim_place a g t) (Lock t) reply
   lock_fits t reply None g e = (refl, e)
@@ -191,7 +191,7 @@ stood_from p c before (l ∷ ls) plan o so h =
 pub start-stood : (p : PlanOf) → Stood p start []
 start-stood p = record { rows = refl; tied = tied_at_first (naming_of p) }
 
--- what the history tells of the locks is what the core knows
+-- the history's lines give the locks of the core
 pub stood_told : (p : PlanOf) (log : List Line) → IsPlan p → IsLegal p start log
     → Stood p (after_all p start log) log
 stood_told p log plan h = stood_from p start [] log plan (start-sound p) (start-stood p) h

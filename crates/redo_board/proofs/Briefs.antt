@@ -1,4 +1,4 @@
--- A command that is answered no list has a reply, whatever the records are.
+-- A command whose reply lists no names has a reply, whatever the records are.
 use Rattle.std.proofs.Common.{◌≡◌, ℕ, Bool, false, Option, Some, None, refl, sym, subst}
 use Rattle.std.specs.Prelude.{MatchOption}
 use Rattle.std.specs.declared.cmp.Ordering.{Ordering}

@@ -1,4 +1,4 @@
--- Claim words, and what a grant and a release make of them.
+-- Claim words, and how a grant and a release change them.
 use Rattle.std.proofs.Common.{◌≡◌, ◌≢◌, ℕ, ◌+◌, ◌-◌, ◌*◌, ◌/◌, ◌%◌, max, ◌<◌, ◌≤◌, eqb, cond, true, false, Option, Some, None, refl, sym, ap, ◌∙◌, arith, inl, inr, eq-eqb, ne_eqb, eqb-true}
 use Rattle.std.specs.Int.Bits.{bit_or, or_step, or_zero_r}
 use Rattle.std.proofs.lemmas.Bool.{cases_Bool}
@@ -20,7 +20,7 @@ or-even n e = let a = or-bit n in let b : max (n % 2) 1 ≡ 1 = omega arith in o
 pub or-odd : (n : ℕ) → n % 2 ≢ 0 → bit_or n 1 ≡ n
 or-odd n e = let a = or-bit n in let b : max (n % 2) 1 ≡ 1 = omega arith in omega arith
 
--- who holds was granted
+-- a holder was granted the lock
 abbrev pub Counted : Option ℕ → ℕ → Type 0
 Counted a g = (h : ℕ) → a ≡ Some h → 0 < g
 
@@ -28,7 +28,7 @@ pub claim_no_row : (t g : ℕ) (a : Option ℕ) → is_row (claim_place a g t) �
 claim_no_row t g None = refl
 claim_no_row t g (Some h) = refl
 
--- what a lock is answered, and where it stands, is told by the word that it found
+-- the word that a lock found gives its reply and its place
 pub lock-is : (u : ℕ) (a : Option ℕ) (g : ℕ) → Counted a g
     → ◌≡◌ {A = Reply ℕ × Place ℕ} (lock_reply a g, claim_place a g u)
     (lock_said (claim_word a g), lock_place u (claim_word a g))

@@ -205,7 +205,7 @@ module _ (p : PlanOf) (s : St) (o : Orderly p s) (id t : ℕ) (j : List Line) (s
         placing.w' p s o id t j seen also me is-session n is-next Okay answer₂ tt seen
         (begins₁ it₂ rows₂)
 
-    -- it fits a word
+    -- n₁ + 1 fits a word
     tiny₂ : (n₁ + 1) % 2 ^ 64 ≡ n₁ + 1
     tiny₂ = let a = small₁ in omega arith
 
@@ -233,7 +233,7 @@ module _ (p : PlanOf) (s : St) (o : Orderly p s) (id t : ℕ) (j : List Line) (s
 same_target : (p : PlanOf) (u x : ℕ) → rows_of p + 1 + u ≡ rows_of p + 1 + x → u ≡ x
 same_target p u x e = omega arith
 
--- a line for whatever session, command and target the view and the word say
+-- a line for every session, command and target of the view and the word
 tells : (p : PlanOf) (t u r : ℕ) (j : List Line) (n : Numbered ℕ) (seen also : List ℕ) (w : ViewOf)
     (line : ℕ → Numbered ℕ → ℕ → ℕ → Line) → next p t j ≡ Some n
     → Goes (lone p t j seen also) t j (line t n u r) seen w

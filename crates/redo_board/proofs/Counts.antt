@@ -49,7 +49,7 @@ total-few f (x ∷ xs) h = let a = h 0 in
     let b = total-few (λ i. f (suc i)) xs (λ i. h (suc i)) in
     omega arith
 
--- where no session has more, there is no more in all
+-- if no session has more, there is no more in all
 pub total-le : (f g : ℕ → ℕ) (p : Scripts) → ((i : ℕ) → i < length p → f i ≤ g i)
     → total f p ≤ total g p
 unfolding total
@@ -58,7 +58,7 @@ total-le f g (x ∷ xs) h = let a = h 0 (omega arith) in
     let b = total-le (λ i. f (suc i)) (λ i. g (suc i)) xs (λ i l. h (suc i) (omega arith)) in
     omega arith
 
--- where one session has less, there is less in all
+-- if one session has less, there is less in all
 pub total-lt : (f g : ℕ → ℕ) (p : Scripts) (s : ℕ) → s < length p → f s < g s
     → ((i : ℕ) → i < length p → f i ≤ g i) → total f p < total g p
 unfolding total
@@ -83,7 +83,7 @@ unfolding total
 none [] = refl
 none (x ∷ xs) = let a = none xs in omega arith
 
--- what is counted among all lines is counted among those of each session
+-- the count over all lines is the sum of the counts over each session's
 pub by-parts : (test : PlacedLine ℕ → Bool) (log : List (PlacedLine ℕ)) (p : Scripts)
     → AllByRecursion (λ line. line.session < length p) log
     → count_by test log ≡ total (λ s. count_by test (part_of s log)) p

@@ -1,4 +1,4 @@
--- What the board's clauses say, in the words of the definitions.
+-- The board's clauses in terms of the definitions.
 use Rattle.std.proofs.Common.{◌≡◌, ℕ, ◌<◌, ◌≤◌, ◌⊎◌, ⊎_elim, List, [], ◌∷◌, ◌++◌, length, map, refl, sym, ap, ◌∙◌, subst, inl, inr, arith}
 use mathlib.Core.Logic.{dite}
 use native.Mathlib.Decide.{ℕ_discrete, dec_lt}
@@ -104,7 +104,7 @@ none_past p c (l ∷ ls) s h past =
     part_of-other s l ls (λ e. let a = h.0.session in omega arith)
     ∙ none_past p (done p c l) ls s h.1 past
 
--- a history that all lines of a view fit is a joint order of them, where the view has all sessions
+-- a history that all lines of a view fit is a joint order of them, if the view has all sessions
 pub joint-of : (p : PlanOf) (log : List Line) (v : ViewOf) → IsPlan p → IsLegal p start log
     → Fits p log v
     → ((s : ℕ) → s < length p.scripts → (own : List Line) × HasPart v.parts s own)

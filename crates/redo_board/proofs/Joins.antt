@@ -1,4 +1,4 @@
--- Seats that look, are split and meet.
+-- Seats that look, are split and joined.
 use Rattle.std.proofs.Common.{◌≡◌, ◌≢◌, ℕ, zero, suc, ◌⊎◌, ltb, cond, List, [], ◌∷◌, ◌++◌, length, set, Bool, true, false, refl, sym, ap, ◌∙◌, subst, inl, inr, ⊎_elim}
 use Rattle.std.proofs.lemmas.Bool.{cases_Bool}
 use mathlib.Core.Logic.{dite}
@@ -111,7 +111,7 @@ is_from m (x ∷ xs) s j side (inr later) =
     let rest = is_from m xs s j side later in
     into_right (ltb x.0 m) x (from m xs) (from m xs) s j (inr (rest, rest))
 
--- and so each session stands in a view after the cut
+-- and so each session is in a view after the cut
 stand_cut : (n : ℕ) (views : List ViewOf) (id m : ℕ) (v : ViewOf) → get_elem? views id ≡ some v
     → AllStand n views → AllStand n (set views id (left_of m v) ++ right_of m v ∷ [])
 stand_cut n views id m v me stand t less =
@@ -234,7 +234,7 @@ has_second : (xs ys : List Part) (s : ℕ) (j : List Line) → HasPart ys s j �
 has_second [] ys s j h = h
 has_second (x ∷ xs) ys s j h = inr (has_second xs ys s j h)
 
--- each session stands in a view after two have met
+-- each session is in a view after two were joined
 stand_met : (n : ℕ) (views : List ViewOf) (id other : ℕ) (v u : ViewOf) → (other ≡ id → ⊥)
     → get_elem? views id ≡ some v → get_elem? views other ≡ some u → AllStand n views
     → AllStand n (set (set views id (met v u)) other nobody)

@@ -1,4 +1,4 @@
--- Views that fit a history, and what a step of one seat leaves of the others.
+-- Views that fit a history, and how a step of one seat affects the others.
 use Rattle.std.proofs.Common.{◌≡◌, ◌≢◌, ℕ, zero, suc, ◌+◌, ◌<◌, ◌≤◌, eqb, ltb, cond, List, [], ◌∷◌, ◌++◌, length, get_or, set, true, false, refl, sym, ap, ◌∙◌, subst, ⊎_elim, arith, length-append, eq-eqb, ne_eqb, append_assoc}
 use Rattle.std.proofs.lemmas.List.{get_or_past, append-nil, set-get_or}
 use mathlib.Core.Logic.{dite}
@@ -103,14 +103,14 @@ apart_set views id v w me within apart i k x y t j h ei ek hx hy =
     let b = back k y h ek hy in
     apart i k a.0 b.0 t a.1 b.1 a.2 b.2 a.3 b.3
 
--- a view that is there is another then
+-- the replaced view is the new one
 pub set_there : (views : List ViewOf) (id : ℕ) (v w : ViewOf) → get_elem? views id ≡ some v
     → get_elem? (set views id w) id ≡ some w
 set_there [] id v w at = absurd (some-ne-none v (sym at))
 set_there (x ∷ views) zero v w at = refl
 set_there (x ∷ views) (suc id) v w at = set_there views id v w at
 
--- each session stands in a view still, where the new one has the sessions of the old one
+-- each session is in a view still, if the new one has the sessions of the old one
 pub stand_set : (n : ℕ) (views : List ViewOf) (id : ℕ) (v w : ViewOf)
     → get_elem? views id ≡ some v → Within v w → AllStand n views → AllStand n (set views id w)
 stand_set n views id v w me within stand t less =
@@ -151,7 +151,7 @@ filled p s o seen b r saw near none-there =
     let a = o.rows r near in
     omega (arith, is.some)
 
--- a row that was found empty is the first past the history
+-- a row that was found empty is the first after the history's
 module _ (p : PlanOf) (s : St) (o : Orderly p s) (seen : List ℕ) (near : length seen < rows_of p)
     (b : Begins (row_words p o.log) seen) where
   pub whole : get_or s.words (length seen + 1) 0 ≡ 0 → row_words p o.log ≡ seen

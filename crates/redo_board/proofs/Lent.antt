@@ -14,7 +14,7 @@ abbrev pub IsLent : PlanOf → Worker → Worker → Option (Bor Entry) → Type
 IsLent p old new lent = MatchOption lent (IsAtEnd p old × (new ≡ old))
     (λ entry. Made p old new × IsLast (entries_of new) (Some entry))
 
--- where a command was done the journal has a last entry
+-- after a command was done the journal has a last entry
 pub lent : (p : PlanOf) (old new : Worker) (last : Option (Bor Entry)) → Made p old new
     → IsLast (entries_of new) last → IsLent p old new last
 lent p old new None made empty =
@@ -28,7 +28,7 @@ lent p old new (Some entry) made last = (made, last)
 module _ (p : PlanOf) (b : Board) (old new : Worker) {E : Type 0}
     (result : Result (Option (Bor Entry)) E) (lent : Option (Bor Entry))
     (is : result ≡ Ok lent) (stepped : Stepped p b old result new) where
-  -- an entry is lent where a command was done
+  -- an entry is lent if a command was done
   pub made_of : (entry : Bor Entry) → lent ≡ Some entry → Made p old new
   made_of entry some =
       let done = subst (λ r. IfOk r (IsLent p old new)) (is ∙ ap Ok some) stepped.ok in

@@ -1,4 +1,4 @@
--- What a seat of one session knows of its lines: a legal history has them.
+-- What the seat of one session knows of its lines: a legal history has them.
 use Rattle.std.proofs.Common.{◌≡◌, ℕ, ◌<◌, ◌≤◌, List, [], ◌∷◌, length, Some, refl, sym, ap, ◌∙◌, subst, inl, arith, length-append}
 use Rattle.std.specs.List.{AllByRecursion}
 use Rattle.redo_model.specs.Placed.{part_of}
@@ -44,7 +44,7 @@ module _ (v : ViewOf) (s : ℕ) (j : List Line) (told : Told v) (lone : Lone v s
   numbers_small =
       number_less _ j (room_small v.plan s told.plan) (own_numbers v.plan s j own_lines)
 
-  -- a row is left for what comes next, if that is on one
+  -- a row is left for what comes next, if that needs one
   pub rows_left : (n : Numbered ℕ) → s < length v.plan.scripts → next v.plan s j ≡ Some n
       → own_way j n.command ≡ row → length v.seen < rows_of v.plan
   rows_left n here is-next in-row =

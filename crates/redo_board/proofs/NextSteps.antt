@@ -1,4 +1,4 @@
--- What a worker does next, by what it keeps.
+-- What a worker does next, by its invariant.
 use Rattle.std.proofs.Common.{◌≡◌, ◌≢◌, ℕ, ◌<◌, ◌≤◌, List, [], ◌∷◌, length, map, Bool, true, false, cond, Option, Some, None, refl, sym, ap, ◌∙◌, subst, arith}
 use Rattle.std.specs.Prelude.{vec_capacity, vec_len, IfSome}
 use Rattle.std.specs.List.{AllByRecursion}
@@ -71,7 +71,7 @@ pub target_low : (p : PlanOf) (w : Worker) (n : Numbered ℕ) (t : ℕ) → Work
 target_low p w n t k is names =
     (subst (AllBelow (length p.names)) names (next_below p w n k is)).0
 
--- by its own lines: what it holds, and where it steps
+-- by its own lines: what it holds, and on which word it steps
 pub own_below : (p : PlanOf) (w : Worker) (n : Numbered ℕ) → Works p w → next_by p w ≡ Some n
     → IsBelow (length w.own) n.command
 own_below p w n k is =
@@ -87,7 +87,7 @@ pub own_steps : (p : PlanOf) (w : Worker) (n : Numbered ℕ) → Works p w → n
 own_steps p w n k is =
     way_is p.names w.own (journal_of p w) n.command k.own (next_below p w n k is)
 
--- what it does next has room in the journal
+-- the journal has a place for what it does next
 pub next_fits : (p : PlanOf) (w : Worker) (n : Numbered ℕ) → Works p w → next_by p w ≡ Some n
     → length (journal_of p w) < room_of (script_of p w.session)
 next_fits p w n k is =
@@ -103,7 +103,7 @@ room_next p w n k is =
     let c = k.room in
     omega arith
 
--- what it does on a row finds one
+-- what it does on a row has a row
 pub row_next : (p : PlanOf) (w : Worker) (n : Numbered ℕ) → Works p w → next_by p w ≡ Some n
     → own_way (journal_of p w) n.command ≡ row → w.tries < rows_of p
 row_next p w n k is in-row =
@@ -116,14 +116,14 @@ row_next p w n k is in-row =
     let b = ap rows_of same in
     omega arith
 
--- what lets go of a target is a command that does
+-- if x closes a target, so does the closing command that x is
 pub lets_go_by : (script : List (Item ℕ)) (closing : Option terms.Command) (number : ℕ)
     (x : Command ℕ) → command_by script closing number ≡ x → LetsGo x
     → IfSome closing (λ command. LetsGo (command_of command))
 lets_go_by script None number x told goes = tt
 lets_go_by script (Some command) number x told goes = subst LetsGo (sym told) goes
 
--- on a row it lets a build fail, where it closes
+-- on a row it fails a build, if it closes
 pub closing_lets_go : (p : PlanOf) (w : Worker) (number : ℕ) (closing : Option terms.Command)
     (x : Command ℕ) → IsNextBy p w number closing x → own_way (journal_of p w) x ≡ row
     → IfSome closing (λ command. LetsGo (command_of command))

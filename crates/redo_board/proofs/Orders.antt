@@ -1,5 +1,5 @@
--- Numbers that are ordered as their names: what is done and answered is the same, whoever orders
--- them.
+-- Numbers in the order of their names: commands and replies are the same, whichever such order is
+-- used.
 use Rattle.std.proofs.Common.{◌≡◌, ℕ, ◌<◌, Bool, List, [], ◌∷◌, Option, Some, None, refl, sym, ◌∙◌, subst, get_or, length, arith}
 use Rattle.std.specs.Prelude.{MatchOption}
 use Rattle.std.specs.declared.cmp.Ordering.{Ordering}
@@ -26,7 +26,7 @@ by_text_is_naming names = record {
 }
 
 module _ (one two : ℕ → ℕ → Ordering) where
-  -- no order is looked at but in the lists of replies
+  -- only the lists of replies depend on the order
   pub same_verdict : (r : Records ℕ) (s : ℕ) (holds : Bool) (x : Command ℕ)
       → verdict_of (numbers one) r s holds x ≡ verdict_of (numbers two) r s holds x
   same_verdict r s holds (File n stamp) = refl

@@ -1,4 +1,4 @@
--- What a worker's table says of a command is what its session's own lines tell.
+-- A worker's table agrees with its session's own lines on a command.
 use Rattle.std.proofs.Common.{◌≡◌, ℕ, ◌<◌, List, length, map, Option, Some, None, refl, sym, ◌∙◌}
 use Rattle.redo_model.specs.Names.{Text}
 use Rattle.redo_model.specs.Command.{Command, File, Gone, Lock, Unlock, Start, IfChange, IfCreate, Always, Stamp, Done, Failed, Ood, Targets, Sources, target_of}
@@ -12,7 +12,7 @@ use Rattle.redo_board.specs.Plays.{held_name, built_name, own, own_build, own_wa
 use Rattle.redo_board.specs.Inside.Own.{table_holds, table_builds, holds_its_target, way_by}
 use Rattle.redo_board.proofs.Held.{holds_alike, builds_alike}
 
--- what the command's target is
+-- the command's target
 at_target : (count : ℕ) (x : Command ℕ) → IsBelow count x → (P : Option ℕ → Type 0) → P None
     → ((t : ℕ) → t < count → P (Some t)) → P (target_of x)
 at_target count (File n stamp) b P none some = none

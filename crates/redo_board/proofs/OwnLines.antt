@@ -121,7 +121,7 @@ module _ (p : PlanOf) (s : ℕ) where
         ∙ next),
   )
 
-  -- a closing command that is on a row lets a build fail
+  -- a closing command that is on a row fails a build
   lets_fail : (own : List Line) (x : Command ℕ) (t : ℕ) (b : Bool)
       → closing.builds (naming_of p) (map line_of own) t ≡ b
       → closing.holds (naming_of p) (map line_of own) t ≡ true
@@ -159,7 +159,7 @@ module _ (p : PlanOf) (s : ℕ) where
     });
   }
 
--- the room of a script is small
+-- a session has few lines
 pub room_small : (p : PlanOf) (s : ℕ) → IsPlan p → room_of (script_of p s) ≤ 12288
 room_small p s plan =
     let short = plan.short s in

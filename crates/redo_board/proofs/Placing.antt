@@ -48,7 +48,7 @@ module _ (p : PlanOf) (s : St) (o : Orderly p s) (id t : ℕ) (j : List Line) (s
   pub good : Sound p core
   good = sound p o.log o.plan o.legal
 
-  -- what the session holds and builds is told by its own lines
+  -- the session's own lines determine what it holds and builds
   lines_so : histories.part_of t (map line_of o.log) ≡ map line_of j
   lines_so = part_lines t o.log ∙ ap (map line_of) journal
 

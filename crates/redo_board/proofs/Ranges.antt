@@ -74,7 +74,7 @@ from-range m n (suc k) a b = dite (dec_lt n m)
         (le-ltb n m a)
         ∙ ap (λ (t : List Part). (n, []) ∷ t) (from-all m (n + 1) k (omega arith))
 
--- ranges side by side
+-- adjacent ranges
 pub range-append : (n a b : ℕ) → range n a ++ range (n + a) b ≡ range n (a + b)
 range-append n zero b =
     ap (λ m. range m b) (let e : n + 0 ≡ n = omega arith in e)

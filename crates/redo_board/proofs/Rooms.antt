@@ -1,4 +1,4 @@
--- What a session does next: it has room in the journal, and its row word tells it.
+-- What a session does next: the journal has a place for it, and its row word says what it is.
 use Rattle.std.proofs.Common.{◌≡◌, ℕ, ◌<◌, List, [], ◌∷◌, ◌++◌, length, Bool, Some, sym, ap, ◌∙◌, subst, arith, inl, inr}
 use Rattle.std.specs.Option.{unwrap_or}
 use Rattle.std.proofs.lemmas.Bool.{false≢true}
@@ -20,7 +20,7 @@ use Rattle.redo_board.proofs.Below.{AskBelow, next-below}
 use Rattle.redo_board.proofs.OwnLines.{IsOwn, own_entries, own_next, closing_fails}
 use Rattle.redo_board.proofs.Words.{closing_word, word-of-line, word-of-closing, replay-line, replay-closing}
 
--- it has room in the journal
+-- the journal has a place for it
 pub next_room : (p : PlanOf) (s : ℕ) (j : List Line) (n : Numbered ℕ) → IsOwn p s j
     → next p s j ≡ Some n → length j < room_of (script_of p s)
 next_room p s j n is is-next =
@@ -31,7 +31,7 @@ next_room p s j n is is-next =
     let long = length_push j (made s n Okay place) in
     omega arith
 
--- its row word tells it
+-- its row word says what it is
 pub next_word : (p : PlanOf) (s : ℕ) (j : List Line) (n : Numbered ℕ) (h : Bool) (ws : List ℕ)
     → IsPlan p → s < length p.scripts → AskBelow (length p.names) j → next p s j ≡ Some n
     → own_way j n.command ≡ row

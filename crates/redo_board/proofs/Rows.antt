@@ -139,7 +139,7 @@ module _ (p : PlanOf) (s : St) (o : Orderly p s) (id t : ℕ) (j : List Line) (s
       (placing.goes p s o id t j seen also me is-session n is-next reply answer says.1
       (seen ++ w₀ ∷ []) row-begins (λ _. rows-is))
 
-  -- any reply that the database gives here is this one
+  -- any reply of the database here is this one
   tells : Won (lone p t j seen also) v₀
   tells x h m other one his said =
       let same = same_next p t x j h n m is-next his one in
@@ -173,7 +173,7 @@ module _ (p : PlanOf) (s : St) (o : Orderly p s) (id t : ℕ) (j : List Line) (s
       let f = o.fits id (lone p t j seen also) me in
       record { own = f.own; seen = further p s o seen near f.seen some-there; also = f.also }
 
-  -- it is seen, and the history is as it was, whatever an empty row would tell
+  -- it is seen, and the history stays the same, whatever an empty row would say
   passed-by : (Z : ViewOf → Type 0)
       → (w : ViewOf) × (a : Act (Unit {0})) × Valid s.homes c a
       × Orderly p (stepped s (length seen + 1) found id c w a)

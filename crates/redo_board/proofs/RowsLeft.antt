@@ -1,4 +1,4 @@
--- In a history of a plan a row is left for what a session does next, if that wants one.
+-- In a history of a plan a row is left for what a session does next, if that needs one.
 use Rattle.std.proofs.Common.{◌≡◌, ℕ, ◌<◌, ◌≤◌, true, false, List, [], ◌∷◌, ◌++◌, length, map, Option, Some, None, refl, sym, ap, ◌∙◌, arith}
 use Rattle.std.specs.List.{AllByRecursion}
 use Rattle.std.proofs.lemmas.Bool.{false≢true}
@@ -32,7 +32,7 @@ lock_claims : (holder : Option ℕ) (grants t : ℕ) (reply : Reply ℕ) → rep
 lock_claims None grants t reply e = ap (is_claim (Lock t)) e
 lock_claims (Some h) grants t reply e = ap (is_claim (Lock t)) e
 
--- a lock is answered as a claim
+-- a lock's line is a claim
 no_lock : (naming : Naming ℕ) (state : State ℕ) (s : ℕ) (command : Command ℕ) (reply : Reply ℕ)
     → Answers naming state s command reply → is_claim command reply ≡ false
     → asked_lock command ≡ None
@@ -86,7 +86,7 @@ no_journal naming s script (line ∷ lines) none is =
     sym (ap (λ items. next_of naming items []) none) ∙ is.1 in
     absurd (cc)
 
--- where no line is of a session past these, all lines are of these
+-- if no line is of a session past these, all lines are of these
 sessions_below : (n : ℕ) (lines : List Line) → ((s : ℕ) → n ≤ s → part_of s lines ≡ [])
     → AllByRecursion (λ line. line.session < n) lines
 sessions_below n [] none = tt
@@ -125,7 +125,7 @@ module _ (p : PlanOf) (lines : List Line) (plan : IsPlan p) (history : IsHistory
       totals.row_left p lines own_lines sessions s n here next
       (way-row n.command (own j n.command) (own_build j n.command) way) way
 
--- what the law says
+-- the law's claim
 pub row_left : (p : PlanOf) (lines : List Line) (s : ℕ) (n : Numbered ℕ) → IsPlan p
     → IsHistoryOf p lines → s < length p.scripts → next p s (part_of s lines) ≡ Some n
     → own_way (part_of s lines) n.command ≡ row → rows_in lines < rows_of p

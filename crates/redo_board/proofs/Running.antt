@@ -1,4 +1,4 @@
--- The running rule, in the words of the definitions.
+-- The running rule in terms of the definitions.
 use Rattle.std.proofs.Common.{◌≡◌, ℕ, ◌+◌, ◌*◌, ◌<◌, eqb, cond, List, length, get_or, Bool, true, false, Option, Some, None, is_some, sym, ap, ◌∙◌, arith, eq-eqb, ne_eqb}
 use Rattle.atomic_table.specs.Table.{State}
 use Rattle.redo_model.specs.Placed.{grants_in, releases_in}

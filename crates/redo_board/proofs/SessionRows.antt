@@ -14,7 +14,7 @@ use Rattle.redo_model.proofs.JournalRoom.{ClosingsOkay, asked_within, few_closin
 use Rattle.redo_board.specs.Core.{Line}
 use Rattle.redo_board.specs.Rows.{rows_for, rows_in}
 
--- a line of a script that has a row is no lock, and a closing one lets a build fail
+-- a line of a script that has a row is no lock, and a closing one fails a build
 pub record RowIs (script : List (Item ℕ)) (line : Line) : Type 0 where
   pub no_lock : is_row line.place ≡ true → is_lock line.command ≡ false
   pub failed : is_row line.place ≡ true → length script ≤ line.number

@@ -1,4 +1,4 @@
--- Two sessions that meet are all sessions of a plan of two.
+-- In a plan of two, two sessions that were joined are all sessions.
 use Rattle.std.proofs.Common.{◌≡◌, ℕ, List, [], ◌∷◌, ◌++◌, length, inl, inr, ⊎_elim, sym, ap, subst, arith}
 use mathlib.Core.Logic.{dite}
 use native.Mathlib.Decide.{ℕ_discrete}

@@ -1,4 +1,4 @@
--- What holds of the core after a legal history.
+-- The core's invariant after a legal history.
 use Rattle.std.proofs.Common.{◌≡◌, ℕ, ◌+◌, ◌<◌, eqb, cond, List, [], ◌∷◌, ◌++◌, length, Option, Some, None, sym, subst, inl, inr, arith}
 use Rattle.std.proofs.lemmas.Bool.{cases_Bool}
 use mathlib.Core.Logic.{dite}
@@ -17,7 +17,7 @@ use Rattle.redo_board.proofs.Orders.{by_text_is_naming}
 use Rattle.redo_board.proofs.Ways.{goes, Goes}
 use Rattle.redo_board.proofs.Words.{set-same, set-other}
 
--- who holds was granted; who builds holds; what was asked is over the plan's names
+-- a holder was granted the lock; a builder holds; each command is over the plan's names
 pub record Sound (p : PlanOf) (c : Core) : Type 0 where
   pub granted : (t h : ℕ) → c.state.locks.holder t ≡ Some h → 0 < c.state.locks.grants t
   pub builders : BuildersHold c.state
@@ -57,7 +57,7 @@ module _ (p : PlanOf) (c : Core) (l : Line) (plan : IsPlan p) (is : IsNext p c l
     builders' : BuildersHold state'
     builders' = builders_hold_after (by_text_is_naming p.names) c.state s x o.builders
 
-    -- who holds was granted
+    -- a holder was granted the lock
     abbrev Fine : Locks ℕ → Type 0
     Fine l = (t k : ℕ) → l.holder t ≡ Some k → 0 < l.grants t
 

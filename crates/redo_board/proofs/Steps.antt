@@ -88,7 +88,7 @@ misses_as p q slots id r w m c key saw near =
     (missed (step slots (r + 1) 0 w none) (m, c)))
     (sym key) (misses p slots id r w m c saw near)
 
--- what a worker's view keeps: its lines, and that a legal history fits it
+-- the invariant of a worker's view: its lines, and that a legal history fits it
 pub record Keeps (p : PlanOf) (t : ℕ) (j : List Line) (seen : List ℕ) (w : ViewOf) : Type 0 where
   pub is : IsWorker p t j w
   pub saw : w.seen ≡ seen

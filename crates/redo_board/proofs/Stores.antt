@@ -1,4 +1,4 @@
--- A worker's store: as far as the row words that were seen, or one behind.
+-- A worker's store: it is up to date with the row words that were seen, or one behind.
 use Rattle.std.proofs.Common.{◌≡◌, ℕ, ◌+◌, ◌<◌, ◌≤◌, ◌^◌, Bool, List, [], ◌∷◌, ◌++◌, length, get_or, Option, Some, None, refl, sym, ap, ◌∙◌, subst, arith, length-append}
 use Rattle.std.proofs.lemmas.List.{length_push}
 use Rattle.redo_model.specs.Names.{texts}

@@ -1,4 +1,4 @@
--- What one entry more tells, and what steps on rows and on claim words.
+-- What one entry more says, and what steps on rows and on claim words do.
 use Rattle.std.proofs.Common.{◌≡◌, ℕ, List, [], ◌∷◌, ◌++◌, Bool, true, false, not, ◌&&◌, cond, None, refl, ap, ◌∙◌}
 use Rattle.std.proofs.lemmas.List.{map-append}
 use Rattle.redo_model.specs.Command as commands

@@ -1,4 +1,4 @@
--- What a command does to the locks, by the word that it steps on.
+-- How a command changes the locks, by the word that it steps on.
 use Rattle.std.proofs.Common.{◌≡◌, ℕ, Bool, true, false, cond, not, ◌&&◌, Option, Some, None, refl, sym, ap, ◌∙◌, subst, eqb, eq-eqb, eqb-true}
 use Rattle.std.specs.Prelude.{MatchOption}
 use Rattle.std.specs.declared.cmp.Ordering.{Ordering}
@@ -17,7 +17,7 @@ module _ (order : ℕ → ℕ → Ordering) (st : State ℕ) (s : ℕ) where
   abbrev pub verdict : Command ℕ → Option (Refusal ℕ)
   verdict x = verdict_of (numbers order) st.records s (holds_target st.locks s x) x
 
-  -- what a command is that goes this way, and what it leaves of the locks
+  -- the command on this kind of word, and the locks after it
   abbrev pub Goes : Command ℕ → Way → Type 0
   Goes x row =
       (asked_lock x ≡ None) × (locks_after (numbers order) st.locks s (verdict x) x ≡ st.locks)
@@ -32,7 +32,7 @@ module _ (order : ℕ → ℕ → Ordering) (st : State ℕ) (s : ℕ) where
   held_by None e = absurd (cc)
   held_by (Some h) e = ap Some (eqb-true h s e)
 
-  -- a target in building is held by its builder
+  -- the builder of a building target holds it
   free_rests : (t : ℕ) (a : TargetState) → target_state st.records t ≡ a → BuildersHold st
       → st.locks.holder t ≡ Some s → is_built_by s a ≡ false → is_building a ≡ false
   free_rests t Idle is h own isnt = refl

@@ -1,4 +1,4 @@
--- Row words, and functions that are changed at one place.
+-- Row words, and functions that change at one place.
 use Rattle.std.proofs.Common.{◌≡◌, ◌≢◌, ℕ, ◌+◌, ◌-◌, ◌*◌, ◌/◌, ◌%◌, ◌<◌, ◌≤◌, List, [], ◌∷◌, ◌++◌, length, get_or, Bool, true, false, cond, not, eqb, None, refl, ap, ◌∙◌, subst, sym, arith}
 use Rattle.std.specs.Prelude.{nat_lt}
 use Rattle.std.specs.Option.{unwrap_or}
@@ -44,7 +44,7 @@ word-of-closing p s k x h past =
     ap (λ b. cond b (line_word s k h) (closing_word s (unwrap_or (target_of x) 0)))
     (below_test k (length (script_of p s)) past)
 
--- the word of a line tells it
+-- the word of a line gives the line
 pub line-closes : (s k : ℕ) (h : Bool) → s < 64 → k < 4096 → is_closing (line_word s k h) ≡ false
 line-closes s k h few short =
     let a = bit-small h in
@@ -76,7 +76,7 @@ line-command p s k h few short =
     λ i. cond (ec i) (Failed (target_in w))
     (get_or (commands_in (script_of p (es i))) (en i) Ood)
 
--- so does that of a closing command
+-- and that of a closing command gives the command
 pub closing-closes : (s t : ℕ) → is_closing (closing_word s t) ≡ true
 closing-closes s t = ap not (below_test (closing_word s t) 4294967296 (omega arith))
 
@@ -156,7 +156,7 @@ replay-line p ws s k h x few short is =
     replay-push p ws (line_word s k h)
     ∙ (λ i. records_after (naming_of p) (replay p ws) (es i) (ef i) (ex i))
 
--- one more word, of a build that failed: the flag tells nothing there
+-- one more word, of a failed build: its flag means nothing
 pub replay-closing : (p : PlanOf) (ws : List ℕ) (s t : ℕ) (h : Bool) → t < 65536
     → replay p (ws ++ closing_word s t ∷ [])
     ≡ records_after (naming_of p) (replay p ws) s h (Failed t)

@@ -11,7 +11,7 @@ use Rattle.redo_board.specs.Core.{Core, start, Line, IsLegal, Way, row, claim, f
 use Rattle.redo_board.proofs.Bridge.{Stood, start-stood, line_stood}
 use Rattle.redo_board.proofs.Sound.{Sound, start-sound, done-sound}
 
--- the word that a line writes: what the session holds is told by its own lines
+-- the word that a line writes: the session's own lines determine what it holds
 word-is : (p : PlanOf) (c : Core) (l : Line) (before : List Line) → Stood p c before
     → row_word_of (naming_of p) (script_of p) (part_of l.session before) l
     ≡ word p l.session l.number l.command (has c l.session l.command)

@@ -312,7 +312,7 @@ waits-same p w v u waits session entries seat = record {
     journal : journal_of p u ≡ journal_of p v
     journal = λ i. told (session i) (script_of p (session i)) (entries i).items
 
--- each step that does something leaves less room
+-- each step that does something leaves fewer entries to come
 pub made_less : (p : PlanOf) (old new : Worker) → Works p old → Made p old new
     → room_of (script_of p (session_of old)) - length (journal_of p new)
     < room_of (script_of p (session_of old)) - length (journal_of p old)

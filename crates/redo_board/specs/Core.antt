@@ -14,8 +14,8 @@ use Rattle.redo_board.specs.Rows.{naming_of, command, bit}
 abbrev pub Line : Type 0
 Line = PlacedLine ℕ
 
--- the word of what is done with this number by the session s, which holds its target or not: of a
--- line of its script, or of a closing command
+-- the row word of the session s for its command with this number, whose target it holds or not: for
+-- a line of its script, or for a closing command
 abbrev pub word : PlanOf → ℕ → ℕ → Command ℕ → Bool → ℕ
 word p s k x holds =
     cond (nat_lt k (length (script_of p s))) (1 + 2 * (4096 * s + k) + bit holds)
@@ -37,7 +37,7 @@ start = record { state = empty; rows = []; own = λ _. [] }
 abbrev pub set_at : {A : Type 0} → (ℕ → A) → ℕ → A → ℕ → A
 set_at f s x u = cond (u == s) x (f u)
 
--- the claim word of a target: twice its releases, and one more where it is held
+-- the claim word of a target: twice its releases, and one more while it is held
 abbrev pub claim_word : Option ℕ → ℕ → ℕ
 claim_word None grants = 2 * grants
 claim_word (Some holder) grants = 2 * grants - 1
@@ -45,13 +45,13 @@ claim_word (Some holder) grants = 2 * grants - 1
 abbrev pub claim_of : Locks ℕ → ℕ → ℕ
 claim_of locks t = claim_word (locks.holder t) (locks.grants t)
 
--- which word a command steps on
+-- the word that a command steps on
 pub data Way : Type 0 where
   row : Way
   claim : ℕ → Way
   free : ℕ → Way
 
--- an unlock is accepted of a session that holds its target and doesn't build it
+-- an unlock is accepted from a session that holds its target and doesn't build it
 abbrev pub way : Command ℕ → Bool → Bool → Way
 way (Lock t) holds builds = claim t
 way (Unlock t) holds builds = cond (holds && not builds) (free t) row
@@ -95,7 +95,8 @@ done p c l = record {
   own = set_at c.own l.session (c.own l.session ++ l ∷ []);
 }
 
--- the line is what its session does next, with the database's reply and the place that it has there
+-- the line is what its session does next, with the database's reply and the place that it gets
+-- there
 pub record IsNext (p : PlanOf) (c : Core) (l : Line) : Type 0 where
   pub session : l.session < length p.scripts
   pub next : next_of (naming_of p) (script_of p l.session) (c.own l.session) ≡ Some (numbered l)

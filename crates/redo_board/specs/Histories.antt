@@ -1,4 +1,4 @@
--- Legal placed histories of a plan, in the words of the definitions.
+-- Legal placed histories of a plan, in terms of the definitions.
 use Rattle.std.specs.Prelude.{◌≡◌, ℕ, ◌+◌, ◌<◌, slice_index, true, List, [], ◌∷◌, ◌++◌, length, map}
 use mathlib.Core.Option.{some}
 use lib.ListN.{get_elem?}
@@ -19,7 +19,7 @@ use Rattle.redo_board.specs.Core.{Line, Begins}
 use Rattle.redo_board.specs.Views.{Part, ViewOf}
 use Rattle.redo_board.specs.Rule.{HasPart, Apart, AllStand}
 
--- the line as the history has it, over the names
+-- the line of the history, over the names
 abbrev pub at_names : PlanOf → Line → histories.Line Text
 at_names p line = named_line (text_at p.names) (line_of line)
 
@@ -40,7 +40,7 @@ abbrev pub words_of : PlanOf → List Line → List ℕ
 words_of p lines = row_words_of (naming_of p) (script_of p) lines
 
 -- one legal placed history ends with this line. The session's own lines are the whole part of it,
--- what they had seen stands in it, and its row words begin with those that the worker saw; after a
+-- what they had seen occurs in it, and its row words begin with those that the worker saw; after a
 -- row it has no others
 pub record EndsWith (p : PlanOf) (own : List Line) (seen : List ℕ) (line : Line) : Type 0 where
   pub before : List Line
@@ -50,9 +50,9 @@ pub record EndsWith (p : PlanOf) (own : List Line) (seen : List ℕ) (line : Lin
   pub only : is_row line.place ≡ true → words_of p (before ++ line ∷ []) ≡ seen
   pub had_seen : (place : Place ℕ) → HasSeen own place → StandsIn (before ++ line ∷ []) place
 
--- the running rule in the words of the definitions: there is one legal placed history of the plan
--- whose words are the table's, in which each seat's lines are whole parts, and of whose row words
--- each seat has seen a beginning; each session stands in exactly one seat, and the seats' word is 0
+-- the running rule in terms of the definitions: one legal placed history of the plan has the
+-- table's words; each seat's lines are whole parts of it, and each seat has seen a beginning of its
+-- row words; each session is in exactly one seat, and the seats' word is 0
 pub record Runs (p : PlanOf) (s : State (Unit {0}) ViewOf) : Type 0 where
   pub lines : List Line
   pub history : IsHistoryOf p lines

@@ -1,4 +1,4 @@
--- What fits together, and what boards, seats and workers keep.
+-- What fits together, and the invariants of boards, seats and workers.
 use Rattle.std.specs.Prelude.{◌≡◌, ℕ, ◌+◌, ◌-◌, ◌<◌, ◌≤◌, List, [], ◌∷◌, ◌++◌, length, map, All, Option, MatchOption, vec_capacity}
 use Rattle.redo_model.specs.Names.{texts}
 use Rattle.redo_model.specs.Placed.{line_of}
@@ -59,7 +59,7 @@ pub record Lags (p : PlanOf) (stored : Stored) (pending : Option ℕ) (seen : Li
 abbrev pub view_of : Worker → ViewOf
 view_of w = w.seat.me.0
 
--- what a worker keeps
+-- the invariant of a worker
 pub record Works (p : PlanOf) (w : Worker) : Type 0 where
   pub view : view_of w ≡ view p ((w.session, journal_of p w) ∷ []) (seen_by w) (view_of w).also
   pub slots : w.seat.me.1 ≡ []

@@ -1,4 +1,4 @@
--- What the calls leave.
+-- The results of the calls.
 use Rattle.std.specs.Prelude.{◌≡◌, ℕ, ◌+◌, ◌<◌, ◌≤◌, List, [], ◌∷◌, ◌++◌, length, All, Option, Some, MatchOption, Result, IfOk, OnErr, ⊤, slice_index}
 use Rattle.std.specs.Borrow.{Bor, Fml, MutBor, RattleType, follows_so}
 use mathlib.Core.Option.{none}
@@ -20,7 +20,7 @@ use Rattle.redo_board.specs.Shown.{parts_of, seen_at, lines_in, session_of, jour
 use Rattle.redo_board.specs.Kept.{SitsAt, WorksAt}
 
 -- one command more was done: that of the line that the session does next. A legal history ends with
--- its line, and no row word that was seen is forgotten
+-- its line, and every row word that was seen stays seen
 pub record Made (p : PlanOf) (old new : Worker) : Type 0 where
   pub line : Line
   pub grown : journal_of p new ≡ journal_of p old ++ line ∷ []
@@ -36,7 +36,7 @@ pub record Waits (p : PlanOf) (old new : Worker) : Type 0 where
   pub next : next_by p new ≡ next_by p old
   pub begins : Begins (seen_by new) (seen_by old)
 
--- the result lends from s by `&` alone, and s ends as a value of which this holds
+-- the result lends from s only by `&`, and this holds of the value of s in the end
 abbrev pub Rests : (R : RattleType) → MutBor R.Denot → (R.Denot → Type 0) → Fml
 Rests R s P = follows_so R R s.ghost_name none (λ _ _. ⊤) P
 
@@ -50,7 +50,7 @@ pub record Stepped (p : PlanOf) (b : Board) (old : Worker)
   pub err : OnErr result (Waits p old new)
   pub no_row : NeedsNoRow p old → tries_of new ≡ tries_of old
 
--- the seat that a worker leaves, with its journal
+-- the seat after a worker, with its journal
 pub record Leaves (p : PlanOf) (b : Board) (w : Worker) (seat : Seat) (journal : Journal) : Type 0
   where
     pub sits : SitsAt p b seat

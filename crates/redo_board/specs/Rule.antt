@@ -19,13 +19,13 @@ pub record Fits (p : PlanOf) (log : List Line) (v : ViewOf) : Type 0 where
   pub seen : Begins (row_words p log) v.seen
   pub also : Begins (row_words p log) v.also
 
--- a session stands in one view
+-- a session is in one view
 abbrev pub Apart : List ViewOf → Type 0
 Apart views =
     (i k : ℕ) (v w : ViewOf) (t : ℕ) (j h : List Line) → get_elem? views i ≡ some v
     → get_elem? views k ≡ some w → HasPart v.parts t j → HasPart w.parts t h → i ≡ k
 
--- and each of so many sessions stands in one
+-- and each of so many sessions is in one
 abbrev pub AllStand : ℕ → List ViewOf → Type 0
 AllStand sessions views =
     (t : ℕ) → t < sessions
@@ -49,7 +49,7 @@ pub record Orderly (p : PlanOf) (s : State (Unit {0}) ViewOf) : Type 0 where
   pub apart : Apart s.views
   pub stand : AllStand (length p.scripts) s.views
 
--- what a seat is told: a legal history that its view fits
+-- what a seat learns: a legal history that its view fits
 pub record Told (v : ViewOf) : Type 0 where
   pub log : List Line
   pub plan : IsPlan v.plan

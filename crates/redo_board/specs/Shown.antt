@@ -1,4 +1,4 @@
--- What boards, seats and workers show.
+-- The values of boards, seats and workers.
 use Rattle.std.specs.Prelude.{◌≡◌, ◌≢◌, ℕ, ◌+◌, ◌<◌, ◌==◌, cond, List, [], ◌∷◌, ◌++◌, length, Option, Some, None}
 use Rattle.std.specs.Borrow.{Bor}
 use Rattle.redo_model.specs.Command.{Item}
@@ -42,7 +42,7 @@ HasSession t s = (own : List Line) × HasPart (parts_of s) t own
 abbrev pub IsForAll : PlanOf → Seat → Type 0
 IsForAll p s = (t : ℕ) → t < length p.scripts → HasSession t s
 
--- the lines of a session; none where it isn't there
+-- the lines of a session; none if it isn't there
 abbrev pub lines_in : List Part → ℕ → List Line
 lines_in [] s = []
 lines_in (part ∷ parts) s =
@@ -51,11 +51,11 @@ lines_in (part ∷ parts) s =
 abbrev pub session_of : Worker → ℕ
 session_of worker = worker.session
 
--- the lines that entries of a session with this script tell
+-- the lines of the entries of a session with this script
 abbrev pub told : ℕ → List (Item ℕ) → List Entry → List Line
 told s script entries = lines_told s script entries
 
--- the lines that a worker's entries tell
+-- the lines of a worker's entries
 abbrev pub journal_of : PlanOf → Worker → List Line
 journal_of p worker = told worker.session (script_of p worker.session) worker.entries.items
 
@@ -76,7 +76,7 @@ past (Granted t g) n = n
 past (Busy t g) n = n
 past (Released t g) n = n
 
--- one more than the latest row among the lines, or n where there is none
+-- one more than the latest row among the lines, or n if there is none
 abbrev pub rows_up_to : ℕ → List Line → ℕ
 rows_up_to n [] = n
 rows_up_to n (line ∷ lines) = rows_up_to (past line.place n) lines

@@ -59,9 +59,8 @@ impl Board {
         filled as u32
     }
 
-    /// The words of the board at its end, for the caller to read and to free: that of the seats, which
-    /// is 0, that of each row, and that of each name's claim. They are those of one legal joint order
-    /// of what all sessions did.
+    /// The words of the board at its end, which the caller reads and frees: that of the seats, which is 0, that of each
+    /// row, and that of each name's claim. They are those of one legal joint order of what all sessions did.
     pub fn last_words(self, seat: Seat) -> Closed<(), Global>
         requires belongs { IsBoardOf (plan_of self) self × SitsAt (plan_of self) self seat }
         requires all { IsForAll (plan_of self) seat }

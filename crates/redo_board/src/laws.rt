@@ -1,4 +1,4 @@
-//! What the board keeps while sessions work on it.
+//! The invariant of the board while sessions work on it.
 
 ghost use Rattle.atomic_table.specs.Table.{State};
 ghost use Rattle.std.specs.Prelude.{◌≡◌, ℕ, ◌<◌, List, Some, length};
@@ -13,14 +13,15 @@ ghost use Rattle.redo_board.specs.Rows.{naming_of, rows_of};
 ghost use Rattle.redo_board.specs.Rule.{Orderly};
 ghost use Rattle.redo_board.specs.Views.{ViewOf};
 
-/// What each step keeps is the running rule: between any two steps there is one legal placed
+/// What each step keeps implies the running rule: between any two steps there is one legal placed
 /// history whose words are the board's.
 #[tactic(auto, using(crate::proofs::Running::runs))]
 pub fn the_rule_runs()
     ensures { (p : PlanOf) (s : State (Unit {0}) ViewOf) → Orderly p s → Runs p s }
 {}
 
-/// The words fix the state: two histories of a plan with the same row words leave the same records.
+/// The row words determine the records: two histories of a plan with the same row words leave the
+/// same records.
 #[tactic(auto, using(crate::proofs::Ended::words_fix))]
 pub fn words_fix_the_state()
     ensures { (p : PlanOf) (one other : List Line) →
@@ -29,8 +30,8 @@ pub fn words_fix_the_state()
         records_left (naming_of p) one ≡ records_left (naming_of p) other }
 {}
 
-/// No row is ever wanting: where what a session does next is on a row, a history of the plan has
-/// filled fewer rows than the board has.
+/// The rows suffice: if what a session does next is on a row, a history of the plan has filled
+/// fewer rows than the board has.
 #[tactic(auto, using(crate::proofs::RowsLeft::row_left))]
 pub fn no_row_is_wanting()
     ensures { (p : PlanOf) (lines : List Line) (s : ℕ) (n : Numbered ℕ) →

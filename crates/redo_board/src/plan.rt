@@ -1,4 +1,4 @@
-// What a board and its workers ask of a plan.
+// What a board and its workers need of a plan.
 ghost use Rattle.std.specs.Prelude.{◌≡◌, ◌<◌, ◌≤◌, ◌+◌, ◌*◌, ◌↔◌, IsSome, cond, length, map};
 ghost use Rattle.redo_model.specs.Inside.Room.{is_lock, is_start, room_of};
 ghost use Rattle.redo_terms.specs.Meaning.{command_of};
@@ -35,7 +35,7 @@ pub(crate) fn command_at(plan: &Plan, session: u8, number: usize) -> &Command
     ensures command { command_of result.now ≡ command plan.now session number }
     ensures plan { IsPlan plan.now }
 {
-    // The check only knows how to move a command where the types within it are met.
+    // The prover can move a command only in a function that mentions the types within it.
     let _none: Option<FileStamp> = None;
     &items(plan, session)[number].command
 }
@@ -48,7 +48,7 @@ pub(crate) fn command_next<'a>(plan: &'a Plan, session: u8, next: &'a Next) -> &
     ensures { command_of result.now
         ≡ command_by (script_of plan.now session) next.now.closing next.now.line }
 {
-    // The check only knows how to move a command where the types within it are met.
+    // The prover can move a command only in a function that mentions the types within it.
     let _none: Option<FileStamp> = None;
     match &next.closing {
         Some(command) => command,

@@ -64,8 +64,8 @@ impl Seat {
         )
     }
 
-    /// One seat for the sessions of both, which has seen the more of what they saw. It is fresh where
-    /// both are, and the sessions of the first end where those of the other begin.
+    /// One seat for the sessions of both, which has seen the more of what they saw. It is fresh if both are, and the
+    /// sessions of the first end where those of the other begin.
     pub fn meet(self, other: Seat, board: &Board) -> Seat
         requires board { IsBoardOf (plan_of board.now) board.now }
         requires first { SitsAt (plan_of board.now) board.now self }

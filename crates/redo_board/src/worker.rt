@@ -31,8 +31,8 @@ mod rows;
 mod ways;
 mod words;
 
-/// One session at work: its journal, what it holds and builds by that, the rows that it saw, and a
-/// store of its own that is as far as these rows, or one row behind.
+/// A worker of one session: its journal, what it holds and builds by that, the rows that it saw,
+/// and a store of its own that is up to date with these rows, or one row behind.
 #[derive(Drop)]
 pub struct Worker {
     pub(crate) seat: Token,
@@ -45,7 +45,7 @@ pub struct Worker {
 }
 
 impl Worker {
-    /// A worker of the seat's one session. Where memory runs out the seat comes back.
+    /// A worker of the seat's one session. If memory runs out the seat comes back.
     pub fn new(alloc: Global, plan: &Plan, seat: Seat) -> Result<Worker, Seat>
         requires fresh { IsFresh seat × (end_of seat ≡ first_of seat + 1) }
         requires plan { IsSeatOf plan.now seat × (first_of seat < length plan.now.scripts) }
@@ -83,8 +83,8 @@ impl Worker {
     }
 
     /// Does the next line of the script that is unguarded, or that the latest reply lets through;
-    /// or after these a closing command, while the session holds a target. Lends its entry; at the
-    /// end there is none. Where memory runs out its command isn't done, and the next step does it.
+    /// after these a closing command, while the session holds a target. Lends its entry; at the end
+    /// there is none. If memory runs out its command isn't done, and the next step does it.
     #[tactic(auto, using(crate::proofs::Lent::lent))]
     pub fn step<G: Gate>(
         &mut self,
@@ -104,7 +104,7 @@ impl Worker {
         Ok(self.last())
     }
 
-    /// Does what `step` does, and says whether there was a command.
+    /// Does what `step` does, and returns whether there was a command.
     fn advance<G: Gate>(
         &mut self,
         alloc: Global,
@@ -124,7 +124,7 @@ impl Worker {
         let Some(next) = self.next(plan) else {
             return Ok(false);
         };
-        // The check only knows how to move a command where the types within it are met.
+        // The prover can move a command only in a function that mentions the types within it.
         let _none: Option<FileStamp> = None;
         let command = command_next(plan, self.session, &next);
         gate.before(self.session, next.line);
@@ -152,7 +152,7 @@ impl Worker {
         )
     }
 
-    /// Writes the entry of a command into the journal, in which there is room.
+    /// Writes the entry of a command into the journal, which has reserved memory for it.
     fn enter(&mut self, command: &Command, entry: Entry)
         requires names { IsBelow (length self.old.own) (command_of command.now) }
         requires room { vec_len self.old.entries < vec_capacity self.old.entries }
@@ -169,7 +169,7 @@ impl Worker {
         self.entries.last()
     }
 
-    /// How many exchanges on rows were tried: one for each row word that was seen.
+    /// How many exchanges on rows it tried: one for each row word that it saw.
     pub fn tries(&self) -> u32
         ensures tries { result ≡ tries_of self.now }
         ensures seen { (plan : PlanOf) (board : BoardOf) → WorksAt plan board self.now

@@ -1,4 +1,4 @@
--- What a worker's table says of a command: whether its target is held, and on which word it steps.
+-- A worker's table on a command: whether its target is held, and on which word it steps.
 use Rattle.std.specs.Prelude.{ℕ, Bool, false, List, Option, Some, None}
 use Rattle.redo_model.specs.Command.{Command, target_of}
 use Rattle.redo_journal.specs.declared.holds.Hold.{Hold}

@@ -1,4 +1,4 @@
--- What each step tells its seat.
+-- What each step shows its seat.
 use Rattle.std.specs.Prelude.{◌≡◌, ◌≢◌, ℕ, ◌<◌, ◌+◌, ◌/◌, ◌%◌, ◌==◌, true, cond, List, [], ◌∷◌, ◌++◌, length, Some}
 use Rattle.atomic_table.specs.Table.{Me, Step}
 use Rattle.redo_model.specs.Command.{Command}
@@ -31,7 +31,7 @@ made s n reply place = record {
   place = place;
 }
 
--- what a `fetch_or` that found the word w is answered, and where it stands
+-- the reply and the place of a `fetch_or` that found the word w
 abbrev pub lock_said : ℕ → Reply ℕ
 lock_said w = cond (w % 2 == 0) (replies.Granted (w / 2 + 1)) (replies.Busy (w / 2 + 1))
 
@@ -77,7 +77,7 @@ SaysRow v s j x reply =
     Replies (naming_of v.plan) (replay v.plan v.seen) s (own j x) x reply
     × IsReplyBelow (length v.plan.names) reply
 
--- what a won exchange tells the session s
+-- what a won exchange shows the session s
 abbrev pub Won : ViewOf → ViewOf → Type 0
 Won v w =
     (s : ℕ) (j : List Line) (n : Numbered ℕ) (reply : Reply ℕ) → Lone v s j
@@ -88,15 +88,15 @@ Won v w =
 abbrev pub tried : PlayOf
 tried st m r n = (r ≡ 0 → Won m.0 n.0) × (r ≢ 0 → Lost m.0 r n.0) × (n.1 ≡ m.1)
 
--- what a look at the first row that was not seen tells: its word, where it is filled
+-- what a look at the first unseen row shows: its word, if it is filled
 abbrev pub passed : PlayOf
 passed st m r n = (r ≡ 0 → n.0 ≡ m.0) × (r ≢ 0 → Lost m.0 r n.0) × (n.1 ≡ m.1)
 
--- what an exchange on a row that was seen tells: it is lost, and there is nothing new
+-- what an exchange on a seen row shows: it is lost, and nothing is new
 abbrev pub missed : PlayOf
 missed st m r n = (r ≢ 0) × (n.0 ≡ m.0) × (n.1 ≡ m.1)
 
--- what a step on a claim word that found r tells
+-- what a step on a claim word that found r shows
 abbrev pub Claims : (ℕ → Numbered ℕ → ℕ → ℕ → Line) → ℕ → ViewOf → ℕ → ViewOf → Type 0
 Claims line word v r w =
     (s t : ℕ) (j : List Line) (n : Numbered ℕ) → Lone v s j → next v.plan s j ≡ Some n
@@ -108,7 +108,7 @@ claimed st m r n = Claims lock_line st.word m.0 r n.0 × (r < 4294967296) × (n.
 abbrev pub freed : PlayOf
 freed st m r n = Claims free_line st.word m.0 r n.0 × (r < 4294967296) × (n.1 ≡ m.1)
 
--- the longer of what was seen, which both begin
+-- the longer of the seen words, which begins with both
 pub record Looked (v w : ViewOf) : Type 0 where
   pub now : w ≡ view v.plan v.parts (longer v.seen v.also) []
   pub log : List Line

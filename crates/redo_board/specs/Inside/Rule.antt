@@ -1,4 +1,4 @@
--- The views of the first seat, of both parts of a seat, and of two seats that met.
+-- The views of the first seat, of both parts of a seat, and of two joined seats.
 use Rattle.std.specs.Prelude.{ℕ, ◌+◌, List, [], ◌∷◌, ◌++◌, length, nat_lt, cond}
 use Rattle.redo_journal.specs.Plans.{PlanOf}
 use Rattle.redo_board.specs.Views.{Part, ViewOf, view}

@@ -30,7 +30,7 @@ pub record TellsLock (number t w : ℕ) (entry : Entry) : Type 0 where
   pub said : reply_of entry.reply ≡ lock_said w
   pub at : place_of entry.place ≡ lock_place t w
 
--- a command that lets go of a target
+-- a closing command
 abbrev pub LetsGo : Command ℕ → Type 0
 LetsGo (Failed t) = Unit {0}
 LetsGo (Unlock t) = Unit {0}
@@ -41,12 +41,12 @@ pub record IsSaidBy (w : Worker) (x : Command ℕ) (reply : Reply ℕ) : Type 0 
   pub replies : Replies (naming_of w.store) (records_of w.store) w.session (holds_its_target w.own x) x reply
   pub below : IsReplyBelow (count_of w.store) reply
 
--- the reply is there, or takes no memory
+-- the reply is there, or takes no allocation
 abbrev pub IsReadyBy : Worker → Command ℕ → Option commands.Reply → Type 0
 IsReadyBy w x None = lists_names x ≡ false
 IsReadyBy w x (Some reply) = IsSaidBy w x (reply_of reply)
 
--- the entry stands in the journal, and what the session holds and builds is noted
+-- the entry is in the journal, and what the session holds and builds is noted
 pub record Enters (old : Worker) (x : Command ℕ) (entry : Entry) (new : Worker) : Type 0 where
   pub items : new.entries.items ≡ old.entries.items ++ entry ∷ []
   pub capacity : vec_capacity old.entries ≤ vec_capacity new.entries

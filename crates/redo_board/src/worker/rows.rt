@@ -43,7 +43,7 @@ fn apply_word(store: &mut Store, plan: &Plan, word: u64) -> Result<(), AllocErro
     ensures order { order_of store.new ≡ order_of store.old }
     ensures err { OnErr result (IsSameButRoom store.old store.new) }
 {
-    // The check only knows how to move a command where the types within it are met.
+    // The prover can move a command only in a function that mentions the types within it.
     let _none: Option<FileStamp> = None;
     let session = session_of(word);
     let holds = flag_of(word);
@@ -54,7 +54,7 @@ fn apply_word(store: &mut Store, plan: &Plan, word: u64) -> Result<(), AllocErro
 }
 
 impl Worker {
-    /// Applies the word that a lost exchange found, if that wasn't done.
+    /// Applies the word that a lost exchange found, if it isn't applied yet.
     fn catch_up(&mut self, plan: &Plan) -> Result<(), AllocError>
         requires { Works plan.now self.old }
         ensures works { Works plan.now self.new }
@@ -71,8 +71,8 @@ impl Worker {
         Ok(())
     }
 
-    /// The reply of a command that is answered a list of names, where it isn't refused. Other
-    /// replies take no memory, and are found after the exchange.
+    /// The reply of a command whose reply lists names, if it isn't refused. Other replies allocate nothing, and are
+    /// made after the exchange.
     fn list_first(&self, alloc: Global, command: &Command) -> Result<Option<Reply>, AllocError>
         requires numbers { IsBelow (count_of self.now.store) (command_of command.now) }
         requires names { length self.now.own ≡ count_of self.now.store }
@@ -88,7 +88,7 @@ impl Worker {
         }
     }
 
-    /// The reply that was found first, or else the one that takes no memory.
+    /// The reply that was made first, or else the one that allocates nothing.
     fn reply_to(&self, alloc: Global, command: &Command, list: Option<Reply>) -> Reply
         requires numbers { IsBelow (count_of self.now.store) (command_of command.now) }
         requires names { length self.now.own ≡ count_of self.now.store }
@@ -106,8 +106,8 @@ impl Worker {
         reply
     }
 
-    /// Looks at the first row that was not seen. Where it is filled, tries the exchange there, which
-    /// is lost, without a list or room. Answers whether it was filled.
+    /// Looks at the first unseen row. If it is filled, tries the exchange there, which is lost, without making a list
+    /// or reserving memory. Returns whether it was filled.
     fn pass_row<G: Gate>(
         &mut self,
         board: &Board,
@@ -149,7 +149,7 @@ impl Worker {
         true
     }
 
-    /// One exchange, on the first row that was not seen. What follows a win takes no memory.
+    /// One exchange, on the first unseen row. What follows a win allocates nothing.
     fn try_row(
         &mut self,
         alloc: Global,

@@ -40,7 +40,7 @@ pub(crate) fn way_for(holds: &Holds, command: &Command) -> Way
     }
 }
 
-/// An unlock is accepted of a session that holds its target and doesn't build it.
+/// An unlock is accepted from a session that holds its target and doesn't build it.
 fn freeing(holds: &Holds, target: u32) -> Way
     requires { target < length holds.now }
     ensures { way_of result ≡ cond

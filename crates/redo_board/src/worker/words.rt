@@ -11,7 +11,7 @@ ghost use Rattle.redo_board.specs.Inside.Steps.{LetsGo};
 use redo_journal::Next;
 use redo_terms::Command;
 
-/// The words of closing commands are no less.
+/// The words of closing commands are at least this.
 const CLOSING: u64 = 4294967296;
 
 fn flag(holds: bool) -> u64
@@ -41,7 +41,7 @@ pub(crate) fn is_closing(word: u64) -> bool
     word >= CLOSING
 }
 
-/// The session that the word tells.
+/// The session in the word.
 pub(crate) fn session_of(word: u64) -> u8
     requires some { 0 < word }
     requires few { session_in word < 64 }
@@ -54,7 +54,7 @@ pub(crate) fn session_of(word: u64) -> u8
     }
 }
 
-/// The number of the script's line that the word tells.
+/// The number of the script's line in the word.
 pub(crate) fn number_of(word: u64) -> usize
     requires { 0 < word }
     ensures { result ≡ number_in word }
@@ -62,7 +62,7 @@ pub(crate) fn number_of(word: u64) -> usize
     ((word - 1) / 2 % 4096) as usize
 }
 
-/// The flag that the word tells.
+/// The flag in the word.
 pub(crate) fn flag_of(word: u64) -> bool
     requires { 0 < word }
     ensures { result ≡ flag_in word }
@@ -70,7 +70,7 @@ pub(crate) fn flag_of(word: u64) -> bool
     (word - 1) % 2 == 1
 }
 
-/// The target of the closing command that the word tells.
+/// The target of the closing command in the word.
 pub(crate) fn target_of(word: u64) -> u32
     requires { 4294967296 ≤ word }
     ensures { result ≡ target_in word }
@@ -78,7 +78,7 @@ pub(crate) fn target_of(word: u64) -> u32
     ((word - CLOSING) % 65536) as u32
 }
 
-/// The closing command once more, where there is one.
+/// A copy of the closing command, if there is one.
 pub(crate) fn again(closing: &Option<Command>) -> Option<Command>
     requires { IfSome closing.now (λ command. LetsGo (command_of command)) }
     ensures { option_map command_of result ≡ option_map command_of closing.now }

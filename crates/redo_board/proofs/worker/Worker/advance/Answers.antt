@@ -16,7 +16,7 @@ use Rattle.redo_board.proofs.Told.{way-claim, way-free}
 use Rattle.redo_board.proofs.worker.Worker.advance.Goals as goal
 use Rattle.redo_board.proofs.worker.Worker.advance.Goals.{in-Claim, in-Free, in-Row+in_ok-place-in-Row}
 
--- the way that the step goes is the one by the session's own lines
+-- the word that the step is on is the one by the session's own lines
 pub way_for-requires : goal.way_for-requires
 way_for-requires g c =
     let p = c.args.plan.now in

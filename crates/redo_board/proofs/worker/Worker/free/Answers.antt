@@ -45,7 +45,7 @@ fetch_add-found-requires c =
           (ap (λ m. m + 1 + u) b.rows) low c.requires.way,
     )
 
--- what the worker is after its entry
+-- the worker after its entry
 done : (c : After-enter)
     → WorksAt c.args.plan.now c.args.board.now c.enter.new.self
     × Made c.args.plan.now c.args.self.now c.enter.new.self

@@ -51,7 +51,7 @@ fetch_or-found-requires c =
           (ap (λ m. m + 1 + u) b.rows) low refl,
     )
 
--- what the worker is after its entry
+-- the worker after its entry
 done : (c : After-enter)
     → WorksAt c.args.plan.now c.args.board.now c.enter.new.self
     × Made c.args.plan.now c.args.self.now c.enter.new.self

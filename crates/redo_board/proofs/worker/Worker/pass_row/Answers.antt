@@ -84,7 +84,7 @@ overflow_add-self g c =
     let b = c.requires.belongs.0.rows in
     omega arith
 
--- the exchange left the view as the look left it
+-- the exchange left the view as after the look
 lost : (g : _) (c : After-compare_exchange g)
     → Lost (view_of c.args.self.now) c.load-word.result c.compare_exchange.new.seat.me.0
 lost g c =

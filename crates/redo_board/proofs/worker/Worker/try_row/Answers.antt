@@ -145,7 +145,7 @@ returns-then-found-ne0-clause-result c =
     } in
     waits_lost p c.args.board.now w w' found k (e.2.1 c.if-found-ne0.true) refl refl refl e.2.2
 
--- what the worker is after its entry
+-- the worker after its entry
 done : (c : After-enter)
     → WorksAt c.args.plan.now c.args.board.now c.enter.new.self
     × Made c.args.plan.now c.args.self.now c.enter.new.self
