@@ -1,4 +1,4 @@
--- The names that the walks of this crate cite, and what lies in a handle's memory, by its one machine value.
+-- The names that the walks of this crate cite, and the value in a handle's memory, by its one machine value.
 pub use Rattle.std.proofs.Common.{◌≡◌, ℕ, List, [], ◌∷◌, ◌++◌, refl, sym, ap, ◌∙◌, lit<}
 pub use Rattle.std.proofs.raw_atomic.Walks.{proved, proved_at}
 pub use base.Fraction.{full_share}

@@ -1,4 +1,4 @@
--- What the calls answer, and what they leave.
+-- The results of the calls, and their effects.
 use Rattle.std.specs.Prelude.{◌≡◌, ◌⊎◌, ℕ, ◌<◌, ◌++◌, [], drop, length}
 use Rattle.redo_model.specs.Names.{Text}
 use Rattle.redo_model.specs.State.{empty}
@@ -15,7 +15,8 @@ use Rattle.redo_c.specs.declared.calls.Counts.{Counts}
 use Rattle.redo_c.specs.declared.held.Held.{Held}
 use Rattle.redo_c.specs.declared.held.Held.TheVariants.{Closed, Open}
 
--- the line was heard; what is said stands in front in the room, and a front of that is to be logged
+-- the line was read; its answer is at the beginning of the buffer, and a prefix of that is to be
+-- logged
 pub record TellsInto (old new : Known) (heard room room_after : Text) (told : Told) : Type 0 where
   pub round : Round
   pub heard_is : round.heard ≡ heard
@@ -25,8 +26,8 @@ pub record TellsInto (old new : Known) (heard room room_after : Text) (told : To
   pub logged_is : told.logged ≡ length (logged_of old.state round.lines)
   pub front : LogsFront old.state round
 
--- by the status: it was told; or the room is too little, or there was no memory, and then nothing
--- was done
+-- by the status: the line was answered; or the buffer is too small, or memory ran out, and then
+-- nothing was done
 abbrev pub Answers : ℕ → LiveState → LiveState → Text → Text → Text → Told → Type 0
 Answers status old new heard room room_after told =
     (((status ≡ 0) ⊎ (status ≡ 1))
@@ -42,15 +43,15 @@ AnswersAt status (Open old) now heard room room_after told =
 AnswersAt status Closed now heard room room_after told =
     (status ≡ 6) × (now ≡ Closed) × (room_after ≡ room)
 
--- an empty database is open there; or there was no memory, and nothing was done
+-- an empty database is open there; or memory ran out, and nothing was done
 abbrev pub Opens : ℕ → Held → Held → Type 0
 Opens status held now =
     ((status ≡ 0)
     × ((live : LiveState) × (now ≡ Open live) × (live.names ≡ []) × (state_in live ≡ empty)))
     ⊎ ((status ≡ 3) × (now ≡ held))
 
--- the log's lines were done again, and the database is open there; or the log has a fault, or there
--- was no memory, and nothing was done
+-- the log's lines were done again, and the database is open there; or the log has a fault, or
+-- memory ran out, and nothing was done
 abbrev pub Restores : ℕ → Held → Held → Text → Counts → Type 0
 Restores status held now log counts =
     ((status ≡ 0) × ((restored : Restored) × IsRestored log restored × (now ≡ Open restored.live)

@@ -1,4 +1,4 @@
--- What stands behind a handle.
+-- The value behind a handle.
 use Rattle.redo_live.specs.Inside.LiveState.{LiveState}
 use Rattle.redo_c.specs.declared.held.Opened.TheInside.{Inside}
 

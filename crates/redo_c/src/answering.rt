@@ -11,13 +11,13 @@ use std::alloc::Global;
 #[repr(C)]
 #[derive(Clone, Copy)]
 pub struct Told {
-    /// So many bytes are said, or would be where the room is too little.
+    /// How many bytes the answer has, or would have if the buffer is too small.
     pub size: usize,
-    /// So many of them, from the first on, are to be logged.
+    /// How many of them, from the first on, are to be logged.
     pub logged: usize,
 }
 
-/// Puts bytes in front of the room.
+/// Puts bytes at the beginning of the buffer.
 fn put(bytes: &[u8], room: &mut [u8])
     requires { length bytes.now ≤ length room.old }
     ensures { room.new ≡ bytes.now ++ drop (length bytes.now) room.old }
@@ -25,7 +25,7 @@ fn put(bytes: &[u8], room: &mut [u8])
     room[..bytes.len()].copy_from_slice(bytes);
 }
 
-/// Answers a line into the room.
+/// Answers a line into the buffer.
 pub(crate) fn answer(
     alloc: Global,
     opened: &mut Opened,

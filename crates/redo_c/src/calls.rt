@@ -1,5 +1,5 @@
-//! What the library exports. What a call needs besides its clauses is the caller's to see to: that pointers and lengths
-//! are those of memory that nobody else uses meanwhile.
+//! What the library exports. Callers see to what a call needs in addition to its clauses: that pointers and lengths are
+//! those of memory that nobody else uses meanwhile.
 ghost use Rattle.std.specs.Prelude.{◌≡◌, [], IfOk};
 ghost use Rattle.redo_model.specs.State.{empty};
 ghost use Rattle.redo_live.specs.Inside.LiveState.{state_in};
@@ -44,7 +44,7 @@ pub extern "C" fn redo_c_open(alloc: Global, handle: &mut Handle) -> u32
     }
 }
 
-/// What of a log was restored, or stands before the line that differs.
+/// What was restored of a log, or comes before the line that differs.
 #[repr(C)]
 pub struct Counts {
     pub lines: usize,
@@ -53,7 +53,7 @@ pub struct Counts {
     pub line: usize,
 }
 
-/// Opens a database as a log leaves it.
+/// Opens a database in the state after a log's lines.
 #[unsafe(no_mangle)]
 pub extern "C" fn redo_c_restore(
     alloc: Global,
@@ -85,7 +85,7 @@ pub extern "C" fn redo_c_restore(
     }
 }
 
-/// Answers a line into the room.
+/// Answers a line into the buffer.
 #[unsafe(no_mangle)]
 pub extern "C" fn redo_c_answer(
     alloc: Global,
@@ -104,7 +104,7 @@ pub extern "C" fn redo_c_answer(
     status
 }
 
-/// Closes the database, where one is open.
+/// Closes the database, if one is open.
 #[unsafe(no_mangle)]
 pub extern "C" fn redo_c_close(handle: &mut Handle)
     ensures { handle.new.held ≡ Closed }

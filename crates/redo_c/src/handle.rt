@@ -8,7 +8,7 @@ ghost use Rattle.redo_c.specs.declared.held.Held.TheVariants.{Closed};
 use crate::held::Held;
 use std::marker::Model;
 
-/// Where the caller's memory for a database begins, and what lies there.
+/// Where the caller's memory for a database begins, and its value.
 #[repr(C)]
 pub struct Handle {
     at: *mut u8,
@@ -20,7 +20,7 @@ impl Model for Handle {
 }
 
 impl Handle {
-    /// Puts a value there, and hands out what lay there.
+    /// Puts a value there, and returns the old one.
     pub(crate) fn replace(&mut self, held: Held) -> Held
         ensures { (result ≡ self.old.held) × (self.new.held ≡ held) }
     {
@@ -33,7 +33,7 @@ impl Handle {
     }
 }
 
-/// Makes the caller's memory fit for a handle: no database is open there.
+/// Prepares the caller's memory for a handle: no database is open there.
 #[unsafe(no_mangle)]
 pub unsafe extern "C" fn redo_c_place(at: *mut u8)
     requires* { sem 𝓛 (room_at the_row at) }

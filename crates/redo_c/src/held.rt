@@ -2,8 +2,8 @@ use redo_live::Live;
 use std::alloc::{AllocError, Global};
 use std::marker::Model;
 
-/// A database that is open, and memory for its answers, which each call uses again. The database stands elsewhere, so
-/// that it isn't moved when this is.
+/// A database that is open, and memory for its answers, which each call uses again. The database is boxed, so that it
+/// isn't moved when this is.
 #[derive(Drop)]
 pub struct Opened {
     pub(crate) live: Box<Live>,
@@ -35,7 +35,7 @@ impl Opened {
     }
 }
 
-/// What lies in the memory of a handle.
+/// The value in the memory of a handle.
 #[derive(Drop)]
 pub enum Held {
     Closed,

@@ -1,4 +1,4 @@
--- `redo_c_place` writes that no database is open into the room behind the pointer.
+-- `redo_c_place` writes behind the pointer that no database is open.
 use Rattle.redo_c.proofs.Steps.{List, [], ◌∷◌, refl, lit<, proved, full_share, ent, emp, id⊢, Val, vunit, of_list, tables, WpFn, Ura, ‵, raw, prop, ◌$◌, ◌∵◌, !, qed, done, move, drop, use0, use2, join, fjoin, fpack, feq_i, regoal, suffices, group, Logic, sem, live, agg, enter, of_opd, lit, unit_lit, init, stop, no_more, and_then, assigns, returns, alloc_all, pass_all, free_all, look_at, get, through, sets, part_in, yes, Valss, owns, Ptr, RawPtr, block_ptr, lies_at, room_at, in_a_block, rawptr_vals, rawptr_Tells, plain, nothing, on_entry, Stays, walk_of, stay_dropped, Goes-dropped, ends_at}
 use denote.Enum.Row.{tagged_with}
 use denote.Enum.Enum.{form_of, in_a_row}
@@ -12,7 +12,7 @@ use Rattle.redo_c.proofs.handle.redo_c_place.Code as code
 abbrev stayed : Stays f.ended.signature.params f.ended.kept
 stayed = (stay_dropped _ yes, tt)
 
--- nothing is owned where no database is open
+-- nothing is owned if no database is open
 closed_of : {M : Type 1} {𝓤 : Ura M} (𝓛 : Logic 𝓤)
     → ent 𝓤 (emp 𝓤) (sem 𝓛 (held.the_row.own_val Closed (live 0 (of_list []) ∷ [])))
 closed_of 𝓛 =

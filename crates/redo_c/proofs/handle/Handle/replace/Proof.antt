@@ -1,4 +1,4 @@
--- `replace` opens the handle, follows its pointer, reads what lies there and writes the other value in its place.
+-- `replace` opens the handle, follows its pointer, reads the value there and writes the other in its place.
 use Rattle.redo_c.proofs.Steps.{◌≡◌, ℕ, List, [], ◌∷◌, ◌++◌, refl, sym, ap, ◌∙◌, proved_at, full_share, SProp, ent, sep, ex, guard, id⊢, ftrue, fat, flft, T, Ty, Val, vptr, has_ty, WT, tables, WpFn, Ura, ‵, ◌⊛◌, some, given, prop, at_ret, ◌$◌, ◌∵◌, !, qed, done, move, keep, use1, use2, split, join, fsplit, fsplit3, fjoin, fjoin3, pick, learn, show, check, rewrite, regoal, suffices, frame, Logic, sem, whole, sub, look_in, enter, of_opd, load, look, store, stop, fld, assigns, first, blocks, exec, returns, alloc_all, pass_all, free_all, look_at, get, through, sets, sets_last, env, part_out, part_in, Typed, Is, shows, cell_at, lone, part_at, owns, Ptr, block_ptr, lies_at, in_a_block, plain, types_at, nothing, opens, closes, peeks, Stays, walk_of, says, stay_dropped, stay_ref, Goes-ref, ends_at}
 use denote.Exit.{Last, left, rest, yes}
 use denote.Param.Mute.{blank}
@@ -32,7 +32,7 @@ one [] t = absurd t
 one (v ∷ []) t = (v, refl, t.0)
 one (v ∷ w ∷ vs) t = absurd t.1
 
--- what lies there is a cell, and what the value owns
+-- the value there is a cell, and what the value owns
 lies_out : {M : Type 1} {𝓤 : Ura M} (𝓛 : Logic 𝓤) (x : X.Denot) (b o : ℕ)
     → ent 𝓤 (sem 𝓛 (part_at X full_share x b o))
     (ex 𝓤 (λ (v : Val). guard 𝓤 (Good v)
