@@ -1,7 +1,7 @@
 //! Why a run of files is refused.
 //!
-//! Passed on are commands and replies, what they are and how they are read and written, and whole
-//! reads and writes: these stand in redo_terms, redo_text and redo_whole.
+//! It re-exports commands and replies from redo_terms, how they are read and written from
+//! redo_text, and whole reads and writes from redo_whole.
 #![tactic(auto)]
 
 mod fault;
