@@ -12,7 +12,7 @@ use Rattle.redo_text.specs.Grammar.{HasForm, IsContentWord, IsSpelled, IsCommand
 use Rattle.redo_text.specs.Replies.{AreAllNames}
 use Rattle.redo_history.specs.Inside.HistoryTexts.{IsSaid}
 
--- a content's spellings are all as long
+-- all spellings of a content have one length
 length-content_word : (word content : Text) → IsContentWord word content
     → length word ≡ length (content_word content)
 length-content_word word [] is = elim is [

@@ -1,4 +1,4 @@
--- A log is the texts of lines, one after another. Of any beginning of it the whole lines are found
+-- A log is the texts of lines, one after another. Cutting any beginning of it finds its whole lines
 -- again, and no others.
 use Rattle.std.proofs.Common.{◌≡◌, ℕ, List, [], ◌∷◌, ◌++◌, length, refl, sym, ap, ◌∙◌, subst, arith, append_assoc, length-append, inl, inr}
 use Rattle.std.specs.Prelude.{◌⊎◌, Contains}
@@ -38,13 +38,13 @@ free_or_cut b (c ∷ text) = by (cases_eq c b) (free_or_cut b text)
 text_is_one : (line : Line Text) → HasLineForm line → Without 10 (own_text_of line)
 text_is_one line form = line_is_one (own_text_of line) line (line_reads_back line form)
 
--- the cut is a front of the lines, and then a rest without a line feed
+-- the cut is a prefix of the lines, and then a rest without a line feed
 abbrev IsCutLog : List (Line Text) → Text → Type 0
 IsCutLog lines cut =
     (front : List (Line Text)) × (back : List (Line Text)) × (torn : Text)
     × (lines ≡ front ++ back) × (cut ≡ log_of front ++ torn) × ¬ (Contains torn 10)
 
--- one line more in front
+-- one line more at the beginning
 cut_line : (line : Line Text) (lines : List (Line Text)) (cut rest : Text) → HasLineForm line
     → ((more : Text) → log_of lines ≡ more ++ rest → IsCutLog lines more)
     → log_of (line ∷ lines) ≡ cut ++ rest → IsFreeOrCut 10 cut → IsCutLog (line ∷ lines) cut

@@ -26,7 +26,7 @@ pub contains_none : (b : ℕ) (x : Text) → Without b x → ¬ (Contains x b)
 contains_none b x without has =
     All-contains (λ c. c ≢ b) x b (All-from_recursion (λ c. c ≢ b) x without) has refl
 
--- a text is cut at a byte in one way, where the parts before it are without it
+-- a text can be cut at a byte in one way, if the parts before it are without it
 pub first_cut : (b : ℕ) (x y r s : Text) → Without b x → Without b y → x ++ b ∷ r ≡ y ++ b ∷ s
     → (x ≡ y) × (r ≡ s)
 first_cut b [] [] r s p q e = (refl, cc)
@@ -61,7 +61,7 @@ any_cut b (c ∷ x) (d ∷ front) r s p e =
       | inr h ↦ inr (h.0, λ i. first i ∷ h.1 i, h.2)
     ]
 
--- fronts of one length
+-- prefixes of one length
 pub same_front : {X : Type 0} (x y r s : List X) → length x ≡ length y → x ++ r ≡ y ++ s
     → (x ≡ y) × (r ≡ s)
 same_front [] [] r s long e = (refl, e)
@@ -73,7 +73,7 @@ same_front (c ∷ x) (d ∷ y) r s long e =
     let both = same_front x y r s (omega arith) others in
     (λ i. first i ∷ both.0 i, both.1)
 
--- a cut at a space where a space is
+-- a cut at a space if a space is there
 pub one_cut_at_space : (line x rest front others : Text) → Without 32 x → line ≡ x ++ 32 ∷ rest
     → IsCutAtSpace line front others → (front ≡ x) × (others ≡ rest)
 one_cut_at_space line x rest front others without parts is =

@@ -1,4 +1,4 @@
--- What can be decided of texts, and where they can be cut.
+-- Texts and their cuts are decidable.
 use Rattle.std.proofs.Common.{◌≡◌, ◌≢◌, ℕ, zero, suc, ◌+◌, ◌<◌, ◌⊎◌, inl, inr, ◌==◌, List, [], ◌∷◌, ◌++◌, length, drop, take, position, Option, Some, None, refl, sym, ap, subst, ◌∙◌, arith, decimal, length-append, ◌-◌}
 use Rattle.std.specs.Prelude.{Contains}
 use Rattle.std.proofs.lemmas.Bool.{cases_lt, cases_eq}

@@ -103,7 +103,7 @@ one_header n m r s few other e =
     end.0).1 in
     (decimal_injective n m (omega arith) (omega arith) digits, end.1)
 
--- the lines are a front of all, and this is left of the text
+-- the lines are a prefix of all, and this is left of the text
 pub record IsFront (lines all : List (Line Text)) (left rest : Text) : Type 0 where
   pub texts : List Text
   pub others : List (Line Text)
@@ -111,7 +111,7 @@ pub record IsFront (lines all : List (Line Text)) (left rest : Text) : Type 0 wh
   pub each : AreHistoryLines texts others
   pub parts : left ≡ flat_map ended texts ++ rest
 
--- the first of some lines that are read of one text
+-- the first of some lines that are read from one text
 pub lines_front : (texts more : List Text) (lines all : List (Line Text)) (left rest : Text)
     → AreHistoryLines texts lines → AreHistoryLines more all → length lines ≤ length all
     → flat_map ended texts ++ left ≡ flat_map ended more ++ rest → IsFront lines all left rest

@@ -1,4 +1,4 @@
--- Names that are met one after another: what is among them, and what stays so.
+-- Names that are read one after another: which are known, and stay known.
 use Rattle.std.proofs.Common.{◌≡◌, ◌||◌, Bool, true, false, cond, List, [], ◌∷◌, ◌++◌, refl, sym, ap, ◌∙◌, subst, inl, inr}
 use Rattle.std.specs.Prelude.{IsTrue, bytes_eq}
 use Rattle.std.specs.List.{AllByRecursion, Contains}
@@ -49,7 +49,7 @@ itself-with_name names t = by (has names t) refl
     by true e = e
     by false e = known_last names t
 
--- what was known stays so
+-- what was known stays known
 pub known-with_names : (names ts : List Text) (n : Text) → IsKnown names n
     → IsKnown (with_names names ts) n
 known-with_names names [] n known = known
@@ -64,7 +64,7 @@ added_are_known names (t ∷ ts) = (
   added_are_known (with_name names t) ts,
 )
 
--- to add what is known changes nothing
+-- adding a known name changes nothing
 pub with_names-known : (names ts : List Text) → AreKnown names ts → with_names names ts ≡ names
 with_names-known names [] known = refl
 with_names-known names (t ∷ ts) known =

@@ -17,7 +17,7 @@ use Rattle.redo_history.proofs.KnownFiles.{AreFilesKnown, files_known_after, fil
 use Rattle.redo_history.proofs.KnownNames.{AreKnown, known-with_names, added_are_known, with_names-known, each-with_names}
 use Rattle.redo_history.proofs.RepliesFit.{IsFitting, reply_fits}
 
--- the state after some lines: each of the names is one, each name that has a file is among them,
+-- the state after some lines: each of the names is a name, each name that has a file is among them,
 -- and locks were granted at most this often
 pub record IsReached (names : List Text) (count : ℕ) (st : State Text) : Type 0 where
   pub each : AreAllNames names
@@ -55,7 +55,7 @@ line_fits names count st line reached is room legal =
     line.session count line.command line.reply
     (more_known names own st reached.files) reached.grants room (added_are_known names own) legal.0
 
--- what a legal history's lines have, where they are few
+-- what a legal history's lines have, if they are few
 pub record AreFitting (names : List Text) (lines : List (Line Text)) : Type 0 where
   pub forms : AllByRecursion HasLineForm lines
   pub same_names : with_names names (flat_map names_in_line lines) ≡ with_names names
@@ -93,7 +93,7 @@ lines_fit names count st (line ∷ lines) reached said room legal =
           (flat_map names_in (map (λ (l : Line Text). l.command) lines)) fits.1 rest.same_names;
     }
 
--- from the start, where nothing is known
+-- from the empty state
 pub legal_lines_fit : (lines : List (Line Text)) → Legal texts lines
     → AllByRecursion IsLineSaid lines → length lines < 2 ^ 32 → AreFitting [] lines
 legal_lines_fit lines legal said few =

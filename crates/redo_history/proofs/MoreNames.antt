@@ -1,4 +1,4 @@
--- What lines say, and that their numbers have names, does not change where names are added.
+-- Adding names does not change what lines mean, nor that their numbers have names.
 use Rattle.std.proofs.Common.{◌≡◌, ℕ, List, [], ◌∷◌, map, length, refl, ap}
 use Rattle.redo_names.specs.Inside.Names.{Extends}
 use Rattle.redo_model.specs.Names.{Text}

@@ -1,4 +1,4 @@
--- A history has no fault but want of memory.
+-- A history has no fault but `Memory`.
 use Rattle.std.proofs.Common.{◌≡◌, ℕ, ◌+◌, ◌<◌, ◌≤◌, suc, List, [], ◌∷◌, ◌++◌, length, refl, sym, ap, ◌∙◌, subst, inl, inr, arith, append_assoc, append-nil}
 use Rattle.std.specs.Prelude.{Contains, decimal}
 use Rattle.std.specs.List.{flat_map}
@@ -31,7 +31,7 @@ record IsNext (names : List Text) (left : Text) : Type 0 where
   pub few : length names ≤ 65536
   pub room : length (with_names names (names_in_line line)) ≤ 65536
 
--- a front's names, and those of the next line
+-- a prefix's names, and those of the next line
 room_for : (before : List (Line Text)) (line : Line Text) (after : List (Line Text))
     (names : List Text) → names ≡ with_names [] (flat_map names_in_line before)
     → length (with_names names (names_in_line line))
@@ -74,7 +74,7 @@ next_of_front lines all left rest names before named room early few short front 
           room = omega arith;
         }
 
--- where lines of a history are read and more are counted, there is a next one
+-- if lines of a history are read and the header counts more, there is a next one
 next_line : (input : Text) (names : List Text) (lines : List (Line Text)) (number : ℕ)
     (before : List Text) (left : Text) → IsHistory input names lines
     → IsReadUpTo input number before left → IsNext before left

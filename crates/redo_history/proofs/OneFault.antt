@@ -1,4 +1,4 @@
--- A text has no two faults but want of memory.
+-- A text has no two faults but `Memory`.
 use Rattle.std.proofs.Common.{◌≡◌, ◌≢◌, ℕ, suc, ◌+◌, ◌<◌, ◌≤◌, ◌⊎◌, inl, inr, List, [], ◌∷◌, ◌++◌, length, Some, None, refl, sym, ap, subst, ◌∙◌, arith, append-nil, append_assoc, length-append}
 use Rattle.std.specs.Prelude.{Contains}
 use Rattle.std.specs.List.{flat_map}
@@ -169,7 +169,7 @@ one_stop names number left a b real other (inr p) (inr q) =
     one_cause names number p.0 a b real other p.4
     (subst (λ (t : Text). IsLineCause names number t b) (sym end.0) q.4)
 
--- both are read of one text
+-- both are read from one text
 same_header : (input : Text) (n m : ℕ) (names others : List Text) (left rest : Text)
     (p : IsReadUpTo input n names left) (q : IsReadUpTo input m others rest)
     → (p.count ≡ q.count) × (flat_map ended p.texts ++ left ≡ flat_map ended q.texts ++ rest)
@@ -179,7 +179,7 @@ same_header input n m names others left rest p q =
     (sym (append_assoc (header_of p.count) (flat_map ended p.texts) left) ∙ sym p.parts ∙ q.parts
     ∙ append_assoc (header_of q.count) (flat_map ended q.texts) rest)
 
--- where one stops before the other, the other has read its line as one of a history
+-- if one stops before the other, the other has read its line as one of a history
 not_earlier : (input : Text) (a : HistoryFault) (p : Stops input a) (m : ℕ) (others : List Text)
     (rest : Text) → a ≢ Memory → IsReadUpTo input m others rest → p.number < m → ⊥
 not_earlier input a p m others rest real q before =
@@ -209,7 +209,7 @@ not_earlier input a p m others rest real q before =
     real (no_fault whole others q.lines a history
     (fails whole a p.number p.names p.left front p.at))
 
--- where both stop at one line, the names and the rest are the same
+-- if both stop at one line, the names and the rest are the same
 same_place : (input : Text) (n : ℕ) (names others : List Text) (left rest : Text)
     → IsReadUpTo input n names left → IsReadUpTo input n others rest
     → (names ≡ others) × (left ≡ rest)
@@ -250,7 +250,7 @@ both_stop input a b real other p q = elim (cases_order p.number q.number) [
   ]
 ]
 
--- where a line is read, the header is
+-- if a line is read, the header is
 headed : (input : Text) (fault : HistoryFault) → Stops input fault → ¬ (IsHistoryFault input BadHeader)
 headed input fault stop bad =
     let up = stop.up in

@@ -1,4 +1,4 @@
--- What is read of a history is that history.
+-- A text that is read as a history is that history.
 use Rattle.std.proofs.Common.{◌≡◌, ◌⊎◌, inl, inr, Result, Ok, Err, List, ap}
 use Rattle.std.specs.Prelude.{IfOk, IfErr, IsOkAnd}
 use Rattle.redo_model.specs.Names.{Text}

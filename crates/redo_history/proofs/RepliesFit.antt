@@ -88,7 +88,7 @@ module _ (names : List Text) (each : AreAllNames names) where
   stale_fits [] known = (tt, tt)
   stale_fits (n ∷ ns) known = ((λ e. cc, known_are_names names (n ∷ ns) each known), known)
 
-  -- each of the listed names is known where each with the property is
+  -- each of the listed names is known if each with the property is
   listed_known : {P : Text → Type 0} (ns : List Text) → IsListed texts P ns
       → ((n : Text) → P n → IsKnown names n) → AreKnown names ns
   listed_known ns listed of = all_members (IsKnown names) ns (λ n h. of n ((listed.1 n).0 h))
@@ -149,8 +149,8 @@ module _ (names : List Text) (each : AreAllNames names) where
       subst (IsFitting names) (sym told) (lock_fits (st.locks.holder t) (st.locks.grants t) count
       (grants.few t) room (grants.held t))
 
-  -- what the database replies to a command whose names are known, where each name with a file is,
-  -- and locks were granted so often
+  -- the database's reply to a command whose names are known, if each name with a file is, and locks
+  -- were granted so often
   pub reply_fits : (st : State Text) (s count : ℕ) (command : Command Text) (reply : Reply Text)
       → AreFilesKnown names st.records → AreFewGrants count st.locks → count + 1 ≤ 4294967295
       → AreKnown names (names_in command)

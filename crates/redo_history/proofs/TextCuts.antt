@@ -83,7 +83,7 @@ left_after text n =
     let long = length-drop n text in
     take_all (length text - n) (drop n text) (omega (arith, long))
 
--- a byte that has no place is not there
+-- a byte that has no place isn't in the text
 pub not_placed : (text : Text) (x : ℕ) → position (λ b. b == x) text ≡ None → ¬ (Contains text x)
 not_placed text x none c =
     let other : (get_or text c.0 0 == x) ≡ false = none_passes (λ b. b == x) text none c.0 c.1 in
@@ -203,7 +203,7 @@ no_arrow rest none front back e =
       length-append front arrow,
     )) (after_front rest front back e)
 
--- where no equals sign is left, there is no arrow
+-- if no equals sign is left, there is no arrow
 pub no_arrow_left : (rest : Text) (seen : ℕ) → NoArrowBelow rest (seen - 1)
     → next_sign rest seen ≡ None → HasNoArrow rest
 no_arrow_left rest seen none e =

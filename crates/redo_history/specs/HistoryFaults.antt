@@ -14,7 +14,7 @@ use Rattle.redo_history.specs.HistoryTexts.{AreLinesOf}
 use Rattle.redo_history.specs.declared.fault.HistoryFault.{HistoryFault}
 use Rattle.redo_history.specs.declared.fault.HistoryFault.TheVariants.{Memory, BadHeader, Cut, BadSession, BadLine, BadReply}
 
--- what stands before the first space, or all where there is none; and what stands after that space
+-- the part before the first space, or all if there is none; and the part after that space
 pub record IsCutAtSpace (line front rest : Text) : Type 0 where
   pub free : ¬ (Contains front 32)
   pub parts : (line ≡ front ++ 32 ∷ rest) ⊎ ((line ≡ front) × (rest ≡ []))
@@ -22,7 +22,7 @@ pub record IsCutAtSpace (line front rest : Text) : Type 0 where
 abbrev pub arrow : Text
 arrow = codes " => "
 
--- what stands before the first arrow, and what stands after it
+-- the part before the first arrow, and the part after it
 pub record IsCutAtArrow (rest command reply : Text) : Type 0 where
   pub parts : rest ≡ command ++ arrow ++ reply
   pub first : (front back : Text) → rest ≡ front ++ arrow ++ back → length command ≤ length front
@@ -76,12 +76,12 @@ pub record IsReadUpTo (input : Text) (number : ℕ) (names : List Text) (left : 
   pub counted : number ≡ length texts + 1
   pub parts : input ≡ header_of count ++ flat_map ended texts ++ left
 
--- the same, where what is left begins with this line
+-- the same, if what is left begins with this line
 abbrev pub IsReadBefore : Text → ℕ → List Text → Text → Type 0
 IsReadBefore input number names line =
     ¬ (Contains line 10) × ((left : Text) × IsReadUpTo input number names (ended line ++ left))
 
--- the cause of a fault; for want of memory nothing is said
+-- the cause of a fault; `Memory` says nothing of the text
 abbrev pub IsHistoryFault : Text → HistoryFault → Type 0
 IsHistoryFault input Memory = ⊤
 IsHistoryFault input BadHeader =

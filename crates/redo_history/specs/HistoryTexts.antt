@@ -29,7 +29,8 @@ AreHistoryLines (text ∷ texts) (line ∷ lines) =
 abbrev pub names_in_line : Line Text → List Text
 names_in_line line = names_in line.command ++ names_in_reply line.reply
 
--- after are the names of the lines, each once, in the order in which they are met, and not too many
+-- after are the names of the lines, each once, in the order of their first occurrence, and not too
+-- many
 abbrev pub AreNamesOf : List (Line Text) → List Text → Type 0
 AreNamesOf lines after =
     (after ≡ with_names [] (flat_map names_in_line lines)) × (length after ≤ 65536)
@@ -40,8 +41,8 @@ pub record AreLinesOf (texts : List Text) (lines : List (Line Text)) (names : Li
   pub each : AreHistoryLines texts lines
   pub named : AreNamesOf lines names
 
--- the input is a history of these lines and names: a header, as many lines as it says, and
--- whatever follows
+-- the input is a history of these lines and names: a header, as many lines as it says, and then
+-- anything
 pub record IsHistory (input : Text) (names : List Text) (lines : List (Line Text)) : Type 0 where
   pub few : length lines ≤ 1048576
   pub texts : List Text

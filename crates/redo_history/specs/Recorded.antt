@@ -1,4 +1,4 @@
--- What a history records.
+-- The value of a history.
 use Rattle.std.specs.Prelude.{List, length}
 use Rattle.std.specs.List.{AllByRecursion}
 use Rattle.redo_model.specs.Names.{Text}

@@ -7,7 +7,7 @@ use redo_text::place_of;
 
 const ARROW: &[u8] = b" => ";
 
-/// What stands before the first such byte, and what stands after it.
+/// The part before the first such byte, and the part after it.
 #[inline]
 pub fn cut_at(text: &[u8], byte: u8) -> Option<(&[u8], &[u8])>
     ensures { MatchOption result (¬ (Contains text.now byte))
@@ -17,8 +17,7 @@ pub fn cut_at(text: &[u8], byte: u8) -> Option<(&[u8], &[u8])>
     Some((&text[..at], &text[at + 1..]))
 }
 
-/// What stands before the first space, and what stands after it. All of it stands before, where
-/// there is none.
+/// The part before the first space, and the part after it. All of it is before, if there is none.
 pub fn cut_at_space(line: &[u8]) -> (&[u8], &[u8])
     ensures { IsCutAtSpace line.now result.0.now result.1.now }
 {
@@ -28,7 +27,7 @@ pub fn cut_at_space(line: &[u8]) -> (&[u8], &[u8])
     }
 }
 
-/// What stands after the arrow whose equals sign is at this place.
+/// The part after the arrow whose equals sign is at this place.
 #[inline]
 fn after_arrow(rest: &[u8], at: usize) -> Option<&[u8]>
     requires { at < length rest.now }
@@ -41,7 +40,7 @@ fn after_arrow(rest: &[u8], at: usize) -> Option<&[u8]>
     rest[at - 1..].strip_prefix(ARROW)
 }
 
-/// What stands before the first arrow, and what stands after it.
+/// The part before the first arrow, and the part after it.
 pub fn cut_at_arrow(rest: &[u8]) -> Option<(&[u8], &[u8])>
     ensures { MatchOption result (HasNoArrow rest.now)
         (λ parts. IsCutAtArrow rest.now parts.0.now parts.1.now) }

@@ -10,16 +10,16 @@ pub enum HistoryFault {
     /// It does not begin with the header of a history.
     #[error("bad header")]
     BadHeader,
-    /// It ends before all the lines are there that the header counts.
+    /// It ends before as many lines as the header counts.
     #[error("cut")]
     Cut,
     /// The line does not begin with a session's number.
     #[error("line {0}: no session")]
     BadSession(usize),
-    /// What stands after the session's number is no command.
+    /// What follows the session's number is no command.
     #[error("line {0}: {1}")]
     BadLine(usize, LineFault),
-    /// What stands after the command is no reply.
+    /// What follows the command is no reply.
     #[error("line {0}: no reply")]
     BadReply(usize),
 }

@@ -10,7 +10,7 @@ use std::marker::Model;
 /// How many lines a history has at most.
 pub const MOST_LINES: usize = 1_048_576;
 
-/// What was asked and answered, line after line, with the names that the lines' numbers stand for.
+/// Commands and replies, line after line, with the names that the lines' numbers stand for.
 #[derive(Drop)]
 pub struct History {
     names: Names,

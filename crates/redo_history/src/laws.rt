@@ -1,4 +1,4 @@
-//! What holds of the texts of histories.
+//! Laws of the texts of histories.
 
 ghost use Rattle.std.specs.Prelude.{◌≡◌, ◌≢◌, ◌⊎◌, ◌<◌, ◌≤◌, ◌^◌, ◌++◌, List, [], length, map};
 ghost use Rattle.std.specs.List.{AllByRecursion, flat_map};
@@ -12,15 +12,15 @@ ghost use Rattle.redo_history.specs.Inside.HistoryTexts.{HasLineForm, IsLineSaid
 ghost use Rattle.redo_history.specs.HistoryFaults.{IsHistoryFault};
 ghost use Rattle.redo_history.specs.declared.fault.HistoryFault.{HistoryFault};
 
-/// The text of lines is a history of these lines, whatever follows, where their commands, replies
-/// and names fit.
+/// The text of lines is a history of these lines, whatever follows, if their commands, replies and
+/// names fit.
 pub fn history_reads_back()
     ensures { (lines : List (Line Text)) (names : List Text) (rest : Text) →
         AllByRecursion HasLineForm lines → length lines ≤ 1048576 → AreNamesOf lines names →
         IsHistory (history_text_of lines ++ rest) names lines }
 {}
 
-/// Where sessions say the commands of legal lines, each line has the form of a history's, and the
+/// If sessions say the commands of legal lines, each line has the form of a history's, and the
 /// replies add no names to those of the commands.
 pub fn legal_lines_fit()
     ensures form { (lines : List (Line Text)) → Legal texts lines
@@ -32,7 +32,7 @@ pub fn legal_lines_fit()
         ≡ with_names [] (flat_map names_in (map (λ line. line.command) lines)) }
 {}
 
-/// The text of legal lines is a history of these lines, whatever follows, where sessions say their
+/// The text of legal lines is a history of these lines, whatever follows, if sessions say their
 /// commands, and neither lines nor the commands' names are too many.
 pub fn legal_history_reads_back()
     ensures { (lines : List (Line Text)) (names : List Text) (rest : Text) → Legal texts lines
@@ -47,13 +47,13 @@ pub fn one_history()
         IsHistory input n a → IsHistory input m b → (n ≡ m) × (a ≡ b) }
 {}
 
-/// A history has no fault but want of memory.
+/// A history has no fault but `Memory`.
 pub fn no_fault()
     ensures { (input : Text) (names : List Text) (lines : List (Line Text)) (fault : HistoryFault) →
         IsHistory input names lines → IsHistoryFault input fault → fault ≡ HistoryFault.Memory }
 {}
 
-/// A text begins with a history, or it has a fault other than want of memory, and it has no two.
+/// A text begins with a history, or it has a fault other than `Memory`, and it has no two.
 pub fn fault_or_history()
     ensures either { (input : Text)
         → ((names : List Text) × (lines : List (Line Text)) × IsHistory input names lines)

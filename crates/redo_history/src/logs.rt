@@ -1,4 +1,4 @@
-//! What holds of logs: the texts of lines, one after another, of which a beginning may be left.
+//! Laws of logs: the texts of lines, one after another, of which a beginning may be left.
 
 ghost use Rattle.std.specs.Prelude.{◌≡◌, ◌++◌, List, Contains};
 ghost use Rattle.std.specs.List.{AllByRecursion, flat_map};
@@ -7,7 +7,7 @@ ghost use Rattle.redo_model.specs.History.{Line};
 ghost use Rattle.redo_history.specs.Histories.{line_text_of};
 ghost use Rattle.redo_history.specs.Inside.HistoryTexts.{HasLineForm};
 
-/// Any beginning of a log is the texts of a front of its lines, and then a rest without an LF.
+/// Any beginning of a log is the texts of a prefix of its lines, and then a rest without an LF.
 pub fn cut_lines()
     ensures { (lines : List (Line Text)) (cut rest : Text) → AllByRecursion HasLineForm lines
         → flat_map line_text_of lines ≡ cut ++ rest

@@ -20,10 +20,10 @@ use redo_terms::Line;
 use redo_text::{LineFault, ReadFault, ReplyFault, read_command, read_number, read_reply};
 use std::alloc::Global;
 
-/// A line of a history has at least this many bytes, its LF among them: `1 ood => ok`.
+/// A line of a history has at least this many bytes with its LF: `1 ood => ok`.
 const SHORTEST_LINE: usize = 12;
 
-/// The session, counted from 0, whose number a word is.
+/// The session, counted from 0, with this word as its number.
 pub fn session_of(word: &[u8]) -> Option<u8>
     ensures { MatchOption result ((session : ℕ) → ¬ (IsSessionWord word.now session))
         (IsSessionWord word.now) }
@@ -35,7 +35,7 @@ pub fn session_of(word: &[u8]) -> Option<u8>
     Some(number as u8 - 1)
 }
 
-/// How many lines the header says there are, and what stands after it.
+/// How many lines the header counts, and what follows it.
 fn read_header(input: &[u8]) -> Result<(usize, &[u8]), HistoryFault>
     ensures read { IfOk result (λ header. (header.0 ≤ 1048576)
         × (input.now ≡ header_of header.0 ++ header.1.now)) }
@@ -77,7 +77,7 @@ fn reply_fault(number: usize, fault: ReplyFault) -> HistoryFault
     }
 }
 
-/// The line of this number, which has this text.
+/// The line of this number and this text.
 fn read_line(
     alloc: Global,
     number: usize,
@@ -114,7 +114,7 @@ fn read_line(
     })
 }
 
-/// The history that the input begins with.
+/// The history at the beginning of the input.
 fn history_in(alloc: Global, input: &[u8]) -> Result<History, HistoryFault>
     ensures read { IfOk result (λ history. IsHistory input.now history.names (lines_of history)) }
     ensures fault { IfErr result (IsHistoryFault input.now) }
@@ -135,7 +135,7 @@ fn history_in(alloc: Global, input: &[u8]) -> Result<History, HistoryFault>
     Ok(History::new(names, lines))
 }
 
-/// Reads a history. What follows its lines is not looked at.
+/// Reads a history. Ignores what follows its lines.
 pub fn read_history(alloc: Global, input: &[u8]) -> Result<History, HistoryFault>
     // What is read is a history of these names and lines.
     ensures read { IfOk result (λ history. IsHistory input.now history.names (lines_of history)) }
@@ -145,7 +145,7 @@ pub fn read_history(alloc: Global, input: &[u8]) -> Result<History, HistoryFault
         ⊎ IsOkAnd result (λ history. (history.names ≡ names) × (lines_of history ≡ lines)) }
     // A fault is that of the header or of the first faulty line.
     ensures fault { IfErr result (IsHistoryFault input.now) }
-    // A bad header is found before anything grows: it comes before want of memory.
+    // A bad header is found before anything grows: it comes before `Memory`.
     ensures bad_header { IsHistoryFault input.now HistoryFault.BadHeader
         → result ≡ Err HistoryFault.BadHeader }
 {

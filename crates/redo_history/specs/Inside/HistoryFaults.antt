@@ -5,11 +5,11 @@ use Rattle.redo_history.specs.declared.fault.HistoryFault.{HistoryFault}
 use Rattle.redo_history.specs.declared.fault.HistoryFault.TheVariants.{Memory, BadHeader, Cut, BadSession, BadLine, BadReply}
 use Rattle.redo_history.specs.HistoryFaults.{HasBadSession, HasBadReply, HasBadCommand}
 
--- what stands before the first such byte, and what stands after it
+-- the part before the first such byte, and the part after it
 abbrev pub IsCutAt : ℕ → Text → Text → Text → Type 0
 IsCutAt byte text front rest = (text ≡ front ++ byte ∷ rest) × ¬ (Contains front byte)
 
--- the cause of the fault of the line of this number, where the lines before have these names
+-- the cause of the fault of the line of this number, if the lines before have these names
 abbrev pub IsLineCause : List Text → ℕ → Text → HistoryFault → Type 0
 IsLineCause names number line Memory = ⊤
 IsLineCause names number line BadHeader = ⊥

@@ -1,4 +1,4 @@
--- What a line has to be, so that its text is read again.
+-- What is required of a line so that its text is read again.
 use Rattle.std.specs.Prelude.{◌≡◌, ◌<◌, ◌≤◌, List, length}
 use Rattle.redo_model.specs.Names.{Text}
 use Rattle.redo_model.specs.Command.{Command}
@@ -17,7 +17,7 @@ pub record IsLineSaid (line : Line Text) : Type 0 where
   pub session : line.session < 64
   pub said : IsSaid line.command
 
--- what a line has to be, so that its text is a line of a history
+-- what is required of a line so that its text is a line of a history
 pub record HasLineForm (line : Line Text) : Type 0 where
   pub session : line.session < 64
   pub command : HasForm line.command

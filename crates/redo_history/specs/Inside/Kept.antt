@@ -1,4 +1,4 @@
--- What the fields of a history show, and what they keep.
+-- The value of a history's fields, and their invariant.
 use Rattle.std.specs.Prelude.{◌<◌, ◌≤◌, length, map}
 use Rattle.std.specs.List.{AllByRecursion}
 use Rattle.redo_terms.specs.Meaning.{line_of}

@@ -1,4 +1,4 @@
--- What a history records.
+-- The value of a history.
 use Rattle.std.specs.Prelude.{ℕ, List, map}
 use Rattle.redo_names.specs.Names.{text_at}
 use Rattle.redo_model.specs.Names.{Text}
