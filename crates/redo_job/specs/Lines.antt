@@ -1,4 +1,4 @@
--- The lines that tell why the program failed.
+-- The lines on standard error that say why the program failed.
 use Rattle.std.specs.Prelude.{ℕ, List, ◌++◌, Option, Some, None, Result, Ok, Err, slice_get, codes, decimal, string_bytes, String}
 use Rattle.std.specs.declared.alloc.Global.{Global}
 use Rattle.redo_text.specs.Faults.{fault_word_of}
@@ -13,7 +13,7 @@ use Rattle.redo_replay.specs.declared.verdict.Verdict.TheVariants.{Same, Differs
 use Rattle.redo_job.specs.declared.fault.Fault.{Fault}
 use Rattle.redo_job.specs.declared.fault.Fault.TheVariants.{Memory, Usage, CannotOpen, Text, Replay}
 
--- "-" stands for standard input
+-- "-" means standard input
 abbrev pub name_or_dash : Option (String Global) → List ℕ
 name_or_dash None = codes "-"
 name_or_dash (Some name) = string_bytes name

@@ -13,7 +13,7 @@ use redo_text::fault_word;
 use redo_whole::{Watched, WriteFault, write_whole};
 use std::io::Write;
 
-/// A line of at most this many bytes is written at once: a name of 4,096 has room in it.
+/// A line of at most this many bytes is written at once: a name of 4,096 bytes fits in it.
 const LINE_ROOM: usize = 4352;
 
 fn name(files: &[String], file: usize) -> &str
@@ -25,7 +25,7 @@ fn name(files: &[String], file: usize) -> &str
     }
 }
 
-/// The pieces, one after another, where they have room in one line.
+/// The pieces, one after another, if they fit in one line.
 fn gathered(pieces: &[&str]) -> Option<ArrayVec<u8, LINE_ROOM>>
     ensures { IfSome result (λ line. line.items ≡ flat_map (λ piece. piece.now) pieces.now) }
 {
@@ -38,7 +38,7 @@ fn gathered(pieces: &[&str]) -> Option<ArrayVec<u8, LINE_ROOM>>
     Some(line)
 }
 
-/// Writes the pieces, one after another: all at once, where they have room in one line.
+/// Writes the pieces, one after another: all at once, if they fit in one line.
 fn write_pieces<W: Write>(err: &mut Watched<W>, pieces: &[&str]) -> Result<(), WriteFault>
     ensures written { OnOk result
         (Writes W.contents err.old err.new (flat_map (λ piece. piece.now) pieces.now)) }
@@ -163,9 +163,9 @@ fn tell<W: Write>(err: &mut Watched<W>, files: &[String], fault: &Fault) -> Resu
     }
 }
 
-/// Writes the fault's line to `err`, if there is a fault, and answers the program's status: 1 for a
-/// history that differs, 2 for a fault, and else 0. FILE is the word in `files`, or `-` where there
-/// is none. It takes no memory, and a fault of `err` changes nothing in the answer.
+/// Writes the fault's line to `err`, if there is a fault, and returns the program's status: 1 for a
+/// history that differs, 2 for a fault, and else 0. FILE is the word in `files`, or `-` if there is
+/// none. It allocates nothing, and a fault of `err` changes nothing in the status.
 pub fn finish<W: Write>(
     answer: &Result<Option<Verdict>, Fault>,
     files: &[String],
@@ -174,7 +174,7 @@ pub fn finish<W: Write>(
     ensures status { result ≡ status_of answer.now }
     ensures silent { OnOk answer.now (WritesNothing W.contents err.old err.new) }
 
-    // The line is written wherever no write of this call failed.
+    // If no write of this call failed, the line is written.
     ensures line { IfErr answer.now (λ fault. IsFalse (has_failed err.old err.new)
         → Writes W.contents err.old err.new (fault_line files.now fault)) }
 {

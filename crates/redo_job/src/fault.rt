@@ -12,10 +12,10 @@ pub enum Fault {
     /// Files are counted from 0.
     #[error("file {file}: cannot open")]
     CannotOpen { file: usize },
-    /// A run's fault, but for want of memory.
+    /// A run's fault, but for `Memory`.
     #[error("{0}")]
     Text(TextFault),
-    /// A replay's fault, but for want of memory.
+    /// A replay's fault, but for `Memory`.
     #[error("{0}")]
     Replay(ReplayFault),
 }

@@ -6,7 +6,7 @@ use Rattle.redo_replay.specs.declared.fault.ReplayFault.TheVariants as replays
 use Rattle.redo_job.specs.declared.fault.Fault.{Fault}
 use Rattle.redo_job.specs.declared.fault.Fault.TheVariants.{Memory, Text, Replay}
 
--- a run's fault as the program's: want of memory is its own
+-- a run's fault as the program's: `Memory` is its own
 abbrev pub run_fault : TextFault → Fault
 run_fault texts.Memory = Memory
 run_fault fault = Text fault
