@@ -1,4 +1,4 @@
--- At its place a line stands exactly where it is answered.
+-- A line is valid at its place (`Stands`) exactly if it has the database's reply there.
 use Rattle.std.proofs.Common.{◌≡◌, ℕ, ◌+◌, Bool, true, false, not, List, Option, Some, None, refl, sym, ap, ◌∙◌, subst, arith}
 use Rattle.std.specs.Prelude.{MatchOption}
 use Rattle.std.proofs.lemmas.Bool.{false≢true}
@@ -17,7 +17,7 @@ use Rattle.redo_joint.proofs.Own.{not_false, not_building}
 use Rattle.redo_joint.proofs.Tied.{none_of, some_of, Tied, flag, state_by}
 
 module _ {N : Type 0} (naming : Naming N) where
-  -- a row leaves the locks
+  -- a row doesn't change the locks
   unlock_refused : (verdict : Option (Refusal N)) (reply : Reply N) (locks : Locks N) (t : N)
       → is_claim (Unlock t) reply ≡ false
       → MatchOption verdict (reply ≡ Okay) (λ refusal. reply ≡ Refused refusal)
@@ -51,7 +51,7 @@ module _ {N : Type 0} (naming : Naming N) where
   lock_claims None g t reply e = ap (is_claim (Lock t)) e
   lock_claims (Some h) g t reply e = ap (is_claim (Lock t)) e
 
-  -- but for a claim, the answer is that of the records
+  -- but for a claim, the reply is that of the records
   row_answers : (state : State N) (s : ℕ) (command : Command N) (reply : Reply N)
       → is_claim command reply ≡ false
       → Answers naming state s command reply
@@ -91,14 +91,14 @@ module _ {N : Type 0} (naming : Naming N) where
   answers_row state s Targets reply a = a
   answers_row state s Sources reply a = a
 
-  -- a fact about a command and a reply, over what they are
+  -- a fact about commands and replies, from one about each of their cases
   at_line : {asked command : Command N} {told reply : Reply N}
       (P : Command N → Reply N → Type 0)
       → asked ≡ command → told ≡ reply → P command reply → P asked told
   at_line {asked} {command} {told} {reply} P e f h =
       subst (λ c. P c told) (sym e) (subst (λ r. P command r) (sym f) h)
 
-  -- a lock that is granted finds nobody
+  -- nobody held a lock that is granted
   free_where_granted : (holder : Option ℕ) (grants g : ℕ)
       → (let reply : Reply N = replies.Granted g in reply ≡ lock_reply holder grants)
       → holder ≡ None
@@ -141,7 +141,7 @@ module _ {N : Type 0} (naming : Naming N) where
   freed_verdict None a = refl
   freed_verdict (Some refusal) a = absurd (cc)
 
-  -- a held target that this session doesn't build is built by nobody
+  -- if a session holds a target and doesn't build it, nobody builds it
   built_by_none : (a : TargetState) (s : ℕ) (holder : Option ℕ)
       → ((b : ℕ) → a ≡ Building b → holder ≡ Some b)
       → is_held_by s holder ≡ true → is_built_by s a ≡ false → is_building a ≡ false
@@ -174,7 +174,7 @@ module _ {N : Type 0} (naming : Naming N) where
             told i;
       }
 
-  -- an answered line stands
+  -- an answered line is valid
   pub from_answers : (state : State N) (before : List (PlacedLine N)) (s : ℕ) (command : Command N)
       (reply : Reply N) (place : Place N)
       → Tied naming state before → Fits place command reply → Answers naming state s command reply
@@ -231,7 +231,7 @@ module _ {N : Type 0} (naming : Naming N) where
             refl (after_freed state (part_of s before) s t g v),
       )
 
-  -- a line that stands is answered
+  -- a valid line is answered
   pub from_stands : (state : State N) (before : List (PlacedLine N)) (s : ℕ) (command : Command N)
       (reply : Reply N) (place : Place N)
       → Tied naming state before → Fits place command reply → Follows naming before place

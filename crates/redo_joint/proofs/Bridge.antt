@@ -1,4 +1,4 @@
--- A placed history is legal exactly where each of its lines stands.
+-- A placed history is legal exactly if each of its lines is valid (`Stands`).
 use Rattle.std.proofs.Common.{◌≡◌, ℕ, ◌+◌, true, cond, eqb, List, [], ◌∷◌, ◌++◌, Option, Some, None, is_some, map, sym, ap, ◌∙◌, subst, inl, inr, arith, eqb-true}
 use Rattle.std.proofs.lemmas.Bool.{cases_Bool, false≢true}
 use Rattle.redo_model.specs.Names.{Naming, put}
@@ -192,7 +192,7 @@ module _ {N : Type 0} {naming : Naming N} (law : IsNaming naming) where
       } in
       subst (λ (d : State N). Tied naming d (before ++ line ∷ [])) (sym e) there
 
-  -- a placed history is legal exactly where each of its lines stands
+  -- a placed history is legal exactly if each of its lines is valid
   pub legal_stands : (state : State N) (before lines : List (PlacedLine N))
       → Tied naming state before
       → IsPlacedAfter naming before lines → LegalFrom naming state (map line_of lines)

@@ -1,4 +1,4 @@
--- What a session had seen of the placed histories that were worked out by hand.
+-- What a session had seen in the placed histories that were worked out by hand.
 use Rattle.std.proofs.Common.{◌≡◌, ℕ, ap, inl, inr, arith, refl}
 use Rattle.redo_model.specs.Placed.{Place, Row, Granted, Busy, Released, part_of}
 use Rattle.redo_model.specs.Seen.{HasSeen}

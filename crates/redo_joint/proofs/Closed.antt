@@ -1,4 +1,4 @@
--- A row that a closing line has tells that a build failed.
+-- A line with a row is a line of the script or a closing `failed`.
 use Rattle.std.proofs.Common.{◌≡◌, ◌⊎◌, ℕ, ◌<◌, ◌≤◌, Bool, true, false, cond, eqb, List, [], ◌∷◌, ◌++◌, length, map, get_or, Some, refl, sym, ap, ◌∙◌, subst, inl, inr, arith}
 use Rattle.std.proofs.lemmas.Bool.{false≢true}
 use Rattle.std.proofs.lemmas.List.{map_push}
@@ -61,7 +61,7 @@ part_lines s (line ∷ lines) =
     kept_map line_of (eqb line.session s) line (part_of s lines)
     (histories.part_of s (map line_of lines)) (part_lines s lines)
 
--- what a line with a row is: a line of the script, or one past it that lets a build fail
+-- a line with a row: a line of the script, or a `failed` after it
 pub record IsScripted {N : Type 0} (plan : ℕ → List (Item N)) (line : PlacedLine N) : Type 0 where
   pub within : line.number < length (plan line.session)
   pub command : get_or (commands_in (plan line.session)) line.number Ood ≡ line.command
@@ -75,7 +75,7 @@ pub record IsFailing (plan : ℕ → List (Item ℕ)) (line : PlacedLine ℕ) : 
 abbrev pub RowTells : (ℕ → List (Item ℕ)) → PlacedLine ℕ → Type 0
 RowTells plan line = IsScripted plan line ⊎ IsFailing plan line
 
--- what lets go of a target fails its build, or unlocks it
+-- a closing command of a target fails its build, or unlocks it
 letting_cases : (b : Bool) (t : ℕ) (command : Command ℕ) → command ≡ cond b (Failed t) (Unlock t)
     → (command ≡ Failed t) ⊎ (command ≡ Unlock t)
 letting_cases true t command e = inl e
@@ -114,7 +114,7 @@ module _ {naming : Naming ℕ} (law : IsNaming naming) (plan : ℕ → List (Ite
         | inr unlock ↦ absurd (false≢true (sym row ∙ (λ i. is_claim (unlock i) (okay i))))
       ]
 
-  -- a row tells its line's command by its word, and a closing line is answered `ok`
+  -- a line with a row is one of these, and a closing line is answered `ok`
   pub record Tells (line : PlacedLine ℕ) : Type 0 where
     pub row : is_row line.place ≡ true → RowTells plan line
     pub okay : length (plan line.session) ≤ line.number → line.reply ≡ Okay
@@ -147,7 +147,7 @@ module _ {naming : Naming ℕ} (law : IsNaming naming) (plan : ℕ → List (Ite
         okay = λ _. okay;
       })
 
-  -- each line tells so
+  -- each line is one of these
   abbrev pub AllTell : List (PlacedLine ℕ) → Type 0
   AllTell lines = AllByRecursion Tells lines
 

@@ -19,7 +19,7 @@ pub no_step : (b : Bool) → ◌≡◌ {A = ℕ} (cond b 0 0) 0
 no_step true = refl
 no_step false = refl
 
--- what is counted among a session's own lines, after one line more
+-- the counts over a session's own lines, after one line more
 pub own_push : {N : Type 0} (test : PlacedLine N → Bool) (s : ℕ) (before : List (PlacedLine N))
     (line : PlacedLine N)
     → count_by test (part_of s (before ++ line ∷ []))
@@ -172,7 +172,7 @@ module _ {N : Type 0} {naming : Naming N} (law : IsNaming naming) where
             (releases_push naming before line t);
       }
 
-  -- what goes on from line to line holds after placed lines
+  -- what one line keeps, placed lines keep
   along_from : (P : List (PlacedLine N) → Type 0)
       →
       ((before : List (PlacedLine N)) (line : PlacedLine N) → P before
@@ -195,7 +195,7 @@ module _ {N : Type 0} {naming : Naming N} (law : IsNaming naming) where
   paired_by lines placed =
       along_placed (Paired naming) (paired_at_first naming) paired_after lines placed
 
-  -- placed lines are those that fit and come by their tickets
+  -- placed lines are those that fit and are in the order of their tickets
   pub placed_come : (before lines : List (PlacedLine N)) → IsPlacedAfter naming before lines
       → AllFit naming lines × AllCome (tickets law) (counters naming before) lines
   placed_come before [] h = (tt, tt)

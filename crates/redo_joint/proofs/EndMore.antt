@@ -1,4 +1,4 @@
--- One line more at the end of a legal placed history: a row, a grant, a busy answer, a release.
+-- One line more at the end of a legal placed history: a row, a grant, a busy reply, a release.
 use Rattle.std.proofs.Common.{◌≡◌, ℕ, ◌+◌, ◌-◌, ◌/◌, ◌%◌, Bool, true, false, cond, eqb, List, [], ◌∷◌, ◌++◌, Some, map, refl, sym, ap, ◌∙◌, subst, inl, inr, arith, append_assoc, append-nil, eq-eqb, ne_eqb}
 use Rattle.std.proofs.lemmas.List.{map_push}
 use Rattle.redo_model.specs.Names.{Naming}
@@ -103,13 +103,13 @@ module _ {N : Type 0} {naming : Naming N} (law : IsNaming naming) where
       (tied_from (after naming state line.session line.command) (before ++ line ∷ []) lines
       (tied_after law state before line tied placed.1 step.0 step.1) placed.2 legal.1)
 
-  -- after a legal placed history the locks are what its lines say, and builders hold
+  -- after a legal placed history the locks are what its lines say, and builders hold their targets
   pub tied_by : (lines : List (PlacedLine N)) → IsPlaced naming lines
       → Legal naming (map line_of lines)
       → Tied naming (left_by naming empty (map line_of lines)) lines
   tied_by lines placed legal = tied_from empty [] lines (tied_at_first naming) placed legal
 
-  -- a line that fits, follows and stands goes to the end
+  -- a line that fits, follows and is valid can come at the end
   pub end_more : (lines : List (PlacedLine N)) (line : PlacedLine N) → IsPlaced naming lines
       → Legal naming (map line_of lines) → Fits line.place line.command line.reply
       → Follows naming lines line.place
@@ -157,7 +157,7 @@ module _ {N : Type 0} {naming : Naming N} (law : IsNaming naming) where
       let a = word_is naming lines t pair in
       elim (pair.pairs t) [ inl e ↦ (omega arith, omega arith) | inr e ↦ absurd (omega arith) ]
 
-  -- an odd one: a busy answer of the grant in force may come, and its release
+  -- an odd one: a busy reply of the grant in force may come, and its release
   pub busy_follows : (lines : List (PlacedLine N)) (t : N) → IsPlaced naming lines
       → claim_word_of naming lines t % 2 ≡ 1
       → Follows naming lines (Busy t ((claim_word_of naming lines t - 1) / 2 + 1))
@@ -166,7 +166,7 @@ module _ {N : Type 0} {naming : Naming N} (law : IsNaming naming) where
       let a = word_is naming lines t pair in
       elim (pair.pairs t) [ inl e ↦ absurd (omega arith) | inr e ↦ (omega arith, omega arith) ]
 
-  -- who holds a target by its own lines finds the claim word odd
+  -- if a session holds a target by its own lines, the claim word is odd
   pub held_odd : (lines : List (PlacedLine N)) (s : ℕ) (t : N) → IsPlaced naming lines
       → Legal naming (map line_of lines) → holds_by naming (part_of s lines) (Some t) ≡ true
       → claim_word_of naming lines t % 2 ≡ 1
@@ -191,7 +191,7 @@ module _ {N : Type 0} {naming : Naming N} (law : IsNaming naming) where
       end_more lines (line_at s number command reply (Row (rows_in lines))) placed legal row refl
       told
 
-  -- a grant, where the claim word is even
+  -- a grant, if the claim word is even
   pub grant_event : (lines : List (PlacedLine N)) (s number : ℕ) (t : N) → IsPlaced naming lines
       → Legal naming (map line_of lines) → claim_word_of naming lines t % 2 ≡ 0
       → let g = claim_word_of naming lines t / 2 + 1 in
@@ -200,7 +200,7 @@ module _ {N : Type 0} {naming : Naming N} (law : IsNaming naming) where
       end_more lines (line_at s number (Lock t) (replies.Granted g) (Granted t g)) placed legal
       (refl, refl) (grant_follows lines t placed even) tt
 
-  -- a busy answer, where it is odd
+  -- a busy reply, if it is odd
   pub busy_event : (lines : List (PlacedLine N)) (s number : ℕ) (t : N) → IsPlaced naming lines
       → Legal naming (map line_of lines) → claim_word_of naming lines t % 2 ≡ 1
       → let g = (claim_word_of naming lines t - 1) / 2 + 1 in
@@ -222,7 +222,7 @@ module _ {N : Type 0} {naming : Naming N} (law : IsNaming naming) where
       end_more lines (line_at s number (Unlock t) Okay (Released t g)) placed legal (refl, refl)
       (busy_follows lines t placed (held_odd lines s t placed legal holds)) (holds, free)
 
-  -- what a session holds is told by its own lines, and the grants by all lines
+  -- a session's own lines determine what it holds, and all lines the grants
   pub locks_told : (lines : List (PlacedLine N)) → IsPlaced naming lines
       → Legal naming (map line_of lines)
       → (t : N)

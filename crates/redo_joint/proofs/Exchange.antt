@@ -1,5 +1,5 @@
--- Moving a line that may come next to the front. Each line has a ticket: a counter, the value at
--- which it comes, and by how much it moves the counter on (1 or 0).
+-- Moving a line that may come next to the beginning. Each line has a ticket: a counter, the value
+-- at which it comes, and by how much it increases the counter (1 or 0).
 use Rattle.std.proofs.Common.{◌≡◌, ◌≢◌, ℕ, ◌+◌, ◌≤◌, ◌⊎◌, eqb, cond, List, [], ◌∷◌, Bool, true, false, filter, refl, sym, ap, ◌∙◌, subst, inl, inr, arith, eq-eqb, ne_eqb}
 use Rattle.std.specs.Prelude.{Decides}
 use Rattle.std.proofs.lemmas.Bool.{cases_Bool, false≢true}
@@ -56,14 +56,14 @@ module _ {L K : Type 0} (t : Tickets L K) where
   AllCome counts [] = Unit {0}
   AllCome counts (line ∷ lines) = Comes counts line × AllCome (after counts line) lines
 
-  -- no line that leaves the counter at the value of `next` is left, where `next` moves it
+  -- no line that keeps the counter at the value of `next` is left, if `next` increases it
   abbrev pub Free : (ℕ → List L) → L → Type 0
   Free lists next =
       (u : ℕ) (x : L) → In x (lists u) → (t.ticket x).counter ≡ (t.ticket next).counter
       → (t.ticket x).value ≡ (t.ticket next).value → (t.ticket x).step ≡ 0
       → (t.ticket next).step ≡ 0
 
-  -- two lines whose order does not matter: of two counters, or both leave theirs
+  -- two lines whose order does not matter: of two counters, or neither changes its counter
   abbrev pub Apart : L → L → Type 0
   Apart x next =
       ((t.ticket x).counter ≢ (t.ticket next).counter)
@@ -170,7 +170,7 @@ module _ {L K : Type 0} (t : Tickets L K) where
   ]
 
   module _ (next : L) where
-    -- what an earlier line of another session has to do with `next`
+    -- how an earlier line of another session relates to `next`
     pub apart_first : (counts : K → ℕ) (line : L) (lines : List L) (rest : List L)
         → t.session line ≢ t.session next
         → AllCome counts (line ∷ lines) → part (t.session next) (line ∷ lines) ≡ next ∷ rest

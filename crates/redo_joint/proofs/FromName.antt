@@ -182,7 +182,7 @@ module _ {M : Type 0} {to : Renaming M} (law : IsRenaming to) where
           names_back lines named,
         )
 
-    -- the lines of a joint order are below where those of the journals are
+    -- the lines of a joint order are below if those of the journals are
     pub joint_below : (journals : ℕ → List (PlacedLine ℕ)) → AreToldBelow to.count journals
         → (lines : List (PlacedLine ℕ)) → IsJointOrder (numbers order) journals lines
         → AllByRecursion (IsPlacedBelow to.count) lines
@@ -216,7 +216,7 @@ module _ {M : Type 0} {to : Renaming M} (law : IsRenaming to) where
           (no_later_by_name lines from.0 (h.first from.0 from.1));
     }
 
-    -- where there is no joint order over numbers, there is none over the names
+    -- if there is no joint order over numbers, there is none over the names
     pub no_joint_by_name : (journals : ℕ → List (PlacedLine ℕ)) → AreToldBelow to.count journals
         → ((lines : List (PlacedLine ℕ)) → IsJointOrder (numbers order) journals lines → ⊥)
         → (lines : List (PlacedLine M))

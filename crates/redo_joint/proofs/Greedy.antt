@@ -93,7 +93,7 @@ module _ {L K : Type 0} (t : Tickets L K) where
     come = (comes, h.come);
   }
 
-  -- a line that may come next, moved to the front of a joint order, gives a joint order
+  -- a line that may come next, moved to the beginning of a joint order, gives a joint order
   pub exchange : (counts : K → ℕ) (lists left : ℕ → List L) (next : L) (lines : List L)
       → IsJoint counts lists lines → May counts lists next
       → Takes lists next left
@@ -164,7 +164,7 @@ module _ {L K : Type 0} (t : Tickets L K) where
         first = λ others h. greedy_first counts lists lines others g h;
       }
 
-  -- where nothing may come next, nothing is left
+  -- if nothing may come next, nothing is left
   pub stuck : (counts : K → ℕ) (lists : ℕ → List L) (lines : List L)
       → ((s : ℕ) → Can counts lists s → ⊥)
       → IsJoint counts lists lines → (s : ℕ) → lists s ≡ []
@@ -172,8 +172,7 @@ module _ {L K : Type 0} (t : Tickets L K) where
   stuck counts lists (line ∷ lines) none h s =
       absurd (none (t.session line) (line, refl, first_may counts lists line lines h))
 
-  -- how far the greedy merge has come: `out` was put, and the counts and
-  -- lists are what is left
+  -- the state of the greedy merge: `out` was put, and the counts and lists are what is left
   pub record Half (first_counts : K → ℕ) (first_lists : ℕ → List L) (out : List L) (counts : K → ℕ)
       (lists : ℕ → List L) : Type 0 where
     pub greedy : (rest : List L) → Greedy counts lists rest

@@ -1,4 +1,4 @@
--- Where one joint order stands, each does.
+-- If the lines of one joint order are valid (`Stands`), those of each are.
 use Rattle.std.proofs.Common.{◌≡◌, ◌≢◌, ℕ, ◌+◌, ◌*◌, ◌⊎◌, Bool, true, false, List, [], ◌∷◌, ◌++◌, Option, Some, None, refl, sym, ap, ◌∙◌, subst, inl, inr, arith, Decides}
 use mathlib.Core.Logic.{dite}
 use native.Mathlib.Decide.{ℕ_discrete}
@@ -54,8 +54,8 @@ module _ {N : Type 0} {naming : Naming N} (law : IsNaming naming) where
   two_rows m n (inl ne) = absurd (ne refl)
   two_rows m n (inr z) = let y = z.0 in omega arith
 
-  -- a line stands after one of another session that is apart from it exactly where it stands before
-  -- it
+  -- a line is valid after one of another session that is apart from it exactly if it is valid
+  -- before it
   still : (place next_place : Place N) (records : Records N) (own next_own : List (PlacedLine N))
       (s v : ℕ)
       (command next_command : Command N)
@@ -96,7 +96,7 @@ module _ {N : Type 0} {naming : Naming N} (law : IsNaming naming) where
   records_swap (Busy u f) next_place records own next_own s v command next_command a = refl
   records_swap (Released u f) next_place records own next_own s v command next_command a = refl
 
-  -- what stands after some lines stands after others with the same parts
+  -- lines that are valid after some lines are valid after others with the same parts
   alike : (records : Records N) (before others lines : List (PlacedLine N))
       → ((s : ℕ) → part_of s before ≡ part_of s others) → StandAfter naming records before lines
       → StandAfter naming records others lines
@@ -118,7 +118,7 @@ module _ {N : Type 0} {naming : Naming N} (law : IsNaming naming) where
             (λ s. push_same s before others line (h s)) here.1,
       )
 
-  -- a line that may come next, moved to the front of lines that stand, leaves them standing
+  -- a line that may come next, moved to the beginning of valid lines, leaves them valid
   pub moved_to_front : (counts : Option N → ℕ) (records : Records N) (before : List (PlacedLine N))
       (next : PlacedLine N) (rest lines : List (PlacedLine N))
       → AllCome tickets counts lines → part_of next.session lines ≡ next ∷ rest
@@ -194,7 +194,7 @@ module _ {N : Type 0} {naming : Naming N} (law : IsNaming naming) where
       subst (λ (others : List (PlacedLine N)). StandAfter naming records before (next ∷ others))
       (sym (cond_other line.session next.session lines (line ∷ rest_of) n)) (front, both))
 
-  -- where one joint order stands, each does
+  -- if the lines of one joint order are valid, those of each are
   pub one_for_all : (counts : Option N → ℕ) (records : Records N) (before : List (PlacedLine N))
       (lists : ℕ → List (PlacedLine N)) (lines others : List (PlacedLine N))
       → IsJoint tickets counts lists lines → IsJoint tickets counts lists others

@@ -47,7 +47,7 @@ after_busy lines joins = elim (who_goes _ (unlock ∷ []) (lock_again ∷ []) li
   | inr (inr second) ↦ let wrong : ◌≡◌ {A = ℕ} 1 2 = second.2.1 in absurd (omega arith)
 ]
 
--- after the release a busy answer of one grant fits no count
+-- after the release a busy reply of one grant fits no count
 busy_too_late : (g : ℕ) (lines : List (PlacedLine Text))
     → Joins (lock ∷ unlock ∷ []) [] (busy g ∷ lock_again ∷ []) lines → ⊥
 busy_too_late g lines joins = elim (who_goes _ [] (busy g ∷ lock_again ∷ []) lines joins) [

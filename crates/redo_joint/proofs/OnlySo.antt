@@ -1,4 +1,4 @@
--- By which lines a legal placed history goes on.
+-- Which lines can extend a legal placed history.
 use Rattle.std.proofs.Common.{◌≡◌, ℕ, ◌+◌, ◌-◌, ◌/◌, ◌%◌, List, [], map, subst, arith}
 use Rattle.std.proofs.lemmas.List.{map_push}
 use Rattle.redo_model.specs.Names.{Naming}
@@ -35,7 +35,7 @@ module _ {N : Type 0} {naming : Naming N} (law : IsNaming naming) where
       line.command line.reply line.place tied placed.1 legal.1 in
       (placed.1, placed.2, stands.0)
 
-  -- a grant comes where the claim word is even
+  -- a grant comes if the claim word is even
   pub word_at_grant : (lines : List (PlacedLine N)) (t : N) (g : ℕ) → IsPlaced naming lines
       → Follows naming lines (Granted t g)
       → (claim_word_of naming lines t % 2 ≡ 0) × (g ≡ claim_word_of naming lines t / 2 + 1)
@@ -45,7 +45,7 @@ module _ {N : Type 0} {naming : Naming N} (law : IsNaming naming) where
       let c : releases_in naming lines t + 1 ≡ g = follows.1 in
       (omega arith, omega arith)
 
-  -- a busy answer and a release come where it is odd
+  -- a busy reply and a release come if it is odd
   pub word_at_busy : (lines : List (PlacedLine N)) (t : N) (g : ℕ) → IsPlaced naming lines
       → Follows naming lines (Busy t g)
       → (claim_word_of naming lines t % 2 ≡ 1) × (g ≡ (claim_word_of naming lines t - 1) / 2 + 1)

@@ -55,7 +55,7 @@ placed_less naming before (first ∷ lines) line h =
           (append_assoc before (first ∷ []) lines) rest.2,
     )
 
--- a front of placed lines is placed
+-- a prefix of placed lines is placed
 pub front_placed : {N : Type 0} (naming : Naming N) (before front rest : List (PlacedLine N))
     → IsPlacedAfter naming before (front ++ rest) → IsPlacedAfter naming before front
 front_placed naming before [] rest h = tt
@@ -77,7 +77,7 @@ module _ {N : Type 0} {naming : Naming N} (law : IsNaming naming)
       → IsJoint (tickets law) (counters naming []) journals lines
   joint_by_tickets lines h = record { parts = h.0; come = (placed_come law [] lines h.1).1 }
 
-  -- where one joint order is legal, each is
+  -- if one joint order is legal, each is
   pub legal_in_every_order : (one other : List (PlacedLine N))
       → IsJointOrder naming journals one → IsJointOrder naming journals other
       → Legal naming (map line_of one) → Legal naming (map line_of other)

@@ -1,4 +1,4 @@
--- What a session sees of its own: its lines, and what it builds.
+-- A session's own lines, and what it builds.
 use Rattle.std.proofs.Common.{◌≡◌, ◌≢◌, ℕ, Bool, true, false, cond, not, eqb, List, [], ◌∷◌, ◌++◌, Option, Some, None, refl, sym, ap, ◌∙◌, subst, inl, inr, ne_eqb, eqb-true}
 use Rattle.std.proofs.lemmas.Bool.{cases_Bool}
 use Rattle.std.specs.List.{AllByRecursion}
@@ -154,7 +154,7 @@ module _ {N : Type 0} {naming : Naming N} (law : IsNaming naming) where
   by_verdict records u s held command x None ne e = accepted records u s held command x ne e
   by_verdict records u s held command x (Some refusal) ne e = refl
 
-  -- a command of one session leaves what another builds
+  -- a command of one session doesn't change what another builds
   pub builds_kept : (records : Records N) (u s : ℕ) (held : Bool) (command : Command N) (x : N)
       → u ≢ s
       → is_built_by s (target_state (records_after naming records u held command) x)

@@ -1,4 +1,4 @@
--- The row words fix the records.
+-- The row words determine the records.
 use Rattle.std.proofs.Common.{◌≡◌, ℕ, ◌+◌, ◌-◌, ◌*◌, ◌/◌, ◌%◌, ◌<◌, ◌≤◌, Bool, true, false, cond, not, eqb, List, [], ◌∷◌, ◌++◌, length, map, get_or, refl, sym, ap, ◌∙◌, subst, inl, inr, arith}
 use Rattle.std.specs.Prelude.{nat_lt}
 use Rattle.std.specs.Option.{unwrap_or}
@@ -112,7 +112,7 @@ module _ {naming : Naming ℕ} (law : IsNaming naming) where
     flag_below true = omega arith
     flag_below false = omega arith
 
-    -- what the word of a row tells is what the line does
+    -- the word of a row gives what the line does
     abbrev Replays : Records ℕ → List (PlacedLine ℕ) → PlacedLine ℕ → ℕ → Type 0
     Replays records own line word =
         records_after naming records (session_in word) (flag_in word) (command_in plan word)

@@ -1,4 +1,4 @@
--- Which places stand in a placed history, and what a session had seen of them.
+-- Which places occur in a placed history, and what a session had seen of them.
 use Rattle.std.proofs.Common.{◌≡◌, ℕ, ◌+◌, ◌<◌, ◌≤◌, ◌⊎◌, Bool, true, false, cond, eqb, List, [], ◌∷◌, ◌++◌, refl, ap, ◌∙◌, subst, inl, inr, arith}
 use Rattle.std.proofs.lemmas.Bool.{cases_Bool}
 use mathlib.Core.Logic.{dite}
@@ -21,7 +21,7 @@ pub stands_last : {N : Type 0} (lines : List (PlacedLine N)) (line : PlacedLine 
 stands_last [] line place e = inl e
 stands_last (first ∷ lines) line place e = inr (stands_last lines line place e)
 
--- a place that stands in lines with one more stands before, or at the last
+-- a place that occurs in lines with one more occurs before, or is that of the last
 pub stands_in_more : {N : Type 0} (lines : List (PlacedLine N)) (line : PlacedLine N)
     (place : Place N)
     → StandsIn (lines ++ line ∷ []) place → StandsIn lines place ⊎ (line.place ≡ place)
@@ -41,7 +41,7 @@ stands_in_rest true line own lines place rest (inl e) = inl e
 stands_in_rest true line own lines place rest (inr h) = inr (rest h)
 stands_in_rest false line own lines place rest h = inr (rest h)
 
--- what stands in a session's part stands in the lines
+-- what occurs in a session's part occurs in the lines
 pub stands_in_part : {N : Type 0} (s : ℕ) (lines : List (PlacedLine N)) (place : Place N)
     → StandsIn (part_of s lines) place → StandsIn lines place
 stands_in_part s [] place h = absurd h
@@ -50,7 +50,7 @@ stands_in_part s (line ∷ lines) place h =
     (stands_in_part s lines place) h
 
 module _ {N : Type 0} (naming : Naming N) where
-  -- the rows, the grants and the releases stand, as many as there are
+  -- the rows, the grants and the releases occur, as many as there are
   pub record NoneMissing (lines : List (PlacedLine N)) : Type 0 where
     pub rows : (q : ℕ) → q < rows_in lines → StandsIn lines (Row q)
     pub grants : (t : N) (f : ℕ) → 1 ≤ f → f ≤ grants_in naming lines t
@@ -58,7 +58,7 @@ module _ {N : Type 0} (naming : Naming N) where
     pub releases : (t : N) (f : ℕ) → 1 ≤ f → f ≤ releases_in naming lines t
         → StandsIn lines (Released t f)
 
-  -- the places that stand are no later
+  -- the places that occur are no later
   pub record NoneLater (lines : List (PlacedLine N)) : Type 0 where
     pub row : (r : ℕ) → StandsIn lines (Row r) → r < rows_in lines
     pub granted : (t : N) (g : ℕ) → StandsIn lines (Granted t g)
@@ -211,7 +211,7 @@ module _ {N : Type 0} {naming : Naming N} (law : IsNaming naming) where
         ];
   }
 
-  -- in placed lines no place stands that is later than their counts
+  -- in placed lines no place occurs that is later than their counts
   pub none_later : (lines : List (PlacedLine N)) → IsPlaced naming lines → NoneLater naming lines
   none_later =
       along_placed law (NoneLater naming)
@@ -229,7 +229,7 @@ module _ {N : Type 0} {naming : Naming N} (law : IsNaming naming) where
       none.granted t g (stands_in_part s lines (Granted t g) h)
   told_no_later s lines t g none (inr h) = none.busy t g (stands_in_part s lines (Busy t g) h)
 
-  -- what a session had seen of a placed history stands in it
+  -- what a session had seen of a placed history occurs in it
   pub seen_stands : (s : ℕ) (lines : List (PlacedLine N)) (place : Place N)
       → IsPlaced naming lines → HasSeen (part_of s lines) place → StandsIn lines place
   seen_stands s lines (Row q) placed seen =

@@ -1,4 +1,4 @@
--- What the lines of a placed history tell of the locks.
+-- What the lines of a placed history say of the locks.
 use Rattle.std.proofs.Common.{◌≡◌, ℕ, ◌+◌, Bool, true, false, eqb, List, [], Option, Some, None, is_some, refl, arith, eq-eqb, ne_eqb}
 use Rattle.std.proofs.lemmas.Bool.{false≢true}
 use Rattle.redo_model.specs.Names.{Naming, put}
@@ -54,7 +54,7 @@ module _ {N : Type 0} (naming : Naming N) where
   flag_at true g r e = eq-eqb g (r + 1) e
   flag_at false g r e = ne_eqb g (r + 1) (λ q. omega arith)
 
-  -- what a session holds is told by its own lines
+  -- a session's own lines determine what it holds
   pub flag : (state : State N) (before : List (PlacedLine N)) (s : ℕ) (o : Option N)
       → Tied state before
       → holds_by naming (part_of s before) o ≡ holds_name state.locks s o

@@ -1,4 +1,4 @@
--- Which placed histories are legal, told by the rows and by what each session did itself.
+-- Which placed histories are legal, by the rows and by what each session did itself.
 use Rattle.std.specs.Prelude.{◌≡◌, ℕ, true, false, List, [], ◌∷◌, ◌++◌, Some, map}
 use Rattle.redo_model.specs.Names.{Naming}
 use Rattle.redo_model.specs.State.{Records, empty, target_state}
@@ -10,8 +10,8 @@ use Rattle.redo_model.specs.Placed.{Place, Row, Granted, Busy, Released, PlacedL
 use Rattle.redo_model.specs.Inside.Placed.{holds_by}
 
 module _ {N : Type 0} (naming : Naming N) where
-  -- after the session's own lines a row has the reply of the database, and who releases a target
-  -- holds it and doesn't build it
+  -- the line is valid: a row has the database's reply, by what the session's own lines say that it
+  -- holds, and a session that releases a target holds it and doesn't build it
   abbrev pub Stands : Place N → Records N → List (PlacedLine N) → ℕ → Command N → Reply N → Type 0
   Stands (Row r) records own s command reply =
       Replies naming records s (holds_by naming own (target_of command)) command reply
@@ -20,7 +20,7 @@ module _ {N : Type 0} (naming : Naming N) where
   Stands (Released t g) records own s command reply =
       (holds_by naming own (Some t) ≡ true) × (is_built_by s (target_state records t) ≡ false)
 
-  -- the rows alone change the records
+  -- only rows change the records
   abbrev pub records_by : Place N → Records N → List (PlacedLine N) → ℕ → Command N → Records N
   records_by (Row r) records own s command =
       records_after naming records s (holds_by naming own (target_of command)) command
@@ -36,7 +36,7 @@ module _ {N : Type 0} (naming : Naming N) where
       Stands line.place records own line.session line.command line.reply
       × StandAfter next (before ++ line ∷ []) lines
 
-  -- each line stands after the lines before it, from the start, where nothing is known
+  -- each line is valid after the lines before it, from the empty state
   abbrev pub AllStand : List (PlacedLine N) → Type 0
   AllStand lines = StandAfter (empty {N = N}).records [] lines
 

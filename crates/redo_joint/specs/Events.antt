@@ -1,4 +1,4 @@
--- How a legal placed history goes on.
+-- How a legal placed history can be extended.
 use Rattle.std.specs.Prelude.{ℕ, ◌+◌, cond, List, [], ◌∷◌, ◌++◌, map}
 use Rattle.redo_model.specs.Names.{Naming}
 use Rattle.redo_model.specs.History.{Legal}
@@ -10,6 +10,6 @@ module _ {N : Type 0} (naming : Naming N) where
   GoesOnBy lines line =
       let more = lines ++ line ∷ [] in IsPlaced naming more × Legal naming (map line_of more)
 
-  -- by how much a line moves the claim word of t on
+  -- by how much a line increases the claim word of t
   abbrev pub moved_by : Place N → N → ℕ
   moved_by place t = cond (is_grant naming t place) 1 0 + cond (is_release naming t place) 1 0

@@ -1,4 +1,4 @@
--- What the row words tell: the records that the commands of the words leave.
+-- The records that the commands of the row words leave.
 use Rattle.std.specs.Prelude.{◌≡◌, ℕ, ◌-◌, ◌/◌, ◌%◌, ◌≤◌, Bool, cond, not, nat_lt, List, [], ◌∷◌, map, slice_index_or, ◌==◌}
 use Rattle.std.specs.List.{AllByRecursion}
 use Rattle.redo_model.specs.Names.{Naming}
@@ -14,29 +14,29 @@ use Rattle.redo_model.specs.Inside.Journals.{IsOfPlan}
 abbrev pub is_closing : ℕ → Bool
 is_closing word = not (nat_lt word 4294967296)
 
--- the session that a row word tells
+-- the session in a row word
 abbrev pub session_in : ℕ → ℕ
 session_in word = cond (is_closing word) ((word - 4294967296) / 65536) ((word - 1) / 8192)
 
--- the number of the command and the flag that the word of a script's line tells
+-- the number of the command and the flag in the word of a script's line
 abbrev pub number_in : ℕ → ℕ
 number_in word = (word - 1) / 2 % 4096
 
 abbrev pub flag_in : ℕ → Bool
 flag_in word = (word - 1) % 2 == 1
 
--- the target that the word of a closing line tells
+-- the target in the word of a closing line
 abbrev pub target_in : ℕ → ℕ
 target_in word = (word - 4294967296) % 65536
 
--- the command that a row word tells: one of the script, or that the target's build failed
+-- the command of a row word: one of the script, or that the target's build failed
 abbrev pub command_in : (ℕ → List (Item ℕ)) → ℕ → Command ℕ
 command_in plan word =
     let commands = commands_in (plan (session_in word)) in
     cond (is_closing word) (Failed (target_in word))
     (slice_index_or commands (number_in word) Ood)
 
--- the records at the start, where nothing is known
+-- the records of the empty state
 abbrev pub no_records : {N : Type 0} → Records N
 no_records {N} = (empty {N = N}).records
 

@@ -1,4 +1,4 @@
--- Placed histories that were worked out by hand, to believe the definitions by.
+-- Placed histories that were worked out by hand, as a check of the definitions.
 use Rattle.std.specs.Prelude.{ℕ, zero, suc, false, List, [], ◌∷◌, ◌++◌, codes}
 use Rattle.std.specs.Ordering.{nat_cmp}
 use Rattle.redo_model.specs.Names.{Text, Naming, numbers}
@@ -20,7 +20,7 @@ numbered_at session number command reply place =
 abbrev pub item_of : Command ℕ → Item ℕ
 item_of command = record { guarded = false; command = command }
 
--- the first session tells of a file, locks a target and starts it; the second tells of a file
+-- the first session reports a file, locks a target and starts it; the second reports a file
 abbrev pub two_scripts : ℕ → List (Item ℕ)
 two_scripts zero = item_of (File 0 (codes "1")) ∷ item_of (Lock 1) ∷ item_of (Start 1) ∷ []
 two_scripts (suc zero) = item_of (File 2 (codes "1")) ∷ []
@@ -40,7 +40,7 @@ broken_off zero = item_of (Lock 0) ∷ item_of (Start 0) ∷ []
 broken_off (suc zero) = item_of (Lock 0) ∷ []
 broken_off (suc (suc s)) = []
 
--- the first lets go of the target, then the second locks it
+-- the first fails and releases the target, then the second locks it
 abbrev pub let_go : List (PlacedLine ℕ)
 let_go =
     numbered_at 0 0 (Lock 0) (replies.Granted 1) (Granted 0 1)
@@ -51,7 +51,7 @@ let_go =
     ∷ numbered_at 1 1 (Unlock 0) Okay (Released 0 2)
     ∷ []
 
--- a session lets the build of a target fail
+-- a session's closing command fails a build
 abbrev pub closing_row : ℕ → ℕ → ℕ → PlacedLine ℕ
 closing_row session number t = numbered_at session number (Failed t) Okay (Row 0)
 

@@ -1,4 +1,4 @@
-//! How a legal placed history goes on: by the events of the board.
+//! How a legal placed history can be extended: the events of the board.
 
 ghost use Rattle.std.specs.Prelude.{◌%◌, ◌+◌, ◌-◌, ◌/◌, ◌≡◌, List, Some, false, map, true, ℕ};
 ghost use Rattle.redo_joint.specs.ByRows.{records_left};
@@ -15,7 +15,7 @@ ghost use Rattle.redo_model.specs.State.{empty, target_state};
 ghost use Rattle.redo_model.specs.Step.{Replies, is_built_by, is_held_by};
 ghost use Rattle.redo_model.specs.Inside.Words.{claim_word_of};
 
-/// What a session holds is told by its own lines, and the number of grants by all lines.
+/// A session's own lines determine what it holds, and all lines the number of grants.
 pub fn locks_by_lines()
     ensures grants { (lines : List (PlacedLine Text)) (t : Text) →
         IsPlaced texts lines → Legal texts (map line_of lines) →
@@ -26,7 +26,7 @@ pub fn locks_by_lines()
         ≡ holds_by texts (part_of s lines) (Some t) }
 {}
 
-/// A row may be won by any command that is no claim, with the reply of the records.
+/// Any command that is no claim may win the next row, with the reply of the records.
 pub fn row_goes_on()
     ensures { (lines : List (PlacedLine Text)) (s number : ℕ) (command : Command Text)
         (reply : Reply Text) →
@@ -36,7 +36,7 @@ pub fn row_goes_on()
         GoesOnBy texts lines (placed_at s number command reply (Row (rows_in lines))) }
 {}
 
-/// Where the claim word is even, a lock is granted.
+/// If the claim word is even, a lock is granted.
 pub fn grant_goes_on()
     ensures { (lines : List (PlacedLine Text)) (s number : ℕ) (t : Text) →
         IsPlaced texts lines → Legal texts (map line_of lines) →
@@ -45,7 +45,7 @@ pub fn grant_goes_on()
         GoesOnBy texts lines (placed_at s number (Lock t) (replies.Granted g) (Granted t g)) }
 {}
 
-/// Where it is odd, a lock is busy.
+/// If it is odd, a lock is busy.
 pub fn busy_goes_on()
     ensures { (lines : List (PlacedLine Text)) (s number : ℕ) (t : Text) →
         IsPlaced texts lines → Legal texts (map line_of lines) →
@@ -64,7 +64,7 @@ pub fn release_goes_on()
         GoesOnBy texts lines (placed_at s number (Unlock t) Okay (Released t g)) }
 {}
 
-/// By no other line does a legal placed history go on.
+/// No other line extends a legal placed history.
 pub fn goes_on_only_so()
     ensures row { (lines : List (PlacedLine Text)) (s number r : ℕ) (command : Command Text)
         (reply : Reply Text) →

@@ -1,4 +1,4 @@
-//! Laws of placed histories: where they are legal, and the joint orders of journals.
+//! Laws of placed histories: which are legal, and the joint orders of journals.
 
 ghost use Rattle.std.specs.Prelude.{◌≡◌, ◌↔◌, ◌∷◌, ◌++◌, ◌≤◌, [], List, length, map, ℕ};
 ghost use Rattle.redo_joint.specs.ByRows.{AllStand};
@@ -10,8 +10,8 @@ ghost use Rattle.redo_model.specs.Names.{Text, texts};
 ghost use Rattle.redo_model.specs.Placed.{Fits, Follows, IsPlaced, Place, PlacedLine, line_of, part_of};
 ghost use Rattle.redo_model.specs.Seen.{HasSeen, StandsIn};
 
-/// Lines are placed, with one more, where they are without it, and its place fits it and may come
-/// after them.
+/// Lines with one more are placed exactly if they are without it, and its place fits it and may
+/// come after them.
 pub fn placed_by_one_more()
     ensures { (lines : List (PlacedLine Text)) (line : PlacedLine Text) →
         IsPlaced texts (lines ++ line ∷ []) ↔
@@ -19,20 +19,20 @@ pub fn placed_by_one_more()
         × Follows texts lines line.place) }
 {}
 
-/// A front of a placed history is placed.
+/// A prefix of a placed history is placed.
 pub fn placed_front()
     ensures { (front rest : List (PlacedLine Text)) →
         IsPlaced texts (front ++ rest) → IsPlaced texts front }
 {}
 
-/// A placed history is legal exactly where each row has the database's reply after the rows before
-/// it, and who releases a target holds it by the session's own lines and doesn't build it.
+/// A placed history is legal exactly if each row has the database's reply after the rows before it,
+/// and each session that releases a target holds it by its own lines and doesn't build it.
 pub fn legal_by_rows()
     ensures { (lines : List (PlacedLine Text)) → IsPlaced texts lines →
         Legal texts (map line_of lines) ↔ AllStand texts lines }
 {}
 
-/// Where one joint order of journals is legal, each is.
+/// If one joint order of journals is legal, each is.
 pub fn legal_in_every_order()
     ensures { (journals : ℕ → List (PlacedLine Text)) (one other : List (PlacedLine Text)) →
         IsJointOrder texts journals one → IsJointOrder texts journals other →
@@ -48,7 +48,7 @@ pub fn joint_order_is_of_plan()
         IsJointOrder texts journals lines → IsOfPlan texts plan lines }
 {}
 
-/// What a session had seen at a line stands before that line.
+/// What a session had seen at a line comes before that line.
 pub fn seen_stands_before()
     ensures { (before later : List (PlacedLine Text)) (line : PlacedLine Text)
         (place : Place Text) →

@@ -1,5 +1,5 @@
-//! Placed histories: which are legal, how they go on, what their words tell; and the joint orders
-//! of journals.
+//! Placed histories: which are legal, how they can be extended, what their words say; and the joint
+//! orders of journals.
 #![tactic(auto)]
 
 pub mod events;

@@ -1,4 +1,4 @@
-//! Journals of two sessions that lock one target: the joint orders that they have.
+//! Journals of two sessions that lock one target: their joint orders.
 
 ghost use Rattle.std.specs.Prelude.{◌≡◌, List, map};
 ghost use Rattle.redo_model.specs.History.{Legal};
@@ -7,7 +7,7 @@ ghost use Rattle.redo_model.specs.Inside.Merging.{merging, two_journals};
 ghost use Rattle.redo_model.specs.Names.{Text, texts};
 ghost use Rattle.redo_model.specs.Placed.{PlacedLine, line_of};
 
-/// Where the second finds the first grant in force, there is one joint order, and it is legal.
+/// If the second finds the first grant in force, there is one joint order, and it is legal.
 pub fn merging_has_one_order()
     ensures joint { IsJointOrder texts (two_journals 1) merging }
     ensures legal { Legal texts (map line_of merging) }
@@ -15,7 +15,7 @@ pub fn merging_has_one_order()
         lines ≡ merging }
 {}
 
-/// Where it finds a third grant in force, which never was, there is no joint order.
+/// If it finds a third grant in force, which never was, there is no joint order.
 pub fn busy_of_no_grant_has_no_order()
     ensures { (lines : List (PlacedLine Text)) → IsJointOrder texts (two_journals 3) lines → ⊥ }
 {}

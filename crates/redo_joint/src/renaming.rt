@@ -1,4 +1,4 @@
-//! What holds of joint orders over numbers holds of those over the names that they stand for.
+//! Facts about joint orders over numbers are facts about those over the names that they stand for.
 
 ghost use Rattle.std.specs.Prelude.{◌≡◌, List, map, ℕ};
 ghost use Rattle.redo_joint.specs.Named.{AreToldBelow, IsPlacedBelow, named_journals, named_placed_line};
@@ -32,8 +32,8 @@ pub fn joint_order_from_names()
         × (map (named_placed_line to.name) over ≡ lines) }
 {}
 
-/// The first joint order over numbers, under their names, is the first over the names; and where
-/// there is none over the numbers, there is none over the names.
+/// The first joint order over numbers, under their names, is the first over the names; and if there
+/// is none over the numbers, there is none over the names.
 pub fn first_joint_order_by_name()
     ensures first { (to : Renaming Text) (order : ℕ → ℕ → Ordering)
         (journals : ℕ → List (PlacedLine ℕ)) (lines : List (PlacedLine ℕ)) →

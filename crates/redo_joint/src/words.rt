@@ -1,4 +1,4 @@
-//! What the words of a board tell of a placed history.
+//! What the words of a board say of a placed history.
 
 ghost use Rattle.std.specs.Prelude.{◌+◌, ◌++◌, ◌∷◌, ◌≡◌, List, [], ℕ};
 ghost use Rattle.std.specs.declared.cmp.Ordering.{Ordering};
@@ -30,8 +30,7 @@ pub fn words_by_one_more()
         ≡ claim_word_of texts lines t + moved_by texts line.place t }
 {}
 
-/// The records that a legal placed history leaves are those that the commands of its row words
-/// leave.
+/// A legal placed history leaves the records that the commands of its row words leave.
 pub fn records_by_words()
     ensures { (order : ℕ → ℕ → Ordering) (plan : ℕ → List (Item ℕ))
         (lines : List (PlacedLine ℕ)) →

@@ -32,8 +32,8 @@ pub fn words_by_hand()
     ensures released { claim_word_of texts merging shared ≡ 3 }
 {}
 
-/// Two sessions that break off, the first in a build, let go of their target: the words of their
-/// rows, and of rows of other closing lines.
+/// Two sessions break off, the first in a build, and close their target: the words of their rows,
+/// and of rows of other closing lines.
 pub fn closing_words_by_hand()
     ensures placed { IsPlaced by_number let_go }
     ensures legal { Legal by_number (map line_of let_go) }
@@ -45,8 +45,8 @@ pub fn closing_words_by_hand()
     ensures greatest { row_word_of by_number broken_off [] (closing_row 63 0 65535) ≡ 4299161599 }
 {}
 
-/// A session had seen all rows up to its latest one, and of a target all grants up to the one that
-/// it was told of, and the releases before that one; and no more.
+/// A session had seen all rows up to its latest one, and of a target all grants up to the one in a
+/// reply to it, and the releases before that one; and no more.
 pub fn seen_by_hand()
     ensures row { HasSeen (part_of 0 three_rows) (Row 2) }
     ensures earlier_row { HasSeen (part_of 0 three_rows) (Row 1) }
@@ -57,8 +57,8 @@ pub fn seen_by_hand()
     ensures no_later_release { HasSeen (second_journal 1) (Released shared 2) → ⊥ }
 {}
 
-/// A journal has the commands of its script in their order, and is whole at the script's end where
-/// nothing is held.
+/// A journal has the commands of its script in their order, and is whole if the script has ended
+/// and nothing is held.
 pub fn journals_by_hand()
     ensures whole { IsWholeJournal texts 0 one_hold first_journal }
     ensures goes_on { IsWholeJournal texts 0 one_hold_and_more first_journal → ⊥ }
@@ -66,7 +66,7 @@ pub fn journals_by_hand()
     ensures other_session { IsJournal texts 1 one_hold first_journal → ⊥ }
 {}
 
-/// Of two orders that are placed, the one in which the first session goes first comes first.
+/// Of two placed orders, the one in which the first session goes first comes first.
 pub fn first_session_goes_first()
     ensures placed { IsPlaced texts two_locks }
     ensures turned { IsPlaced texts two_locks_turned }
