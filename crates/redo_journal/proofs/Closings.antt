@@ -1,4 +1,4 @@
--- The least of the held names, and the closing command that lets go of it.
+-- The least of the held names, and its closing command.
 use Rattle.std.proofs.Common.{◌≡◌, ℕ, suc, ◌+◌, ◌<◌, Bool, true, false, cond, List, [], ◌∷◌, length, map, drop, get_or, filter, All, Option, Some, None, refl, sym, ap, ◌∙◌, subst, arith}
 use Rattle.std.proofs.Math.Seq.{drop-cons}
 use Rattle.std.specs.Option.{option_map}
@@ -19,7 +19,7 @@ use Rattle.redo_journal.specs.Journals.{command_told, lines_told}
 use Rattle.redo_journal.specs.Holds.{Says, hold_at}
 use Rattle.redo_journal.specs.Inside.Holds.{is_held, locked_in, lesser_held}
 
--- one name more in front
+-- one name more at the beginning
 module _ (naming : Naming ℕ) (holds : List Hold) where
   least_more : (o : Option ℕ) (rest : List ℕ)
       → lesser_held naming holds o (least naming (filter (is_held holds) rest))
@@ -50,7 +50,7 @@ module _ (naming : Naming ℕ) (holds : List Hold) where
       ∙ least_more asked (locked_in script (drop (at + 1) entries))
       ∙ ap (λ es. least naming (filter (is_held holds) (locked_in script es))) (sym left)
 
--- the table tells which of the locked names are held
+-- the table says which of the locked names are held
 filter_alike : (p q : ℕ → Bool) (n : ℕ) (names : List ℕ) → AllBelow n names
     → ((t : ℕ) → t < n → p t ≡ q t) → filter p names ≡ filter q names
 filter_alike p q n [] below same = refl
@@ -69,7 +69,7 @@ locked_told s script [] = refl
 locked_told s script (entry ∷ entries) =
     ap (cons_option (asked_lock (command_told script entry))) (locked_told s script entries)
 
--- the lines that entries tell are over the names that the entries are over
+-- the lines of entries are over the names of the entries
 lines_below : (n s : ℕ) (script : List (commands.Item ℕ)) (entries : List Entry)
     → TellsBelow n script entries → AllAskBelow n (map line_of (lines_told s script entries))
 lines_below n s script [] below = tt
@@ -99,7 +99,7 @@ module _ (names : List Text) (table : List Hold) (s : ℕ) (script : List (comma
       ap (option_map (letting_go (by_text names) own))
       (ap (least (by_text names)) (sym held_told) ∙ sym e)
 
-  -- the least of the held names is let go
+  -- the closing command is about the least of the held names
   pub closing_told : (name : ℕ) → name < length names
       → Some name ≡ least (by_text names) (filter (is_held table) (locked_in script entries))
       → closing_of (by_text names) own

@@ -71,7 +71,7 @@ module _ (plan : PlanOf) (journals : List Journal) where
       subst (Both s (script_of plan s)) (sym (slice_get_past journals s beyond))
       (tt, All-nil (IsMarked (script_of plan s)))
 
-  -- each of them, where each below the end is
+  -- each of them, if each below the end is
   pub all_each : (n : ℕ) → length journals ≤ n → ((s : ℕ) → s < n → IsEach s)
       → (s : ℕ) → IsEach s
   all_each n end below s = elim (cases_lt s n) [

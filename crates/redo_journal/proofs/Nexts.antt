@@ -1,4 +1,4 @@
--- How what is next is found: line by line, after the last entry.
+-- How the next line is found: line by line, after the last entry.
 use Rattle.std.proofs.Common.{◌≡◌, ℕ, suc, ◌+◌, ◌-◌, ◌<◌, ◌≤◌, Bool, true, false, not, ◌||◌, cond, List, [], ◌∷◌, ◌++◌, length, map, drop, get_or, slice_get, Option, Some, None, refl, sym, ap, ◌∙◌, subst, arith}
 use Rattle.std.proofs.Math.Seq.{drop-cons}
 use Rattle.std.proofs.lemmas.List.{length-map, map_push, drop_all, get_or-map}
@@ -48,7 +48,7 @@ module _ (script : List Item) (through : Bool) (at : ℕ) (item : Item) (within 
       ∙ ap (λ (b : Bool). cond b (Some found) (first_at script through (at + 1))) done
       ∙ ap (λ (x : commands.Command ℕ). Some (record { number = at; command = x })) (sym asked)
 
-  -- or it is passed over
+  -- or it is skipped
   passed_in : (through || not item.guarded) ≡ false
       → first_at script through at ≡ first_at script through (at + 1)
   passed_in passed =
@@ -123,7 +123,7 @@ module _ (s : ℕ) (script : List Item) (entries : List Entry) where
       ap (next_line_of (map item_of script)) ends.1
       ∙ next_line_of_more (map item_of script) ends.0 (line_told s (map item_of script) last)
 
-  -- where there is none
+  -- if there is none
   pub line_at_first : slice_get entries (length entries - 1) ≡ None
       → next_line_of (map item_of script) (lines_told s (map item_of script) entries)
       ≡ first_at script true 0
@@ -141,7 +141,7 @@ module _ (s : ℕ) (script : List Item) (entries : List Entry) where
       ∙ closing_number_more (map item_of script) ends.0 (line_told s (map item_of script) last)
       ∙ ap (λ n. n + (last.line + 1 - n)) (length-map script item_of)
 
-  -- where there is none
+  -- if there is none
   pub number_at_first : slice_get entries (length entries - 1) ≡ None
       → closing_number (map item_of script) (lines_told s (map item_of script) entries)
       ≡ length script

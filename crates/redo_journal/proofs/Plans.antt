@@ -31,7 +31,7 @@ short_at (x ∷ xs) each zero =
     let a = each 0 (omega arith) in let b = length-map x item_of in omega arith
 short_at (x ∷ xs) each (suc s) = short_at xs (λ k within. each (suc k) (omega arith)) s
 
--- what a loop found of the first n scripts, where there are no more
+-- what a loop found of the first n scripts, if there are no more
 pub short_of : (items scripts : List (List Item)) (n : ℕ) → items ≡ scripts → length items ≤ n
     → ((k : ℕ) → k < n → length (get_or items k []) ≤ 4096)
     → (s : ℕ) → length (get_or (scripts_of scripts) s []) ≤ 4096

@@ -1,4 +1,4 @@
--- What the table says, after one line more.
+-- The table after one line more.
 use Rattle.std.proofs.Common.{◌≡◌, ℕ, ◌<◌, Bool, List, [], ◌∷◌, ◌++◌, refl, sym, ap, ◌∙◌, subst}
 use Rattle.redo_model.specs.Names.{Text, Naming}
 use Rattle.redo_model.specs.History.{Line}

@@ -1,4 +1,4 @@
--- Whether an entry is of what is next.
+-- Whether an entry is the next one.
 use Rattle.std.proofs.Common.{◌≡◌, ◌↔◌, ℕ, zero, suc, ◌+◌, ◌<◌, ◌==◌, Bool, IsTrue, eqb-true, rules, true, false, cond, List, [], ◌∷◌, length, map, take, get_or, slice_get, All, Option, Some, None, refl, sym, ap, ◌∙◌, subst, inl, inr, arith}
 use Rattle.std.specs.Option.{option_map, IsSome}
 use Rattle.std.specs.List.{AllByRecursion}
@@ -37,7 +37,7 @@ module _ (names : List Text) (s : ℕ) (script : List (commands.Item ℕ)) (befo
   abbrev told : List (PlacedLine ℕ)
   told = lines_told s script before
 
-  -- a line of the script is next: the entry is of it where it has its number
+  -- a line of the script is next: the entry is that line's if it has its number
   pub same_number : (entry : Entry) (n : ℕ) → IsMarked script entry → n < length script
       → next_line_of script told ≡ Some (numbered_in script n)
       → IsTrue (n == entry.line) ↔ IsNextAfter names s script before entry
@@ -58,7 +58,7 @@ module _ (names : List Text) (s : ℕ) (script : List (commands.Item ℕ)) (befo
             subst (λ m. IsTrue (n == m)) same (eqb-same n),
       )
 
-  -- no line is next: it is of a closing command
+  -- no line is next: the entry is that of a closing command
   pub next_closing : (b : Bool) (entry : Entry) → next_line_of script told ≡ None
       → (IsTrue b ↔ (option_map (closing_after script told)
       (closing_of (by_text names) (map line_of told)) ≡ Some (numbered (line_told s script entry))))
@@ -67,7 +67,7 @@ module _ (names : List Text) (s : ℕ) (script : List (commands.Item ℕ)) (befo
       let next = next_is_closing (by_text names) script told none in
       (λ yes. next ∙ is.0 yes, λ e. is.1 (sym next ∙ e))
 
--- the entry is of the closing command after the lines where it has its number and that command
+-- the entry is that of the closing command after the lines if it has its number and that command
 module _ (script : List (commands.Item ℕ)) (s : ℕ) (told : List (PlacedLine ℕ)) (entry : Entry)
     (closing : Option (commands.Command ℕ)) (command : commands.Command ℕ)
     (is : closing ≡ Some command) where
@@ -113,7 +113,7 @@ nothing_closes script told closing next none = (
   λ e. absurd (none-some _ (sym (ap (option_map (closing_after script told)) none) ∙ e)),
 )
 
--- what has no command lets go of nothing
+-- an entry without a command closes nothing
 pub ood_stays : (name : ℕ) (b : Bool) → Ood ≡ cond b (Failed name) (Unlock name) → ⊥
 ood_stays name true e = cc
 ood_stays name false e = cc

@@ -1,4 +1,4 @@
--- What makes the lines that a journal tells the session's journal.
+-- When the lines of a journal are the session's journal.
 use Rattle.std.proofs.Common.{◌≡◌, ℕ, zero, suc, ◌<◌, List, [], ◌∷◌, ◌++◌, length, take, slice_get, Some, refl, sym, ap, ◌∙◌, arith, append_assoc, append-nil}
 use Rattle.redo_model.specs.Names.{Naming}
 use Rattle.redo_model.specs.Command.{Item}
@@ -15,7 +15,7 @@ module _ (naming : Naming ℕ) (t s : ℕ) (script : List (Item ℕ)) where
       → next_of naming script (before ++ lines_told t script (take k entries))
       ≡ Some (numbered (line_told t script entry))
 
-  -- where they are, they bear its number
+  -- if they are, they have its number
   pub told_own : (before : List (PlacedLine ℕ)) (entries : List Entry)
       → IsJournalAfter naming s script before (lines_told t script entries)
       → 0 < length entries → t ≡ s
@@ -37,7 +37,7 @@ module _ (naming : Naming ℕ) (t s : ℕ) (script : List (Item ℕ)) where
       ap (next_of naming script) (sym (append_assoc before (line ∷ []) rest))
       ∙ told_next (before ++ line ∷ []) entries is.2 k (omega arith) other e
 
-  -- they are, where they bear its number and each is the next
+  -- they are, if they have its number and each is the next
   pub is_told : (before : List (PlacedLine ℕ)) (entries : List Entry)
       → (0 < length entries → t ≡ s) → ((k : ℕ) → k < length entries → Comes before entries k)
       → IsJournalAfter naming s script before (lines_told t script entries)

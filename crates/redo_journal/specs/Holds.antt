@@ -37,7 +37,7 @@ pub record Notes (names : List Text) (old : List Hold) (x : Command ℕ) (reply 
       → (hold_at new t).building
       ≡ closing.builds_then (by_text names) x reply t (hold_at old t).building
 
--- the lines that a session with this script and these entries tells, without their places
+-- the lines of a session with this script and these entries, without their places
 abbrev pub own_lines : ℕ → List (commands.Item ℕ) → List Entry → List (Line ℕ)
 own_lines s script entries = map line_of (lines_told s script entries)
 

@@ -1,4 +1,4 @@
--- What the journals of sessions tell.
+-- The meaning of the sessions' journals.
 use Rattle.std.specs.Prelude.{◌≡◌, ℕ, ◌≤◌, ◌↔◌, List, [], length, map, Option, option_map, All, IsSome, slice_get, slice_index_or}
 use Rattle.std.specs.Option.{unwrap_or}
 use Rattle.redo_model.specs.Names.{Naming}
@@ -21,7 +21,7 @@ place_of (Granted t g) = placed.Granted t g
 place_of (Busy t g) = placed.Busy t g
 place_of (Released t g) = placed.Released t g
 
--- the closing command where there is one, else the script's at the number
+-- the closing command if there is one, else the script's at the number
 abbrev pub command_by : List (Item ℕ) → Option Command → ℕ → commands.Command ℕ
 command_by script closing k =
     unwrap_or (option_map command_of closing) (slice_index_or (commands_in script) k Ood)
@@ -30,7 +30,7 @@ command_by script closing k =
 abbrev pub command_told : List (Item ℕ) → Entry → commands.Command ℕ
 command_told script entry = command_by script entry.closing entry.line
 
--- what an entry tells of a session with this script
+-- the line of an entry of a session with this script
 abbrev pub line_told : ℕ → List (Item ℕ) → Entry → PlacedLine ℕ
 line_told s script entry = record {
   session = s;
@@ -43,11 +43,11 @@ line_told s script entry = record {
 abbrev pub lines_told : ℕ → List (Item ℕ) → List Entry → List (PlacedLine ℕ)
 lines_told s script entries = map (line_told s script) entries
 
--- the lines that a journal tells
+-- the lines of a journal
 abbrev pub told_by : List (Item ℕ) → Journal → List (PlacedLine ℕ)
 told_by script journal = lines_told journal.session script journal.entries.items
 
--- the lines that the s-th journal tells; none where there is no such journal
+-- the lines of the s-th journal; none if there is no such journal
 abbrev pub journals_of : PlanOf → List Journal → ℕ → List (PlacedLine ℕ)
 journals_of plan journals s =
     unwrap_or (option_map (told_by (script_of plan s)) (slice_get journals s)) []
@@ -61,7 +61,7 @@ entries_of journals s =
 abbrev pub naming_of : PlanOf → Naming ℕ
 naming_of plan = by_text plan.names
 
--- the command is a closing one exactly where no line of the script has its number
+-- the command is a closing one exactly if no line of the script has its number
 abbrev pub IsMarked : List (Item ℕ) → Entry → Type 0
 IsMarked script entry = IsSome entry.closing ↔ (length script ≤ entry.line)
 

@@ -1,4 +1,4 @@
--- What the fields of a plan show, and what they keep.
+-- The value of a plan's fields, and their invariant.
 use Rattle.redo_journal.specs.Plans.{PlanOf, IsPlan, scripts_of}
 use Rattle.redo_journal.specs.declared.plan.Plan.TheInside.{Inside}
 

@@ -18,7 +18,7 @@ pub record PlanOf : Type 0 where
 abbrev pub scripts_of : List (List Item) → List (List (commands.Item ℕ))
 scripts_of scripts = map (λ script. map item_of script) scripts
 
--- the script of a session; it has no line where there is no such session
+-- the script of a session; it has no line if there is no such session
 abbrev pub script_of : PlanOf → ℕ → List (commands.Item ℕ)
 script_of plan s = slice_index_or plan.scripts s []
 

@@ -25,7 +25,7 @@ fn locked_by(script: &Script, entry: &Entry) -> Option<u32>
     }
 }
 
-/// The name, or the other where that comes first by bytes.
+/// The name, or the other if that comes first by bytes.
 fn lesser(names: &Names, name: u32, other: Option<u32>) -> u32
     requires name { name < length names.now }
     requires other { ForSome other (λ other. other < length names.now) }
@@ -41,7 +41,7 @@ fn lesser(names: &Names, name: u32, other: Option<u32>) -> u32
     }
 }
 
-/// Whether the command lets go of the name: its build fails where there is one, else it is unlocked.
+/// Whether the command closes the name: fails its build if there is one, else unlocks it.
 fn is_letting_go(command: &Command, name: u32, hold: Hold) -> bool
     ensures { IsTrue result
         ↔ (command_of command.now ≡ cond hold.building (Failed name) (Unlock name)) }
@@ -53,7 +53,7 @@ fn is_letting_go(command: &Command, name: u32, hold: Hold) -> bool
     }
 }
 
-/// Whether the entry's command lets go of the name.
+/// Whether the entry's command closes the name.
 pub(crate) fn lets_go(script: &Script, entry: &Entry, name: u32, hold: Hold) -> bool
     ensures { IsTrue result ↔ (command_told (map item_of script.now) entry.now
         ≡ cond hold.building (Failed name) (Unlock name)) }
@@ -65,7 +65,7 @@ pub(crate) fn lets_go(script: &Script, entry: &Entry, name: u32, hold: Hold) -> 
 }
 
 impl Holds {
-    /// The lesser of the name, where it is held, and the least so far.
+    /// The lesser of the name, if it is held, and the least so far.
     fn lesser_held(&self, names: &Names, name: Option<u32>, least: Option<u32>) -> Option<u32>
         requires names { length self.now ≡ length names.now }
         requires name { ForSome name (λ name. name < length names.now) }
@@ -101,8 +101,8 @@ impl Holds {
         least
     }
 
-    /// The closing command that comes after these entries of the session, whose table this is: of
-    /// the least target by bytes that it holds, `failed` where it builds it, else `unlock`.
+    /// The closing command after these entries of the session, whose table this is: about the least target by bytes
+    /// that it holds, `failed` if it builds it, else `unlock`.
     pub fn closing(&self, names: &Names, script: &Script, entries: &[Entry]) -> Option<Command>
         requires names { length self.now ≡ length names.now }
         requires below { AreToldBelow (length names.now) (map item_of script.now) entries.now }

@@ -6,7 +6,7 @@ ghost use Rattle.redo_journal.specs.Journals.{command_told};
 
 use redo_terms::{Command, FileStamp, Reply, Script};
 
-/// Where a command stands: at a row, or among the claims on a target. The numbers of a claim are
+/// The place of a command: a row, or one among the claims on a target. The numbers of a claim are
 /// the target's and the grant's.
 #[derive(Clone, Copy, Debug, PartialEq, Eq)]
 pub enum Place {
@@ -16,29 +16,29 @@ pub enum Place {
     Granted(u32, u32),
     /// The grant was in force.
     Busy(u32, u32),
-    /// The grant was given back.
+    /// The grant was released.
     Released(u32, u32),
 }
 
-/// A command that was done, its reply and the place.
+/// A command that was done, its reply and its place.
 #[derive(Debug, Drop)]
 pub struct Entry {
     /// The command's number: that of its line in the script, counted from 0. Closing commands are
     /// counted on from the number of lines.
     pub line: u32,
-    /// The command, where it is a closing one.
+    /// The command, if it is a closing one.
     pub closing: Option<Command>,
     pub reply: Reply,
     pub place: Place,
 }
 
 impl Entry {
-    /// The command that was done. There is none where the script has no line of this number.
+    /// The command that was done. There is none if the script has no line of this number.
     pub fn command<'a>(&'a self, script: &'a Script) -> Option<&'a Command>
         ensures { unwrap_or (option_map (λ command. command_of command.now) result) Ood
             ≡ command_told (map item_of script.now) self.now }
     {
-        // The check only knows how to move a command where the types within it are met.
+        // The prover can move a command only in a function that mentions the types within it.
         let _none: Option<FileStamp> = None;
         match &self.closing {
             Some(command) => Some(command),

@@ -16,7 +16,7 @@ pub struct Hold {
     pub building: bool,
 }
 
-/// What a session holds and builds: what its own entries tell, kept for each name.
+/// What a session holds and builds by its own entries, for each name.
 #[derive(Drop)]
 pub struct Holds {
     names: Vec<Hold>,
@@ -32,7 +32,7 @@ impl Model for Holds {
 }
 
 impl Holds {
-    /// Of these names nothing is held, and nothing built.
+    /// The session holds and builds none of these names.
     pub fn new(alloc: Global, names: &Names) -> Result<Holds, AllocError>
         ensures { IfOk result (λ holds. Says names.now holds []) }
     {
@@ -52,7 +52,7 @@ impl Holds {
         self.names[name as usize]
     }
 
-    /// What a command of the session and its reply change.
+    /// Changes the table by a command of the session and its reply.
     pub fn note(&mut self, command: &Command, reply: &Reply)
         requires { IsBelow (length self.old) (command_of command.now) }
         ensures { (names : List Text)

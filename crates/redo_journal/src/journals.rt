@@ -17,14 +17,14 @@ use redo_names::Names;
 use redo_terms::Script;
 use std::alloc::{AllocError, Global};
 
-/// Whether the entry says that its command is a closing one exactly where that has no line.
+/// Whether the entry has a closing command exactly if the script has no line of its number.
 fn is_marked(script: &Script, entry: &Entry) -> bool
     ensures { IsTrue result ↔ IsMarked (map item_of script.now) entry.now }
 {
     entry.closing.is_some() == (entry.line as usize >= script.items().len())
 }
 
-/// Whether each of the entries says so.
+/// Whether each of the entries does.
 fn are_marked(script: &Script, entries: &[Entry]) -> bool
     ensures { IsTrue result ↔ All (IsMarked (map item_of script.now)) entries.now }
 {
@@ -36,7 +36,7 @@ fn are_marked(script: &Script, entries: &[Entry]) -> bool
     true
 }
 
-/// What the entry's command and its reply change.
+/// Changes the table by the entry's command and its reply.
 fn note_entry(holds: &mut Holds, script: &Script, entry: &Entry)
     requires { IsBelow (length holds.old) (command_told (map item_of script.now) entry.now) }
     ensures { (names : List Text) → Notes names holds.old
@@ -47,7 +47,7 @@ fn note_entry(holds: &mut Holds, script: &Script, entry: &Entry)
     }
 }
 
-/// Whether each entry is of what is next after those before it.
+/// Whether each entry is the next after those before it.
 fn go_by(names: &Names, script: &Script, entries: &[Entry], mut holds: Holds) -> bool
     requires names { Says names.now holds [] }
     requires below { AreBelow (length names.now) script.now }
@@ -64,7 +64,7 @@ fn go_by(names: &Names, script: &Script, entries: &[Entry], mut holds: Holds) ->
     true
 }
 
-/// Whether the journal is the session's: one without an entry may bear any number.
+/// Whether the journal is the session's: one without an entry may have any number.
 fn is_own(session: usize, journal: &Journal) -> bool
     ensures { IsTrue result
         ↔ (0 < length journal.now.entries.items → journal.now.session ≡ session) }
@@ -96,9 +96,9 @@ fn is_journal(
     Ok(go_by(names, script, &journal.entries, holds))
 }
 
-/// Whether there is a journal for each script, which tells what that session did so far: the script's
-/// lines in order, but for guarded ones that the reply before them doesn't let through, and then its
-/// closing commands. What else was answered, and where, is not looked at.
+/// Whether there is a journal for each script, of what that session did so far: the script's lines in order, but for
+/// guarded ones that the reply before them doesn't let through, and then its closing commands. It doesn't test other
+/// replies, nor places.
 pub fn are_journals(alloc: Global, plan: &Plan, journals: &[Journal]) -> Result<bool, AllocError>
     ensures { IfOk result (λ are. IsTrue are ↔ AreJournals plan.now journals.now) }
 {

@@ -18,13 +18,13 @@ use redo_terms::{Command, Item, Script};
 /// What a session does next: a line of its script, or a closing command.
 #[derive(Debug, Drop)]
 pub struct Next {
-    /// Its number, as the entry will have it.
+    /// The number of its entry.
     pub line: u32,
-    /// The command, where it is a closing one.
+    /// The command, if it is a closing one.
     pub closing: Option<Command>,
 }
 
-/// Whether the line is done, where guarded lines are let through or aren't.
+/// Whether the line is done, by whether guarded lines are let through.
 fn is_done(item: &Item, through: bool) -> bool
     ensures { result ≡ (through || not item.now.guarded) }
 {
@@ -76,8 +76,8 @@ fn closing_number(script: &Script, entries: &[Entry]) -> usize
     }
 }
 
-/// What the session with these entries, whose table this is, does next, if there is anything: the
-/// next line of its script, and after these a closing command.
+/// What the session with these entries, whose table this is, does next, if anything: the next line
+/// of its script, and after these a closing command.
 pub fn next_step(names: &Names, script: &Script, entries: &[Entry], holds: &Holds) -> Option<Next>
     requires names { length holds.now ≡ length names.now }
     requires below { AreToldBelow (length names.now) (map item_of script.now) entries.now }
@@ -106,7 +106,7 @@ pub fn next_step(names: &Names, script: &Script, entries: &[Entry], holds: &Hold
     }
 }
 
-/// Whether the entry is of the closing command that comes after the entries before it.
+/// Whether the entry is that of the closing command after the entries before it.
 fn closes(names: &Names, script: &Script, before: &[Entry], holds: &Holds, entry: &Entry) -> bool
     requires names { length holds.now ≡ length names.now }
     requires below { AreToldBelow (length names.now) (map item_of script.now) before.now }
@@ -127,7 +127,7 @@ fn closes(names: &Names, script: &Script, before: &[Entry], holds: &Holds, entry
     }
 }
 
-/// Whether the entry is of what is next after the entries before it.
+/// Whether the entry is the next after the entries before it.
 pub(crate) fn is_next(
     names: &Names,
     script: &Script,

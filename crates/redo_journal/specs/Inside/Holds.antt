@@ -16,7 +16,7 @@ is_held holds t = (hold_at holds t).held
 abbrev pub locked_in : List (commands.Item ℕ) → List Entry → List ℕ
 locked_in script entries = filter_map (λ entry. asked_lock (command_told script entry)) entries
 
--- the lesser of a name, where it is asked for and held, and of the least so far
+-- the lesser of the name, if there is one and it is held, and of the least so far
 abbrev pub lesser_held : Naming ℕ → List Hold → Option ℕ → Option ℕ → Option ℕ
 lesser_held naming holds None so_far = so_far
 lesser_held naming holds (Some t) so_far =
