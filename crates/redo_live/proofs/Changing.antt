@@ -1,4 +1,4 @@
--- A line changes something over names where it does over their numbers.
+-- A line changes something over names if it does over their numbers.
 use Rattle.std.proofs.Common.{◌≡◌, ℕ, not, List, is_some, refl, ap, ◌∙◌, length}
 use Rattle.std.specs.declared.cmp.Ordering.{Ordering}
 use Rattle.redo_names.specs.Names.{text_at}

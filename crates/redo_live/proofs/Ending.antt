@@ -1,4 +1,4 @@
--- What a session's end leaves and says.
+-- The state and the answer after a session's end.
 use Rattle.std.proofs.Common.{◌≡◌, ◌≢◌, ◌↔◌, ◌+◌, ◌^◌, ◌<◌, ℕ, List, ◌++◌, Option, Some, None, is_some, refl, sym, ap, ◌∙◌, subst, map, length, arith}
 use Rattle.std.specs.Prelude.{nat_eq}
 use Rattle.std.specs.List.{AllByRecursion, Contains, IsDistinct, flat_map}

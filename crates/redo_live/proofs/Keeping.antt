@@ -1,4 +1,4 @@
--- What the database keeps is kept over names that come, and over steps.
+-- New names and steps keep the database's invariant.
 use Rattle.std.proofs.Common.{◌≡◌, ◌+◌, ◌*◌, ◌^◌, ℕ, ◌<◌, ◌≤◌, true, List, [], ◌∷◌, ◌++◌, Option, None, is_some, sym, ap, ◌∙◌, subst, inl, inr, length, arith}
 use Rattle.std.specs.Prelude.{nat_eq}
 use Rattle.std.specs.List.{IsDistinct}
@@ -44,7 +44,7 @@ taken_below n locks t none taken = elim (cases_lt t n) [
   | inr past ↦ absurd (false≢true (sym (ap (λ (o : Option ℕ). is_some o) (none t past)) ∙ taken))
 ]
 
--- no more targets are held than there are names
+-- at most as many targets are held as there are names
 pub few_taken : (n : ℕ) (locks : Locks ℕ) (ts : List ℕ)
     → ((k : ℕ) → n ≤ k → locks.holder k ≡ None) → IsDistinct nat_eq ts → AreTaken locks ts
     → length ts ≤ n
@@ -61,7 +61,7 @@ IsKept-Extends old new old_are new_are grows st calls kept = record {
   closing = kept.closing;
 }
 
--- a history goes on with an answered line
+-- an answered line extends a history
 pub IsReached-after : (st : State Text) (line : Line Text) → IsReached st
     → Answers texts st line.session line.command line.reply
     → IsReached (after texts st line.session line.command)

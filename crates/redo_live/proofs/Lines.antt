@@ -1,4 +1,4 @@
--- Lines that are legal, one by one, and facts that hold of all elements of lists.
+-- Lines that are legal, one by one, and facts about all elements of lists.
 use Rattle.std.proofs.Common.{◌≡◌, ◌+◌, ◌<◌, ℕ, false, suc, List, [], ◌∷◌, ◌++◌, sym, ap, ◌∙◌, subst, map, take, drop, get_or, length}
 use Rattle.std.specs.Prelude.{nat_eq}
 use Rattle.std.specs.List.{AllByRecursion, Contains, IsDistinct}

@@ -1,4 +1,4 @@
--- What is known of names does not change where names are added.
+-- Adding names does not change what is known of names.
 use Rattle.std.proofs.Common.{◌≡◌, ℕ, ◌<◌, ◌≤◌, Bool, false, true, List, Option, Some, None, is_some, length, length-append, refl, sym, ap, ◌∙◌, inl, inr, arith}
 use Rattle.std.proofs.Math.Path.{fun_ext}
 use Rattle.std.proofs.lemmas.Bool.{cases_lt}
@@ -21,7 +21,7 @@ no_row true P has none = absurd (none (has refl))
 module _ (old new : List Text) (x : Extends old new) (law : IsRenaming (numbering old))
     (more : IsRenaming (numbering new))
   where
-    -- an old name has its number still
+    -- an old name still has its number
     old_number : (t : Text) (k : ℕ) → (numbering new).number t ≡ Some k → k < length old
         → (numbering old).number t ≡ Some k
     old_number t k e below =
@@ -54,7 +54,7 @@ module _ (old new : List Text) (x : Extends old new) (law : IsRenaming (numberin
     value_kept d f none t =
         number_cases d f none t ((numbering new).number t) ((numbering old).number t) refl refl
 
-    -- what stands in two names
+    -- one position in two lists of names
     pair_kept : {X : Type 0} (d : X) (f : ℕ → ℕ → X)
         → ((k m : ℕ) → length old ≤ k → f k m ≡ d) → ((k m : ℕ) → length old ≤ m → f k m ≡ d)
         → (t u : Text)

@@ -1,4 +1,4 @@
--- A session's command is answered by the line that was told.
+-- The line of the answer answers a session's command.
 use Rattle.std.proofs.Common.{◌≡◌, ◌+◌, ◌<◌, ℕ, Bool, cond, List, [], ◌∷◌, ◌++◌, refl, sym, ap, ◌∙◌, subst, length}
 use Rattle.redo_names.specs.Names.{text_at}
 use Rattle.redo_names.specs.Inside.Names.{AreNames}
@@ -163,7 +163,7 @@ module _ (names : List Text) (are : AreNames names) (tables : Tables)
               };
             }
 
--- and the text that was read, where the names before are a front of these
+-- and the text that was read, if the names before are a prefix of these
 pub answered : (old mid new : LiveState) (session : ℕ) (text : Text) (command : Command ℕ)
     (said said_after logged logged_after : Text) → state_in mid ≡ state_in old
     → calls_in mid ≡ calls_in old → new.names ≡ mid.names
@@ -195,7 +195,7 @@ answered old mid new session text command said said_after logged logged_after sa
       };
     }
 
--- what keeps the command from being obeyed keeps the text from being answered
+-- what refuses the command refuses the text
 pub withheld : (old mid : LiveState) (session : ℕ) (text : Text) (command : Command ℕ)
     (most : ℕ) (why : Withheld) → state_in mid ≡ state_in old
     → IsCommandLine text (named_command (text_at mid.names) command)

@@ -1,4 +1,4 @@
--- A line tells one answer: its words are read back.
+-- A line has one answer: its words are read back.
 use Rattle.std.proofs.Common.{◌≡◌, ℕ, zero, suc, ◌+◌, ◌<◌, ◌≤◌, Bool, true, false, List, [], ◌∷◌, ◌++◌, length, get_or, drop, Option, Some, None, IfSome, refl, sym, ap, ◌∙◌, arith, if◌then◌else◌, append_assoc}
 use Rattle.std.specs.Prelude.{codes, decimal, bytes_eq}
 use Rattle.std.specs.List.{AllByRecursion, list_all}
@@ -273,7 +273,7 @@ asked_visible inquiries.Why = refl
 asked_visible inquiries.Deps = refl
 asked_visible inquiries.State = refl
 
--- a line's words, behind the session
+-- a line's words, after the session
 abbrev words_after : Text → Answer → List Text
 words_after name answer =
     inquiry_word (inquiry_of answer) ∷ name ∷ codes "=>" ∷ answer_words name answer
@@ -288,7 +288,7 @@ words_in session name answer below is form =
     (number_is_visible (session + 1) (omega (arith, below)))
     (asked_visible (inquiry_of answer), (visible, (refl, answer_visible name answer visible form)))
 
--- a line tells at most one session at most one answer about at most one name
+-- a line gives at most one answer about at most one name to at most one session
 pub one_answer : (session other_session : ℕ) (name other_name : Text) (answer other : Answer)
     → session < 64 → other_session < 64 → is_name name ≡ true → is_name other_name ≡ true
     → HasAnswerForm answer → HasAnswerForm other

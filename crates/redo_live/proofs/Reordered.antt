@@ -1,4 +1,4 @@
--- An answer whose list of names is put into another order is the answer by that order.
+-- An answer whose list of names is reordered is the answer by that order.
 use Rattle.std.proofs.Common.{◌≡◌, ◌≢◌, ℕ, ◌<◌, Bool, false, List, [], ◌∷◌, Option, Some, None, refl, sym, ap, ◌∙◌, subst, get_or, length, arith, MatchOption}
 use Rattle.std.specs.Prelude.{nat_eq}
 use Rattle.std.specs.List.{Contains, IsDistinct}
@@ -23,7 +23,7 @@ use Rattle.redo_model.specs.Inside.Renaming.{IsWithin}
 use Rattle.redo_live.specs.Inside.Ordered.{AreSortedAgain, IsSortedReply}
 use Rattle.redo_live.proofs.Within.{in_list, file_below}
 
--- what has to hold of two orders of the numbers below a count
+-- what two orders of the numbers below a count need
 pub record AreOrders (count : ℕ) (order other : ℕ → ℕ → Ordering) : Type 0 where
   pub strict : (n : ℕ) → order n n ≢ Less
   pub total : IsTotalOrder other

@@ -1,4 +1,4 @@
--- What is told about a name.
+-- The answers to questions about a name.
 use Rattle.std.specs.Prelude.{◌≡◌, ℕ, ◌+◌, Bool, true, false, List, [], ◌∷◌, ◌++◌, Option, Some, None, length, codes, decimal}
 use Rattle.redo_model.specs.Names.{Text, texts}
 use Rattle.redo_model.specs.State.{State, TargetState, Idle, Building, Built, Failed, target_state}
@@ -12,7 +12,7 @@ use Rattle.redo_history.specs.Histories.{ended}
 use Rattle.redo_text.specs.declared.inquiries.Inquiry.{Inquiry}
 use Rattle.redo_text.specs.declared.inquiries.Inquiry.TheVariants as inquiries
 
--- the word for a reason
+-- the word of a reason
 abbrev pub reason_word : {N : Type 0} → Reason N → Text
 reason_word whys.Building = codes "building"
 reason_word whys.Failed = codes "failed"
@@ -21,7 +21,7 @@ reason_word whys.Always = codes "always"
 reason_word (whys.Appeared n) = codes "appeared"
 reason_word (whys.Changed n) = codes "changed"
 
--- the name that is told with the reason of t: the one that appeared or changed, else t
+-- the name in the answer with the reason of t: the one that appeared or changed, else t
 abbrev pub reason_name : {N : Type 0} → N → Reason N → N
 reason_name t whys.Building = t
 reason_name t whys.Failed = t
@@ -50,14 +50,14 @@ deps_words deps =
     ++ codes "created" ∷ counted deps.created
     ++ codes "always" ∷ flag_word deps.always ∷ []
 
--- sessions are told plus one
+-- sessions are printed plus one
 abbrev pub stage_words : TargetState → List Text
 stage_words Idle = codes "idle" ∷ []
 stage_words (Building session) = codes "building" ∷ decimal (session + 1) ∷ []
 stage_words Built = codes "built" ∷ []
 stage_words Failed = codes "failed" ∷ []
 
--- "-" stands for no holder
+-- "-" means no holder
 abbrev pub holder_word : Option ℕ → Text
 holder_word None = codes "-"
 holder_word (Some session) = decimal (session + 1)
@@ -66,14 +66,14 @@ abbrev pub state_words : TargetState → Option ℕ → Option Text → List Tex
 state_words state holder file =
     stage_words state ++ codes "lock" ∷ holder_word holder ∷ codes "file" ∷ stamp_word file ∷ []
 
--- what is told of a name: why it is out of date, where it is; its rows; its state, the holder of its
--- lock, and the stamp of its file
+-- the answer about a name: why it is out of date, if it is; its rows; its state, the holder of its lock, and the stamp
+-- of its file
 pub data Answer : Type 0 where
   Cause : Option (whys.Why Text) → Answer
   Rows : model.Deps Text → Answer
   Standing : TargetState → Option ℕ → Option Text → Answer
 
--- what the answer answers
+-- the question that the answer answers
 abbrev pub inquiry_of : Answer → Inquiry
 inquiry_of (Cause found) = inquiries.Why
 inquiry_of (Rows deps) = inquiries.Deps
@@ -91,12 +91,12 @@ IsAnswer st name (Rows deps) = AreDeps texts st.records name deps
 IsAnswer st name (Standing state holder file) = (state ≡ target_state st.records name)
     × (holder ≡ st.locks.holder name) × (file ≡ (st.records.cell name).file)
 
--- the line that tells a session the answer about the name
+-- the line of the answer about the name for a session
 abbrev pub answer_line : ℕ → Text → Answer → Text
 answer_line session name answer = ended (spaced (decimal (session + 1))
     (inquiry_word (inquiry_of answer) ∷ name ∷ codes "=>" ∷ answer_words name answer))
 
--- the line tells the session a true answer to its inquiry
+-- the line is a true answer to the session's question
 pub record AnswersInquiry (st : State Text) (session : ℕ) (inquiry : Inquiry)
     (name line : Text) : Type 0
   where

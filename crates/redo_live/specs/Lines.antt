@@ -1,4 +1,4 @@
--- Lines of a history: their texts, and the names that they speak of.
+-- Lines of a history: their texts and their names.
 use Rattle.std.specs.Prelude.{List, []}
 use Rattle.std.specs.List.{flat_map}
 use Rattle.redo_model.specs.Names.{Text}
@@ -11,6 +11,6 @@ use Rattle.redo_history.specs.Histories.{line_text_of}
 abbrev pub lines_text_of : List (Line Text) → Text
 lines_text_of lines = flat_map line_text_of lines
 
--- the names that the lines' commands speak of, in the order in which they are met
+-- the names of the lines' commands, in the order of their first occurrence
 abbrev pub names_after : List (Line Text) → List Text
 names_after lines = with_names [] (flat_map (λ line. names_in line.command) lines)

@@ -1,4 +1,4 @@
-//! What is told about a name: words, each with the space before it.
+//! The answers about a name: words, each with the space before it.
 ghost use Rattle.std.specs.Prelude.{◌≡◌, ◌+◌, ◌++◌, Some, length, map, decimal, option_map, OnOk, IfSome};
 ghost use Rattle.std.specs.List.{flat_map};
 ghost use Rattle.redo_names.specs.Names.{text_at};
@@ -23,7 +23,7 @@ use redo_terms::FileStamp;
 use redo_text::{Inquiry, put_names, put_stamp_or_none, put_word};
 use std::alloc::AllocError;
 
-/// The word that asks it.
+/// The word of the question.
 pub(crate) fn inquiry_word(inquiry: Inquiry) -> &'static [u8]
     ensures { result.now ≡ inquiry_word inquiry }
 {
@@ -47,7 +47,7 @@ fn reason_word(reason: Reason) -> &'static [u8]
     }
 }
 
-/// The name that is told with the reason of a target.
+/// The name in the answer with the reason of a target.
 fn reason_name<'a>(names: &'a Names, t: &'a [u8], reason: Reason) -> &'a [u8]
     requires { IsReasonBelow (length names.now) (reason_of reason) }
     ensures { result.now ≡ reason_name t.now (named_reason (text_at names.now) (reason_of reason)) }
@@ -136,7 +136,7 @@ pub(crate) fn put_deps(out: &mut Vec<u8>, names: &Names, deps: &Deps) -> Result<
     put_word(out, flag_word(deps.always))
 }
 
-/// Writes the number of a session, which is told plus one.
+/// Writes the number of a session, counted from 1.
 fn put_session(out: &mut Vec<u8>, session: u8) -> Result<(), AllocError>
     ensures { OnOk result (out.new.items ≡ out.old.items ++ after_space (decimal (session + 1))) }
 {
@@ -167,7 +167,7 @@ fn put_holder(out: &mut Vec<u8>, holder: Option<u8>) -> Result<(), AllocError>
     }
 }
 
-/// Writes how far a name has come, who holds its lock, and the stamp of its file.
+/// Writes the state of a name, who holds its lock, and the stamp of its file.
 pub(crate) fn put_state(
     out: &mut Vec<u8>,
     state: State,

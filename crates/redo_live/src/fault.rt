@@ -15,12 +15,12 @@ pub enum Unanswered {
     Fault(LineFault),
 }
 
-/// Why a command was not answered into the room that was given.
+/// Why a command was not answered in so many bytes.
 #[derive(Clone, Copy, Debug, PartialEq, Eq, Error)]
 pub enum Withheld {
     #[error("{0}")]
     Unanswered(Unanswered),
-    /// What would be said has so many bytes, more than there is room for.
+    /// The answer would have so many bytes, which are too many.
     #[error("{0} bytes are too long")]
     TooLong(usize),
 }

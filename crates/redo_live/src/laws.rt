@@ -1,4 +1,4 @@
-//! What holds of the lines that answer questions.
+//! Laws of the lines that answer questions.
 
 ghost use Rattle.std.specs.Prelude.{◌≡◌, ℕ, ◌<◌, true};
 ghost use Rattle.redo_names.specs.Names.{is_name};
@@ -6,7 +6,7 @@ ghost use Rattle.redo_model.specs.Names.{Text};
 ghost use Rattle.redo_live.specs.Answers.{Answer, answer_line};
 ghost use Rattle.redo_live.specs.Inside.AnswerForms.{HasAnswerForm};
 
-/// A line tells at most one session at most one answer about at most one name.
+/// A line gives at most one answer about at most one name to at most one session.
 pub fn one_answer_a_line()
     ensures { (session other_session : ℕ) (name other_name : Text) (answer other : Answer)
         → session < 64 → other_session < 64

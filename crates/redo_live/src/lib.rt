@@ -1,4 +1,4 @@
-//! A database that is talked to: it answers commands as they come, over names that come with them.
+//! The database of a conversation: it answers commands as they come, over the names in them.
 #![tactic(auto)]
 
 mod asked;

@@ -24,16 +24,16 @@ mod ending;
 /// How many numbers there are for names at first.
 const FIRST_NUMBERS: u32 = 64;
 
-/// After so many calls no command is answered any more: closing takes two for each target that is held, of which there
-/// are at most as many as names.
+/// After so many calls it answers no more commands: closing takes two calls for each held target, of which there are at
+/// most as many as names.
 const MOST_CALLS: u32 = u32::MAX - 131_072;
 
-/// A database over names that come as they are spoken of.
+/// A database over names that become known with the commands.
 #[derive(Drop)]
 pub struct Live {
     names: Names,
     redo: Redo,
-    /// For so many names there are numbers.
+    /// There are numbers for so many names.
     numbers: u32,
     /// Memory for the line that is printed next.
     line: Vec<u8>,
@@ -71,8 +71,7 @@ impl Live {
         })
     }
 
-    /// Answers a session's command: its line of the history goes behind `said`, and behind `logged` where it changes
-    /// something.
+    /// Answers a session's command: appends its line of the history to `said`, and to `logged` if it changes something.
     pub fn answer(
         &mut self,
         alloc: Global,
@@ -100,8 +99,8 @@ impl Live {
         }
     }
 
-    /// Answers a session's command as `answer` does, where its line has so many bytes at most. A longer one is not told,
-    /// and then nothing is done: the same command can be given again, with more room.
+    /// Answers a session's command as `answer` does, if the answer has at most `most` bytes. If it has more, nothing is
+    /// done, and the caller can give the same command again with a greater `most`.
     pub fn answer_within(
         &mut self,
         alloc: Global,
@@ -116,8 +115,7 @@ impl Live {
         ensures fits { OnOk result
             (length said.new.items ≤ length said.old.items + most) }
 
-        // A fault is that of the line, and a line that is answered has none. Too long is what would be
-        // said, and it is told how long that is.
+        // A fault is that of the line, and a line that is answered has none. `TooLong` has the length of the answer.
         ensures cause { IfErr result (IsWithheldFor self.old session text.now most) }
         ensures no_fault { OnOk result (line_fault self.old.names text.now ≡ None) }
 
@@ -138,7 +136,7 @@ impl Live {
         }
     }
 
-    /// Answers a session's command; otherwise names of it may stay.
+    /// Answers a session's command. On an error, names of it may stay.
     fn hear(
         &mut self,
         alloc: Global,
@@ -161,7 +159,7 @@ impl Live {
             (TellsNothing said.old.items said.new.items logged.old.items logged.new.items) }
     {
         let read = read_command(alloc, text, &mut self.names);
-        // This call says that they are names.
+        // This call shows that they are names.
         let _ = self.names.len();
         let command = read?;
         self.obey(alloc, session, command, most, said, logged)?;
@@ -213,14 +211,14 @@ impl Live {
         Ok(())
     }
 
-    /// The line that was printed last, whose memory serves for the next.
+    /// The line that was printed last, whose memory is used for the next.
     fn take_line(&mut self, alloc: Global) -> Vec<u8>
         ensures { self.new ≡ self.old }
     {
         mem::replace(&mut self.line, Vec::new(alloc))
     }
 
-    /// Room for the names, and for the change of the command.
+    /// Reserves memory for the names, and for the change of the command.
     fn make_room(&mut self, command: &Command) -> Result<(), AllocError>
         requires below { IsBelow (length self.old.names) (command_of command.now) }
         requires names { AreNames self.old.names }

@@ -10,7 +10,7 @@ use redo_names::Names;
 use redo_terms::Reply;
 use std::cmp::Ordering;
 
-/// The text of a number; none where no name has it.
+/// The text of a number; none if no name has it.
 fn text_of(names: &Names, n: u32) -> &[u8]
     ensures { result.now ≡ text_at names.now n }
 {
@@ -23,7 +23,7 @@ fn order_of(names: &Names, a: u32, b: u32) -> Ordering
     text_of(names, a).cmp(text_of(names, b))
 }
 
-/// Puts the numbers into the order of their texts. Takes no memory.
+/// Sorts the numbers by their texts. Allocates nothing.
 pub(crate) fn sort(names: &Names, numbers: &mut Vec<u32>)
     ensures same { IsPermutation numbers.old.items numbers.new.items }
     ensures sorted { IsSorted (by_text names.now).order numbers.new.items }

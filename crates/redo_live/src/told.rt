@@ -9,7 +9,7 @@ use redo_names::Names;
 use redo_terms::Line;
 use std::alloc::{AllocError, Global};
 
-/// The text, where there is to be one.
+/// The text if `wanted`, else nothing.
 pub(crate) fn text_if(wanted: bool, text: &[u8]) -> &[u8]
     ensures { result.now ≡ (if wanted then text.now else []) }
 {
@@ -31,7 +31,7 @@ pub(crate) fn line_text(
     Ok(text)
 }
 
-/// Appends one text to what is said and another to the log, or neither.
+/// Appends one text to `said` and another to `logged`, or neither.
 pub(crate) fn tell(
     said: &mut Vec<u8>,
     text: &[u8],

@@ -1,4 +1,4 @@
--- What an answer has to be, so that its line tells which it is.
+-- What is required of an answer so that its line determines it.
 use Rattle.std.specs.Prelude.{◌≡◌, ◌<◌, ◌≤◌, true, List, length, IfSome, ⊤}
 use Rattle.redo_names.specs.Names.{is_name, AreAllNames}
 use Rattle.redo_model.specs.Names.{Text}

@@ -1,4 +1,4 @@
--- What is told of numbers, over the names that they stand for.
+-- Answers over numbers, under the names that they stand for.
 use Rattle.std.specs.Prelude.{List}
 use Rattle.redo_names.specs.Names.{text_at}
 use Rattle.redo_model.specs.Names.{Text}

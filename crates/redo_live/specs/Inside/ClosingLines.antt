@@ -8,18 +8,18 @@ use Rattle.redo_store.specs.Tables.{state_of, tables_count}
 use Rattle.redo_model.specs.Inside.Ending.{AreHeld, okay_line, closing_lines_of}
 use Rattle.redo_live.specs.Inside.LiveState.{LiveState}
 
--- its change takes no room, whatever is known
+-- its change needs no reserved memory, whatever is known
 abbrev pub TakesNoRoom : Command ℕ → Type 0
 TakesNoRoom (Unlock t) = ⊤
 TakesNoRoom (Failed t) = ⊤
 TakesNoRoom command = ⊥
 
--- what lets go of a target, which is being built or not
+-- the closing lines of a target, which is building or not
 abbrev pub letting : ℕ → Bool → ℕ → List (Line ℕ)
 letting s building t =
     cond building (okay_line s (Failed t) ∷ []) [] ++ okay_line s (Unlock t) ∷ []
 
--- the lines let go of all that the session holds, in the order of the texts
+-- the lines close all that the session holds, in the order of the texts
 pub record AreClosing (live : LiveState) (session : ℕ) (lines : List (Line ℕ)) : Type 0 where
   pub targets : List ℕ
   pub held : AreHeld (by_text live.names) session (state_of live.tables) targets

@@ -6,14 +6,14 @@ use Rattle.redo_model.specs.History.{Line, left_by}
 use Rattle.redo_model.specs.Inside.Ending.{AreHeld, closing_lines_of}
 use Rattle.redo_history.specs.Histories.{ended}
 
--- by these lines the session lets go of all that it holds, in the order of the texts, and the new
--- state is what they leave
+-- these lines close all that the session holds, in the order of the texts, and the new state is the
+-- one after them
 pub record IsEnded (old new : State Text) (session : ℕ) (lines : List (Line Text)) : Type 0 where
   pub targets : List Text
   pub held : AreHeld texts session old targets
   pub lines_are : lines ≡ closing_lines_of session old targets
   pub left : new ≡ left_by texts old lines
 
--- what is said last
+-- the end of the answer
 abbrev pub end_text : ℕ → Text
 end_text session = ended (decimal (session + 1) ++ codes " end => ok")

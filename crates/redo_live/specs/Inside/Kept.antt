@@ -1,4 +1,4 @@
--- What the fields of the database show, and what they keep.
+-- The value of the database's fields, and their invariant.
 use Rattle.std.specs.Prelude.{◌≡◌, ℕ, ◌+◌, ◌*◌, ◌^◌, ◌<◌, List, IsSome, Contains, length, nat_eq}
 use Rattle.std.specs.List.{IsDistinct}
 use Rattle.redo_model.specs.Names.{Text, texts}
@@ -23,8 +23,8 @@ pub record IsReached (st : State Text) : Type 0 where
 abbrev pub AreTaken : Locks ℕ → List ℕ → Type 0
 AreTaken locks ts = (t : ℕ) → Contains ts t → IsSome (locks.holder t)
 
--- of a state over these names, after so many calls: nothing is known of other numbers, a legal
--- history leaves it, and there are two more calls for each target that is held
+-- after so many calls a legal history leaves this state over these names; nothing is known of other
+-- numbers, and two more calls are left for each held target
 pub record IsKept (names : List Text) (st : State ℕ) (calls : ℕ) : Type 0 where
   pub within : IsStateWithin (length names) st
   pub reached : IsReached (named_state (numbering names) st)

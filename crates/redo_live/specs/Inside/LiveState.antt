@@ -1,4 +1,4 @@
--- What a database that is talked to holds.
+-- The value of a conversation's database.
 use Rattle.std.specs.Prelude.{◌≡◌, ℕ, ◌<◌, List, length}
 use Rattle.redo_names.specs.Names.{text_at}
 use Rattle.redo_model.specs.Names.{Text}
@@ -6,7 +6,7 @@ use Rattle.redo_model.specs.State.{State}
 use Rattle.redo_model.specs.Inside.Renaming.{named_state, numbering}
 use Rattle.redo_store.specs.Tables.{Tables, state_of, tables_count, calls_of}
 
--- the names that were spoken of, and a database over their numbers
+-- the names of the commands so far, and a database over their numbers
 pub record LiveState : Type 0 where
   pub names : List Text
   pub tables : Tables
@@ -19,7 +19,7 @@ state_in live = named_state (numbering live.names) (state_of live.tables)
 abbrev pub calls_in : LiveState → ℕ
 calls_in live = calls_of live.tables
 
--- the name has this number, of which the database knows
+-- the name has this number, which the database knows
 pub record IsNumberOf (live : LiveState) (name : Text) (n : ℕ) : Type 0 where
   pub named : text_at live.names n ≡ name
   pub among_names : n < length live.names

@@ -1,4 +1,4 @@
--- What the calls of the database tell each other.
+-- The contracts of the database's inner calls.
 use Rattle.std.specs.Prelude.{◌≡◌, ℕ, ◌+◌, ◌≤◌, List, ◌++◌, Some, length, ⊤}
 use Rattle.std.specs.List.{flat_map}
 use Rattle.redo_names.specs.Names.{text_at}
@@ -45,14 +45,14 @@ pub record IsTold (live : LiveState) (session : ℕ) (command : Command ℕ) (li
   pub sorted : IsSortedReply (by_text live.names).order (reply_of reply) (reply_of line.reply)
   pub text_is : text ≡ line_text_of (line_at live.names line)
 
--- the line went behind what was said, and behind the log where it changes something
+-- the line was appended to `said`, and to `logged` if it changes something
 pub record TellsLine (old new : LiveState) (line : Line Text) (said said_after logged logged_after
     : Text) : Type 0 where
   pub says : said_after ≡ said ++ line_text_of line
   pub logs : logged_after ≡ logged ++ logged_text (state_in old) line
   pub calls : calls_in new ≡ calls_in old + 1
 
--- the session's command, over the names that its numbers stand for, was answered by a line
+-- a line answers the session's command, over the names that its numbers stand for
 pub record IsObeyed (old new : LiveState) (session : ℕ) (command : Command ℕ)
     (said said_after logged logged_after : Text) : Type 0 where
   pub line : Line Text
@@ -62,19 +62,20 @@ pub record IsObeyed (old new : LiveState) (session : ℕ) (command : Command ℕ
   pub after_is : state_in new ≡ after texts (state_in old) session line.command
   pub told : TellsLine old new line said said_after logged logged_after
 
--- the text was answered by a line
+-- a line answers the text
 pub record AnswersText (old new : LiveState) (session : ℕ) (text : Text)
     (said said_after logged logged_after : Text) : Type 0 where
   pub line : Line Text
   pub is : IsAnswered (state_in old) (state_in new) old.names new.names session text line
   pub told : TellsLine old new line said said_after logged logged_after
 
--- nothing was said or logged
+-- nothing was appended to `said` or `logged`
 pub record TellsNothing (said said_after logged logged_after : Text) : Type 0 where
   pub says : said_after ≡ said
   pub logs : logged_after ≡ logged
 
--- the session ended by these lines, which were said and logged, and then its end was said
+-- the session ended by these lines, which were appended to `said` and `logged`, and then its end to
+-- `said`
 pub record EndsSession (old new : LiveState) (session : ℕ)
     (said said_after logged logged_after : Text) : Type 0 where
   pub lines : List (Line Text)

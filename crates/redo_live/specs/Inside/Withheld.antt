@@ -1,4 +1,4 @@
--- Why a command wasn't answered into the room that was given.
+-- Why a command wasn't answered in so many bytes.
 use Rattle.std.specs.Prelude.{◌≡◌, ℕ, ◌<◌, List, [], ◌∷◌, ◌++◌, length}
 use Rattle.std.specs.List.{flat_map}
 use Rattle.redo_names.specs.Names.{text_at}
@@ -26,7 +26,7 @@ pub record WouldObey (live : LiveState) (session : ℕ) (command : Command ℕ) 
     pub answers : Answers texts (state_in live) session line.command line.reply
     pub size_is : size ≡ length (line_text_of line)
 
--- there was no memory, or that line is longer than what was given
+-- memory ran out, or that line is longer than `most`
 abbrev pub IsUnobeyedFor : LiveState → ℕ → Command ℕ → ℕ → Withheld → Type 0
 IsUnobeyedFor live session command most (Unanswered why) = why ≡ Memory
 IsUnobeyedFor live session command most (TooLong size) =
@@ -42,19 +42,19 @@ pub record WouldAnswer (live : LiveState) (session : ℕ) (text : Text) (size : 
   pub answers : Answers texts (state_in live) session line.command line.reply
   pub size_is : size ≡ length (line_text_of line)
 
--- the cause, or that line is longer than what was given
+-- the cause, or that line is longer than `most`
 abbrev pub IsWithheldFor : LiveState → ℕ → Text → ℕ → Withheld → Type 0
 IsWithheldFor live session text most (Unanswered why) = IsUnansweredFor live text why
 IsWithheldFor live session text most (TooLong size) =
     (most < size) × WouldAnswer live session text size
 
--- what is said when the session ends has so many bytes
+-- the answer to the session's end has so many bytes
 pub record WouldEnd (live : LiveState) (session size : ℕ) : Type 0 where
   pub lines : List (Line Text)
   pub is : IsEnded (state_in live) (left_by texts (state_in live) lines) session lines
   pub size_is : size ≡ length (flat_map line_text_of lines ++ end_text session)
 
--- there was no memory, or that is longer than what was given
+-- memory ran out, or that is longer than `most`
 abbrev pub IsUnendedFor : LiveState → ℕ → ℕ → Withheld → Type 0
 IsUnendedFor live session most (Unanswered why) = why ≡ Memory
 IsUnendedFor live session most (TooLong size) = (most < size) × WouldEnd live session size

@@ -30,7 +30,7 @@ use redo_text::{Inquiry, put_word};
 use std::alloc::{AllocError, Global};
 
 impl Live {
-    /// Tells a session what it asks about a name: a line goes behind `said`.
+    /// Answers a session's question about a name: appends a line to `said`.
     pub fn ask(
         &mut self,
         alloc: Global,
@@ -81,7 +81,7 @@ impl Live {
         ensures unknown { IsNone result → IsUnknown (state_in self.now) name.now }
         ensures names { AreNames self.now.names }
     {
-        // This call says that they are names.
+        // This call shows that they are names.
         let _ = self.names.len();
         let number = self.names.number_of(name)?;
         if number < self.redo.count() {
@@ -118,7 +118,7 @@ impl Live {
         }
     }
 
-    /// Why the target is out of date, where it is so.
+    /// Why the target is out of date, if it is.
     fn why(&mut self, alloc: Global, name: &[u8]) -> Result<Option<Why>, AllocError>
         ensures kept { self.new ≡ self.old }
         ensures why { IfOk result (λ found. TellsWhy (state_in self.old).records name.now
@@ -165,7 +165,7 @@ impl Live {
         }
     }
 
-    /// Writes the words for the state of a name.
+    /// Writes the words of the state of a name.
     fn put_state(&self, name: &[u8], line: &mut Vec<u8>) -> Result<(), AllocError>
         ensures { OnOk result (line.new.items ≡ line.old.items ++ flat_map after_space
             (state_words (target_state (state_in self.now).records name.now)

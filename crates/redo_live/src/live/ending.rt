@@ -33,7 +33,7 @@ fn okay_line(session: u8, command: Command) -> Line
     }
 }
 
-/// Appends what lets go of a target, which is being built or not.
+/// Appends the closing lines of a target, which is building or not.
 fn push_letting(
     lines: &mut Vec<Line>,
     session: u8,
@@ -63,7 +63,7 @@ fn lines_text(alloc: Global, lines: &[Line], names: &Names) -> Result<Vec<u8>, A
     Ok(text)
 }
 
-/// What is said when a session has ended with these lines.
+/// The answer to a session's end with these lines.
 fn with_end(alloc: Global, session: u8, lines: &[u8]) -> Result<Vec<u8>, AllocError>
     ensures { IfOk result (λ text. text.items ≡ lines.now ++ end_text session) }
 {
@@ -73,7 +73,7 @@ fn with_end(alloc: Global, session: u8, lines: &[u8]) -> Result<Vec<u8>, AllocEr
     Ok(text)
 }
 
-/// Does the commands of these lines. Takes no memory.
+/// Does the commands of these lines. Allocates nothing.
 fn close(redo: &mut Redo, lines: &[Line])
     requires below { AllByRecursion
         (λ line. IsBelow (tables_count redo.old) (command_of line.command)) lines.now }
@@ -98,8 +98,8 @@ impl Live {
     ghost use Rattle.redo_live.specs.Inside.Withheld.{IsUnendedFor};
     ghost use Rattle.redo_live.specs.declared.fault.Unanswered.TheVariants.{Memory};
 
-    /// Lets go of all that a session holds. The lines of these commands go behind `said` and `logged`, and then goes
-    /// `SESSION end => ok` behind `said`.
+    /// Closes all that a session holds: appends the lines of these commands to `said` and `logged`, and to `said` the
+    /// line `SESSION end => ok`.
     pub fn end(
         &mut self,
         alloc: Global,
@@ -121,8 +121,7 @@ impl Live {
         }
     }
 
-    /// Ends a session as `end` does, where what is said has so many bytes at most. What is longer is not told, and then
-    /// nothing is done.
+    /// Ends a session as `end` does, if the answer has at most `most` bytes. If it has more, nothing is done.
     pub fn end_within(
         &mut self,
         alloc: Global,
@@ -141,7 +140,7 @@ impl Live {
             (TellsNothing said.old.items said.new.items logged.old.items logged.new.items) }
     {
         let lines = self.closing_lines(alloc, session)?;
-        // This call says that they are names.
+        // This call shows that they are names.
         let _ = self.names.len();
         let kept = lines_text(alloc, &lines, &self.names)?;
         let text = with_end(alloc, session, &kept)?;
@@ -154,11 +153,11 @@ impl Live {
         Ok(())
     }
 
-    /// The lines that let go of all that a session holds, in the order of the texts.
+    /// The closing lines of all that a session holds, in the order of the texts.
     fn closing_lines(&self, alloc: Global, session: u8) -> Result<Vec<Line>, AllocError>
         ensures { IfOk result (λ lines. AreClosing self.now session (map line_of lines.items)) }
     {
-        // This call says that they are names.
+        // This call shows that they are names.
         let _ = self.names.len();
         let mut targets = self.redo.held_by(alloc, session)?;
         sort(&self.names, &mut targets);
