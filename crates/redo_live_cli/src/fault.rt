@@ -20,7 +20,7 @@ pub enum Fault {
     Log(LogFault),
 }
 
-/// Why the log is no use. Its text stands behind the name of the log.
+/// Why the log can't be used. Its text follows the name of the log.
 #[derive(Clone, Copy, Debug, PartialEq, Eq, Error)]
 pub enum LogFault {
     #[error(": cannot open")]
@@ -69,7 +69,7 @@ impl From<RestoreFault> for Fault {
     }
 }
 
-/// Writes a line to standard error, at once. Where it can't be written, nobody can be told.
+/// Writes a line to standard error, at once. Ignores a failed write.
 pub fn say(rt: &HostRuntime, line: &str) {
     let _ = write_whole(&mut Watched::new(rt.stderr()), line.as_bytes());
 }

@@ -10,7 +10,7 @@ use std::io::{ErrorKind, Read, Write};
 
 const SESSIONS: u8 = 64;
 
-/// What a conversation goes on from.
+/// The database at the start of a conversation, and its log.
 #[derive(Drop)]
 pub struct Begun {
     pub live: Live,
@@ -19,7 +19,7 @@ pub struct Begun {
     pub log: Watched<LogWriter>,
 }
 
-/// Opens the log, which no other process may have. The lock goes with the process.
+/// Opens the log, which no other process may have. The lock ends with the process.
 fn open(rt: &HostRuntime, name: &str) -> Result<File, LogFault> {
     let opened = OpenOptions::new()
         .read(true)
@@ -36,7 +36,7 @@ fn open(rt: &HostRuntime, name: &str) -> Result<File, LogFault> {
     }
 }
 
-/// All that the log holds. Of a device, which has no length, nothing is read.
+/// All bytes of the log. Reads nothing of a device, which has no length.
 fn read(alloc: Global, file: &File) -> Result<Vec<u8>, Fault> {
     let Ok(metadata) = file.metadata() else {
         return Err(Fault::Log(LogFault::Read));
@@ -56,7 +56,7 @@ fn cut(file: &File, length: usize) -> Result<(), LogFault> {
     }
 }
 
-/// Copies the log to a new file beside it, and has the copy on the disk.
+/// Copies the log to a new file beside it, and syncs the copy to the disk.
 fn copy(rt: &HostRuntime, name: &str, bytes: &[u8]) -> Result<(), Fault> {
     let copied = format!(in rt.alloc(); "{name}.damaged")?;
     let opened = OpenOptions::new()
@@ -76,7 +76,7 @@ fn copy(rt: &HostRuntime, name: &str, bytes: &[u8]) -> Result<(), Fault> {
     Ok(())
 }
 
-/// Cuts a damaged log before the first line that differs, where its copy is made.
+/// Cuts a damaged log before the first line that differs, after it has copied it.
 fn salvage(
     rt: &HostRuntime,
     name: &str,
@@ -95,7 +95,7 @@ fn salvage(
     Ok(())
 }
 
-/// Does the lines of the log again, and cuts off a line that is torn.
+/// Does the lines of the log again, and cuts off a torn line.
 fn resume(rt: &HostRuntime, asked: &LogFile, file: &File) -> Result<Restored, Fault> {
     let bytes = read(rt.alloc(), file)?;
     match restore(rt.alloc(), &bytes) {
@@ -119,7 +119,7 @@ fn resume(rt: &HostRuntime, asked: &LogFile, file: &File) -> Result<Restored, Fa
     }
 }
 
-/// Closes the sessions of the former run: the lines that the log takes for it.
+/// Closes the sessions of the former run; `logged` gets the lines for the log.
 fn close_all(alloc: Global, live: &mut Live, logged: &mut Vec<u8>) -> Result<(), AllocError> {
     let mut said = Vec::new(alloc);
     for session in 0..SESSIONS {
@@ -130,7 +130,7 @@ fn close_all(alloc: Global, live: &mut Live, logged: &mut Vec<u8>) -> Result<(),
     Ok(())
 }
 
-/// Restores the log that is asked for, and closes the sessions of its former run.
+/// Restores the log of the arguments, and closes the sessions of its former run.
 pub fn begin(rt: &HostRuntime, asked: &LogFile) -> Result<Begun, Fault> {
     let file = open(rt, &asked.name)?;
     let Restored {

@@ -2,7 +2,7 @@ use std::fs::File;
 use std::io;
 use std::io::Write;
 
-/// Appends to the log. A flush has what was written on the disk, where that is asked for.
+/// Appends to the log. A flush syncs what was written to the disk, if that is asked for.
 #[derive(Drop)]
 pub struct LogWriter {
     file: File,

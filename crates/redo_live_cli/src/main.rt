@@ -27,7 +27,7 @@ fn given_words<R: Env + AllocGlobal>(rt: &R) -> Result<Vec<String>, Fault> {
     }
 }
 
-/// Of `--`, which clap takes for the end of the flags, there is no use here.
+/// clap takes `--` for the end of the flags; this program refuses it.
 fn asked<R: Env + AllocGlobal>(rt: &R) -> Result<Conversation, Fault> {
     let words = given_words(rt)?;
     if words.iter().any(|word| word.as_str() == "--") {
@@ -40,7 +40,7 @@ fn asked<R: Env + AllocGlobal>(rt: &R) -> Result<Conversation, Fault> {
     }
 }
 
-/// Says how many lines were restored, before anything is heard.
+/// Writes how many lines were restored, before it reads a line.
 fn greet<R: AllocGlobal, W: Write>(
     rt: &R,
     restored: usize,
@@ -72,7 +72,7 @@ fn talk_to<L: Write>(
     }
 }
 
-/// Holds the conversation that is asked for.
+/// Holds the conversation of the arguments.
 fn hold(rt: &HostRuntime, conversation: &Conversation) -> Result<(), Fault> {
     match &conversation.log {
         Some(asked) => {
