@@ -1,4 +1,4 @@
--- Which session and command a line's text asks for.
+-- The session and command that a line's text gives.
 use Rattle.std.proofs.Common.{◌≡◌, ℕ, ◌+◌, ◌<◌, [], ◌∷◌, ◌++◌, refl, sym, ◌∙◌, subst, arith, append_assoc}
 use Rattle.std.specs.Prelude.{codes, decimal, Contains}
 use Rattle.std.proofs.lemmas.Fmt.{decimal_injective}
@@ -20,7 +20,7 @@ pub line_said : (command : Command Text) → IsSaid command
     → IsCommandLine (command_text_of command) command
 line_said command is = (is.0, is.1, text_is_spelled command is.0)
 
--- what is free of a byte stands before the first one
+-- a prefix without the byte ends before the first one
 free_front : (b : ℕ) (front text rest more : Text) → Without b front → Without b text
     → text ++ b ∷ more ≡ front ++ rest → (end : Text) × (text ≡ front ++ end)
 free_front b [] text rest more p q e = (text, refl)
@@ -54,7 +54,7 @@ regroup : (d c r rest : Text) → (d ++ codes " " ++ (c ++ codes " => " ++ r) ++
     ≡ (d ++ 32 ∷ (c ++ arrow)) ++ (r ++ 10 ∷ rest)
 regroup d c r rest = simp append_assoc
 
--- the text of the first line of what is left, where that begins with the text of a line
+-- the text of the first line of what is left, if that begins with the text of a line
 pub asks_for : (text more rest : Text) (line : Line Text) → IsLineSaid line → ¬ (Contains text 10)
     → text ++ 10 ∷ more ≡ line_text_of line ++ rest
     → AsksFor text line.session (command_text_of line.command)

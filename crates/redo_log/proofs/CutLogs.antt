@@ -1,4 +1,4 @@
--- Any beginning of a log is a log of a front of its lines, or not even a header.
+-- Any beginning of a log is a log of a prefix of its lines, or not even a header.
 use Rattle.std.proofs.Common.{◌≡◌, ℕ, ◌<◌, ◌^◌, List, [], ◌∷◌, ◌++◌, length, refl, sym, ap, ◌∙◌, subst, append-nil, inl, inr}
 use Rattle.std.specs.Prelude.{◌⊎◌}
 use Rattle.std.specs.List.{AllByRecursion}
@@ -29,13 +29,13 @@ first_of (x ∷ a) b (y ∷ c) d e =
       | inr h ↦ inr (h.0, λ i. sym head i ∷ h.1 i, h.2)
     ]
 
--- it is a log of a front of the lines
+-- it is a log of a prefix of the lines
 abbrev IsCutLog : Text → List (Line Text) → Type 0
 IsCutLog cut lines =
     (front : List (Line Text)) × (back : List (Line Text)) × (torn : Text)
     × (lines ≡ front ++ back) × IsLogOf cut front torn
 
--- where the header is whole
+-- if the header is whole
 cut_behind : (cut more rest : Text) (lines : List (Line Text)) → AreLogged lines
     → length lines < 2 ^ 32 → cut ≡ header_words ++ 10 ∷ more
     → lines_text_of lines ≡ more ++ rest → IsCutLog cut lines

@@ -1,4 +1,4 @@
--- Logged lines: a front of them, and one more behind them.
+-- Logged lines: a prefix of them, and one more after them.
 use Rattle.std.proofs.Common.{◌≡◌, ◌≤◌, List, [], ◌∷◌, ◌++◌, length, sym, ap, ◌∙◌, subst, arith, append-nil}
 use Rattle.std.specs.List.{AllByRecursion, flat_map}
 use Rattle.std.proofs.lemmas.Grind.{flat_map-append}
@@ -21,7 +21,7 @@ use Rattle.redo_log.specs.Inside.Steps.{CanFollow}
 abbrev own_names : Line Text → List Text
 own_names line = names_in line.command
 
--- the names of more lines come behind those before
+-- the names of more lines come after those before
 names_after-append : (lines more : List (Line Text))
     → names_after (lines ++ more) ≡ with_names (names_after lines) (flat_map own_names more)
 names_after-append lines more = ap (with_names []) (flat_map-append own_names lines more)
@@ -54,7 +54,7 @@ logged_front lines more is = record {
       let few = is.few_names in omega arith;
 }
 
--- one line more behind logged lines, and the database that answered it
+-- one line more after logged lines, and the database that answered it
 pub logged_more : (lines : List (Line Text)) (line : Line Text) (names : List Text)
     → AreLogged lines → IsLineSaid line → AddsNames (names_after lines) (line.command ∷ []) names
     → Answers texts (left_by texts empty lines) line.session line.command line.reply
@@ -70,7 +70,7 @@ logged_more lines line names is said named answers =
       same,
     )
 
--- the line behind a front of logged lines can follow on what that leaves
+-- the line after a prefix of logged lines can follow on what that leaves
 pub can_follow : (lines others : List (Line Text)) (line : Line Text) (live : LiveState)
     → IsLeftBy lines live → AreLogged (lines ++ line ∷ others) → CanFollow live line
 can_follow lines others line live left is =

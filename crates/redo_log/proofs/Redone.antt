@@ -19,13 +19,13 @@ use Rattle.redo_live.specs.Inside.Told.{AnswersText}
 use Rattle.redo_log.specs.Inside.Steps.{CanFollow, NothingFollows, DoesNext}
 use Rattle.redo_log.proofs.Asked.{line_said}
 
--- a line that can follow is asked for by this session and text
+-- a line that can follow has this session and text
 abbrev pub IsAskedBy : LiveState → Text → ℕ → Text → Type 0
 IsAskedBy live left session said =
     (line : Line Text) (rest : Text) → CanFollow live line → left ≡ line_text_of line ++ rest
     → (session ≡ line.session) × (said ≡ command_text_of line.command)
 
--- a text with a fault is no command's whose names fit
+-- a text with a fault is no text of a command whose names fit
 pub faulty : (live : LiveState) (left said : Text) (session : ℕ) (fault : LineFault)
     → IsAskedBy live left session said → line_fault live.names said ≡ Some fault
     → NothingFollows live left

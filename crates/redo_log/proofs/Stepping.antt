@@ -27,7 +27,7 @@ text_has_lf line rest =
     let own = own_text_of line in
     subst (λ (t : Text). Contains t 10) (sym (append_assoc own (10 ∷ []) rest)) (has_lf own rest 10)
 
--- lines of which a text without line feeds is left are none
+-- if a text without line feeds is left, no lines are left
 none_left : (others : List (Line Text)) (left torn : Text) → ¬ (Contains left 10)
     → left ≡ lines_text_of others ++ torn → others ≡ []
 none_left [] left torn free e = refl
@@ -125,7 +125,7 @@ done_at_first log left live parts names state calls = record {
     nothing_logged : AreLogged []
     nothing_logged = record { legal = tt; said = tt; few_names = omega arith }
 
--- where no line is left, the lines are those of the log
+-- if no line is left, the lines are those of the log
 pub done_all : (log left torn : Text) (lines all : List (Line Text)) (live : LiveState)
     → IsDoneUpTo log lines live left → ¬ (Contains left 10) → IsLogOf log all torn → all ≡ lines
 done_all log left torn lines all live is free log_of =
@@ -142,7 +142,7 @@ module _ (log left : Text) (lines : List (Line Text)) (live : LiveState)
     (is : IsDoneUpTo log lines live left) (none : NothingFollows live left)
     (has : Contains left 10)
   where
-    -- what can't be done can't be logged
+    -- a line that can't be done can't be logged
     pub differs_behind : DiffersBehind log lines
     differs_behind = record {
       logged = is.logged;
@@ -177,7 +177,7 @@ few_lines (line ∷ lines) =
       length-append (own_text_of line) (10 ∷ []),
     )
 
--- what is left is a rest, and what stands before it is counted
+-- what is left is a rest, and the part before it is counted
 pub sizes : (log left : Text) (lines : List (Line Text)) (live : LiveState)
     → IsDoneUpTo log lines live left
     → (length log ≡ length (log_header ++ lines_text_of lines) + length left)
@@ -187,7 +187,7 @@ sizes log left lines live is = (
   omega (arith, few_lines lines, length-append log_header (lines_text_of lines)),
 )
 
--- the cause of a fault that is of room
+-- the cause of `Memory` or `Worn`
 pub room_cause : (log left : Text) (lines : List (Line Text)) (live : LiveState)
     (fault : RestoreFault) → IsDoneUpTo log lines live left → IsOfRoom fault
     → (fault ≡ Worn → 4294836223 ≤ calls_in live) → IsRestoreCause log fault

@@ -1,4 +1,4 @@
--- Logs: the texts of lines, behind a header.
+-- Logs: a header, and then the texts of lines.
 use Rattle.std.specs.Prelude.{◌≡◌, ◌≤◌, List, ◌++◌, length, codes, Contains}
 use Rattle.std.specs.List.{AllByRecursion}
 use Rattle.redo_model.specs.Names.{Text, texts}
@@ -26,6 +26,6 @@ pub record IsLogOf (bytes : Text) (lines : List (Line Text)) (torn : Text) : Typ
   pub parts : bytes ≡ log_header ++ lines_text_of lines ++ torn
   pub free : ¬ (Contains torn 10)
 
--- the bytes are a front of the header, without its LF; they may be none
+-- the bytes are a prefix of the header without its LF, possibly empty
 abbrev pub IsTornHeader : Text → Type 0
 IsTornHeader bytes = (rest : Text) × (header_words ≡ bytes ++ rest)

@@ -11,7 +11,7 @@ use Rattle.redo_log.specs.declared.restoring.Restored.{Restored}
 use Rattle.redo_log.specs.declared.restoring.RestoreFault.{RestoreFault}
 use Rattle.redo_log.specs.declared.restoring.RestoreFault.TheVariants.{Memory, Worn, Differs}
 
--- the database is as the lines leave it, from the start
+-- the database is in the state after the lines, from the empty state
 pub record IsLeftBy (lines : List (Line Text)) (live : LiveState) : Type 0 where
   pub names : live.names ≡ names_after lines
   pub state : state_in live ≡ left_by texts empty lines
@@ -23,7 +23,7 @@ pub record IsRestoredTo (lines : List (Line Text)) (restored : Restored) : Type 
   pub lines_are : restored.lines ≡ length lines
   pub bytes_are : restored.bytes ≡ length (log_header ++ lines_text_of lines)
 
--- the lines of a log were done again; or not even a header was there
+-- the lines of a log were done again; or it had not even a header
 abbrev pub IsRestored : Text → Restored → Type 0
 IsRestored bytes restored =
     ((lines : List (Line Text)) × (torn : Text) × IsLogOf bytes lines torn
@@ -31,11 +31,11 @@ IsRestored bytes restored =
     ⊎ (IsTornHeader bytes × IsLeftBy [] restored.live × (restored.lines ≡ 0)
     × (restored.bytes ≡ 0))
 
--- neither the header nor a front of it
+-- neither the header nor a prefix of it
 abbrev pub HasBadHeader : Text → Type 0
 HasBadHeader bytes = ¬ (IsTornHeader bytes) × ((rest : Text) → bytes ≢ log_header ++ rest)
 
--- behind the lines stands another line, which could not be logged there
+-- another line follows the lines, which could not be logged there
 pub record DiffersBehind (bytes : Text) (lines : List (Line Text)) : Type 0 where
   pub logged : AreLogged lines
   pub left : Text
@@ -45,20 +45,20 @@ pub record DiffersBehind (bytes : Text) (lines : List (Line Text)) : Type 0 wher
       → ¬ (AreLogged (lines ++ line ∷ []))
 
 -- a line of the file, counted from 1, is not the database's answer: so many lines and bytes of a
--- log stand before it
+-- log come before it
 abbrev pub DiffersAt : Text → ℕ → ℕ → ℕ → Type 0
 DiffersAt bytes number count size =
     (HasBadHeader bytes × (number ≡ 1) × (count ≡ 0) × (size ≡ 0))
     ⊎ ((lines : List (Line Text)) × DiffersBehind bytes lines × (number ≡ length lines + 2)
     × (count ≡ length lines) × (size ≡ length (log_header ++ lines_text_of lines)))
 
--- more lines are there than the database answers
+-- there are more lines than the database answers
 abbrev pub HasTooMany : Text → Type 0
 HasTooMany bytes =
     (lines : List (Line Text)) × (rest : Text) × AreLogged lines
     × (bytes ≡ log_header ++ lines_text_of lines ++ rest) × (4294836223 ≤ length lines)
 
--- the cause of a fault; for want of memory nothing is said
+-- the cause of a fault; `Memory` says nothing of the log
 abbrev pub IsRestoreCause : Text → RestoreFault → Type 0
 IsRestoreCause bytes Memory = ⊤
 IsRestoreCause bytes Worn = HasTooMany bytes

@@ -1,11 +1,11 @@
-//! What holds of logs.
+//! Laws of logs.
 
 ghost use Rattle.std.specs.Prelude.{◌≡◌, ◌⊎◌, ◌<◌, ◌^◌, ◌++◌, List, [], length};
 ghost use Rattle.redo_model.specs.Names.{Text};
 ghost use Rattle.redo_model.specs.History.{Line};
 ghost use Rattle.redo_log.specs.Logs.{IsLogOf, IsTornHeader};
 
-/// Any beginning of a log is a log of a front of its lines, or not even a header.
+/// Any beginning of a log is a log of a prefix of its lines, or not even a header.
 pub fn cut_log()
     ensures { (whole cut rest : Text) (lines : List (Line Text)) → IsLogOf whole lines []
         → length lines < 2 ^ 32 → whole ≡ cut ++ rest → IsTornHeader cut

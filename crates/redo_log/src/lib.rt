@@ -1,4 +1,4 @@
-//! The log of a database that is talked to: how it is restored, and what a beginning of it is.
+//! The log of a conversation's database: how it is restored, and what a beginning of it is.
 #![tactic(auto)]
 
 mod laws;

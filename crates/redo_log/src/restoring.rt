@@ -17,13 +17,13 @@ use thiserror::Error;
 /// The first line of a log.
 pub const LOG_HEADER: &[u8] = b"redodb-log 1\n";
 
-/// A database that is as a log's lines leave it.
+/// A database in the state after a log's lines.
 #[derive(Drop)]
 pub struct Restored {
     pub live: Live,
     /// How many lines were done again.
     pub lines: usize,
-    /// How many bytes of the log they and the header have. What stands behind them was torn.
+    /// How many bytes of the log they and the header have. The bytes after them were torn.
     pub bytes: usize,
 }
 
@@ -35,8 +35,8 @@ pub enum RestoreFault {
     /// The log has more lines than the database answers.
     #[error("worn")]
     Worn,
-    /// This line of the log isn't the database's answer, or it isn't the header. Lines are counted from 1, and the header
-    /// is line 1; before it stand so many lines behind the header, and so many bytes.
+    /// This line of the log isn't the database's answer, or it isn't the header. Lines are counted from 1, and the
+    /// header is line 1; `lines` lines after the header, and `bytes` bytes, come before it.
     #[error("line {line} differs")]
     Differs {
         line: usize,
@@ -69,7 +69,7 @@ fn asked(text: &[u8]) -> Option<(u8, &[u8])>
     Some((session, command))
 }
 
-/// A database that a log's lines are done in, and buffers for one of them.
+/// A database that does a log's lines, and buffers for one of them.
 #[derive(Drop)]
 struct Again {
     live: Live,
@@ -78,7 +78,7 @@ struct Again {
 }
 
 impl Again {
-    /// Does the first line of what is left of a log, which has this text. Answers what is left behind it, where it is the
+    /// Does the first line of what is left of a log, which has this text. Returns what is left after it, if it is the
     /// database's answer.
     fn redo<'a>(
         &mut self,
@@ -111,7 +111,7 @@ impl Again {
     }
 }
 
-/// Does the lines of a log again, which stand behind its header.
+/// Does again the lines of a log, without its header.
 fn restore_lines(alloc: Global, log: &[u8], lines: &[u8]) -> Result<Restored, RestoreFault>
     requires { log.now ≡ log_header ++ lines.now }
     ensures restored { IfOk result (λ restored. (done : List (Line Text)) × (torn : Text)
@@ -150,9 +150,9 @@ fn restore_lines(alloc: Global, log: &[u8], lines: &[u8]) -> Result<Restored, Re
 
 /// Does a log's lines again.
 pub fn restore(alloc: Global, log: &[u8]) -> Result<Restored, RestoreFault>
-    // The lines of a log are done again; what stands behind its last LF was torn.
+    // The lines of a log are done again; what follows its last LF was torn.
     ensures restored { IfOk result (IsRestored log.now) }
-    // A log is refused for want of room alone, and all its lines are restored.
+    // A log is refused only by `Memory` or `Worn`; else all its lines are restored.
     ensures only { (lines : List (Line Text)) (torn : Text) → IsLogOf log.now lines torn
         → IfErr result IsOfRoom }
     ensures same { (lines : List (Line Text)) (torn : Text) → IsLogOf log.now lines torn

@@ -24,12 +24,12 @@ pub record CanFollow (live : LiveState) (line : Line Text) : Type 0 where
   pub named : AddsNames live.names (line.command ∷ []) names
   pub answers : Answers texts (state_in live) line.session line.command line.reply
 
--- no line that can be the next one stands in front
+-- no line that can be the next one is at the beginning
 abbrev pub NothingFollows : LiveState → Text → Type 0
 NothingFollows live left =
     (line : Line Text) (rest : Text) → CanFollow live line → left ≢ line_text_of line ++ rest
 
--- the line in front was done, and this is left; no other one can be the next
+-- the line at the beginning was done, and this is left; no other one can be the next
 pub record DoesNext (old new : LiveState) (left rest : Text) : Type 0 where
   pub line : Line Text
   pub said : IsLineSaid line
@@ -41,7 +41,8 @@ pub record DoesNext (old new : LiveState) (left rest : Text) : Type 0 where
   pub only : (other : Line Text) (others : Text) → CanFollow old other
       → left ≡ line_text_of other ++ others → other ≡ line
 
--- these lines were done, and this is left of the log; any lines that it is a log of go on from here
+-- these lines were done, and this is left of the log; any lines that it is a log of begin with
+-- these
 pub record IsDoneUpTo (log : Text) (lines : List (Line Text)) (live : LiveState) (left : Text)
     : Type 0 where
   pub logged : AreLogged lines
