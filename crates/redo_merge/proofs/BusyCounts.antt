@@ -1,4 +1,4 @@
--- Counts of busy answers.
+-- Counts of busy replies.
 use Rattle.std.proofs.Common.{◌≡◌, ℕ, zero, suc, ◌+◌, ◌-◌, ◌*◌, ◌<◌, ◌≤◌, ◌&&◌, eqb, List, ◌∷◌, refl, ap, ◌∙◌, inl, inr, arith, length, get_or, take, Bool, true, false, cond, eq-eqb, eqb-true, add-one, Option, Some, None, IsSome}
 use Rattle.std.proofs.lemmas.Bool.{cases_Bool}
 use Rattle.std.proofs.lemmas.List.Sums.{sum_by-cons, sum_by-drop_more, sum_by-take-drop}
@@ -12,7 +12,7 @@ pub and_true : (a b : Bool) → (a && b) ≡ true → (a ≡ true) × (b ≡ tru
 and_true true b e = (refl, e)
 and_true false b e = absurd (cc)
 
--- a count that was put where it stood
+-- a count that was put at its old place
 pub put_at : (old new u h t g n : ℕ) → (u ≡ t → h ≡ g → old ≡ n)
     → new ≡ cond (eqb u t && eqb h g) (n + 1) old → new ≡ old + cond (eqb u t && eqb h g) 1 0
 put_at old new u h t g n same e = elim (cases_Bool (eqb u t && eqb h g)) [
@@ -53,7 +53,7 @@ one_at_most false = omega arith
 pub busy_one-le : (t g : ℕ) (place : Place) → busy_one t g place ≤ 1
 busy_one-le t g place = one_at_most (is_busy t g place)
 
--- the busy answers of the entries up to a place are among all of them
+-- the busy replies of the entries up to a place are among all of them
 pub busy_in-front : (t g : ℕ) (xs : List Entry) (k : ℕ) (x : Entry) → k < length xs
     → x ≡ get_or xs k x → busy_in t g (take k xs) + busy_one t g x.place ≤ busy_in t g xs
 busy_in-front t g xs k x within is =

@@ -34,7 +34,7 @@ use Rattle.redo_merge.proofs.Unmerged.{entries_at, entries_past, left, left_less
 use Rattle.redo_merge.proofs.ToldEntries.{told_below, busy_few}
 use Rattle.redo_merge.proofs.TurnsShown.{numbers_are_names, ticketed, shown, told_at, rests, left_entries, shown_after, may_here, can_back, takes_here, counts_step, no_rest, some_rest, below_same, map_in}
 
--- how far the merge has come
+-- the state of the merge
 pub record Merging {S : Type 0} (plan : PlanOf) (js : List Journal) (turns : Turns)
     (counts : HashMap (ℕ × ℕ) ℕ S) (next : List ℕ) (lines : List Line) : Type 0 where
   pub sized : length next ≡ length js
@@ -76,7 +76,7 @@ module _ (plan : PlanOf) (js : List Journal) (are : AreJournals plan js) where
   told_at_is : (s : ℕ) → journals_of plan js s ≡ map (told_at plan js s) (entries_of js s)
   told_at_is = told_is plan js are
 
-  -- of each grant a journal has few busy answers
+  -- a journal has few busy replies of each grant
   pub few_busy : IsPlan plan → AllFit plan.scripts js → (t g s : ℕ)
       → busy_in t g (entries_of js s) ≤ 4096
   few_busy is fit t g s =
@@ -103,7 +103,7 @@ module _ (plan : PlanOf) (js : List Journal) (are : AreJournals plan js) where
       subst (λ (x : PlacedLine ℕ). Fits x.place x.command x.reply)
       (ap (told_at plan js s) k.2 ∙ m.2) (fit s k.0 k.1)
 
-  -- where an entry doesn't fit, there is no joint order
+  -- if an entry doesn't fit, there is no joint order
   pub misfit_none : OneMisfits plan.scripts js → HaveNoOrder plan js
   misfit_none (s, k, bad) = let e = get_or (entries_of js s) k none in
       none_with_misfit numbers_are_names (journals_of plan js) s (told_at plan js s e)
@@ -157,7 +157,7 @@ module _ (plan : PlanOf) (js : List Journal) (are : AreJournals plan js) where
       at_first None = rows
       at_first (Some t) = ap (λ (n : ℕ). n + 2) (zeros (length plan.names) w.claims.items claims t)
 
-  -- when nothing is left
+  -- if nothing is left
   pub merged : {S : Type 0} (w : Turns) (counts : HashMap (ℕ × ℕ) ℕ S) (next : List ℕ)
       (lines : List Line)
       → AllFit plan.scripts js → (m : Merging plan js w counts next lines)
@@ -174,7 +174,7 @@ module _ (plan : PlanOf) (js : List Journal) (are : AreJournals plan js) where
     m.said,
   )
 
-  -- when nothing may come, and something is left
+  -- if nothing may come, and something is left
   pub stuck_none : {S : Type 0} (w : Turns) (counts : HashMap (ℕ × ℕ) ℕ S) (next : List ℕ)
       (lines : List Line)
       → Merging plan js w counts next lines
@@ -279,8 +279,8 @@ module _ (plan : PlanOf) (js : List Journal) (are : AreJournals plan js)
       ap (λ (all : List (List (commands.Item ℕ))). get_or all s []) (sym same)
       ∙ script_at scripts s d (omega arith) ∙ ap (map item_of) (sym d-is)
 
-  -- one step, for the values that the loop has at hand: next as a slice, the script of s that was
-  -- lent, the journal of s and the place in it
+  -- one step, for the values of the loop: next as a slice, the script of s that was lent, the
+  -- journal of s and the place in it
   module _ {S : Type 0} (w : Turns) (counts : HashMap (ℕ × ℕ) ℕ S) (next : List ℕ)
       (lines : List Line)
       (m : Merging plan js w counts next lines)

@@ -1,4 +1,4 @@
--- The entries of a journal: their commands are over the names, and few of them are busy answers.
+-- The entries of a journal: their commands are over the names, and few of them are busy replies.
 use Rattle.std.proofs.Common.{◌≡◌, ℕ, zero, suc, ◌-◌, ◌≤◌, Bool, true, false, cond, List, [], ◌∷◌, ◌++◌, length, map, get_or, Some, refl, sym, ◌∙◌, subst, inl, inr, arith}
 use Rattle.std.specs.List.{AllByRecursion}
 use Rattle.std.proofs.lemmas.List.{map_push}
@@ -71,7 +71,7 @@ module _ (naming : Naming ℕ) (s : ℕ) (script : List (commands.Item ℕ)) whe
         → IsJournal naming s script (lines_told s script entries) → TellsBelow n script entries
     told_below entries is = below_after [] entries tt is
 
-  -- a closing command is no lock, so it has no busy answer
+  -- a closing command is no lock, so it has no busy reply
   closing_free : (before : List (PlacedLine ℕ)) (command : commands.Command ℕ)
       (reply : replies.Reply ℕ) (place : Place) (t g : ℕ)
       → closing_of naming (map line_of before) ≡ Some command
@@ -108,7 +108,7 @@ module _ (naming : Naming ℕ) (s : ℕ) (script : List (commands.Item ℕ)) whe
             omega arith
       ]
 
-  -- of each grant there are no more busy answers than the script has lines
+  -- there are no more busy replies of a grant than the script has lines
   pub busy_few : (t g : ℕ) (entries : List Entry)
       → IsJournal naming s script (lines_told s script entries)
       → ((k : ℕ) → FitsAt script entries k) → busy_in t g entries ≤ length script

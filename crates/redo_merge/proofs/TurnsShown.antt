@@ -1,4 +1,4 @@
--- The merge's values, seen as lines with tickets.
+-- The merge's values as lines with tickets.
 use Rattle.std.proofs.Common.{◌≡◌, ◌≢◌, ◌↔◌, ℕ, zero, suc, ◌+◌, ◌*◌, ◌<◌, ◌≤◌, ◌&&◌, eqb, true, List, [], ◌∷◌, Option, Some, None, refl, sym, ap, ◌∙◌, subst, inl, inr, arith, length, get_or, drop, map, eq-eqb, eqb-true, nat_cmp}
 use Rattle.std.proofs.Math.ListN.{set}
 use Rattle.std.specs.Cmp.{tied_itself, nat_cmp_total}
@@ -38,7 +38,7 @@ numbers_are_names = record {
 abbrev pub ticketed : Tickets (PlacedLine ℕ) (Option ℕ)
 ticketed = tickets numbers_are_names
 
--- the counters that the turns are
+-- the counters of the turns
 abbrev pub shown : Turns → Option ℕ → ℕ
 shown turns None = turns.rows
 shown turns (Some t) = get_or turns.claims.items t 0 + 2
@@ -48,7 +48,7 @@ map_in f x [] h = absurd h
 map_in f x (y ∷ ys) (inl e) = inl (ap f e)
 map_in f x (y ∷ ys) (inr i) = inr (map_in f x ys i)
 
--- what is left of the journals, as entries and as the lines that they tell
+-- what is left of the journals, as entries and as their lines
 module _ (plan : PlanOf) (js : List Journal) where
   abbrev pub told_at : ℕ → Entry → PlacedLine ℕ
   told_at s = line_told s (script_of plan s)
@@ -83,7 +83,7 @@ pub shown_after : (old new : Turns) (p : Place) (l : PlacedLine ℕ) → Turned 
     → shown new ≡ after ticketed (shown old) (record l { place = place_of p })
 shown_after old new p l h = λ i k. shown_at old new p l k h i
 
--- busy answers and their tickets
+-- busy replies and their tickets
 ticket_busy : (p : Place) (t g : ℕ) → (ticket_of (place_of p)).counter ≡ Some t
     → (ticket_of (place_of p)).value ≡ 2 * g + 1 → (ticket_of (place_of p)).step ≡ 0
     → is_busy t g p ≡ true
@@ -116,7 +116,7 @@ in_some e (y ∷ ys) t g (inr i) h = let a = busy_in-cons t g y ys in
     let b = in_some e ys t g i h in
     omega arith
 
--- where none is counted, none is left
+-- if none is counted, none is left
 below_none : (t g : ℕ) (j : ℕ → List Entry) (n : ℕ) → busy_below t g j n ≡ 0 → (u : ℕ) (e : Entry)
     → u < n → In e (j u) → is_busy t g e.place ≡ true → ⊥
 below_none t g j zero z u e lt i h = omega arith
@@ -149,7 +149,7 @@ below_same t g j j2 (suc n) h = let a = below_same t g j j2 n (λ u lt. h u (ome
     let b = ap (busy_in t g) (h n (omega arith)) in
     omega arith
 
--- an entry that goes takes its own count with it
+-- taking an entry takes its own count with it
 pub below_step : (t g : ℕ) (j j2 : ℕ → List Entry) (s : ℕ) (e : Entry) (n : ℕ) → s < n
     → j s ≡ e ∷ j2 s → ((u : ℕ) → u ≢ s → j2 u ≡ j u)
     → busy_below t g j2 n + busy_one t g e.place ≡ busy_below t g j n
@@ -176,7 +176,7 @@ module _ (plan : PlanOf) (js : List Journal) (next : List ℕ) where
       drop_all (get_or next u 0) (entries_of js u)
       (let a = ap length (entries_past js u h) in omega arith)
 
-  -- a release is free where no busy answer of its grant is counted
+  -- a release is free if no busy reply of its grant is counted
   free_release : (l : PlacedLine ℕ) (t g : ℕ)
       → busy_below t g (left_entries plan js next) (length js) ≡ 0
       ↔ Free ticketed (rests plan js next) (record l { place = place_of (Released t g) })

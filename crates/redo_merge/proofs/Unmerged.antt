@@ -1,4 +1,4 @@
--- The entries of journals, the lines that they tell, and how many are left.
+-- The entries of journals, their lines, and how many are left.
 use Rattle.std.proofs.Common.{◌≡◌, ◌≢◌, ℕ, zero, suc, ◌+◌, ◌-◌, ◌<◌, ◌≤◌, List, [], ◌∷◌, refl, sym, ap, ◌∙◌, subst, arith, length, get_or, map, slice_get}
 use Rattle.std.specs.Option.{option_map, unwrap_or}
 use Rattle.std.proofs.lemmas.List.{get_or_default}
@@ -16,7 +16,7 @@ use Rattle.redo_journal.specs.Plans.{PlanOf, scripts_of, script_of}
 use Rattle.redo_journal.specs.Journals.{lines_told, told_by, journals_of, naming_of, AreJournals, entries_of}
 use Rattle.redo_merge.specs.Inside.Merging.{FitsScript, FitsAt, MisfitsAt, none}
 
--- the entries of a journal that is there
+-- the entries of a journal that exists
 pub entries_at : (js : List Journal) (s : ℕ) (d : Journal) → s < length js
     → entries_of js s ≡ (get_or js s d).entries.items
 entries_at [] s d h = absurd (omega arith)
@@ -60,14 +60,14 @@ left_less f g (j ∷ js) (suc s) h e n =
     (λ i ne. n (suc i) (λ q. ne (omega arith))) in
     omega arith
 
--- the script of a session that is there
+-- the script of a session that exists
 pub script_at : (scripts : List (List Item)) (s : ℕ) (d : List Item) → s < length scripts
     → get_or (scripts_of scripts) s [] ≡ map item_of (get_or scripts s d)
 script_at [] s d h = absurd (omega arith)
 script_at (x ∷ xs) zero d h = refl
 script_at (x ∷ xs) (suc s) d h = script_at xs s d (omega arith)
 
--- what is read by an index is what stands there
+-- an index reads the value at its place
 module _ (script : List (commands.Item ℕ)) (entries : List Entry) (k : ℕ) (e : Entry)
     (below : k < length entries) (is : e ≡ get_or entries k e) where
   entry_is : e ≡ get_or entries k none
@@ -79,7 +79,7 @@ module _ (script : List (commands.Item ℕ)) (entries : List Entry) (k : ℕ) (e
   pub fits_there : FitsScript script (get_or entries k none) → FitsScript script e
   fits_there = subst (FitsScript script) (sym entry_is)
 
--- what is found of one journal, of the journals
+-- one journal, found among the journals
 module _ (scripts : List (List Item)) (js : List Journal) (s : ℕ) (items : List Entry)
     (lines : List Item) (here : entries_of js s ≡ items)
     (script : get_or (scripts_of scripts) s [] ≡ map item_of lines) where
@@ -107,7 +107,7 @@ module _ (naming : Naming ℕ) (s : ℕ) (script : List (commands.Item ℕ)) (se
   told_same [] h = refl
   told_same (e ∷ es) h = ap (λ (u : ℕ). lines_told u script (e ∷ es)) h.0
 
--- the journal at k, where it is that of session s
+-- the journal at k, if it is that of session s
 module _ (naming : Naming ℕ) (script : List (commands.Item ℕ)) (s : ℕ) where
   abbrev told_at : List Journal → ℕ → List (PlacedLine ℕ)
   told_at js k = unwrap_or (option_map (told_by script) (slice_get js k)) []

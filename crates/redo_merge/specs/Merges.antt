@@ -1,4 +1,4 @@
--- What journals are merged to.
+-- The result of merging journals.
 use Rattle.std.specs.Prelude.{◌≡◌, ℕ, List, map}
 use Rattle.std.specs.Ordering.{nat_cmp}
 use Rattle.redo_model.specs.Names.{Naming, numbers}
@@ -9,7 +9,7 @@ use Rattle.redo_journal.specs.Plans.{PlanOf}
 use Rattle.redo_journal.specs.Journals.{journals_of}
 use Rattle.redo_journal.specs.declared.entry.Journal.{Journal}
 
--- joint orders only ask whether two numbers are the same
+-- joint orders only test whether two numbers are the same
 abbrev pub by_number : Naming ℕ
 by_number = numbers nat_cmp
 

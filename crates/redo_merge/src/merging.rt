@@ -67,7 +67,7 @@ fn is_done(journals: &[Journal], next: &[usize]) -> bool
     true
 }
 
-/// The line that the entry tells of its session.
+/// The line of the entry of this session.
 fn told(alloc: Global, session: u8, script: &Script, entry: &Entry) -> Result<Line, AllocError>
     ensures { IfOk result (λ line. line_of line
         ≡ placed.line_of (line_told session (map item_of script.now) entry.now)) }
@@ -85,7 +85,7 @@ fn told(alloc: Global, session: u8, script: &Script, entry: &Entry) -> Result<Li
     })
 }
 
-/// Takes the entry at k: its line is told, and its place counted. Answers where the next one is.
+/// Takes the entry at k: adds its line, and counts its place. Returns the place of the next one.
 fn take_entry(
     alloc: Global,
     script: &Script,

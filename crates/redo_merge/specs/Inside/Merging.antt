@@ -1,4 +1,4 @@
--- What the merge looks at, and how it goes on.
+-- What the merge tests, and how it goes on.
 use Rattle.std.specs.Prelude.{◌≡◌, ℕ, suc, zero, ◌+◌, ◌*◌, ◌<◌, ◌≤◌, ◌==◌, ◌&&◌, ⊤, Bool, false, cond, List, [], ◌∷◌, ◌++◌, None, length, count_by, map, slice_index, slice_index_or}
 use Rattle.std.specs.Option.{unwrap_or}
 use Rattle.std.specs.HashMap.{get, HashMap}
@@ -16,7 +16,7 @@ use Rattle.redo_journal.specs.declared.entry.Entry.{Entry}
 use Rattle.redo_journal.specs.declared.entry.Journal.{Journal}
 use Rattle.redo_merge.specs.declared.merging.turning.Turns.{Turns}
 
--- an entry for where there is none
+-- an entry in place of none
 abbrev pub none : Entry
 none = record { line = 0; closing = None; reply = Okay; place = Row 0 }
 
@@ -71,7 +71,7 @@ claim_after (Granted t g) u claim = claim + cond (t == u) 1 0
 claim_after (Busy t g) u claim = claim
 claim_after (Released t g) u claim = claim + cond (t == u) 1 0
 
--- how the place moves them
+-- how the place changes them
 pub record Turned (old new : Turns) (place : Place) : Type 0 where
   pub rows : new.rows ≡ rows_after place old.rows
   pub claims : (u : ℕ)
@@ -91,20 +91,20 @@ is_busy t g (Granted u h) = false
 is_busy t g (Busy u h) = (u == t) && (h == g)
 is_busy t g (Released u h) = false
 
--- 1 for a busy answer of the grant
+-- 1 for a busy reply of the grant
 abbrev pub busy_one : ℕ → ℕ → Place → ℕ
 busy_one t g place = cond (is_busy t g place) 1 0
 
--- the busy answers of the grant among the entries
+-- the busy replies of the grant among the entries
 abbrev pub busy_in : ℕ → ℕ → List Entry → ℕ
 busy_in t g entries = count_by (λ e. is_busy t g e.place) entries
 
--- the busy answers of the grant in the first n journals
+-- the busy replies of the grant in the first n journals
 abbrev pub busy_below : ℕ → ℕ → (ℕ → List Entry) → ℕ → ℕ
 busy_below t g j zero = 0
 busy_below t g j (suc n) = busy_below t g j n + busy_in t g (j n)
 
--- a release has no busy answer of its grant left
+-- a release has no busy reply of its own grant left
 abbrev pub IsFree : {S : Type 0} → HashMap (ℕ × ℕ) ℕ S → Place → Type 0
 IsFree counts (Row r) = ⊤
 IsFree counts (Granted t g) = ⊤
@@ -144,11 +144,11 @@ pub record MayTake {S : Type 0} (turns : Turns) (counts : HashMap (ℕ × ℕ) �
   pub comes : Comes turns (slice_index_or entries k none).place
   pub busy : (t g : ℕ) → busy_one t g (slice_index_or entries k none).place ≤ tally counts t g
 
--- the place was taken from the counts
+-- the place was subtracted from the counts
 abbrev pub Uncounted : {S : Type 0} → HashMap (ℕ × ℕ) ℕ S → HashMap (ℕ × ℕ) ℕ S → Place → Type 0
 Uncounted old new place = (t g : ℕ) → tally new t g + busy_one t g place ≡ tally old t g
 
--- the line that the entry tells was added
+-- the line of the entry was added
 abbrev pub Tells : List Line → List Line → ℕ → List (commands.Item ℕ) → Entry → Type 0
 Tells old new s script entry =
     map line_of new ≡ map line_of old ++ placed.line_of (line_told s script entry) ∷ []

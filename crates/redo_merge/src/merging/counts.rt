@@ -1,4 +1,4 @@
-//! How many busy answers of each grant are left.
+//! How many busy replies of each grant are left.
 
 ghost use Rattle.std.specs.Prelude.{◌≡◌, ◌↔◌, ℕ, ◌+◌, ◌<◌, ◌≤◌, ◌^◌, ◌*◌, IfOk, IsTrue, length};
 ghost use Rattle.redo_journal.specs.Journals.{entries_of};
@@ -8,7 +8,7 @@ use redo_journal::{Entry, Journal, Place};
 use std::alloc::{AllocError, Global};
 use std::collections::HashMap;
 
-/// How many busy answers are left, by the numbers of the target and of the grant.
+/// How many busy replies are left, by the numbers of the target and of the grant.
 pub(crate) type Counts = HashMap<(u32, u32), u64>;
 
 fn counted(counts: &Counts, target: u32, grant: u32) -> u64
@@ -20,7 +20,7 @@ fn counted(counts: &Counts, target: u32, grant: u32) -> u64
     }
 }
 
-/// Counts a place, where it is a busy answer.
+/// Counts a place, if it is a busy reply.
 fn add(counts: &mut Counts, place: Place) -> Result<(), AllocError>
     requires { (t g : ℕ) → tally counts.old t g + busy_one t g place < 2 ^ 64 }
     ensures { IfOk result (λ _. (t g : ℕ) →
@@ -33,7 +33,7 @@ fn add(counts: &mut Counts, place: Place) -> Result<(), AllocError>
     Ok(())
 }
 
-/// Takes a place away, where it is a busy answer.
+/// Takes a place from the counts, if it is a busy reply.
 pub(crate) fn take(counts: &mut Counts, place: Place)
     requires { (t g : ℕ) → busy_one t g place ≤ tally counts.old t g }
     ensures { Uncounted counts.old counts.new place }
@@ -45,7 +45,7 @@ pub(crate) fn take(counts: &mut Counts, place: Place)
     }
 }
 
-/// Whether the place, if it is a release, has no busy answer of its grant left.
+/// Whether the place, if it is a release, has no busy reply of its own grant left.
 pub(crate) fn is_free(counts: &Counts, place: Place) -> bool
     ensures { IsTrue result ↔ IsFree counts.now place }
 {
@@ -55,7 +55,7 @@ pub(crate) fn is_free(counts: &Counts, place: Place) -> bool
     }
 }
 
-/// Counts the busy answers of a journal.
+/// Counts the busy replies of a journal.
 fn add_all(counts: &mut Counts, entries: &[Entry]) -> Result<(), AllocError>
     requires { (t g : ℕ) → tally counts.old t g + busy_in t g entries.now < 2 ^ 64 }
     ensures { IfOk result (λ _. (t g : ℕ) →
@@ -67,7 +67,7 @@ fn add_all(counts: &mut Counts, entries: &[Entry]) -> Result<(), AllocError>
     Ok(())
 }
 
-/// The busy answers of the journals.
+/// The busy replies of the journals.
 pub(crate) fn busy_answers(alloc: Global, journals: &[Journal]) -> Result<Counts, AllocError>
     requires few { length journals.now ≤ 64 }
     requires short { (t g s : ℕ) → busy_in t g (entries_of journals.now s) ≤ 4096 }

@@ -1,4 +1,4 @@
-//! Which rows and grants came.
+//! How many rows and grants came.
 
 ghost use Rattle.std.specs.Prelude.{◌↔◌, IsTrue, length};
 ghost use Rattle.redo_merge.specs.Inside.Merging.{Comes, IsWithin, Turned};
@@ -26,7 +26,7 @@ pub(crate) fn comes(turns: &Turns, place: Place) -> bool
     }
 }
 
-/// Goes on by a place.
+/// Counts a place that came.
 pub(crate) fn turn(turns: &mut Turns, place: Place)
     requires within { IsWithin (length turns.old.claims.items) place }
     requires comes { Comes turns.old place }
