@@ -44,7 +44,7 @@ fresh_at_9 (inl out) =
     (λ n e. rw e refl)) library_at_9 (λ n e. rw e refl) out
 fresh_at_9 (inr lost) = let idle = lost.0 in cc
 
--- of other names nothing is known
+-- no other name has a file
 no_file_at_12 : (n : Text) → bytes_eq library n ≡ false → bytes_eq group n ≡ false
     → bytes_eq program n ≡ false → HasFile (after 12) n → ⊥
 no_file_at_12 n e f g file = let none = rw (e, f, g) at file in cc

@@ -24,7 +24,7 @@ fresh : IsStale (after 3) source → ⊥
 fresh (inl out) = idle_up_to_date (after 3) source refl out
 fresh (inr lost) = absurd (cc)
 
--- of other names nothing is known
+-- every other name is idle
 elsewhere : (n : Text) → bytes_eq source n ≡ false → bytes_eq target n ≡ false
     → ((after 6).cell n).state ≡ Idle
 elsewhere n e f = rw e (rw f refl)

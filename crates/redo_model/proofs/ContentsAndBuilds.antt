@@ -24,7 +24,7 @@ program = codes "app"
 abbrev after : ℕ → Records Text
 after k = (left_by texts empty (take k contents_and_builds)).records
 
--- the library has no rows, and is as it was left
+-- the library has no rows, and its file is unchanged
 settled : (k : ℕ) → (HasReason (after k) library → ⊥)
     → ((n : Text) → (after k).rows.change library n ≡ None) → OutOfDate (after k) library → ⊥
 settled k none rowless = rowless_up_to_date (after k) library none rowless

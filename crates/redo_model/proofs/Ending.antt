@@ -1,4 +1,4 @@
--- A session that ends lets go of its targets in their order, as the state tells them.
+-- The state determines a session's closing commands: it closes its targets in their order.
 use Rattle.std.proofs.Common.{◌≡◌, ◌⊎◌, ℕ, Bool, true, false, cond, List, [], ◌∷◌, ◌++◌, Option, Some, None, option_map, refl, sym, ap, ◌∙◌, subst, inl, inr}
 use Rattle.std.specs.Cmp.{IsTotalOrder}
 use Rattle.std.specs.List.{Contains, filter_map}
@@ -34,7 +34,7 @@ held_some : (s : ℕ) (o : Option ℕ) → is_held_by s o ≡ true → o ≡ Som
 held_some s None e = absurd (cc)
 held_some s (Some h) e = ap Some (eqb-true h s e)
 
--- what a session holds and somebody builds it builds itself
+-- a session builds what it holds and somebody builds
 built_by_holder : {N : Type 0} (st : State N) (s : ℕ) (t : N) (a : TargetState)
     → target_state st.records t ≡ a → BuildersHold st → st.locks.holder t ≡ Some s
     → is_building a ≡ true → is_built_by s a ≡ true
@@ -44,7 +44,7 @@ built_by_holder st s t (Building b) is h held e =
 built_by_holder st s t Built is h held e = absurd (false≢true e)
 built_by_holder st s t states.Failed is h held e = absurd (false≢true e)
 
--- who holds nothing builds nothing
+-- a session that holds nothing builds nothing
 built_by_none : {N : Type 0} (st : State N) (s : ℕ) (t : N) (a : TargetState)
     → target_state st.records t ≡ a → BuildersHold st → is_held_by s (st.locks.holder t) ≡ false
     → is_built_by s a ≡ false
@@ -53,7 +53,7 @@ built_by_none st s t (Building b) is h free = ap (is_held_by s) (sym (h.held t b
 built_by_none st s t Built is h free = refl
 built_by_none st s t states.Failed is h free = refl
 
--- a state of which a session holds nothing
+-- a state in which a session holds nothing
 without_none : {N : Type 0} (st : State N) (s : ℕ) → BuildersHold st
     → ((t : N) → is_held_by s (st.locks.holder t) ≡ false) → state_without s st ≡ st
 without_none st s h free =
@@ -81,7 +81,7 @@ module _ {N : Type 0} {naming : Naming N} (law : IsNaming naming) where
       ≡ record st { locks = locks_freed naming st.locks t }
   unlock_leaves st s t e f = rw (e, f) refl
 
-  -- a failed build of the session's, and an unlocked target, are as good as let go
+  -- the session's `failed` and `unlock` don't change the state without the session
   without_failed : (st : State N) (s : ℕ) (t : N)
       → is_built_by s (target_state st.records t) ≡ true
       → state_without s (after naming st s (Failed t)) ≡ state_without s st
@@ -169,12 +169,12 @@ module _ {N : Type 0} {naming : Naming N} (law : IsNaming naming)
       absurd (none t (is_held own t (least_in naming (held_in naming own) t is)))
 
   module _ (s : ℕ) where
-    -- what the session's own lines tell of the state
+    -- what the session's own lines say of the state
     pub record TellsOwn (own : List (Line N)) (st : State N) : Type 0 where
       pub held : (t : N) → holds naming own t ≡ is_held_by s (st.locks.holder t)
       pub built : (t : N) → builds naming own t ≡ is_built_by s (target_state st.records t)
 
-    -- these lines end the session in this state, whatever its own lines were that told of it
+    -- these lines end the session in this state, for all own lines that agree with it
     pub record Ends (st : State N) (lines : List (Line N)) : Type 0 where
       pub legal : LegalFrom naming st lines
       pub left : left_by naming st lines ≡ state_without s st
@@ -186,7 +186,7 @@ module _ {N : Type 0} {naming : Naming N} (law : IsNaming naming)
         (t : N) → Contains ts t
         → is_building (target_state plan.records t) ≡ is_building (target_state st.records t)
 
-    -- where the session holds these targets, the lines that let go of them end it
+    -- if the session holds these targets, their closing lines end it
     abbrev EndsBy : State N → List N → Type 0
     EndsBy plan ts =
         (st : State N) → BuildersHold st → AreHeld naming s st ts → BuildAlike plan st ts
@@ -228,7 +228,7 @@ module _ {N : Type 0} {naming : Naming N} (law : IsNaming naming)
     first_held st t ts listed =
         ap (is_held_by s) ((listed.1 t).0 (contains_first t ts)) ∙ eq-eqb s s refl
 
-    -- the first of the targets is the one that the closing command is of
+    -- the closing command is about the first of the targets
     closing_here : (b : Bool) (st : State N) (t : N) (ts : List N)
         → AreHeld naming s st (t ∷ ts) → is_built_by s (target_state st.records t) ≡ b
         → (own : List (Line N)) → TellsOwn own st
@@ -247,7 +247,7 @@ module _ {N : Type 0} {naming : Naming N} (law : IsNaming naming)
         law.irreflexive t
         (subst (λ k. naming.order t k ≡ Less) (sym same) (first_before law t ts listed.0 u there))
 
-    -- the other targets are held when the first is unlocked
+    -- the session holds the other targets when it unlocks the first
     held_rest : (st : State N) (t : N) (ts : List N) → AreHeld naming s st (t ∷ ts)
         → is_building (target_state st.records t) ≡ false
         → AreHeld naming s (after naming st s (Unlock t)) ts
@@ -343,7 +343,7 @@ module _ {N : Type 0} {naming : Naming N} (law : IsNaming naming)
         ends_from (left_by naming empty before) ts
         (builders_hold law empty before builders_hold_at_first) listed
 
-    -- after a legal history the lines that the state tells are the closing ones
+    -- after a legal history the closing lines are those that the state determines
     pub closes_by_state : (before : List (Line N)) (ts : List N) → Legal naming before
         → AreHeld naming s (left_by naming empty before) ts
         → ClosesAfter naming (part_of s before)

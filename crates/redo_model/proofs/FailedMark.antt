@@ -38,7 +38,7 @@ up_to_date_at_last (ns, chain) =
     (λ t is. subst (λ u. HasReason (after 11) u → ⊥) is built_at_last)
     ns failing refl chain
 
--- the target's row says that the other one's content is pending
+-- the target's row records the other one's content as pending
 target_out : IsListed texts (λ t. HasFile (after 11) t × OutOfDate (after 11) t) (target ∷ [])
 target_out =
     one_listed texts_are_names target

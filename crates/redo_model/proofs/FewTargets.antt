@@ -1,4 +1,4 @@
--- How lists are shown to be right where few names are targets.
+-- Lemmas that show lists right if few names are targets.
 use Rattle.std.proofs.Common.{◌≡◌, ◌⊎◌, false, [], ◌∷◌, None, refl, inl, inr}
 use Rattle.redo_model.specs.Names.{Naming, IsListed}
 use Rattle.redo_model.specs.Inside.Names.{IsNaming}
@@ -17,7 +17,7 @@ module _ {N : Type 0} {naming : Naming N} (law : IsNaming naming) where
       (λ m f g d. other m d f g) n e)
 
 module _ {N : Type 0} (r : Records N) where
-  -- out of date is a target by a reason of its own, or by a change row
+  -- a target is out of date by a reason of its own, or by a change row
   out_cases : (t : N) → OutOfDate r t → HasReason r t ⊎ ((n : N) × Depends r t n × OutOfDate r n)
   out_cases t ([], reason) = inl reason
   out_cases t (n ∷ ns, chain) = inr (n, chain.0, (ns, chain.1))
@@ -77,7 +77,7 @@ module _ {N : Type 0} {naming : Naming N} (law : IsNaming naming) (r : Records N
         (at_one law x (λ t. HasFile r t × IsTarget r t → ⊥) (λ h. none h.0)
         (λ n e h. h.1 (idle n e)))
 
-  -- of two targets the second alone is out of date
+  -- of two targets only the second is out of date
   pub second_out : (x y : N)
       → ((n : N) → naming.same x n ≡ false → naming.same y n ≡ false → target_state r n ≡ Idle)
       → (HasFile r x × OutOfDate r x → ⊥) → HasFile r y → HasReason r y

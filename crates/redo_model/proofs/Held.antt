@@ -1,4 +1,4 @@
--- A Building target is held by its builder.
+-- The builder of a building target holds it.
 use Rattle.std.proofs.Common.{◌≡◌, ◌≢◌, ◌⊎◌, ℕ, Bool, true, false, cond, not, List, [], ◌∷◌, Option, Some, None, refl, sym, ap, ◌∙◌, subst, inl, inr, eqb}
 use Rattle.std.proofs.lemmas.Bool.{cases_Bool, false≢true, eqb-true}
 use Rattle.redo_model.specs.Names.{Naming, put}
@@ -11,7 +11,7 @@ use Rattle.redo_model.specs.Step.{verdict_of, effect_of, after, unless_refused, 
 use Rattle.redo_model.specs.History.{Line, left_by}
 use Rattle.redo_model.proofs.Refused.{refused_locks}
 
--- each Building target is held by its builder
+-- the builder of each building target holds it
 pub record BuildersHold {N : Type 0} (st : State N) : Type 0 where
   pub held : (t : N) (s : ℕ) → target_state st.records t ≡ Building s → st.locks.holder t ≡ Some s
 
@@ -22,7 +22,7 @@ test_failed true refusal rest e = absurd (cc)
 test_failed false refusal rest e = (refl, e)
 
 module _ {N : Type 0} {naming : Naming N} (law : IsNaming naming) where
-  -- what stands at m after a put at n
+  -- the value at m after a put at n
   pub from_put : {X : Type 0} (Q : X → Type 0) (n m : N) (x : X) (f : N → X)
       → Q (put naming n x f m) → ((n ≡ m) × Q x) ⊎ ((n ≢ m) × Q (f m))
   from_put Q n m x f q =

@@ -15,13 +15,13 @@ use Rattle.redo_model.proofs.StepsByName.{after_by_name}
 use Rattle.redo_model.proofs.AnswersByName.{answers_by_name}
 use Rattle.redo_model.proofs.Within.{within_after, within_empty}
 
--- where no rows stand, no row is read
+-- without rows, no row is read
 no_row_at : {M X : Type 0} (number : M → Option ℕ) (d : X) (n : M) (o : Option ℕ)
     → value_at {X = M → X} (λ v. d) (λ k v. value_at d (λ m. d) (number v)) o n ≡ d
 no_row_at number d n None = refl
 no_row_at number d n (Some k) = sym (default_at d (number n))
 
--- the state in which nothing is known has no names to change
+-- the empty state has no names to change
 pub empty_by_name : {M : Type 0} (to : Renaming M) → named_state to empty ≡ empty
 empty_by_name to =
     let cells = fun_ext (λ t. sym (default_at idle (to.number t))) in
@@ -67,7 +67,7 @@ module _ {M : Type 0} {to : Renaming M} (law : IsRenaming to) (naming : Naming M
       (within_after to.count order st line.session line.command within below.0.0) below.1) in
       (λ h. (here.0 h.0, there.0 h.1), λ h. (here.1 h.0, there.1 h.1))
 
-  -- the same from the start, where nothing is known
+  -- the same from the empty state
   pub state_by_name : (lines : List (Line ℕ))
       → AllByRecursion (λ line. IsBelow to.count line.command) lines
       → named_state to (left_by (numbers order) empty lines)

@@ -1,5 +1,5 @@
--- How many lines of a script lock and start, told by the lines of its journal, and with them how
--- many lines a journal has, where its closing lines are answered `ok`.
+-- A bound on the lines of a journal whose closing lines are answered `ok`, by the locks and starts
+-- of its script.
 use Rattle.std.proofs.Common.{◌≡◌, ℕ, ◌+◌, ◌-◌, ◌<◌, ◌≤◌, Bool, cond, List, [], ◌∷◌, ◌++◌, length, map, drop, get_or, refl, sym, ap, ◌∙◌, subst, arith, append_assoc, append-nil}
 use Rattle.std.specs.List.{AllByRecursion, filter, cons_option, count_by, sum_by}
 use Rattle.std.proofs.lemmas.List.{drop-drop, length-append, length-map}
@@ -93,7 +93,7 @@ module _ {N : Type 0} where
         let later = sum_drop f commands (past_of before) line.number from in
         omega arith
 
-    -- what the lines ask, each counted by f, is no more than what the script does
+    -- the lines' commands, counted by f, are at most those of the script
     pub asked_within : (f : Command N → ℕ) (lines : List (PlacedLine N)) → IsLined s script [] lines
         → sum_by (λ line. f line.command) lines ≤ sum_by (λ item. f item.command) script
     asked_within f lines is =
@@ -118,7 +118,8 @@ module _ {N : Type 0} where
 
 module _ {N : Type 0} {naming : Naming N} (law : IsNaming naming) (s : ℕ)
     (script : List (Item N)) where
-  -- of the closing lines, as many as the script locks and starts, and as many failed as it starts
+  -- there are at most as many closing lines as the script has locks and starts, and at most as many
+  -- failed as starts
   pub few_closing : (lines : List (PlacedLine N)) (parts : Parts naming s script [] lines)
       → ClosingsOkay script lines
       → (count_by (λ line. is_failed line.command) parts.closing ≤ starts_in script)
@@ -151,7 +152,7 @@ module _ {N : Type 0} {naming : Naming N} (law : IsNaming naming) (s : ℕ)
       let sum = length-append parts.own parts.closing in
       omega arith
 
-  -- a journal has room in its script's lines and one line more for each that locks or starts
+  -- a journal has at most the script's lines and one line more for each that locks or starts
   pub journal_room : (lines : List (PlacedLine N)) → IsJournal naming s script lines
       → ClosingsOkay script lines → length lines ≤ room_of script
   journal_room lines is okay =
@@ -197,7 +198,7 @@ module _ {N : Type 0} (s : ℕ) (script : List (Item N)) where
 
 module _ {N : Type 0} {naming : Naming N} (law : IsNaming naming) (s : ℕ)
     (script : List (Item N)) where
-  -- they are below the room that the script asks for
+  -- they are below the bound that the script gives
   pub numbers_fit : (lines : List (PlacedLine N)) → IsJournal naming s script lines
       → ClosingsOkay script lines → AllByRecursion (λ line. line.number < room_of script) lines
   numbers_fit lines is okay =

@@ -1,4 +1,4 @@
--- The closing command is of the least held name.
+-- The closing command is about the least held name.
 use Rattle.std.proofs.Common.{◌≡◌, ◌≢◌, ◌↔◌, Bool, true, false, cond, List, [], ◌∷◌, Option, Some, None, option_map, refl, sym, ap, ◌∙◌, subst, inl, inr}
 use Rattle.std.specs.List.{Contains, filter_map}
 use Rattle.std.specs.Cmp.{IsTotalOrder, tied_itself, upto}

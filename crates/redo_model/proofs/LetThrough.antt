@@ -1,4 +1,4 @@
--- A command is accepted where its reply lets a guarded line through, and else changes nothing.
+-- A command is accepted if its reply lets a guarded line through, and else changes nothing.
 use Rattle.std.proofs.Common.{◌≡◌, ℕ, Bool, true, false, List, [], ◌∷◌, Option, Some, None, refl, sym, ap, ◌∙◌, subst, arith}
 use Rattle.std.specs.Prelude.{MatchOption}
 use Rattle.std.proofs.lemmas.Bool.{false≢true}
@@ -9,7 +9,7 @@ use Rattle.redo_model.specs.Reply.{Refusal, Reply, Refused, lets_through}
 use Rattle.redo_model.specs.Step.{Tells, Replies, Answers, after, verdict_of, holds_target, stale_reply, lock_reply, locks_granted}
 use Rattle.redo_model.proofs.Refused.{refused_same}
 
--- only a lock asks for a lock
+-- only a `lock` locks
 pub lock_asked : {N : Type 0} (command : Command N) (t : N) → asked_lock command ≡ Some t
     → command ≡ Lock t
 lock_asked command t h = grind arith
@@ -19,7 +19,7 @@ stale_through [] = refl
 stale_through (n ∷ names) = refl
 
 module _ {N : Type 0} (naming : Naming N) where
-  -- what is told of an accepted command lets a guarded line through
+  -- the reply to an accepted command lets a guarded line through
   tells_through : (r : Records N) (command : Command N) (reply : Reply N)
       → Tells naming r command reply → lets_through reply ≡ true
   tells_through r (File n stamp) reply told = ap lets_through told
@@ -45,14 +45,14 @@ module _ {N : Type 0} (naming : Naming N) where
   accepted_by (Some refusal) r command reply told e =
       absurd (false≢true (sym (ap lets_through told) ∙ e))
 
-  -- a reply that lets a guarded line through is to an accepted command
+  -- a reply that lets a guarded line through belongs to an accepted command
   pub accepted_through : (r : Records N) (s : ℕ) (holds : Bool) (command : Command N)
       (reply : Reply N) → Replies naming r s holds command reply → lets_through reply ≡ true
       → verdict_of naming r s holds command ≡ None
   accepted_through r s holds command reply told e =
       accepted_by (verdict_of naming r s holds command) r command reply told e
 
-  -- a command that is no lock is answered by its verdict
+  -- a command that is no lock has the reply of its verdict
   pub told_without_lock : (st : State N) (s : ℕ) (command : Command N) (reply : Reply N)
       → asked_lock command ≡ None → Answers naming st s command reply
       → Replies naming st.records s (holds_target st.locks s command) command reply
@@ -105,7 +105,7 @@ module _ {N : Type 0} (naming : Naming N) where
       subst (λ (c : Command N). after naming st s c ≡ st) (sym (lock_asked command t asked))
       (λ i. record { records = st.records; locks = locks i })
 
-  -- a reply that lets no guarded line through is to a command that changes nothing
+  -- a reply that lets no guarded line through belongs to a command that changes nothing
   pub stopped_same : (st : State N) (s : ℕ) (command : Command N) (reply : Reply N)
       → Answers naming st s command reply → lets_through reply ≡ false
       → after naming st s command ≡ st

@@ -1,4 +1,4 @@
--- Closing commands are accepted, and where none is left nothing is held.
+-- Closing commands are accepted, and a session without one holds nothing.
 use Rattle.std.proofs.Common.{◌≡◌, ◌⊎◌, ℕ, Bool, true, false, cond, List, [], ◌∷◌, Option, Some, None, option_map, refl, sym, ap, ◌∙◌, subst, inl, inr}
 use Rattle.std.specs.List.{Contains, filter, filter_map, cons_option}
 use Rattle.std.proofs.lemmas.Bool.{false≢true, eq-eqb, false_from_ne_true}
@@ -100,7 +100,7 @@ module _ {N : Type 0} (naming : Naming N) where
     cc,
   )
 
-  -- a closing command lets go of a target that the session holds
+  -- a closing command is about a target that the session holds
   pub closing_held : (own : List (Line N)) (command : Command N)
       → closing_of naming own ≡ Some command
       → (t : N) × (holds naming own t ≡ true) × (command ≡ letting_go naming own t)
@@ -124,7 +124,7 @@ module _ {N : Type 0} {naming : Naming N} (law : IsNaming naming) where
       inl (unlock_true (is_okay reply) (naming.same u t) held e)
   then_held command reply t held e = inl e
 
-  -- what a session holds it had before, or it locked it
+  -- a session held before what it holds, or it locked it
   asked_or_before : (own : List (Line N)) (t : N) (held : Bool)
       → holds_after naming t held own ≡ true
       → (held ≡ true) ⊎ Contains (filter_map (λ (line : Line N). asked_lock line.command) own) t
@@ -171,7 +171,7 @@ module _ {N : Type 0} {naming : Naming N} (law : IsNaming naming) where
   not_building st s t Built is h held n = refl
   not_building st s t states.Failed is h held n = refl
 
-  -- what lets go of a target that the session holds is accepted
+  -- the closing commands of a target that the session holds are accepted
   pub letting_answers : (b : Bool) (st : State N) (s : ℕ) (t : N) → BuildersHold st
       → is_held_by s (st.locks.holder t) ≡ true
       → is_built_by s (target_state st.records t) ≡ b
@@ -209,7 +209,7 @@ module _ {N : Type 0} {naming : Naming N} (law : IsNaming naming) where
   no_builder st t Built is h free = refl
   no_builder st t states.Failed is h free = refl
 
-  -- where no session has a closing command left, nothing is held and nothing building
+  -- if no session has a closing command left, nothing is held and nothing is building
   pub nothing_held : (lines : List (Line N)) → Legal naming lines
       → ((s : ℕ) → closing_of naming (part_of s lines) ≡ None) → (t : N)
       → ((left_by naming empty lines).locks.holder t ≡ None)

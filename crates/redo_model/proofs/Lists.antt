@@ -1,4 +1,4 @@
--- Lists in order, each name once: two with the same members are equal.
+-- Sorted lists without repeats: two with the same members are equal.
 use Rattle.std.proofs.Common.{◌≡◌, ◌↔◌, List, [], ◌∷◌, refl, sym, ◌∙◌, subst, inl, inr, arith, suc}
 use Rattle.std.specs.List.{Contains}
 use Rattle.std.specs.declared.cmp.Ordering.TheVariants.{Less}
@@ -27,7 +27,7 @@ module _ {N : Type 0} {naming : Naming N} (law : IsNaming naming) where
         ]
       ]
 
-  -- a name of the one rest is in the other
+  -- a name of one rest is in the other
   in_rest : (x y : N) (xs ys : List N) → x ≡ y → Ascending naming (x ∷ xs)
       → ((n : N) → Contains (x ∷ xs) n → Contains (y ∷ ys) n) → (n : N) → Contains xs n
       → Contains ys n

@@ -83,7 +83,7 @@ module _ {N : Type 0} where
             ∙ among.command;
       }
 
-  -- the number after that of the last line, and 0 where there is none
+  -- the number after that of the last line, or 0 if there is none
   abbrev pub past_of : List (PlacedLine N) → ℕ
   past_of [] = 0
   past_of (line ∷ []) = line.number + 1
@@ -136,7 +136,7 @@ module _ {N : Type 0} where
   GoUp here [] = Unit {0}
   GoUp here (line ∷ lines) = (here ≤ line.number) × GoUp (line.number + 1) lines
 
--- a closing command: no line of the script is left, and the numbers are counted on
+-- a closing command: no line of the script is left, and the numbers count on
 pub record IsClosing {N : Type 0} (naming : Naming N) (script : List (Item N))
     (own : List (PlacedLine N)) (next : Numbered N) : Type 0 where
   pub ended : next_line_of script own ≡ None
@@ -202,7 +202,7 @@ module _ {N : Type 0} (naming : Naming N) (script : List (Item N)) where
       ap (λ o. option_or o (option_map (closing_after script own)
       (closing_of naming (map line_of own)))) e
 
-  -- and a closing one comes where none is left
+  -- a closing command comes if no line is left
   pub next_is_closing : (own : List (PlacedLine N)) → next_line_of script own ≡ None
       → next_of naming script own
       ≡ option_map (closing_after script own) (closing_of naming (map line_of own))
@@ -223,12 +223,12 @@ module _ {N : Type 0} (naming : Naming N) (script : List (Item N)) where
   none_by_line own None is e = (is, no_closing own (closing_of naming (map line_of own)) e)
   none_by_line own (Some found) is e = absurd (cc)
 
-  -- where nothing is next, no line is left, and nothing to let go of
+  -- if nothing is next, no line is left and no closing command
   pub next_none : (own : List (PlacedLine N)) → next_of naming script own ≡ None
       → (next_line_of script own ≡ None) × (closing_of naming (map line_of own) ≡ None)
   next_none own e = none_by_line own (next_line_of script own) refl e
 
-  -- what is next comes after the last line
+  -- the next line comes after the last line
   pub next_from : (own : List (PlacedLine N)) (next : Numbered N)
       → next_of naming script own ≡ Some next → past_of own ≤ next.number
   next_from own next e = elim (next_cases own next e) [

@@ -1,4 +1,4 @@
--- What a session holds and builds is told by its own lines.
+-- A session's own lines determine what it holds and builds.
 use Rattle.std.proofs.Common.{◌≡◌, ℕ, Bool, true, false, cond, not, List, [], ◌∷◌, ◌++◌, Option, Some, None, refl, sym, ap, ◌∙◌, subst, eqb, inl, inr}
 use Rattle.std.specs.Prelude.{MatchOption}
 use Rattle.std.proofs.lemmas.Bool.{cases_Bool, eqb-true, eq-eqb}
@@ -28,14 +28,14 @@ pub same_both : (b h : Bool) → h ≡ cond b h h
 same_both true h = refl
 same_both false h = refl
 
--- what isn't building isn't built by anybody
+-- nobody builds what isn't building
 pub not_built : (a : TargetState) (s : ℕ) → is_building a ≡ false → is_built_by s a ≡ false
 not_built Idle s e = refl
 not_built (Building b) s e = absurd (cc)
 not_built Built s e = refl
 not_built states.Failed s e = refl
 
--- what another session builds isn't built by this one
+-- a session doesn't build what another one builds
 built_by_other : (a : TargetState) (c s : ℕ) → not (is_built_by c a) ≡ false → eqb c s ≡ false
     → is_built_by s a ≡ false
 built_by_other Idle c s e n = refl
@@ -89,7 +89,7 @@ module _ {N : Type 0} {naming : Naming N} (law : IsNaming naming) where
       let h = is_held_by s (st.locks.holder t) in
       ap (λ r. cond (is_okay r) (cond (naming.same u t) false h) h) (sym told)
 
-  -- what a session's line leaves it of the locks
+  -- how a session's line changes what it holds
   pub held_own : (st : State N) (s : ℕ) (command : Command N) (reply : Reply N) (t : N)
       → Answers naming st s command reply
       → is_held_by s ((after naming st s command).locks.holder t)
@@ -125,7 +125,7 @@ module _ {N : Type 0} {naming : Naming N} (law : IsNaming naming) where
       (λ d. refl)
   unlock_other (Some refusal) st s c u t v n = refl
 
-  -- another's line leaves a session what it holds
+  -- another session's line doesn't change what a session holds
   pub held_other : (st : State N) (s c : ℕ) (command : Command N) (t : N) → eqb c s ≡ false
       → is_held_by s ((after naming st c command).locks.holder t)
       ≡ is_held_by s (st.locks.holder t)
@@ -147,7 +147,7 @@ module _ {N : Type 0} {naming : Naming N} (law : IsNaming naming) where
       ap (λ h. holds_after naming t h part)
       (sym (held_other st s line.session line.command t e))
 
-  -- whether a session holds a target is told by its own lines
+  -- a session's own lines determine whether it holds a target
   pub holds_by_part : (st : State N) (lines : List (Line N)) (s : ℕ) (t : N)
       → LegalFrom naming st lines
       → holds_after naming t (is_held_by s (st.locks.holder t)) (part_of s lines)
@@ -203,7 +203,7 @@ module _ {N : Type 0} {naming : Naming N} (law : IsNaming naming) where
       let b = is_built_by s (target_state r t) in
       ap (λ x. builds_then naming command x t b) (sym told)
 
-  -- what a session's line leaves it of its builds
+  -- how a session's line changes what it builds
   pub builds_own : (st : State N) (s : ℕ) (command : Command N) (reply : Reply N) (t : N)
       → Answers naming st s command reply
       → is_built_by s (target_state (after naming st s command).records t)
@@ -261,7 +261,7 @@ module _ {N : Type 0} {naming : Naming N} (law : IsNaming naming) where
   other_by_verdict None r s c h command t v n = accepted_other r s c h command t v n
   other_by_verdict (Some refusal) r s c h command t v n = refl
 
-  -- another's line leaves a session what it builds
+  -- another session's line doesn't change what a session builds
   pub builds_other : (st : State N) (s c : ℕ) (command : Command N) (t : N) → eqb c s ≡ false
       → is_built_by s (target_state (after naming st c command).records t)
       ≡ is_built_by s (target_state st.records t)
@@ -282,7 +282,7 @@ module _ {N : Type 0} {naming : Naming N} (law : IsNaming naming) where
       ap (λ h. builds_after naming t h part)
       (sym (builds_other st s line.session line.command t e))
 
-  -- whether a session builds a target is told by its own lines
+  -- a session's own lines determine whether it builds a target
   pub builds_by_part : (st : State N) (lines : List (Line N)) (s : ℕ) (t : N)
       → LegalFrom naming st lines
       → builds_after naming t (is_built_by s (target_state st.records t)) (part_of s lines)

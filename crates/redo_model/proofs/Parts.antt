@@ -1,4 +1,4 @@
--- A journal has first lines of its script, and then closing ones.
+-- A journal has first lines of its script, and then closing lines.
 use Rattle.std.proofs.Common.{◌≡◌, ℕ, ◌+◌, ◌<◌, ◌≤◌, Bool, true, false, not, cond, List, [], ◌∷◌, ◌++◌, length, map, drop, Some, None, refl, sym, ap, ◌∙◌, subst, arith, append_assoc, append-nil, inl, inr}
 use Rattle.std.proofs.lemmas.List.{map-append, drop-drop}
 use Rattle.std.proofs.lemmas.Option.{none-some}
@@ -63,7 +63,7 @@ module _ {N : Type 0} (naming : Naming N) (s : ℕ) (script : List (Item N)) whe
     pub lined : IsLined s script before own
     pub closed : IsClosed (before ++ own) closing
 
-  -- after a closing line there are only closing ones
+  -- only closing lines follow a closing line
   pub only_closing : (before lines : List (PlacedLine N)) → length script ≤ past_of before
       → IsJournalAfter naming s script before lines → IsClosed before lines
   only_closing before [] past is = tt
@@ -110,7 +110,7 @@ module _ {N : Type 0} (naming : Naming N) (s : ℕ) (script : List (Item N)) whe
             }
       ]
 
-  -- where nothing comes after them, the closing lines let go of all
+  -- if nothing follows them, the closing lines close all that is held
   closes_after : (before lines : List (PlacedLine N)) → IsClosed before lines
       → closing_of naming (map line_of (before ++ lines)) ≡ None
       → ClosesAfter naming (map line_of before) (map line_of lines)
@@ -130,7 +130,7 @@ module _ {N : Type 0} (naming : Naming N) (s : ℕ) (script : List (Item N)) whe
   no_line_left before [] is none = ap (next_line_of script) (sym (append-nil before)) ∙ none
   no_line_left before (line ∷ lines) is none = is.1.ended
 
-  -- a whole journal: all lines of the script that are done, and then what lets go of all
+  -- a whole journal: all lines of the script that are done, and then all closing lines
   pub record WholeParts (lines : List (PlacedLine N)) : Type 0 where
     pub own : List (PlacedLine N)
     pub closing : List (PlacedLine N)
@@ -218,7 +218,7 @@ module _ {N : Type 0} (naming : Naming N) (s : ℕ) (script : List (Item N)) whe
     parts.closes,
   )
 
-  -- where no line is guarded, a whole journal has all commands, and then closing ones
+  -- if no line is guarded, a whole journal has all commands, and then closing ones
   pub all_done : (lines : List (PlacedLine N)) → AllUnguarded script
       → IsWholeJournal naming s script lines → (own : List (Line N)) × (closing : List (Line N))
       × (map line_of lines ≡ own ++ closing)

@@ -1,4 +1,4 @@
--- A reason that a target has is one by which it is out of date.
+-- A target with a reason is out of date by it.
 use Rattle.std.proofs.Common.{◌≡◌, ◌⊎◌, IsTrue, sym, subst, inl, inr}
 use Rattle.std.proofs.lemmas.Bool.{false≢true}
 use Rattle.redo_model.specs.State as states

@@ -10,19 +10,19 @@ use Rattle.redo_model.specs.State.{Records, Cell, TargetState, Idle, Building, B
 use Rattle.redo_model.specs.OutOfDate.{IsTarget, ReasonIn, HasReason, Chain, Depends, OutOfDate}
 use Rattle.redo_model.specs.Inside.Renaming.{Renaming, IsRenaming, value_at, named_records, IsWithin}
 
--- where the default stands everywhere, the default is read
+-- if all values are the default, the default is read
 pub default_at : {X : Type 0} (d : X) (o : Option ℕ) → d ≡ value_at d (λ n. d) o
 default_at d None = refl
 default_at d (Some k) = refl
 
--- where something other than the default stands, there is a number
+-- if a value isn't the default, it has a number
 pub number_where : {M X : Type 0} (number : M → Option ℕ) (test : X → Bool) (d : X) (f : ℕ
     → X) (t : M) (o : Option ℕ) → number t ≡ o → test d ≡ false → test (value_at d f o) ≡ true
     → (n : ℕ) × (number t ≡ Some n) × (test (f n) ≡ true)
 number_where number test d f t None e off h = absurd (false≢true (sym off ∙ h))
 number_where number test d f t (Some n) e off h = (n, e, h)
 
--- a row with something other than the default is that of a number
+-- a row with a value other than the default belongs to a number
 pub row_where : {M X : Type 0} (number : M → Option ℕ) (test : X → Bool) (d : X) (f : ℕ → ℕ
     → X) (n : M) (o : Option ℕ) → test d ≡ false
     → test (value_at {X = M → X} (λ v. d) (λ k v. value_at d (f k) (number v)) o n) ≡ true
@@ -35,7 +35,7 @@ module _ {M : Type 0} {to : Renaming M} (law : IsRenaming to) where
       → value_at d f (to.number (to.name k)) ≡ f k
   value_at_name d f k below = ap (value_at d f) (law.back k below)
 
-  -- what stands in the row of a number's name
+  -- the row of a number's name
   pub row_at_name : {X : Type 0} (d : X) (f : ℕ → ℕ → X) (k : ℕ) (t : M) → k < to.count
       → value_at {X = M → X} (λ n. d) (λ j n. value_at d (f j) (to.number n))
       (to.number (to.name k)) t ≡ value_at d (f k) (to.number t)

@@ -1,4 +1,4 @@
--- What is refused changes nothing.
+-- A refused command changes nothing.
 use Rattle.std.proofs.Common.{◌≡◌, ℕ, List, [], ◌∷◌, Option, Some, None, refl}
 use Rattle.std.specs.Prelude.{MatchOption}
 use Rattle.redo_model.specs.Names.{Naming}
@@ -18,7 +18,7 @@ not_lock None grants refusal e = cc
 not_lock (Some s) grants refusal e = cc
 
 module _ {N : Type 0} (naming : Naming N) where
-  -- what a refusal leaves of the locks
+  -- the locks after a refusal
   pub refused_locks : (st : State N) (s : ℕ) (command : Command N) (refusal : Refusal N)
       → verdict_of naming st.records s (holds_target st.locks s command) command ≡ Some refusal
       → locks_after naming st.locks s (Some refusal) command ≡ st.locks
@@ -37,7 +37,7 @@ module _ {N : Type 0} (naming : Naming N) where
   refused_locks st s Targets refusal v = refl
   refused_locks st s Sources refusal v = refl
 
-  -- an accepted command isn't answered with a refusal
+  -- the reply to an accepted command is no refusal
   not_told : (r : Records N) (command : Command N) (refusal : Refusal N)
       → Tells naming r command (Refused refusal) → ⊥
   not_told r (File n stamp) refusal e = cc

@@ -1,4 +1,4 @@
--- What is out of date in two states that differ at some names alone.
+-- What is out of date in two states that differ only at some names.
 use Rattle.std.proofs.Common.{◌≡◌, ◌⊎◌, ◌↔◌, ◌∙◌, Bool, List, [], ◌∷◌, IsTrue, refl, sym, subst, inl, inr}
 use Rattle.std.specs.Prelude.{IsSome, Contains}
 use Rattle.std.proofs.lemmas.Bool.{cases_Bool, false≢true}
@@ -65,7 +65,7 @@ module _ {N : Type 0} {seeds : List N} {old new : Records N} (d : DifferAt seeds
       subst (λ (c : Cell). ReasonIn c.state new t) (d.cell t far)
       (reason_kept_in t far away (old.cell t).state reason)
 
--- what has a reason is a target
+-- whatever has a reason is a target
 target_with_reason : {N : Type 0} (r : Records N) (t : N) (s : TargetState)
     → ReasonIn s r t → s ≡ Idle → ⊥
 target_with_reason r t Idle reason e = reason
@@ -106,13 +106,13 @@ module _ {N : Type 0} {seeds : List N} {old new : Records N} (d : DifferAt seeds
     chain_was ns n (stays_out t n out chain.0) chain.1,
   )
 
-  -- outside of the region what is out of date is as it was
+  -- outside of the region the same targets are out of date as before
   pub as_before_outside : (t : N) → (InRegion new seeds t → ⊥) → OutOfDate old t ↔ OutOfDate new t
   as_before_outside t out =
       (λ was. (was.0, chain_kept was.0 t out was.1), λ is. (is.0, chain_was is.0 t out is.1))
 
-  -- what touches no seed, and has a reason or depends on what is out of date outside of the region,
-  -- was out of date before
+  -- a target that touches no seed, and has a reason or depends on a target outside of the region
+  -- that is out of date, was out of date before
   pub was_out_of_date : (t : N) → (TouchesSeed new seeds t → ⊥)
       → HasReason new t
       ⊎ ((n : N) × Depends new t n × (InRegion new seeds n → ⊥) × OutOfDate new n)
@@ -131,8 +131,9 @@ module _ {N : Type 0} {seeds : List N} {old new : Records N} (d : DifferAt seeds
             (w.0 ∷ before.0, (step_kept (differ_back d) t w.0 far w.1, before.1))
       ]
 
-  -- a test that holds of what was out of date outside of the region, and in it of each target with
-  -- a reason and of each that depends on a name of which it holds, holds of all that is out of date
+  -- a test that holds of what was out of date outside of the region, and in the region of each
+  -- target with a reason and of each that depends on a name with the test, holds of all that is out
+  -- of date
   module _ (test : N → Bool)
       (outside : (t : N) → (InRegion new seeds t → ⊥) → OutOfDate old t → IsTrue (test t))
       (reasons : (t : N) → InRegion new seeds t → HasReason new t → IsTrue (test t))

@@ -1,4 +1,4 @@
--- How many closing lines a journal has, where they are answered `ok`.
+-- How many closing lines a journal has, if they are answered `ok`.
 use Rattle.std.proofs.Common.{◌≡◌, ◌⊎◌, ℕ, ◌+◌, ◌<◌, ◌≤◌, Bool, true, false, cond, List, [], ◌∷◌, ◌++◌, length, map, Option, Some, None, refl, sym, ap, ◌∙◌, subst, arith, append-nil, inl, inr}
 use Rattle.std.specs.List.{AllByRecursion, Contains, filter, filter_map, cons_option, count_by}
 use Rattle.std.proofs.lemmas.Bool.{false≢true}
@@ -200,7 +200,8 @@ module _ {N : Type 0} {naming : Naming N} (law : IsNaming naming) where
         (omega arith, omega arith)
 
   module _ (s : ℕ) (script : List (Item N)) where
-    -- as many closing lines as there are names held and building, and as many failed as building
+    -- as many closing lines as there are held and building names, and as many failed as building
+    -- ones
     pub closed_few : (before lines : List (PlacedLine N)) → IsClosed naming s script before lines
         → AllOkay lines
         → (count_by (λ line. is_failed line.command) lines

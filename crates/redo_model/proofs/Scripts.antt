@@ -1,4 +1,4 @@
--- A whole journal is all that a session with its script does.
+-- A whole journal has all that a session does with its script.
 use Rattle.std.proofs.Common.{◌≡◌, ℕ, ◌+◌, Bool, true, false, not, ◌||◌, cond, List, [], ◌∷◌, ◌++◌, map, drop, Some, None, refl, sym, ap, ◌∙◌, append_assoc, append-nil}
 use Rattle.std.proofs.lemmas.List.{drop-drop, map-append}
 use Rattle.std.proofs.lemmas.Option.{none-some}
@@ -31,7 +31,7 @@ module _ {N : Type 0} where
   none_done true through here item items e more = absurd (none-some _ (sym e))
   none_done false through here item items e more = more e
 
-  -- where no line is next, nothing is done
+  -- if no line is next, nothing is done
   nothing_done : (through : Bool) (here : ℕ) (items : List (Item N))
       → first_from through here items ≡ None → [] ≡ done_by through items []
   nothing_done through here [] e = refl
@@ -97,7 +97,7 @@ module _ {N : Type 0} (naming : Naming N) (s : ℕ) (script : List (Item N)) whe
     closes = parts.closes;
   }
 
-  -- all that is done, as the replies come
+  -- all that is done, in the order of the replies
   pub whole_does : (lines : List (PlacedLine N)) → IsWholeJournal naming s script lines
       → Does naming script (map line_of lines)
   whole_does lines whole = does_by_parts lines (whole_parts naming s script lines whole)

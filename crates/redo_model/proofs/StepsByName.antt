@@ -18,7 +18,7 @@ use Rattle.redo_model.proofs.VerdictsByName.{among_at, holder_at_name, holds_by_
 
 module _ {M : Type 0} {to : Renaming M} (law : IsRenaming to) (naming : Naming M)
     (good : IsNaming naming) (order : ℕ → ℕ → Ordering) where
-  -- what stands in one row of a named target, after a put
+  -- one row of a named target, after a put
   row_cond : {X : Type 0} (d : X) (g row : ℕ → X) (named_row : M → X) (u : M) (b : Bool)
       → named_row u ≡ value_at d row (to.number u)
       → (cond b named_row (λ v. value_at d g (to.number v))) u
@@ -101,7 +101,7 @@ module _ {M : Type 0} {to : Renaming M} (law : IsRenaming to) (naming : Naming M
         (row_at_name law false r.rows.created t u bt)
         ∙ createds_at t ns (to.number u)
 
-    -- what an accepted command makes of the records
+    -- the records after an accepted command
     effect_by_name : (s : ℕ) (command : Command ℕ) → IsBelow to.count command
         → named_records to (effect_of (numbers order) r s command)
         ≡ effect_of naming (named_records to r) s (named_command to.name command)
@@ -168,7 +168,7 @@ module _ {M : Type 0} {to : Renaming M} (law : IsRenaming to) (naming : Naming M
       λ i. record { holder = holders i; grants = grants i }
   granted_by_name (Some holder) locks s t below = refl
 
-  -- the locks after a lock is given back
+  -- the locks after a release
   freed_by_name : (v : Option (Refusal ℕ)) (locks : Locks ℕ) (t : ℕ) → t < to.count
       → named_locks to (unless_refused v locks (locks_freed (numbers order) locks t))
       ≡ unless_refused (option_map (named_refusal to.name) v) (named_locks to locks)

@@ -15,6 +15,6 @@ texts_are_names = record {
   transitive = nat_list_cmp_total.trans;
 }
 
--- texts that the order doesn't tell apart are one
+-- the order tells any two different texts apart
 pub same_texts : (a b : Text) → slice_cmp nat_cmp a b ≡ Equal → a ≡ b
 same_texts a b e = (bytes_decides a b).0 (sym (is_eq-slice_cmp a b) ∙ ap is_eq e)

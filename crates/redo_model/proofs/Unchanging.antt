@@ -1,4 +1,4 @@
--- What changes nothing can be left out of a history.
+-- Lines that change nothing can be left out of a history.
 use Rattle.std.proofs.Common.{◌≡◌, ℕ, Bool, true, false, cond, not, List, [], ◌∷◌, ◌++◌, Option, Some, None, refl, sym, ap, ◌∙◌, subst, append_assoc, inl, inr}
 use Rattle.std.specs.Prelude.{MatchOption, is_some, bytes_eq}
 use Rattle.std.specs.Cmp.Lexicographic.{bytes_decides}
@@ -31,7 +31,7 @@ stale_through [] = refl
 stale_through (n ∷ names) = refl
 
 module _ {N : Type 0} (naming : Naming N) where
-  -- what is told of an accepted command lets a guarded line through
+  -- the reply to an accepted command lets a guarded line through
   tells_through : (r : Records N) (command : Command N) (reply : Reply N)
       → Tells naming r command reply → lets_through reply ≡ true
   tells_through r (Lock t) reply told = absurd told
@@ -122,7 +122,7 @@ module _ {N : Type 0} {naming : Naming N} (law : IsNaming naming) where
         ap (λ next. left_by naming next rest) (sym same),
       )
 
-  -- a legal history without what changes nothing is legal, and leaves the same state
+  -- a legal history stays legal without the lines that change nothing, and leaves the same state
   pub changing_legal : (st : State N) (lines : List (Line N)) → LegalFrom naming st lines
       → LegalFrom naming st (changing_from naming st lines)
       × (left_by naming st (changing_from naming st lines) ≡ left_by naming st lines)

@@ -1,4 +1,4 @@
--- How it is shown that names aren't out of date, and that short lists are right.
+-- Lemmas that show names not out of date, and short lists right.
 use Rattle.std.proofs.Common.{◌≡◌, ◌⊎◌, zero, suc, false, List, [], ◌∷◌, Some, None, sym, subst, inl, inr, arith}
 use Rattle.std.proofs.lemmas.Bool.{cases_Bool}
 use Rattle.std.specs.Prelude.{IsTrue, Contains}
@@ -29,8 +29,8 @@ module _ {N : Type 0} (r : Records N) where
   idle_up_to_date n idle ([], reason) = idle_without_reason n idle reason
   idle_up_to_date n idle (m ∷ ns, chain) = chain.0.0 idle
 
-  -- a built target that wasn't edited, has no always row, no created row on a file, and change rows
-  -- with today's marks alone
+  -- a built target that wasn't edited, has no always row, no created row on a file, and only change
+  -- rows with today's marks
   pub built_without_reason : (t : N) → target_state r t ≡ Built → (r.cell t).file ≡ (r.cell t).done
       → r.rows.always t ≡ false → ((n : N) → IsTrue (r.rows.created t n) → HasFile r n → ⊥)
       → ((n : N) (mark : Mark) → r.rows.change t n ≡ Some mark → mark ≡ mark_of r n) → HasReason r t

@@ -1,4 +1,4 @@
--- Why a number is out of date, and on what it has rows, is so of its name.
+-- The reason and the rows of a number are those of its name.
 use Rattle.std.proofs.Common.{◌≡◌, ℕ, ◌<◌, Bool, List, [], ◌∷◌, Option, Some, None, is_some, false, refl, sym, ap, ◌∙◌, subst, map, option_map, arith}
 use Rattle.std.proofs.Math.Path.{fun_ext}
 use Rattle.std.proofs.lemmas.Bool.{false≢true}
@@ -139,7 +139,7 @@ module _ {M : Type 0} {to : Renaming M} (law : IsRenaming to) (r : Records ℕ)
       always = are.always ∙ sym (value_at_name law false r.rows.always k below);
     }
 
--- where nothing is known of a name, it is up to date, and has no rows
+-- a name of which nothing is known is up to date, and has no rows
 module _ {N : Type 0} (st : State N) (t : N) (unknown : IsUnknown st t) where
   pub unknown_up_to_date : OutOfDate st.records t → ⊥
   unknown_up_to_date = idle_up_to_date st.records t (ap (λ (c : Cell). c.state) unknown.cell)
@@ -154,7 +154,7 @@ module _ {N : Type 0} (st : State N) (t : N) (unknown : IsUnknown st t) where
   }
 
 module _ {M : Type 0} {to : Renaming M} (law : IsRenaming to) (st : State ℕ) where
-  -- nothing is known of the name of a number of which nothing is known
+  -- if nothing is known of a number, nothing is known of its name
   pub unknown_by_name : (k : ℕ) → k < to.count → IsUnknown st k
       → IsUnknown (named_state to st) (to.name k)
   unknown_by_name k below unknown =

@@ -1,4 +1,4 @@
--- Which answered commands change what is known.
+-- Which answered commands change the state.
 use Rattle.std.specs.Prelude.{Bool, false, cond, not, List, [], ◌∷◌, ◌++◌, Option, Some, None, bytes_eq}
 use Rattle.redo_model.specs.Names.{Text, Naming}
 use Rattle.redo_model.specs.State.{State, Records, has_file}
@@ -11,7 +11,7 @@ abbrev pub is_stamp_of : Option Text → Text → Bool
 is_stamp_of None stamp = false
 is_stamp_of (Some own) stamp = bytes_eq own stamp
 
--- a refusal, `busy`, a question, and a `file` or `gone` that tells what is so already change nothing
+-- a refusal, `busy`, a question, and a `file` or `gone` that repeats what is known change nothing
 abbrev pub changes : {N : Type 0} → Records N → Command N → Reply N → Bool
 changes r (File n stamp) reply = not (is_stamp_of (r.cell n).file stamp)
 changes r (Gone n) reply = has_file r n

@@ -1,4 +1,4 @@
--- What a session holds and builds by its own lines, and the commands that let go of it.
+-- What a session holds and builds by its own lines, and its closing commands.
 use Rattle.std.specs.Prelude.{◌≡◌, Bool, true, false, cond, List, [], ◌∷◌, ◌++◌, filter, filter_map, Option, Some, None, option_map}
 use Rattle.std.specs.declared.cmp.Ordering.{Ordering}
 use Rattle.std.specs.declared.cmp.Ordering.TheVariants.{Less, Equal, Greater}
@@ -21,7 +21,7 @@ lesser Equal n m = n
 lesser Greater n m = m
 
 module _ {N : Type 0} (naming : Naming N) where
-  -- whether the session holds t after this command and its reply, where it did before or not
+  -- whether the session holds t after this command and its reply; `held`: whether it did before
   abbrev pub holds_then : Command N → Reply N → N → Bool → Bool
   holds_then (Lock u) reply t held = cond (is_granted reply) (cond (naming.same u t) true held) held
   holds_then (Unlock u) reply t held = cond (is_okay reply) (cond (naming.same u t) false held) held
@@ -69,11 +69,11 @@ module _ {N : Type 0} (naming : Naming N) where
   abbrev pub held_in : List (Line N) → List N
   held_in own = filter (holds own) (filter_map (λ line. asked_lock line.command) own)
 
-  -- what lets go of a target: its build fails where there is one, and then it is unlocked
+  -- the closing commands of a target: its build fails if there is one, and then it is unlocked
   abbrev pub letting_go : List (Line N) → N → Command N
   letting_go own t = cond (builds own t) (Failed t) (Unlock t)
 
-  -- the closing command that comes after the session's lines: of the least target that it holds
+  -- the closing command after the session's lines: about the least target that it holds
   abbrev pub closing_of : List (Line N) → Option (Command N)
   closing_of own = option_map (letting_go own) (least (held_in own))
 

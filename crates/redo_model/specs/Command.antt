@@ -1,4 +1,4 @@
--- What a session may ask.
+-- The commands of a session.
 use Rattle.std.specs.Prelude.{Bool, List, [], ◌∷◌, map, Option, Some, None}
 use Rattle.redo_model.specs.Names.{Text}
 
@@ -18,7 +18,7 @@ pub data Command (N : Type 0) : Type 0 where
   Targets : Command N
   Sources : Command N
 
--- a line of a script: a command, and whether it is done only where the reply before lets it through
+-- a line of a script: a command, and whether it is done only if the reply before lets it through
 pub record Item (N : Type 0) : Type 0 where
   pub guarded : Bool
   pub command : Command N
@@ -44,7 +44,7 @@ target_of Ood = None
 target_of Targets = None
 target_of Sources = None
 
--- the name that a lock asks for
+-- the name that a `lock` is about
 abbrev pub asked_lock : {N : Type 0} → Command N → Option N
 asked_lock (Lock t) = Some t
 asked_lock command = None

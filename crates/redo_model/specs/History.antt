@@ -1,4 +1,4 @@
--- Histories: what was asked and answered, line after line.
+-- Histories: commands and replies, line after line.
 use Rattle.std.specs.Prelude.{ℕ, List, [], ◌∷◌, filter, ◌==◌}
 use Rattle.redo_model.specs.Names.{Naming}
 use Rattle.redo_model.specs.State.{State, empty}
@@ -29,6 +29,6 @@ module _ {N : Type 0} (naming : Naming N) where
       Answers naming st line.session line.command line.reply
       × LegalFrom (after naming st line.session line.command) lines
 
-  -- legal from the start, where nothing is known
+  -- legal from the empty state
   abbrev pub Legal : List (Line N) → Type 0
   Legal lines = LegalFrom empty lines

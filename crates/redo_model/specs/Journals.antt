@@ -1,4 +1,4 @@
--- Journals, which tell what one session did, and the histories that journals can be joined to.
+-- Journals, which record what one session did, and the histories that journals can be joined to.
 use Rattle.std.specs.Prelude.{◌≡◌, ℕ, ◌+◌, ◌-◌, ◌<◌, Bool, true, cond, not, ◌||◌, ◌⊎◌, List, [], ◌∷◌, ◌++◌, drop, Option, Some, None, length, map, option_map}
 use Rattle.std.specs.Option.{option_or}
 use Rattle.redo_model.specs.Names.{Naming}
@@ -27,7 +27,7 @@ next_line_of script (line ∷ []) =
     let here = line.number + 1 in first_from (lets_through line.reply) here (drop here script)
 next_line_of script (line ∷ lines) = next_line_of script lines
 
--- the number of a closing command after the lines: they are counted on from those of the script
+-- the number of a closing command after the lines: the numbers count on from those of the script
 abbrev pub closing_number : {N : Type 0} → List (Item N) → List (PlacedLine N) → ℕ
 closing_number script [] = length script
 closing_number script (line ∷ []) = length script + (line.number + 1 - length script)

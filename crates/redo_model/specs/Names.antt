@@ -1,5 +1,5 @@
--- How names are told apart and ordered. The definitions hold for names of any kind: what is
--- promised speaks of texts, and the code of numbers.
+-- How names are told apart and ordered. The definitions hold for names of any kind: the contracts
+-- use texts, and the code uses numbers.
 use Rattle.std.specs.Prelude.{◌≡◌, ℕ, Bool, cond, List, bytes_eq, ◌==◌, ◌↔◌, AllPairs, Contains}
 use Rattle.std.specs.Ordering.{nat_cmp}
 use Rattle.std.specs.declared.cmp.Ordering.{Ordering}
@@ -18,7 +18,7 @@ pub record Naming (N : Type 0) : Type 0 where
 abbrev pub texts : Naming Text
 texts = record { same = bytes_eq; order = slice_cmp nat_cmp }
 
--- names as numbers, in a given order, as that of the texts that they stand for
+-- names as numbers, in the order of the texts that they stand for
 abbrev pub numbers : (ℕ → ℕ → Ordering) → Naming ℕ
 numbers order = record { same = ◌==◌; order = order }
 
@@ -26,7 +26,7 @@ numbers order = record { same = ◌==◌; order = order }
 abbrev pub put : {N X : Type 0} → Naming N → N → X → (N → X) → N → X
 put naming n x f m = cond (naming.same n m) x (f m)
 
--- the names stand in order, each once
+-- the names are in order, each once
 abbrev pub Ascending : {N : Type 0} → Naming N → List N → Type 0
 Ascending naming names = AllPairs (λ m n. naming.order m n ≡ Less) names
 

@@ -1,4 +1,4 @@
--- Histories with places: at which atomic step each line was answered.
+-- Histories with places: the atomic step at which each line was answered.
 use Rattle.std.specs.Prelude.{◌≡◌, ℕ, ◌+◌, Bool, true, false, List, [], ◌∷◌, ◌++◌, filter, count_by, ◌==◌}
 use Rattle.redo_model.specs.Names.{Naming}
 use Rattle.redo_model.specs.Command.{Command, Lock, Unlock}
@@ -6,8 +6,8 @@ use Rattle.redo_model.specs.Reply.{Reply, Okay}
 use Rattle.redo_model.specs.Reply as replies
 use Rattle.redo_model.specs.History.{Line}
 
--- where a line stands: at a row; or among the claims on a target, as its g-th grant, as an answer
--- that this grant is in force, or as its release
+-- the place of a line: a row; or, among the claims on a target, its g-th grant, a reply that this
+-- grant is in force, or its release
 pub data Place (N : Type 0) : Type 0 where
   Row : ℕ → Place N
   Granted : N → ℕ → Place N
@@ -33,7 +33,7 @@ is_claim (Lock t) (replies.Busy g) = true
 is_claim (Unlock t) Okay = true
 is_claim command reply = false
 
--- a place fits what was asked and answered there: all but the claims have a row
+-- a place fits its command and reply: all but the claims have a row
 abbrev pub Fits : {N : Type 0} → Place N → Command N → Reply N → Type 0
 Fits (Row r) command reply = is_claim command reply ≡ false
 Fits (Granted t g) command reply = (command ≡ Lock t) × (reply ≡ replies.Granted g)
@@ -50,7 +50,7 @@ is_row (Granted t g) = false
 is_row (Busy t g) = false
 is_row (Released t g) = false
 
--- how many rows stand among the lines
+-- how many of the lines have a row
 abbrev pub rows_in : {N : Type 0} → List (PlacedLine N) → ℕ
 rows_in lines = count_by (λ line. is_row line.place) lines
 
@@ -75,7 +75,7 @@ module _ {N : Type 0} (naming : Naming N) where
   releases_in lines t = count_by (λ line. is_release t line.place) lines
 
   -- what may come after the lines: rows are counted up from 0; of each target the first grant comes
-  -- first, then every answer that it is in force, then its release, then the second grant
+  -- first, then every reply that it is in force, then its release, then the second grant
   abbrev pub Follows : List (PlacedLine N) → Place N → Type 0
   Follows lines (Row r) = rows_in lines ≡ r
   Follows lines (Granted t g) = (grants_in lines t + 1 ≡ g) × (releases_in lines t + 1 ≡ g)

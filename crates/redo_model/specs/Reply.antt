@@ -1,4 +1,4 @@
--- What the database answers.
+-- The replies of the database.
 use Rattle.std.specs.Prelude.{ℕ, Bool, true, false, List}
 
 pub data Refusal (N : Type 0) : Type 0 where
@@ -19,7 +19,7 @@ pub data Reply (N : Type 0) : Type 0 where
   Sources : List N → Reply N
   Refused : Refusal N → Reply N
 
--- a guarded line isn't done after an answer that is busy, or a refusal
+-- a guarded line isn't done after the reply `busy`, or a refusal
 abbrev pub lets_through : {N : Type 0} → Reply N → Bool
 lets_through (Busy g) = false
 lets_through (Refused refusal) = false

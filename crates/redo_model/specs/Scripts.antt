@@ -6,8 +6,8 @@ use Rattle.redo_model.specs.Reply.{Reply, lets_through}
 use Rattle.redo_model.specs.History.{Line}
 use Rattle.redo_model.specs.Closing.{ClosesAfter}
 
--- the commands that are done with these items, as these replies come: an unguarded one is, and a
--- guarded one where the reply before lets it through
+-- the commands that are done of these items, given these replies: each unguarded one, and each guarded one that the
+-- reply before lets through
 abbrev pub done_by : {N : Type 0} → Bool → List (Item N) → List (Reply N) → List (Command N)
 done_by through [] replies = []
 done_by through (item ∷ items) [] =
@@ -17,8 +17,8 @@ done_by through (item ∷ items) (reply ∷ replies) =
     (item.command ∷ done_by (lets_through reply) items replies)
     (done_by through items (reply ∷ replies))
 
--- the lines are all that a session with this script does: its own commands, those that are done with
--- their replies, once and in order; and then closing ones
+-- the lines are all that a session with this script does: its own commands, those that are done with their replies,
+-- once and in order; and then closing ones
 pub record Does {N : Type 0} (naming : Naming N) (script : List (Item N)) (lines : List (Line N)) :
     Type 0 where
   pub own : List (Line N)

@@ -12,7 +12,7 @@ abbrev pub IsToldOf : {N : Type 0} → List (PlacedLine N) → N → ℕ → Typ
 IsToldOf lines t g = StandsIn lines (Granted t g) ⊎ StandsIn lines (Busy t g)
 
 -- what a session with these lines had seen: its latest row and every row before it; and of each
--- target, where it was told of the g-th grant, that grant, those before it and their releases
+-- target whose g-th grant a reply named, that grant, those before it and their releases
 abbrev pub HasSeen : {N : Type 0} → List (PlacedLine N) → Place N → Type 0
 HasSeen own (Row q) = (r : ℕ) × (q ≤ r) × StandsIn own (Row r)
 HasSeen own (Granted t f) = (g : ℕ) × (1 ≤ f) × (f ≤ g) × IsToldOf own t g

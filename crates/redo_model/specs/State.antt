@@ -1,8 +1,8 @@
--- What the database knows at one moment.
+-- The state of the database.
 use Rattle.std.specs.Prelude.{ℕ, Bool, true, false, List, Option, Some, None, is_some}
 use Rattle.redo_model.specs.Names.{Text}
 
--- how far a name has come: idle until its first start
+-- the state of a name: idle until its first start
 pub data TargetState : Type 0 where
   Idle : TargetState
   Building : ℕ → TargetState
@@ -46,7 +46,7 @@ pub record State (N : Type 0) : Type 0 where
   pub records : Records N
   pub locks : Locks N
 
--- a name of which nothing was said
+-- a name that no command reported
 abbrev pub idle : Cell
 idle = record { file = None; state = Idle; builds = 0; done = None; digest = None }
 

@@ -1,5 +1,5 @@
--- The table of the commands: which refusal applies, what an accepted command changes, and what is
--- answered.
+-- The table of the commands: which refusal applies, what an accepted command changes, and its
+-- reply.
 use Rattle.std.specs.Prelude.{◌≡◌, ℕ, ◌+◌, Bool, true, false, not, ◌||◌, if◌then◌else◌, List, [], ◌∷◌, Option, Some, None, MatchOption, Contains, find, ◌==◌}
 use Rattle.std.specs.List.{list_any}
 use Rattle.sha1.specs.Sha1.{sha1}
@@ -29,7 +29,7 @@ holds_name locks s (Some t) = is_held_by s (locks.holder t)
 abbrev pub holds_target : {N : Type 0} → Locks N → ℕ → Command N → Bool
 holds_target locks s command = holds_name locks s (target_of command)
 
--- this refusal where the test is true, else the one that follows, if any
+-- this refusal if the test is true, else the one that follows, if any
 abbrev pub refusal_or : {N : Type 0} → Bool → Refusal N → Option (Refusal N) → Option (Refusal N)
 refusal_or test refusal rest = if test then Some refusal else rest
 
@@ -37,7 +37,7 @@ abbrev pub refusal_of_existing : {N : Type 0} → Option N → Option (Refusal N
 refusal_of_existing None = None
 refusal_of_existing (Some n) = Some (Exists n)
 
--- what was where the command is refused, else what it makes
+-- the old value if the command is refused, else the new one
 abbrev pub unless_refused : {N X : Type 0} → Option (Refusal N) → X → X → X
 unless_refused None old new = new
 unless_refused (Some refusal) old new = old
@@ -55,7 +55,7 @@ module _ {N : Type 0} (naming : Naming N) where
   abbrev pub is_among : List N → N → Bool
   is_among names n = list_any (λ m. naming.same m n) names
 
-  -- the first refusal that applies, where `holds` says whether the session holds the command's
+  -- the first refusal that applies; `holds`: whether the session holds the lock of the command's
   -- target
   abbrev pub verdict_of : Records N → ℕ → Bool → Command N → Option (Refusal N)
   verdict_of r s holds (File n stamp) = None
@@ -88,7 +88,7 @@ module _ {N : Type 0} (naming : Naming N) where
   abbrev pub with_cell : Records N → N → Cell → Records N
   with_cell r n c = record r { cell = put naming n c r.cell }
 
-  -- what an accepted command makes of the records
+  -- the records after an accepted command
   abbrev pub effect_of : Records N → ℕ → Command N → Records N
   effect_of r s (File n stamp) = with_cell r n (record (r.cell n) { file = Some stamp })
   effect_of r s (Gone n) = with_cell r n (record (r.cell n) { file = None })
@@ -128,7 +128,7 @@ module _ {N : Type 0} (naming : Naming N) where
   effect_of r s Targets = r
   effect_of r s Sources = r
 
-  -- what an accepted command is answered, but for a lock
+  -- the reply to an accepted command, but for a lock
   abbrev pub Tells : Records N → Command N → Reply N → Type 0
   Tells r (File n stamp) reply = reply ≡ Okay
   Tells r (Gone n) reply = reply ≡ Okay
@@ -158,12 +158,12 @@ module _ {N : Type 0} (naming : Naming N) where
       MatchOption (verdict_of r s holds command) (Tells r command reply)
       (λ refusal. reply ≡ Refused refusal)
 
-  -- the records that a command leaves
+  -- the records after a command
   abbrev pub records_after : Records N → ℕ → Bool → Command N → Records N
   records_after r s holds command = unless_refused (verdict_of r s holds command) r
       (effect_of r s command)
 
-  -- a lock is granted where nobody holds it
+  -- a lock is granted if nobody holds it
   abbrev pub locks_granted : Option ℕ → Locks N → ℕ → N → Locks N
   locks_granted None locks s t = record {
     holder = put naming t (Some s) locks.holder;
@@ -174,7 +174,7 @@ module _ {N : Type 0} (naming : Naming N) where
   abbrev pub locks_freed : Locks N → N → Locks N
   locks_freed locks t = record locks { holder = put naming t None locks.holder }
 
-  -- the locks that a command leaves, by its verdict
+  -- the locks after a command, by its verdict
   abbrev pub locks_after : Locks N → ℕ → Option (Refusal N) → Command N → Locks N
   locks_after locks s verdict (Lock t) = locks_granted (locks.holder t) locks s t
   locks_after locks s verdict (Unlock t) = unless_refused verdict locks (locks_freed locks t)
@@ -187,7 +187,7 @@ module _ {N : Type 0} (naming : Naming N) where
       (Replies st.records s (holds_target st.locks s command) command reply)
       (λ t. reply ≡ lock_reply (st.locks.holder t) (st.locks.grants t))
 
-  -- the state that a session's command leaves
+  -- the state after a session's command
   abbrev pub after : State N → ℕ → Command N → State N
   after st s command =
       let holds = holds_target st.locks s command in

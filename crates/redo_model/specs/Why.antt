@@ -4,8 +4,8 @@ use Rattle.redo_model.specs.State as states
 use Rattle.redo_model.specs.State.{Records, Mark, target_state, is_building, mark_of}
 use Rattle.redo_model.specs.OutOfDate.{IsEdited, HasReason, HasCreatedRow, HasFile, Depends, Chain, OutOfDate}
 
--- what a target's reason of its own is: it is being built, its last build failed, its file was
--- edited, it has an always row, a name without a file has one now, a name has changed
+-- a target's reason of its own: it is building, its last build failed, its file was edited, it has
+-- an always row, a name without a file has one now, a name has changed
 pub data Reason (N : Type 0) : Type 0 where
   Building : Reason N
   Failed : Reason N
@@ -14,7 +14,7 @@ pub data Reason (N : Type 0) : Type 0 where
   Appeared : N → Reason N
   Changed : N → Reason N
 
--- t has this reason; all but the first two are those of a target that is built
+-- t has this reason; all but the first two apply only to a built target
 abbrev pub IsReason : {N : Type 0} → Records N → N → Reason N → Type 0
 IsReason r t Building = IsTrue (is_building (target_state r t))
 IsReason r t Failed = target_state r t ≡ states.Failed
@@ -43,7 +43,7 @@ pub record Explains {N : Type 0} (r : Records N) (t : N) (why : Why N) : Type 0 
       → length why.names ≤ length names
   pub reason : IsReason r (end_of t why.names) why.reason
 
--- what is told of why t is out of date: nothing where it isn't
+-- the answer why t is out of date: nothing if it isn't
 abbrev pub TellsWhy : {N : Type 0} → Records N → N → Option (Why N) → Type 0
 TellsWhy r t None = OutOfDate r t → ⊥
 TellsWhy r t (Some why) = Explains r t why

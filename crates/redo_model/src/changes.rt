@@ -1,4 +1,4 @@
-//! What changes nothing can be left out of a history.
+//! Lines that change nothing can be left out of a history.
 
 ghost use Rattle.std.specs.Prelude.{◌≡◌, false, List, ℕ};
 ghost use Rattle.redo_model.specs.Changes.{changes, changing_from};

@@ -1,4 +1,4 @@
-//! Histories go on line by line, and what is refused leaves no trace in them.
+//! Histories are extended line by line, and refused commands change nothing.
 
 ghost use Rattle.std.specs.Prelude.{◌≡◌, ◌≢◌, ◌↔◌, ◌∷◌, ◌++◌, List, [], None, Some, false, ℕ};
 ghost use Rattle.redo_model.specs.Closing.{ClosesAfter, closing_of, holds, letting_go};
@@ -15,14 +15,14 @@ pub fn nothing_is_legal()
     ensures { Legal texts [] }
 {}
 
-/// A history with one more line is legal where what stands before the line is, and the line answers at its point.
+/// A history with one more line is legal if the lines before it are, and the line has the reply at its point.
 pub fn legal_by_one_more()
     ensures { (lines : List (Line Text)) (line : Line Text)
         → Legal texts (lines ++ line ∷ []) ↔ (Legal texts lines
         × Answers texts (left_by texts empty lines) line.session line.command line.reply) }
 {}
 
-/// In each state that a legal history leaves, a target in building is held by its builder.
+/// In each state that a legal history leaves, the builder of a building target holds it.
 pub fn builder_holds()
     ensures { (lines : List (Line Text)) (t : Text) (session : ℕ) → Legal texts lines
         → target_state (left_by texts empty lines).records t ≡ Building session
@@ -36,8 +36,8 @@ pub fn refused_changes_nothing()
         → after texts state session command ≡ state }
 {}
 
-/// The closing command that comes after a session's lines lets go of the least target that it holds, by bytes. There is
-/// none exactly where the session holds nothing.
+/// The closing command after a session's lines is about the least target that the session holds, by bytes. There is
+/// none exactly if the session holds nothing.
 pub fn closing_is_of_the_least()
     ensures some { (own : List (Line Text)) (t : Text)
         → (closing_of texts own ≡ Some (letting_go texts own t)) ↔ IsLeastHeld texts own t }
@@ -45,14 +45,14 @@ pub fn closing_is_of_the_least()
         → (closing_of texts own ≡ None) ↔ ((t : Text) → holds texts own t ≡ false) }
 {}
 
-/// The closing command that comes after a session's lines is answered `ok`.
+/// The closing command after a session's lines is answered `ok`.
 pub fn closing_is_accepted()
     ensures { (lines : List (Line Text)) (session : ℕ) (command : Command Text) → Legal texts lines
         → closing_of texts (part_of session lines) ≡ Some command
         → Answers texts (left_by texts empty lines) session command Okay }
 {}
 
-/// Where each session has let go of what it held, nothing is held and nothing is building.
+/// If no session has a closing command left, nothing is held and nothing is building.
 pub fn nothing_is_held()
     ensures { (lines : List (Line Text)) → Legal texts lines
         → ((session : ℕ) → closing_of texts (part_of session lines) ≡ None)
@@ -60,8 +60,7 @@ pub fn nothing_is_held()
         × (is_building (target_state (left_by texts empty lines).records t) ≡ false) }
 {}
 
-/// A session ends by letting go of what it holds in the state: these are its closing commands, and a legal history goes
-/// on with them.
+/// The state determines a session's closing commands, and a legal history can go on with them.
 pub fn closing_by_state()
     ensures { (before : List (Line Text)) (session : ℕ) (targets : List Text) → Legal texts before
         → AreHeld texts session (left_by texts empty before) targets
@@ -70,7 +69,7 @@ pub fn closing_by_state()
         × Legal texts (before ++ closing_lines_of session (left_by texts empty before) targets) }
 {}
 
-/// What they leave is the state without the session: it holds nothing, its builds have failed, and all else is as before.
+/// They leave the state without the session: it holds nothing, its builds have failed, and all else is as before.
 pub fn closing_leaves_the_rest()
     ensures left { (before : List (Line Text)) (session : ℕ) (targets : List Text)
         → AreHeld texts session (left_by texts empty before) targets

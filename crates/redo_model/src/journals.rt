@@ -1,4 +1,4 @@
-//! What a session does of its script, guarded lines among it.
+//! What a session does of its script, with and without guarded lines.
 
 ghost use Rattle.std.specs.Prelude.{◌≡◌, ℕ, false, List, ◌++◌, map};
 ghost use Rattle.std.specs.List.{AllByRecursion};
@@ -10,7 +10,7 @@ ghost use Rattle.redo_model.specs.Journals.{IsJournal, IsWholeJournal};
 ghost use Rattle.redo_model.specs.Names.{Text, texts};
 ghost use Rattle.redo_model.specs.Placed.{PlacedLine, line_of};
 
-/// Where no line is guarded, all are done, and then what the session holds is let go.
+/// If no line is guarded, all are done, and then the session closes what it holds.
 pub fn unguarded_are_all_done()
     ensures { (session : ℕ) (script : List (Item Text)) (lines : List (PlacedLine Text))
         → AllByRecursion (λ item. item.guarded ≡ false) script
@@ -21,12 +21,12 @@ pub fn unguarded_are_all_done()
         × ClosesAfter texts own closing }
 {}
 
-/// Guarded lines are done after a grant, an `ok` and a stale answer.
+/// Guarded lines are done after the replies `granted`, `ok` and `stale`.
 pub fn guarded_are_done_with_the_lock()
     ensures { IsWholeJournal texts 0 guarded_script with_lock }
 {}
 
-/// After a busy answer none of them is done, until an unguarded line is.
+/// After the reply `busy` none of them is done, until an unguarded line is.
 pub fn guarded_are_passed_over_without_it()
     ensures journal { IsWholeJournal texts 1 guarded_script without_lock }
     ensures none { IsJournal texts 1 guarded_script needs_all_the_same → ⊥ }

@@ -1,4 +1,4 @@
-//! The redo database in the words of mathematics, and laws about these words.
+//! The redo database as a mathematical model, and laws about its definitions.
 #![tactic(auto)]
 
 pub mod changes;

@@ -1,5 +1,5 @@
-//! What a change of some names does to what is out of date: outside of the region of these names nothing, and inside
-//! of it all is told by what is out of date outside.
+//! How a change of some names affects what is out of date: outside of the region of these names not at all, and inside
+//! of it what is out of date outside determines all.
 
 ghost use Rattle.redo_model.specs.Names.{Text};
 ghost use Rattle.redo_model.specs.OutOfDate.{Depends, HasReason, OutOfDate};
@@ -20,15 +20,15 @@ pub fn out_of_date_is_least()
         (t : Text) → OutOfDate records t → IsTrue (has t) }
 {}
 
-/// What differs at the seeds alone leaves all outside of their region as it was.
+/// If records differ only at the seeds, the same targets are out of date outside of their region.
 pub fn outside_region_as_before()
     ensures { (seeds : List Text) (old new : Records Text) (t : Text) →
         DifferAt seeds old new → (InRegion new seeds t → ⊥) →
         OutOfDate old t ↔ OutOfDate new t }
 {}
 
-/// A set that outside of the region has what was out of date, and inside of it each target with a
-/// reason of its own and each target that depends on one of the set, has all that is out of date.
+/// A set is all that is out of date if it has what was out of date outside of the region, and inside of it each target
+/// with a reason of its own and each target that depends on one of the set.
 pub fn region_derived_again()
     ensures { (seeds : List Text) (old new : Records Text) (has : Text → Bool) →
         DifferAt seeds old new →

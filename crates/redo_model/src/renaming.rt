@@ -1,4 +1,4 @@
-//! What holds of numbers holds of the names that they stand for: targets that are out of date, steps, answers and
+//! Facts about numbers are facts about the names that they stand for: targets that are out of date, steps, replies and
 //! whole histories.
 
 ghost use Rattle.redo_model.specs.Command.{Command};
@@ -14,7 +14,7 @@ ghost use Rattle.std.specs.List.{AllByRecursion, IsDistinct};
 ghost use Rattle.std.specs.Prelude.{ℕ, ◌<◌, ◌≡◌, ◌↔◌, List, bytes_eq, map};
 ghost use Rattle.std.specs.declared.cmp.Ordering.{Ordering};
 
-/// A number is out of date where its name is.
+/// A number is out of date exactly if its name is.
 pub fn out_of_date_by_name()
     ensures { (to : Renaming Text) (records : Records ℕ) (k : ℕ) → IsRenaming to
         → IsWithin to.count records → k < to.count
@@ -29,7 +29,7 @@ pub fn steps_by_name()
         ≡ after texts (named_state to state) session (named_command to.name command) }
 {}
 
-/// A reply over numbers is the answer where, under their names, it is the answer over the names.
+/// A reply over numbers is right exactly if, under their names, it is right over the names.
 pub fn answers_by_name()
     ensures { (to : Renaming Text) (order : ℕ → ℕ → Ordering) (state : State ℕ) (session : ℕ)
         (command : Command ℕ) (reply : Reply ℕ) → IsRenaming to → OrdersAlike to texts order
@@ -39,14 +39,14 @@ pub fn answers_by_name()
         (named_reply to.name reply) }
 {}
 
-/// A history over numbers is legal where, under their names, it is legal over the names.
+/// A history over numbers is legal exactly if, under their names, it is legal over the names.
 pub fn legal_by_name()
     ensures { (to : Renaming Text) (order : ℕ → ℕ → Ordering) (lines : List (Line ℕ))
         → IsRenaming to → OrdersAlike to texts order → AllByRecursion (IsLineBelow to.count) lines
         → Legal (numbers order) lines ↔ Legal texts (map (named_line to.name) lines) }
 {}
 
-/// The state that a history over numbers leaves, under their names, is the one that it leaves over the names.
+/// The state after a history over numbers is, under their names, the state after it over the names.
 pub fn states_by_name()
     ensures { (to : Renaming Text) (order : ℕ → ℕ → Ordering) (lines : List (Line ℕ))
         → IsRenaming to → AllByRecursion (λ line. IsBelow to.count line.command) lines

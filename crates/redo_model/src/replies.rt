@@ -1,4 +1,4 @@
-//! What is answered is one thing.
+//! The reply is unique.
 
 ghost use Rattle.std.specs.Prelude.{◌≡◌, ◌↔◌, Contains, List, ℕ};
 ghost use Rattle.redo_model.specs.Command.{Command};
@@ -13,7 +13,7 @@ pub fn replies_are_unique()
         → Answers texts state session command a → Answers texts state session command b → a ≡ b }
 {}
 
-/// Two lists in order with the same names are equal.
+/// Two sorted lists of the same names are equal.
 pub fn lists_are_unique()
     ensures { (xs ys : List Text) → Ascending texts xs → Ascending texts ys
         → ((n : Text) → Contains xs n ↔ Contains ys n) → xs ≡ ys }

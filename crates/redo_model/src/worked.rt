@@ -12,32 +12,32 @@ pub fn common_path_is_legal()
     ensures { Legal texts common_path }
 {}
 
-/// The first grant isn't answered as the second.
+/// The first grant isn't numbered as the second.
 pub fn first_grant_as_second_is_not_legal()
     ensures { Legal texts (with_reply 1 (Granted 2) common_path) → ⊥ }
 {}
 
-/// A target is out of date while a name has a file that it was built without.
+/// A target is out of date while a name has a file that was missing at its build.
 pub fn appearance_is_legal()
     ensures { Legal texts appearance }
 {}
 
-/// A file that has appeared isn't left unseen.
+/// A file that appeared isn't overlooked.
 pub fn unseen_appearance_is_not_legal()
     ensures { Legal texts (with_reply 6 (replies.Ood []) appearance) → ⊥ }
 {}
 
-/// Of the refusals that apply, the first is answered.
+/// The reply is the first of the refusals that apply.
 pub fn order_of_refusals_is_legal()
     ensures { Legal texts order_of_refusals }
 {}
 
-/// A target in building isn't unlocked.
+/// A building target isn't unlocked.
 pub fn unlock_in_building_is_not_legal()
     ensures { Legal texts (with_reply 5 Okay order_of_refusals) → ⊥ }
 {}
 
-/// Two targets that depend on each other are up to date where neither has a reason of its own.
+/// Two targets that depend on each other are up to date if neither has a reason of its own.
 pub fn cycle_is_legal()
     ensures { Legal texts cycle }
 {}
@@ -47,7 +47,7 @@ pub fn cycle_out_of_date_is_not_legal()
     ensures { Legal texts (with_reply 13 (replies.Ood (codes "a" ∷ codes "b" ∷ [])) cycle) → ⊥ }
 {}
 
-/// What was built from a failed target is out of date once that is built, with the same content.
+/// A target that was built from a failed one is out of date once that is built, with the same content.
 pub fn failed_mark_is_legal()
     ensures { Legal texts failed_mark }
 {}
@@ -57,12 +57,12 @@ pub fn failed_mark_by_content_is_not_legal()
     ensures { Legal texts (with_reply 11 (replies.Ood []) failed_mark) → ⊥ }
 {}
 
-/// A target is out of date for its always row, while it is built, and while its file is another one.
+/// A target is out of date by its always row, while it is built, and while its file is another one.
 pub fn own_reasons_are_legal()
     ensures { Legal texts own_reasons }
 {}
 
-/// A target in building isn't up to date.
+/// A building target isn't up to date.
 pub fn building_up_to_date_is_not_legal()
     ensures { Legal texts (with_reply 6 (replies.Ood []) own_reasons) → ⊥ }
 {}
@@ -97,12 +97,12 @@ pub fn source_of_a_created_row_is_not_left_out()
     ensures { Legal texts (with_reply 8 (replies.Sources []) created_rows) → ⊥ }
 {}
 
-/// What was built without telling its content is known by the number of its builds.
+/// A target that was built without a stamp has the number of its builds as its mark.
 pub fn contents_and_builds_are_legal()
     ensures { Legal texts contents_and_builds }
 {}
 
-/// A build more isn't left unseen where the file is the same.
+/// One more build isn't overlooked if the file is the same.
 pub fn unseen_build_is_not_legal()
     ensures { Legal texts (with_reply 17 (replies.Ood []) contents_and_builds) → ⊥ }
 {}
@@ -117,7 +117,7 @@ pub fn dependence_by_a_created_row_is_not_legal()
     ensures { Legal texts (with_reply 7 (replies.Ood (codes "T" ∷ [])) rows_of_both_kinds) → ⊥ }
 {}
 
-/// What is out of date is so through a target without a file.
+/// A target is out of date through a target without a file.
 pub fn chain_is_legal()
     ensures { Legal texts chain_without_a_file }
 {}

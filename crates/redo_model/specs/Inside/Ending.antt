@@ -1,4 +1,4 @@
--- What a session that ends does, and what is left of the state, both told by the state before.
+-- The state before a session ends determines its closing commands and the state after them.
 use Rattle.std.specs.Prelude.{◌≡◌, ◌≢◌, ℕ, true, cond, List, [], ◌∷◌, ◌++◌, flat_map, Option, Some, None}
 use Rattle.std.specs.declared.cmp.Ordering.TheVariants.{Less}
 use Rattle.redo_model.specs.Names.{Naming, IsListed}
@@ -14,7 +14,7 @@ use Rattle.redo_model.specs.Closing.{holds}
 abbrev pub AreHeld : {N : Type 0} → Naming N → ℕ → State N → List N → Type 0
 AreHeld naming s st ts = IsListed naming (λ t. st.locks.holder t ≡ Some s) ts
 
--- by its own lines the session holds the target, and none that is less
+-- by its own lines the session holds the target, and no lesser one
 abbrev pub IsLeastHeld : {N : Type 0} → Naming N → List (Line N) → N → Type 0
 IsLeastHeld {N} naming own t =
     (holds naming own t ≡ true)
@@ -23,7 +23,7 @@ IsLeastHeld {N} naming own t =
 abbrev pub okay_line : {N : Type 0} → ℕ → Command N → Line N
 okay_line s command = record { session = s; command = command; reply = Okay }
 
--- a cell without the session: its build has failed
+-- a cell without the session: its build failed
 abbrev pub cell_without : ℕ → Cell → Cell
 cell_without s c = cond (is_built_by s c.state) (record c { state = states.Failed }) c
 
@@ -32,17 +32,17 @@ abbrev pub holder_without : ℕ → Option ℕ → Option ℕ
 holder_without s holder = cond (is_held_by s holder) None holder
 
 module _ {N : Type 0} (s : ℕ) (st : State N) where
-  -- what lets go of a target that the session holds
+  -- the closing lines of a target that the session holds
   abbrev pub letting_lines : N → List (Line N)
   letting_lines t =
       cond (is_building (target_state st.records t)) (okay_line s (Failed t) ∷ []) []
       ++ okay_line s (Unlock t) ∷ []
 
-  -- what lets go of these targets, one after the other
+  -- the closing lines of these targets, one after the other
   abbrev pub closing_lines_of : List N → List (Line N)
   closing_lines_of ts = flat_map letting_lines ts
 
-  -- the state when the session has let go of all, and nothing else has changed
+  -- the state after the session closed all that it held, and nothing else changed
   abbrev pub state_without : State N
   state_without = record {
     records = record st.records { cell = λ t. cell_without s (st.records.cell t) };

@@ -1,4 +1,4 @@
--- A script with guarded lines, and what it does where its lock is granted and where it is busy.
+-- A script with guarded lines, and what it does if its lock is granted and if it is busy.
 use Rattle.std.specs.Prelude.{true, false, List, [], ◌∷◌, codes}
 use Rattle.redo_model.specs.Names.{Text}
 use Rattle.redo_model.specs.Command.{Command, Item, Lock, Unlock, Start, IfChange, Failed}
@@ -16,7 +16,7 @@ guarded_line command = record { guarded = true; command = command }
 abbrev pub needs : Command Text
 needs = IfChange shared (codes "a" ∷ [])
 
--- it builds the target if it has the lock
+-- it builds the target if it gets the lock
 abbrev pub guarded_script : List (Item Text)
 guarded_script =
     plain_line (Lock shared)
@@ -26,7 +26,7 @@ guarded_script =
     ∷ plain_line (Unlock shared)
     ∷ []
 
--- it has it: a stale answer stops no guarded line
+-- it gets it: a stale reply stops no guarded line
 abbrev pub with_lock : List (PlacedLine Text)
 with_lock =
     placed_at 0 0 (Lock shared) (replies.Granted 1) (Granted shared 1)
@@ -36,7 +36,7 @@ with_lock =
     ∷ placed_at 0 4 (Unlock shared) Okay (Released shared 1)
     ∷ []
 
--- another session has it: all three guarded lines are passed over
+-- another session holds it: all three guarded lines are skipped
 abbrev pub without_lock : List (PlacedLine Text)
 without_lock =
     placed_at 1 0 (Lock shared) (replies.Busy 1) (Busy shared 1)

@@ -1,4 +1,4 @@
--- Journals of two sessions that lock one target, joined by hand.
+-- Journals of two sessions that lock one target, and their joint order, worked out by hand.
 use Rattle.std.specs.Prelude.{ℕ, zero, suc, List, [], ◌∷◌, codes}
 use Rattle.redo_model.specs.Names.{Text}
 use Rattle.redo_model.specs.Command.{Command, Lock, Unlock}
@@ -33,7 +33,7 @@ two_journals g zero = first_journal
 two_journals g (suc zero) = second_journal g
 two_journals g (suc (suc s)) = []
 
--- the one joint order of the two, where that was the first grant
+-- the one joint order of the two if that was the first grant
 abbrev pub merging : List (PlacedLine Text)
 merging =
     placed_at 0 0 (Lock shared) (replies.Granted 1) (Granted shared 1)

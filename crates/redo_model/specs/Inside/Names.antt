@@ -1,9 +1,9 @@
--- What a naming keeps.
+-- The invariant of a naming.
 use Rattle.std.specs.Prelude.{◌≡◌, ◌≢◌, Decides}
 use Rattle.std.specs.declared.cmp.Ordering.TheVariants.{Less}
 use Rattle.redo_model.specs.Names.{Naming}
 
--- what a naming keeps: the test tells equal names, and the order is strict
+-- the invariant of a naming: the test tells equal names, and the order is strict
 pub record IsNaming {N : Type 0} (naming : Naming N) : Type 0 where
   pub decides : (m n : N) → Decides (naming.same m n) (m ≡ n)
   pub irreflexive : (n : N) → naming.order n n ≢ Less

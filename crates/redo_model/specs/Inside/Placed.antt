@@ -1,4 +1,4 @@
--- What a session's own lines tell of its locks.
+-- What a session's own lines say of its locks.
 use Rattle.std.specs.Prelude.{◌+◌, Bool, false, List, Option, Some, None, ◌==◌}
 use Rattle.redo_model.specs.Names.{Naming}
 use Rattle.redo_model.specs.Placed.{PlacedLine, grants_in, releases_in}

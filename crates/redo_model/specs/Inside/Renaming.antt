@@ -23,7 +23,7 @@ pub record OrdersAlike {M : Type 0} (to : Renaming M) (naming : Naming M)
   pub alike : (k m : ℕ) → k < to.count → m < to.count
       → order k m ≡ naming.order (to.name k) (to.name m)
 
--- what f has at a number, and d where there is none
+-- the value of f at a number, and d if there is none
 abbrev pub value_at : {X : Type 0} → X → (ℕ → X) → Option ℕ → X
 value_at d f None = d
 value_at d f (Some k) = f k
@@ -54,7 +54,7 @@ module _ {M : Type 0} (to : Renaming M) where
   abbrev pub named_state : State ℕ → State M
   named_state st = record { records = named_records st.records; locks = named_locks st.locks }
 
--- the records speak of numbers below n alone
+-- the records contain only numbers below n
 pub record IsWithin (n : ℕ) (r : Records ℕ) : Type 0 where
   pub cells : (k : ℕ) → n ≤ k → r.cell k ≡ idle
   pub changes : (k m : ℕ) → IsSome (r.rows.change k m) → (k < n) × (m < n)

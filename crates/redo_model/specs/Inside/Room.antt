@@ -1,4 +1,4 @@
--- How many lines a session can have: those of its script, and those that let go of what it locked
+-- How many lines a session can have: those of its script, and the closing lines of what it locked
 -- and started.
 use Rattle.std.specs.Prelude.{ℕ, ◌+◌, Bool, true, false, List, length, count_by}
 use Rattle.redo_model.specs.Command.{Command, Item, Lock, Start, Failed}

@@ -3,7 +3,7 @@ use Rattle.std.specs.Prelude.{◌<◌, ℕ, map, ⊤}
 use Rattle.redo_model.specs.Renaming.{AllBelow}
 use Rattle.redo_model.specs.Why.{Reason, Building, Failed, Edited, Always, Appeared, Changed, Why}
 
--- the name that the reason tells, if it does, is below n
+-- the name in the reason, if there is one, is below n
 abbrev pub IsReasonBelow : ℕ → Reason ℕ → Type 0
 IsReasonBelow n Building = ⊤
 IsReasonBelow n Failed = ⊤
@@ -12,7 +12,7 @@ IsReasonBelow n Always = ⊤
 IsReasonBelow n (Appeared k) = k < n
 IsReasonBelow n (Changed k) = k < n
 
--- all names that are told are below n
+-- all names in the answer are below n
 pub record IsWhyBelow (n : ℕ) (why : Why ℕ) : Type 0 where
   pub names : AllBelow n why.names
   pub reason : IsReasonBelow n why.reason

@@ -6,7 +6,7 @@ use Rattle.redo_model.specs.Command.{Item, target_of}
 use Rattle.redo_model.specs.Placed.{Place, Row, Granted, Busy, Released, PlacedLine, part_of, grants_in, releases_in}
 use Rattle.redo_model.specs.Inside.Placed.{holds_by}
 
--- the words with the word of a line in front, where the line has a row
+-- the words after the word of a line, if the line has a row
 abbrev pub word_before : {N : Type 0} → Place N → ℕ → List ℕ → List ℕ
 word_before (Row r) word words = word ∷ words
 word_before (Granted t g) word words = words
@@ -14,8 +14,8 @@ word_before (Busy t g) word words = words
 word_before (Released t g) word words = words
 
 module _ (naming : Naming ℕ) (plan : ℕ → List (Item ℕ)) where
-  -- of a line of the script: which command of which session it is, and whether the session holds
-  -- the command's target, by its own lines before
+  -- of a line of the script: which command of which session it is, and whether the session held the
+  -- command's target before, by its own lines
   abbrev pub script_word_of : List (PlacedLine ℕ) → PlacedLine ℕ → ℕ
   script_word_of own line =
       let held = cond (holds_by naming own (target_of line.command)) 1 0 in
@@ -37,7 +37,7 @@ module _ (naming : Naming ℕ) (plan : ℕ → List (Item ℕ)) where
       let word = row_word_of (part_of line.session before) line in
       word_before line.place word (row_words_after (before ++ line ∷ []) lines)
 
-  -- the words of the rows, in order; those of the rows that come after them are 0
+  -- the words of the rows, in order; the rows after them have 0
   abbrev pub row_words_of : List (PlacedLine ℕ) → List ℕ
   row_words_of lines = row_words_after [] lines
 

@@ -1,4 +1,4 @@
--- Histories that were worked out by hand, to believe the definitions by.
+-- Histories that were worked out by hand, as a check of the definitions.
 use Rattle.std.specs.Prelude.{ℕ, zero, suc, List, [], ◌∷◌, Some, None, codes}
 use Rattle.redo_model.specs.Names.{Text}
 use Rattle.redo_model.specs.Command.{Command, File, Gone, Lock, Unlock, Start, IfChange, IfCreate, Always, Stamp, Done, Failed, Ood, Targets, Sources}
@@ -31,7 +31,7 @@ common_path =
     ∷ said 0 Sources (replies.Sources (source ∷ []))
     ∷ []
 
--- a file appears that a target was built without, and is gone again
+-- a file appears that was missing when a target was built, and is gone again
 abbrev pub appearance : List (Line Text)
 appearance =
     let target = codes "T" in
@@ -110,7 +110,7 @@ cycle =
     ∷ said 0 Ood (replies.Ood [])
     ∷ []
 
--- a target fails after its content was told, is what another one is built from, and is then built
+-- a target fails after its content was stamped, another one is built from it, and then it is built
 -- with the same content
 abbrev pub failed_mark : List (Line Text)
 failed_mark =
@@ -130,7 +130,7 @@ failed_mark =
     ∷ said 0 Ood (replies.Ood (target ∷ []))
     ∷ []
 
--- a target is out of date for its always row, while it is built, and while its file isn't the one
+-- a target is out of date by its always row, while it is built, and while its file isn't the one
 -- that its build left
 abbrev pub own_reasons : List (Line Text)
 own_reasons =
@@ -154,7 +154,7 @@ own_reasons =
     ∷ said 0 Targets (replies.Targets (target ∷ []))
     ∷ []
 
--- a change row takes the place of an older one on its name, and goes when the next build starts
+-- a change row replaces an older one on its name, and goes when the next build starts
 abbrev pub change_rows : List (Line Text)
 change_rows =
     let target = codes "T" in
@@ -181,7 +181,7 @@ change_rows =
     ∷ said 0 Sources (replies.Sources [])
     ∷ []
 
--- names without a file are stale, and tell of a change once they have one
+-- names without a file are stale, and have changed once they get one
 abbrev pub names_without_a_file : List (Line Text)
 names_without_a_file =
     let target = codes "T" in
@@ -197,7 +197,7 @@ names_without_a_file =
     ∷ said 0 Sources (replies.Sources (first ∷ []))
     ∷ []
 
--- a target is built without files of two names, and one of them appears
+-- a target is built while two names have no file, and one of them appears
 abbrev pub created_rows : List (Line Text)
 created_rows =
     let target = codes "T" in
@@ -214,7 +214,7 @@ created_rows =
     ∷ said 0 Sources (replies.Sources (first ∷ []))
     ∷ []
 
--- what was built is known by its content where that was told, else by the number of builds
+-- a built name's mark is its content if that was stamped, else the number of builds
 abbrev pub contents_and_builds : List (Line Text)
 contents_and_builds =
     let library = codes "lib" in
@@ -239,7 +239,7 @@ contents_and_builds =
     ∷ said 0 Ood (replies.Ood (program ∷ []))
     ∷ []
 
--- a created row on a target is no change row on it, and stands beside one
+-- a created row on a target is no change row on it, and can be beside one
 abbrev pub rows_of_both_kinds : List (Line Text)
 rows_of_both_kinds =
     let target = codes "T" in
