@@ -48,7 +48,7 @@ slice_get-texts text keys number key stored found =
     slice_get-map (λ (k : Vec ℕ). k.items) keys number
     ∙ ap (option_map (λ (k : Vec ℕ). k.items)) stored ∙ ap Some (sym same)
 
--- a new key goes last
+-- a new key is the last
 pub texts-insert : (keys : List (Vec ℕ)) (key : Vec ℕ) (text : List ℕ) → key.items ≡ text
     → has (texts keys) text ≡ false
     → texts (if list_any (λ k. bytes_eq key.items k.items) keys then keys else keys ++ key ∷ [])

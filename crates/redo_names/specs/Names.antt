@@ -6,12 +6,12 @@ use Rattle.std.specs.List.{list_all, list_any, AllByRecursion}
 abbrev pub is_visible : ℕ → Bool
 is_visible byte = nat_le 33 byte && nat_le byte 126
 
--- '#' in front makes a line a comment
+-- a line that begins with '#' is a comment
 abbrev pub begins_comment : List ℕ → Bool
 begins_comment [] = false
 begins_comment (byte ∷ _) = byte == 35
 
--- the texts that stand for something else where a name may stand
+-- the reserved texts, which mean something else than a name
 abbrev pub is_reserved : List ℕ → Bool
 is_reserved text = bytes_eq text (codes "-") || bytes_eq text (codes "=>") || begins_comment text
 
@@ -25,7 +25,7 @@ is_name text =
 abbrev pub has : List (List ℕ) → List ℕ → Bool
 has names text = list_any (bytes_eq text) names
 
--- the names with this one, which goes last where it is new
+-- the names, with this one at the end if it is new
 abbrev pub with_name : List (List ℕ) → List ℕ → List (List ℕ)
 with_name names text = if has names text then names else names ++ text ∷ []
 

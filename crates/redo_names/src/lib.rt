@@ -1,4 +1,4 @@
-//! Names as numbers: a list of distinct names, in which a name's number is its place.
+//! Names as numbers: a list of distinct names; a name's number is its place.
 #![tactic(auto)]
 
 mod name;

@@ -17,7 +17,7 @@ fn is_all_visible(text: &[u8]) -> bool
     text.iter().all(|byte| (33..=126).contains(byte))
 }
 
-/// Whether a text may be a name: 1 to 255 visible bytes of ASCII, not `-`, not `=>`, and with no `#` in front.
+/// Whether a text may be a name: 1 to 255 visible bytes of ASCII, not `-`, not `=>`, and not beginning with `#`.
 #[tactic(auto, unfolding(crate::specs::Names::is_name))]
 pub fn is_name(text: &[u8]) -> bool
     ensures { result ≡ name_test text.now }

@@ -72,7 +72,7 @@ impl Names {
         self.texts.len() as u32
     }
 
-    /// The number of a text, where it is among the names.
+    /// The number of a text, if it is among the names.
     pub fn number_of(&self, text: &[u8]) -> Option<u32>
         ensures found { IfSome result (λ number. slice_get self.now number ≡ Some text.now) }
         ensures there { is_some result ≡ has self.now text.now }
@@ -83,7 +83,7 @@ impl Names {
         }
     }
 
-    /// The name that has a number.
+    /// The name with this number.
     pub fn text(&self, number: u32) -> &[u8]
         requires { number < length self.now }
         ensures { result.now ≡ text_at self.now number }
@@ -100,9 +100,9 @@ impl Names {
         self.text(a).cmp(self.text(b))
     }
 
-    /// The number of a name, which goes last where it is new.
+    /// The number of a name, which is added at the end if it is new.
     ///
-    /// A name that is there keeps its number, and adding it again never fails.
+    /// A name that is known keeps its number, and adding it again never fails.
     pub fn add(&mut self, text: &[u8]) -> Result<u32, NamesFault>
         requires { is_name text.now ≡ true }
         ensures added { OnOk result (self.new ≡ with_name self.old text.now) }
@@ -130,7 +130,7 @@ impl Names {
         Ok(number as u32)
     }
 
-    /// Forgets all names but the first `count`. Takes no memory.
+    /// Forgets all names but the first `count`. Allocates nothing.
     pub fn keep_first(&mut self, count: u32)
         requires { count ≤ length self.old }
         ensures { self.new ≡ take count self.old }

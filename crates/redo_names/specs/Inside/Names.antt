@@ -1,9 +1,9 @@
--- What a list of names keeps, and how it grows.
+-- The invariant of a list of names, and how it grows.
 use Rattle.std.specs.Prelude.{◌≡◌, ℕ, ◌≤◌, List, ◌++◌, length, bytes_eq}
 use Rattle.std.specs.List.{IsDistinct}
 use Rattle.redo_names.specs.Names.{AreAllNames}
 
--- the old names are a front of the new ones, so they keep their numbers
+-- the old names are a prefix of the new ones, so they keep their numbers
 pub record Extends (old new : List (List ℕ)) : Type 0 where
   pub more : List (List ℕ)
   pub is : new ≡ old ++ more
