@@ -1,4 +1,4 @@
--- What is out of date in a region, told by what is so outside of it.
+-- The out-of-date targets of a region, derived from those outside of it.
 use Rattle.std.proofs.Common.{◌≡◌, ◌⊎◌, ◌↔◌, ◌∙◌, ℕ, ◌<◌, ◌+◌, Bool, false, List, [], ◌∷◌, length, get_or, take, drop, refl, sym, ap, subst, inl, inr}
 use Rattle.std.specs.List.{Contains}
 use Rattle.std.proofs.Math.ListN.{replicate}
@@ -34,7 +34,7 @@ due_out_of_date r m sound t due = elim due [
   | inr w ↦ out_of_date_by_step r t w.0 w.1 (sound w.0 w.2)
 ]
 
--- a due name enters, and what depends on it
+-- a due name enters, and all that depend on it
 module _ (r : Records ℕ) (t : ℕ) {a b c : Marked} (due : IsDue r a t)
     (e : Enters (λ u. u ≡ t) a b) (s : Spreads r c.queue b c)
   where
@@ -80,14 +80,14 @@ module _ (r : Records ℕ) (t : ℕ) {a b c : Marked} (due : IsDue r a t)
       ];
     }
 
--- what was closed when the queue was shorter
+-- the set was closed when the queue was shorter
 pub closed_then : (r : Records ℕ) {a b : Marked} (from : ℕ) → from ≡ length a.queue → Grows a b
     → IsClosed r a.queue a → IsClosed r (take from b.queue) b
 closed_then r from at g closed t n c step =
     let before = subst (λ (xs : List ℕ). Contains xs n) (front_of g from at) c in
     g.keeps t (closed t n before step)
 
--- one more name of a list enters where it is due
+-- one more name of a list enters if it is due
 pub due_more : (r : Records ℕ) (a b c : Marked) (ts : List ℕ) (k d : ℕ) → k < length ts
     → EntersDue r (take k ts) a b → EntersDue r (get_or ts k d ∷ []) b c
     → EntersDue r (take (k + 1) ts) a c
@@ -122,13 +122,13 @@ pub region_listed : (r : Records ℕ) (seeds ns : List ℕ) {region : Marked}
 region_listed r seeds ns is same =
     subst (λ (qs : List ℕ). (t : ℕ) → Contains qs t ↔ InRegion r seeds t) (sym same) is.queued
 
--- where nothing is queued, all that depends on queued names is marked
+-- if nothing is queued, all that depends on queued names is marked
 pub closed_after : {P : ℕ → Type 0} (r : Records ℕ) {a b : Marked} → Unmarks P a b
     → IsClosed r b.queue b
 closed_after r unmarked t n c = absurd (unmarked.none n c)
 
--- the memo was right in a state that differs at the seeds alone, and the marks of the region were
--- taken away
+-- the memo was right in a state that differs only at the seeds, and the marks of the region were
+-- removed
 module _ (r : Records ℕ) (seeds ns : List ℕ) (memo : List Bool) {out cleared : Marked}
     (was : WasRight seeds memo r) (seen : out.marks ≡ memo)
     (listed : (t : ℕ) → Contains ns t ↔ InRegion r seeds t)
@@ -211,7 +211,7 @@ module _ (r : Records ℕ) (seeds ns : List ℕ) (memo : List Bool) {out cleared
                   o.0 t o.1,
             )
 
--- the marks of all that was marked are taken away
+-- the marks of all that was marked are removed
 pub cleared_again : {P : ℕ → Type 0} {a b : Marked} (names : ℕ) → size_of a ≡ names → HoldsOnly P a
     → Unmarks (IsQueued a) a b → IsCleared names b
 cleared_again names sized held unmarked = record {
@@ -222,7 +222,7 @@ cleared_again names sized held unmarked = record {
   empty = unmarked.none;
 }
 
--- the region is as large as its list is long
+-- the list of the region has as many names as the region
 pub region_counted : (r : Records ℕ) (seeds ns : List ℕ) {region : Marked} → ns ≡ region.queue
     → HoldsOnly (InRegion r seeds) region → IsQueue region → HasCount (InRegion r seeds) (length ns)
 region_counted r seeds ns {region = region} same is kept =

@@ -44,7 +44,7 @@ listed_without P k ts p h = (
   ),
 )
 
--- the next number enters where it has P
+-- the next number enters if it has P
 pub listed_more : (P : ℕ → Type 0) (k : ℕ) (ts : List ℕ) (due : Bool) → (IsTrue due ↔ P k) → IsListed by_number (λ t. (t < k) × P t) ts → IsListed by_number (λ t. (t < k + 1) × P t) (ts ++ cond due (k ∷ []) [])
 listed_more P k ts true is h = listed_with P k ts (is.0 refl) h
 listed_more P k ts false is h = subst (IsListed by_number (λ t. (t < k + 1) × P t)) (sym (append-nil ts)) (listed_without P k ts (λ p. false≢true (is.1 p)) h)

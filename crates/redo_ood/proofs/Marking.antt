@@ -1,4 +1,4 @@
--- Marks that are set and taken away, and what stays true of the queue.
+-- Marks that are set and removed, and the queue's invariant.
 use Rattle.std.proofs.Common.{◌≡◌, ◌⊎◌, ◌↔◌, ◌∙◌, ℕ, ◌<◌, ◌≤◌, ◌+◌, ◌^◌, Bool, true, false, cond, not, IsTrue, List, [], ◌∷◌, ◌++◌, length, get_or, set, take, refl, sym, ap, subst, inl, inr, arith, length-append, append_assoc}
 use Rattle.std.proofs.lemmas.Bool.{cases_Bool, cases_eq, cases_lt, false≢true}
 use Rattle.std.proofs.lemmas.List.{length-set, get_or-set_same, get_or-set_other, get_or_past, take_all, take_more, take-append-le}
@@ -39,7 +39,7 @@ set_cases marks t u on = elim (cases_eq u t) [
   | inr other ↦ inl (sym (get_or-set_other marks t u true false other) ∙ on)
 ]
 
--- what is marked stands below the end of the marks
+-- a marked name is below the end of the marks
 pub marked_below : (marks : List Bool) (t : ℕ) → IsSet marks t → t < length marks
 marked_below marks t on = elim (cases_lt t (length marks)) [
   | inl below ↦ below
@@ -84,7 +84,7 @@ pub grows_longer : {a b : Marked} → Grows a b → length a.queue ≤ length b.
 grows_longer {a = a} {b = b} f =
     omega (arith, ap length f.behind.1, length-append a.queue f.behind.0)
 
--- what was queued stands at the queue's front
+-- the old queue is a prefix of the new one
 pub front_of : {a b : Marked} → Grows a b → (k : ℕ) → k ≡ length a.queue
     → take k b.queue ≡ a.queue
 front_of {a = a} {b = b} f k at =
@@ -148,7 +148,7 @@ module _ (m : Marked) (t : ℕ) (below : t < size_of m) (off : get_or m.marks t 
         few = subst (λ n. n < 2 ^ 32) (sym sized) h.few;
       }
 
--- what enters first and what enters then
+-- two entries, one after the other
 pub enters_then : {P Q : ℕ → Type 0} {a b c : Marked} (R : ℕ → Type 0)
     → ((t : ℕ) → R t ↔ (P t ⊎ Q t)) → Enters P a b → Enters Q b c → Enters R a c
 enters_then R both f g = record {
@@ -185,7 +185,7 @@ one_more ts k d u in' =
       ]),
     )
 
--- what holds of as many names of a list as it has holds of the list
+-- what holds of a prefix that is as long as the list holds of the list
 pub at_take_all : (P : List ℕ → Type 0) (ts : List ℕ) (k : ℕ) → length ts ≤ k → P (take k ts) → P ts
 at_take_all P ts k end = subst P (take_all k ts end)
 
@@ -207,7 +207,7 @@ enters_one_more P ts k d due in' is f g =
       ],
     )) f g
 
--- where nothing was marked or queued, exactly what enters is
+-- if nothing was marked or queued, exactly what enters is
 pub holds_entered : {P : ℕ → Type 0} {a b : Marked} → ((t : ℕ) → IsMarked a t → ⊥)
     → ((t : ℕ) → IsQueued a t → ⊥) → Enters P a b → HoldsOnly P b
 holds_entered {b = b} unmarked empty e =
@@ -223,7 +223,7 @@ holds_entered {b = b} unmarked empty e =
       marked = queued;
     }
 
--- the mark of one more name of a list is taken away
+-- the mark of one more name of a list is removed
 pub unmarked_one_more : (old marks : List Bool) (ts : List ℕ) (k d : ℕ) → k < length ts
     → get_or ts k d < length marks
     → ((t : ℕ) → IsSet marks t ↔ (IsSet old t × (Contains (take k ts) t → ⊥)))
@@ -249,7 +249,7 @@ unmarked_one_more old marks ts k d in' below before t =
           ∙ (before t).1 (h.0, λ c. h.1 ((one_more ts k d t in').1 (inl c))),
     )
 
--- the marks of the names with P are taken away, and the queue is empty
+-- the marks of the names with P are removed, and the queue is empty
 pub unmarks_from : (P : ℕ → Type 0) (m : Marked) (marks : List Bool) → length marks ≡ size_of m
     → ((t : ℕ) → IsSet marks t ↔ (IsMarked m t × (P t → ⊥)))
     → Unmarks P m (record { marks = marks; queue = [] })

@@ -162,7 +162,7 @@ module _ (r : Records ℕ) (Looked : ℕ → ℕ → Type 0) (n from : ℕ) (see
       | inr e ↦ omega (arith, new_depth j e, old_depth from in')
     ]
 
-    -- what was found is found still
+    -- names that were found stay found
     kept : (i m : ℕ) → i < length seen.queue → IsNear seen.queue search.tree.depth i m
         → IsNear (seen.queue ++ n ∷ []) depth i m
     kept i m here near = (

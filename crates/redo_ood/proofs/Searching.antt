@@ -13,7 +13,7 @@ use Rattle.redo_ood.proofs.Marking.{set_cases, one_more}
 use Rattle.redo_ood.proofs.SearchTree.{search_with_name}
 
 module _ (r : Records ℕ) where
-  -- a search of which fewer steps are told
+  -- a search with fewer known steps
   pub fewer_steps : (Looked Fewer : ℕ → ℕ → Type 0) {at : ℕ} {seen : Marked} {parents : List ℕ}
       → ((i m : ℕ) → Fewer i m → Looked i m) → IsSearch r Looked at seen parents
       → IsSearch r Fewer at seen parents
@@ -45,7 +45,7 @@ module _ (r : Records ℕ) where
     ];
   }
 
-  -- one more step of a place was looked at
+  -- the search looked at one more step of a place
   pub one_more_step : (P : Type 0) (Looked : ℕ → ℕ → Type 0) (n from : ℕ) (a b : Marked)
       (ps qs : List ℕ) → n < size_of a → from < length a.queue
       → ((i m : ℕ) → Looked i m → i ≤ from) → (P → Depends r (get_or a.queue from 0) n)
@@ -67,7 +67,7 @@ module _ (r : Records ℕ) where
         (search_with_name r Looked n from a ps search in' (depends p) below before)))
   ]
 
-  -- all steps of a place were looked at
+  -- the search looked at all steps of a place
   pub next_place : (Looked : ℕ → ℕ → Type 0) (at : ℕ) (seen : Marked) (parents : List ℕ)
       → IsSearch r Looked at seen parents → at < length seen.queue
       → IsSearch r Looked (at + 1) seen parents
@@ -102,8 +102,8 @@ module _ (r : Records ℕ) where
         found = λ i m looked. absurd (none i m looked);
       }
 
--- the steps from the places before this one, and those along the rows of t, which stands here, to
--- some names
+-- the steps from the places before this one, and those along the rows of t, the name at this place,
+-- to some names
 abbrev pub StepsPartly : Records ℕ → Marked → List ℕ → ℕ → ℕ → List ℕ → ℕ → ℕ → Type 0
 StepsPartly r out queue at t names i n = StepsBefore r out queue at i n
     ⊎ ((i ≡ at) × Contains names n × IsSome (r.rows.change t n) × IsMarked out n)
@@ -117,7 +117,7 @@ module _ (r : Records ℕ) (out : Marked) (queue : List ℕ) (at t : ℕ) (in' :
       | inr w ↦ omega (arith, w.0)
     ]
 
-    -- no row of t was looked at
+    -- the search looked at no row of t
     pub partly_begun : {seen : Marked} {parents : List ℕ}
         → IsSearch r (StepsBefore r out queue at) at seen parents
         → IsSearch r (StepsPartly r out queue at t []) at seen parents
@@ -125,7 +125,7 @@ module _ (r : Records ℕ) (out : Marked) (queue : List ℕ) (at t : ℕ) (in' :
         (StepsPartly r out queue at t [])
         (λ i m s. elim s [ inl before ↦ before | inr w ↦ absurd (contains_none m w.1) ]) search
 
-    -- one more row of t was looked at
+    -- the search looked at one more row of t
     pub partly_more : (names : List ℕ) (k n : ℕ) (a b : Marked) (ps qs ns : List ℕ) (P : Type 0)
         → k < length names → get_or names k 0 ≡ n → n < size_of a → a.queue ≡ queue ++ ns
         → IsTarget r t → P ↔ (IsSome (r.rows.change t n) × IsMarked out n)
@@ -155,7 +155,7 @@ module _ (r : Records ℕ) (out : Marked) (queue : List ℕ) (at t : ℕ) (in' :
         (one_more_step r P L n at a b ps qs below longer (partly_before (take k names)) depends
         finds search)
 
-    -- all rows of t were looked at, if it is a target
+    -- the search looked at all rows of t, if it is a target
     pub partly_done : (names : List ℕ) (seen : Marked) (parents ns : List ℕ)
         → seen.queue ≡ queue ++ ns
         → (IsTarget r t → (n : ℕ) → IsSome (r.rows.change t n) → Contains names n)
@@ -181,7 +181,7 @@ module _ (r : Records ℕ) (out : Marked) (queue : List ℕ) (at t : ℕ) (in' :
               inr (e, all step.0 m step.1, step.1, s.2)
         ]) search) longer
 
--- what is due for a row is so for a name that is the same
+-- what is due for a row is due for an equal name
 pub due_at : {X : Type 0} (P : Type 0) (out : Marked) (row other : Option X) (n m : ℕ)
     → row ≡ other → n ≡ m → P ↔ (IsSome other × IsMarked out m)
     → P ↔ (IsSome row × IsMarked out n)
@@ -222,7 +222,7 @@ one_name t m b empty f =
 pub one_name_sized : (t : ℕ) (m b : Marked) → b ≡ with_name m t → size_of b ≡ size_of m
 one_name_sized t m b f = ap size_of f ∙ length-set m.marks t true
 
--- the search begins at a name where nothing was marked
+-- the search begins at a name while nothing is marked
 pub search_at_first : (r : Records ℕ) (out : Marked) (t : ℕ) (m b : Marked) (ps : List ℕ)
     → ((n : ℕ) → IsMarked m n → ⊥) → ((n : ℕ) → IsQueued m n → ⊥) → b ≡ with_name m t
     → ps ≡ 0 ∷ [] → IsSearch r (StepsBefore r out b.queue 0) 0 b ps
@@ -235,7 +235,7 @@ search_at_first r out t m b ps unmarked empty f p =
           (subst (Contains (t ∷ [])) (sym here) (contains_first t []))
     ])
 
--- none of the names has a reason, the one at this place included
+-- none of the names has a reason, nor has the one at this place
 pub none_here : (r : Records ℕ) (queue : List ℕ) (from at : ℕ) → HaveNoReason r queue from at
     → (HasReason r (get_or queue at 0) → ⊥) → HaveNoReason r queue from (at + 1)
 none_here r queue from at none here i past before reason = elim (cases_lt i at) [
@@ -253,7 +253,7 @@ none_before r queue from to none more i past before reason = elim (cases_lt i fr
   | inr later ↦ more i later before reason
 ]
 
--- and still none where more names are found
+-- and still none if more names are found
 pub none_still : (r : Records ℕ) (queue longer ns : List ℕ) → longer ≡ queue ++ ns
     → HaveNoReason r queue 0 (length queue) → HaveNoReason r longer 0 (length queue)
 none_still r queue longer ns behind none i past before reason =

@@ -1,4 +1,4 @@
--- The way to the first place with a reason is a shortest chain.
+-- The path to the first place with a reason is a shortest chain.
 use Rattle.std.proofs.Common.{◌≡◌, ℕ, ◌<◌, ◌≤◌, ◌+◌, List, [], ◌∷◌, length, get_or, sym, ap, ◌∙◌, subst, inl, inr, arith}
 use Rattle.std.proofs.lemmas.Bool.{cases_lt}
 use Rattle.redo_model.specs.State.{Records}
@@ -8,7 +8,7 @@ use Rattle.redo_model.proofs.Reasons.{reason_holds}
 use Rattle.redo_ood.specs.NameSet.{Marked, IsMarked}
 use Rattle.redo_ood.specs.Inside.Search.{IsSearchTree, IsSearch, StepsBefore, IsWay}
 
--- a way along parents is a chain, as long as its end is deeper
+-- a path along parents is a chain, as long as its end is deep
 module _ (r : Records ℕ) (queue parents : List ℕ) (tree : IsSearchTree r queue parents) (to : ℕ)
   where
     way_deeper : (ns : List ℕ) (from : ℕ) → IsWay queue parents from to ns
@@ -34,15 +34,15 @@ module _ (r : Records ℕ) (queue parents : List ℕ) (tree : IsSearchTree r que
       subst (λ m. Chain (Depends r) (HasReason r) m ns) name (way_chains reason ns i rest),
     )
 
--- all steps from the places before `at` to names that are out of date were looked at, and none of
--- the names before `place`, which isn't before `at`, has a reason
+-- the search looked at all steps from the places before `at` to names that are out of date, and
+-- none of the names before `place`, which isn't before `at`, has a reason
 module _ (r : Records ℕ) (out seen : Marked) (parents : List ℕ) (at place : ℕ)
     (right : (n : ℕ) → OutOfDate r n → IsMarked out n)
     (search : IsSearch r (StepsBefore r out seen.queue at) at seen parents)
     (ahead : at ≤ place)
     (none : (i : ℕ) → i < place → HasReason r (get_or seen.queue i 0) → ⊥)
   where
-    -- then no chain from a place to a reason is shorter than the way from there to `place`
+    -- then no chain from a place to a reason is shorter than the path from there to `place`
     no_shorter : place < length seen.queue → (ns : List ℕ) (i : ℕ) → i < length seen.queue
         → Chain (Depends r) (HasReason r) (get_or seen.queue i 0) ns
         → search.tree.depth place ≤ search.tree.depth i + length ns
@@ -62,7 +62,7 @@ module _ (r : Records ℕ) (out seen : Marked) (parents : List ℕ) (at place : 
           omega (arith, one, search.tree.rising at i past here)
     ]
 
-    -- and at the queue's end there is no chain
+    -- and at the end of the queue there is no chain
     no_chain : length seen.queue ≤ at → (ns : List ℕ) (i : ℕ) → i < length seen.queue
         → Chain (Depends r) (HasReason r) (get_or seen.queue i 0) ns → ⊥
     no_chain end [] i here chain = none i (omega (arith, here, end, ahead)) chain

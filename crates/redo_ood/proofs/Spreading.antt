@@ -1,4 +1,4 @@
--- Marks that spread from names to the targets that depend on them, and the region that is found so.
+-- Marks that spread from names to the targets that depend on them, and the region that this finds.
 use Rattle.std.proofs.Common.{◌≡◌, ◌⊎◌, ◌∙◌, ℕ, ◌<◌, ◌+◌, List, [], ◌∷◌, length, get_or, take, refl, sym, ap, subst, inl, inr, arith}
 use Rattle.std.proofs.lemmas.List.{get_or_default, take-append-le}
 use Rattle.std.specs.List.{Contains}
@@ -28,7 +28,7 @@ module _ (r : Records ℕ) where
       → (t : ℕ) → Reaches r (IsQueued old) t → Reaches r P t
   reaches_queued old weaker t reach = (reach.0, reaches_weaker weaker reach.0 t reach.1)
 
-  -- what is queued since reaches what was queued before
+  -- names that were queued since reach names that were queued before
   queued_reaches : {done : List ℕ} {old new : Marked} → Spreads r done old new
       → (t : ℕ) → IsQueued new t → Reaches r (IsQueued old) t
   queued_reaches s t q = elim ((s.grown.queued t).0 q) [
@@ -90,7 +90,7 @@ module _ (r : Records ℕ) where
     ],
   ))
 
-  -- where nothing was marked, what spreads from what touches a seed is the region
+  -- if nothing was marked, what spreads from what touches a seed is the region
   module _ (seeds : List ℕ) {none m new : Marked} (unmarked : (t : ℕ) → IsMarked none t → ⊥)
       (touched : Enters (TouchesSeed r seeds) none m) (s : Spreads r new.queue m new)
     where
@@ -115,7 +115,7 @@ module _ (r : Records ℕ) where
         ]
       ]
 
-      -- what touches a seed stands at the queue's front
+      -- what touches a seed is in the queue's prefix
       pub touched_first : (front : ℕ) → front ≡ length m.queue → (t : ℕ) → TouchesSeed r seeds t
           → Contains (take front new.queue) t
       touched_first front at t touches =

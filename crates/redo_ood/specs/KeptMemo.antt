@@ -1,4 +1,4 @@
--- What the fields of the memo show, and what they keep.
+-- The value of a memo's fields, and their invariant.
 use Rattle.std.specs.Prelude.{◌≡◌, ℕ, Bool, List}
 use Rattle.redo_ood.specs.NameSet.{Marked, IsMarked, IsQueued, size_of}
 use Rattle.redo_ood.specs.declared.ood.Ood.TheInside.{Inside}
@@ -12,7 +12,7 @@ pub record IsCleared (names : ℕ) (m : Marked) : Type 0 where
   pub unmarked : (t : ℕ) → IsMarked m t → ⊥
   pub empty : (t : ℕ) → IsQueued m t → ⊥
 
--- between two calls there is no region, and none of its names
+-- between two calls the region, and the list of its out-of-date names, are empty
 pub record KeepsMemo (inside : Inside) : Type 0 where
   pub region : IsCleared (size_of inside.out) inside.region
   pub outdated : IsCleared (size_of inside.out) inside.outdated

@@ -1,4 +1,4 @@
--- What the fields of the marks show, and what they keep.
+-- The value of a name set's fields, and their invariant.
 use Rattle.std.specs.Prelude.{◌≤◌, vec_capacity}
 use Rattle.redo_ood.specs.NameSet.{Marked, IsQueue, size_of}
 use Rattle.redo_ood.specs.declared.name_set.NameSet.TheInside.{Inside}
@@ -6,7 +6,7 @@ use Rattle.redo_ood.specs.declared.name_set.NameSet.TheInside.{Inside}
 abbrev pub marked_of : Inside → Marked
 marked_of inside = record { marks = inside.marks.items; queue = inside.queue.items }
 
--- the queue has room for all names
+-- the queue has capacity for all names
 pub record KeepsMarked (inside : Inside) : Type 0 where
   pub queue : IsQueue (marked_of inside)
   pub room : size_of (marked_of inside) ≤ vec_capacity inside.queue

@@ -1,4 +1,4 @@
--- What a memo tells of the names.
+-- What a memo says of the names.
 use Rattle.std.specs.Prelude.{◌≡◌, ◌≢◌, ◌↔◌, ℕ, Bool, false, List, IsTrue, AllPairs, Contains, slice_index_or, length}
 use Rattle.redo_model.specs.State.{Records}
 use Rattle.redo_model.specs.OutOfDate.{OutOfDate}
@@ -16,7 +16,7 @@ is_out memo t = slice_index_or memo t false
 abbrev pub IsRight : List Bool → Records ℕ → Type 0
 IsRight memo records = (t : ℕ) → IsTrue (is_out memo t) ↔ OutOfDate records t
 
--- it was so in some state that differs from this one in the cells and the rows of the seeds alone
+-- the memo was right in some state that differs from this one only in the seeds' cells and rows
 abbrev pub WasRight : List ℕ → List Bool → Records ℕ → Type 0
 WasRight seeds memo records =
     (old : Records ℕ) × DifferAt seeds old records × IsRight memo old

@@ -30,7 +30,7 @@ pub record IsQueue (m : Marked) : Type 0 where
   pub counted : length m.queue + count_by not m.marks ≤ size_of m
   pub few : size_of m < 2 ^ 32
 
--- more names may be marked, and those that are stand at the queue's end
+-- more names may be marked, and the new ones are at the end of the queue
 pub record Grows (old new : Marked) : Type 0 where
   pub sized : size_of new ≡ size_of old
   pub keeps : (t : ℕ) → IsMarked old t → IsMarked new t
@@ -43,7 +43,7 @@ pub record Enters (P : ℕ → Type 0) (old new : Marked) : Type 0 where
   pub grown : Grows old new
   pub each : (t : ℕ) → IsMarked new t ↔ (IsMarked old t ⊎ P t)
 
--- the queue is empty, and the marks are taken from the names with P
+-- the queue is empty, and the names with P aren't marked any more
 pub record Unmarks (P : ℕ → Type 0) (old new : Marked) : Type 0 where
   pub sized : size_of new ≡ size_of old
   pub none : (t : ℕ) → IsQueued new t → ⊥

@@ -1,4 +1,4 @@
-//! What is out of date in a region, told by what is out of date outside of it.
+//! The out-of-date targets of a region, derived from those outside of it.
 
 ghost use Rattle.std.specs.Prelude.{◌≡◌, ◌<◌, ◌↔◌, ℕ, IsTrue, IsSome, [], ◌∷◌, length};
 ghost use Rattle.redo_model.specs.OutOfDate.{Depends};
@@ -57,7 +57,7 @@ fn is_due(records: &Records, rows: &DepRows, marks: &NameSet, t: u32) -> bool
     has_reason(records, rows, t) || depends_on_marked(records, rows, marks, t)
 }
 
-// Marks the target where it is due, and all that depend on it.
+// Marks the target if it is due, and all that depend on it.
 fn enter_due(records: &Records, rows: &DepRows, t: u32, marks: &mut NameSet)
     requires target { t < rows_count rows.now }
     requires records { length records.now ≡ rows_count rows.now }

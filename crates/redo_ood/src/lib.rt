@@ -1,5 +1,4 @@
-//! Which targets are out of date: a memo that is made right again after each change, by the region of the names that
-//! were changed.
+//! Which targets are out of date: a memo that is corrected after each change, in the region of the names that changed.
 #![tactic(auto)]
 
 mod derive;

@@ -1,5 +1,5 @@
-//! A set of names by marks, and a queue of the names that were marked. A name enters the queue once, so a queue with room
-//! for all names takes no memory.
+//! A set of names by marks, and a queue of the names that were marked. A name enters the queue once, so a queue with
+//! capacity for all names allocates nothing.
 
 ghost use Rattle.std.specs.Prelude.{◌≡◌, ◌↔◌, ◌<◌, ◌≤◌, ◌^◌, ℕ, IsTrue, [], IfOk, length, false, replicate, slice_index, slice_index_or, Contains};
 ghost use Rattle.redo_model.specs.Renaming.{AllBelow};
@@ -29,7 +29,7 @@ impl Model for NameSet {
     ghost invariant = { KeepsMarked };
 }
 
-/// Takes the marks from these names.
+/// Removes the marks of these names.
 fn unmark_each(marks: &mut Vec<bool>, names: &[u32])
     requires { AllBelow (length marks.old.items) names.now }
     ensures sized { length marks.new.items ≡ length marks.old.items }
@@ -42,7 +42,7 @@ fn unmark_each(marks: &mut Vec<bool>, names: &[u32])
 }
 
 impl NameSet {
-    /// No name is marked. But for `grown`, no other call takes memory.
+    /// No name is marked. But for `grown`, no other call allocates.
     pub fn new(alloc: Global, names: u32) -> Result<NameSet, AllocError>
         ensures { IfOk result (λ marks.
             marks ≡ record { marks = replicate names false; queue = [] }) }
@@ -116,7 +116,7 @@ impl NameSet {
         self.queue.push_reserved(t);
     }
 
-    /// Marks the name, and puts it into the queue where it wasn't marked.
+    /// Marks the name, and puts it into the queue if it wasn't marked.
     pub fn enter(&mut self, t: u32)
         requires { t < size_of self.old }
         ensures { Enters (λ u. u ≡ t) self.old self.new }
@@ -135,7 +135,7 @@ impl NameSet {
         }
     }
 
-    /// Empties the queue, and takes the marks from these names.
+    /// Empties the queue, and removes the marks of these names.
     pub fn unmark(&mut self, names: &[u32])
         requires { AllBelow (size_of self.old) names.now }
         ensures { Unmarks (Contains names.now) self.old self.new }
@@ -144,7 +144,7 @@ impl NameSet {
         unmark_each(&mut self.marks, names);
     }
 
-    /// Empties the queue, and takes the marks from its names.
+    /// Empties the queue, and removes the marks of its names.
     pub fn unmark_queue(&mut self)
         ensures { Unmarks (IsQueued self.old) self.old self.new }
     {

@@ -53,7 +53,7 @@ impl Model for Ood {
 }
 
 impl Ood {
-    /// Nothing is out of date. All room that a refresh takes is made here.
+    /// Nothing is out of date. This allocates all that a refresh needs.
     pub fn new(alloc: Global, names: u32) -> Result<Ood, AllocError>
         ensures count { IfOk result (λ ood. memo_count ood ≡ names) }
         ensures right { IfOk result (λ ood. IsRight ood empty.records) }
@@ -84,8 +84,8 @@ impl Ood {
         })
     }
 
-    /// Makes it right for the records and rows, where it was right before they were changed at the seeds. Answers how
-    /// many names the region of the seeds has. Takes no memory, and looks at the region and its rows alone.
+    /// Makes the memo right for the records and rows; it was right before they changed at the seeds. Returns how many
+    /// names the region of the seeds has. Allocates nothing, and looks only at the region and its rows.
     pub fn refresh(&mut self, records: &Records, rows: &DepRows, seeds: &[u32]) -> u32
         requires records { length records.now ≡ memo_count self.old }
         requires rows { rows_count rows.now ≡ memo_count self.old }
@@ -100,7 +100,7 @@ impl Ood {
         let (touched, others) = region.split_at(front);
         enter_marked(&self.out, others, &mut self.outdated);
         self.out.unmark(region);
-        // of the others only what was out of date can be so by rows of its own
+        // the others can be out of date by their own rows only if they were before
         derive(records, rows, touched, &mut self.out);
         derive(records, rows, self.outdated.queue(), &mut self.out);
         let size = region.len() as u32;
@@ -117,8 +117,8 @@ impl Ood {
         self.out.has(t)
     }
 
-    /// Why the target is out of date, where it is so and the memo is right. Looks at names that a chain of change rows
-    /// leads to, and takes memory for these alone; none where it is up to date.
+    /// Why the target is out of date, if it is and the memo is right. Looks at names that a chain of change rows leads
+    /// to, and allocates for these alone; nothing if the target is up to date.
     pub fn why(
         &mut self,
         alloc: Global,

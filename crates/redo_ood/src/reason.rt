@@ -1,4 +1,4 @@
-//! Which reason of its own a target has to be built again.
+//! The reasons of its own by which a target has to be built again.
 
 ghost use Rattle.std.specs.Prelude.{◌≡◌, ◌↔◌, ◌<◌, IsTrue, IfSome, MatchOption, length};
 ghost use Rattle.redo_model.specs.Why.{IsReason};
@@ -12,14 +12,14 @@ ghost use Rattle.redo_ood.specs.Meaning.{reason_of};
 use redo_records::{Records, State};
 use redo_rows::{DepRows, News};
 
-/// A reason of its own that a target has to be built again.
+/// A reason of its own by which a target has to be built again.
 #[derive(Clone, Copy, Debug, PartialEq, Eq)]
 pub enum Reason {
     /// It is being built.
     Building,
     /// Its last build failed.
     Failed,
-    /// Its file is another than its last done gave.
+    /// Its file differs from the one that its last done gave.
     Edited,
     /// It has an always row.
     Always,
@@ -29,7 +29,7 @@ pub enum Reason {
     Changed(u32),
 }
 
-// The reason of a target that is built: the first that applies.
+// The reason of a built target: the first that applies.
 fn built_reason(records: &Records, rows: &DepRows, t: u32) -> Option<Reason>
     requires target { t < rows_count rows.now }
     requires names { length records.now ≡ rows_count rows.now }

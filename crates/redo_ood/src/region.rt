@@ -81,8 +81,8 @@ fn enter_touched(records: &Records, rows: &DepRows, seeds: &[u32], marks: &mut N
     }
 }
 
-/// Marks the targets from which a chain of change rows leads to a name that is queued from this
-/// place on, where all that depend on the names before it are marked.
+/// Marks the targets from which a chain of change rows leads to a name that is queued from this place on. All that
+/// depend on the names before it are marked already.
 pub(crate) fn spread(records: &Records, rows: &DepRows, from: usize, marks: &mut NameSet)
     requires records { length records.now ≡ rows_count rows.now }
     requires sized { size_of marks.old ≡ rows_count rows.now }
@@ -99,8 +99,8 @@ pub(crate) fn spread(records: &Records, rows: &DepRows, from: usize, marks: &mut
     }
 }
 
-/// Marks the region of the seeds, where nothing is marked. Answers how many names stand at the
-/// queue's front for touching a seed.
+/// Marks the region of the seeds; nothing is marked before. Returns how many names at the beginning of the queue touch
+/// a seed.
 pub(crate) fn find_region(
     records: &Records,
     rows: &DepRows,

@@ -25,11 +25,11 @@ use std::alloc::{AllocError, Global};
 pub struct Why {
     /// The names after it of a shortest chain of change rows to a target with a reason of its own.
     pub names: Vec<u32>,
-    /// The reason of the last of them; its own, where there are none.
+    /// The reason of the last of them; the target's own, if there are none.
     pub reason: Reason,
 }
 
-// Puts the name at the queue's end, as found from this place, where it is due and wasn't found before.
+// Puts the name at the queue's end, as found from this place, if it is due and wasn't found before.
 fn find_if(
     n: u32,
     from: u32,
@@ -82,7 +82,7 @@ fn find_needs(
     Ok(())
 }
 
-// A place of the queue, and the reason of its own that the name there has.
+// A place of the queue, and the reason of its own of the name there.
 #[derive(Clone, Copy)]
 struct Found {
     place: usize,
@@ -109,7 +109,7 @@ fn first_reason(records: &Records, rows: &DepRows, seen: &NameSet, from: usize) 
     None
 }
 
-// The names on the way from the queue's first place, whose name is left out, to this one.
+// The names on the path from the queue's first place, whose name is left out, to this one.
 fn way_to(
     alloc: Global,
     seen: &NameSet,
@@ -134,7 +134,7 @@ fn way_to(
     Ok(way)
 }
 
-/// Why the target is out of date, where it is so. Marks each name that is found, and takes memory for each.
+/// Why the target is out of date, if it is. Marks each name that it finds, and allocates for each.
 pub(crate) fn search(
     alloc: Global,
     records: &Records,

@@ -1,4 +1,4 @@
--- What is marked in a region and for what is out of date.
+-- What is marked in a region, and among the out-of-date targets.
 use Rattle.std.specs.Prelude.{◌⊎◌, ℕ, List, Contains}
 use Rattle.redo_model.specs.State.{Records}
 use Rattle.redo_model.specs.OutOfDate.{HasReason, Depends, Chain, OutOfDate}
@@ -16,7 +16,8 @@ IsClosed r names m = (t n : ℕ) → Contains names n → Depends r t n → IsMa
 abbrev pub IsSound : Records ℕ → Marked → Type 0
 IsSound r m = (t : ℕ) → IsMarked m t ⊎ IsQueued m t → OutOfDate r t
 
--- only what reaches a queued name was marked, and with each name of `done` what depends on it
+-- only names that reach a queued name were marked, and with each name of `done` all that depend on
+-- it
 pub record Spreads (r : Records ℕ) (done : List ℕ) (old new : Marked) : Type 0 where
   pub grown : Grows old new
   pub reaches : (t : ℕ) → IsMarked new t → IsMarked old t ⊎ Reaches r (IsQueued old) t
@@ -26,8 +27,8 @@ pub record Spreads (r : Records ℕ) (done : List ℕ) (old new : Marked) : Type
 abbrev pub IsDue : Records ℕ → Marked → ℕ → Type 0
 IsDue r m t = HasReason r t ⊎ ((n : ℕ) × Depends r t n × IsMarked m n)
 
--- of the names those that are due were marked, and what depends on them, and nothing that isn't
--- out of date
+-- those of the names that are due were marked, and all that depend on them, and nothing else but
+-- out-of-date targets
 pub record EntersDue (r : Records ℕ) (names : List ℕ) (old new : Marked) : Type 0 where
   pub grown : Grows old new
   pub sound : IsSound r old → IsSound r new

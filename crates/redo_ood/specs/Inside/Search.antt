@@ -1,4 +1,4 @@
--- How far a search along change rows has come that began at a target.
+-- The state of a search along change rows that began at a target.
 use Rattle.std.specs.Prelude.{◌≡◌, ◌⊎◌, ◌<◌, ◌≤◌, ◌+◌, ◌++◌, ◌∷◌, [], ℕ, List, length, slice_index}
 use Rattle.redo_model.specs.State.{Records}
 use Rattle.redo_model.specs.OutOfDate.{HasReason, Depends}
@@ -19,12 +19,12 @@ pub record IsSearchTree (r : Records ℕ) (queue parents : List ℕ) : Type 0 wh
       → depth i ≡ depth (slice_index parents i) + 1
   pub rising : (i j : ℕ) → i ≤ j → j < length queue → depth i ≤ depth j
 
--- the name stands at a place that is at most one deeper than place i
+-- the name is at a place that is at most one deeper than place i
 abbrev pub IsNear : List ℕ → (ℕ → ℕ) → ℕ → ℕ → Type 0
 IsNear queue depth i n =
     (j : ℕ) × (j < length queue) × (slice_index queue j ≡ n) × (depth j ≤ depth i + 1)
 
--- the search has come to a place, after the steps of `Looked`, each from a place to a name
+-- the search reached the place `at`, and looked at the steps `Looked`, each from a place to a name
 pub record IsSearch (r : Records ℕ) (Looked : ℕ → ℕ → Type 0) (at : ℕ) (seen : Marked)
     (parents : List ℕ) : Type 0
   where
@@ -38,7 +38,7 @@ pub record IsSearch (r : Records ℕ) (Looked : ℕ → ℕ → Type 0) (at : �
 abbrev pub StepsBefore : Records ℕ → Marked → List ℕ → ℕ → ℕ → ℕ → Type 0
 StepsBefore r out queue at i n = (i < at) × Depends r (slice_index queue i) n × IsMarked out n
 
--- where P holds, the name is found from a place, unless it was found before
+-- if P holds, the name is found from a place, unless it was found before
 abbrev pub Finds : Type 0 → ℕ → ℕ → Marked → List ℕ → Marked → List ℕ → Type 0
 Finds P n from old parents new parents_after =
     ((new ≡ old) × (parents_after ≡ parents) × (P → IsMarked old n))
@@ -58,7 +58,7 @@ pub record IsFirstReason (r : Records ℕ) (queue : List ℕ) (from place : ℕ)
     pub none : HaveNoReason r queue from place
     pub own : IsReason r (slice_index queue place) reason
 
--- the names after place `from` on the way to place `to`: each stands at a place whose parent is the
+-- the names after place `from` on the path to place `to`: each is at a place whose parent is the
 -- place before it
 abbrev pub IsWay : List ℕ → List ℕ → ℕ → ℕ → List ℕ → Type 0
 IsWay queue parents from to [] = from ≡ to
