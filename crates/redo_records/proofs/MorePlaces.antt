@@ -8,7 +8,7 @@ same_everywhere zero k x = refl
 same_everywhere (suc n) zero x = refl
 same_everywhere (suc n) (suc k) x = same_everywhere n k x
 
--- behind its end a list has the default anyway
+-- past its end a list has the default anyway
 pub get_or-extended : {X : Type 0} (xs : List X) (n k : ℕ) (x : X)
     → get_or (xs ++ replicate n x) k x ≡ get_or xs k x
 get_or-extended [] n k x = same_everywhere n k x

@@ -1,4 +1,4 @@
--- The verdict on a command is that of its kind, and then that of its names.
+-- The verdict on a command is that of its kind; if that refuses nothing, that of its names.
 use Rattle.std.proofs.Common.{◌≡◌, ℕ, Bool, true, false, not, Option, Some, None, refl, arith}
 use Rattle.std.specs.Option.{option_or}
 use Rattle.redo_model.specs.Command.{Command, File, Gone, Lock, Unlock, Start, IfChange, IfCreate, Always, Stamp, Done, Failed, Ood, Targets, Sources, target_of}
@@ -55,7 +55,7 @@ module _ (naming : Naming ℕ) (records : Records ℕ) (s : ℕ) (holds : Bool) 
   verdict_on_target Targets t on = refl
   verdict_on_target Sources t on = refl
 
-  -- by any state, where it has no target
+  -- by any state, if it has no target
   pub verdict_without_target : (command : Command ℕ) (state : TargetState)
       → target_of command ≡ None → refusal_by_target state s holds (kind_for command)
       ≡ verdict_of naming records s holds command

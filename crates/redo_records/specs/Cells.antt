@@ -10,6 +10,6 @@ cell_at cells n = slice_index_or cells n idle
 abbrev pub with_cell_at : List Cell → ℕ → Cell → List Cell
 with_cell_at cells n c = slice_set cells n c
 
--- the name is built, and its file is another than its last done gave
+-- the name is built, and its file differs from the one that its last done gave
 abbrev pub IsBuiltAndEdited : Cell → Type 0
 IsBuiltAndEdited c = (c.state ≡ Built) × (c.file ≢ c.done)

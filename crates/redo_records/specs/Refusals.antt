@@ -18,8 +18,8 @@ refusal_by_lock holds state =
 abbrev pub refusal_by_build : ℕ → TargetState → Option (Refusal ℕ)
 refusal_by_build s state = refusal_or (not (is_built_by s state)) NotBuilding None
 
--- the first refusal that applies whatever the names after the target are, where `holds` says
--- whether the session holds the target's lock
+-- the first refusal that applies whatever the names after the target are; `holds`: whether the
+-- session holds the target's lock
 abbrev pub refusal_by_target : TargetState → ℕ → Bool → Kind → Option (Refusal ℕ)
 refusal_by_target state s holds File = None
 refusal_by_target state s holds Gone = None

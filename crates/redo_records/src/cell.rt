@@ -50,7 +50,7 @@ fn is_same_stamp(one: &Option<FileStamp>, other: &Option<FileStamp>) -> bool
     }
 }
 
-/// Returns the refusal of a need of a row, where the need is not met. A need of the names after the target is passed over.
+/// Returns the refusal of a need, if the need is not met. A need about the names after the target is skipped.
 macro_rules! refuse_unless {
     (held $refusal:ident $cell:ident $s:ident $holds:ident) => {
         if !$holds {
@@ -71,7 +71,7 @@ macro_rules! refuse_unless {
     (missing $refusal:ident $cell:ident $s:ident $holds:ident) => {};
 }
 
-/// By the kind, the refusal of the first need in its row that is not met, of those of the target alone.
+/// The refusal of the first need of the kind that is not met, of those about the target alone.
 macro_rules! first_refusal {
     (
         [$cell:ident $s:ident $holds:ident $kind:ident]
@@ -92,7 +92,7 @@ macro_rules! first_refusal {
 }
 
 impl Cell {
-    /// A name of which nothing was said.
+    /// A name that no command reported.
     pub fn idle() -> Cell
         ensures { result ≡ idle }
     {
@@ -146,7 +146,7 @@ impl Cell {
         }
     }
 
-    /// Whether that mark is that it was built so often.
+    /// Whether that mark is this number of builds.
     pub fn has_builds(&self, builds: u32) -> bool
         ensures { IsTrue result ↔ (mark_in self.now.state self.now ≡ states.Builds builds) }
     {
@@ -166,7 +166,7 @@ impl Cell {
         }
     }
 
-    /// Whether that mark is that a build is pending.
+    /// Whether that mark is Pending.
     pub fn is_pending(&self) -> bool
         ensures { IsTrue result ↔ (mark_in self.now.state self.now ≡ states.Pending) }
     {
@@ -176,7 +176,7 @@ impl Cell {
         }
     }
 
-    /// Whether that mark is that there is no file.
+    /// Whether that mark is Absent.
     pub fn is_absent(&self) -> bool
         ensures { IsTrue result ↔ (mark_in self.now.state self.now ≡ states.Absent) }
     {
@@ -186,7 +186,7 @@ impl Cell {
         }
     }
 
-    /// Whether the name is built, and its file is another than its last done gave.
+    /// Whether the name is built, and its file differs from the one that its last done gave.
     pub fn is_edited(&self) -> bool
         ensures { IsTrue result ↔ IsBuiltAndEdited self.now }
     {
@@ -196,8 +196,8 @@ impl Cell {
         }
     }
 
-    /// The first refusal that applies, by the target's state and by whether the session holds its lock. Of the names
-    /// after the target nothing is known here.
+    /// The first refusal that applies, by the target's state and by whether the session holds its lock. It doesn't test
+    /// the names after the target.
     pub fn refusal(&self, s: u8, kind: Kind, holds: bool) -> Option<Refusal>
         ensures { option_map refusal_of result ≡ refusal_by_target self.now.state s holds kind }
     {
@@ -228,7 +228,7 @@ impl Cell {
         self.file = file;
     }
 
-    /// The session starts a build, of which no digest is told so far.
+    /// The session starts a build, without a digest so far.
     pub fn start(&mut self, s: u8)
         ensures { self.new ≡ record self.old { state = states.Building s; digest = None } }
     {

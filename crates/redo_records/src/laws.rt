@@ -1,4 +1,4 @@
-//! What the words of this crate say in those of the model.
+//! This crate's definitions in terms of the model's.
 
 ghost use Rattle.std.specs.Prelude.{◌≡◌, ℕ, Bool, Some, None};
 ghost use Rattle.std.specs.Option.{option_or};
@@ -8,8 +8,8 @@ ghost use Rattle.redo_model.specs.State.{Records, TargetState, target_state};
 ghost use Rattle.redo_model.specs.Step.{verdict_of};
 ghost use Rattle.redo_records.specs.Refusals.{refusal_by_target, refusal_of_names, kind_for};
 
-/// The verdict on a command is that of its kind, by the state of its target; where that refuses nothing, it is that of
-/// the names after the target. Where a command has no target, it is that of its kind, by any state.
+/// The verdict on a command is that of its kind, by the state of its target; if that refuses nothing, it is that of the
+/// names after the target. If a command has no target, any state gives the verdict of its kind.
 pub fn verdict_by_kind()
     ensures with_target { (naming : Naming ℕ) (records : Records ℕ) (s : ℕ) (holds : Bool)
         (command : Command ℕ) (t : ℕ) → target_of command ≡ Some t

@@ -1,5 +1,5 @@
-//! What the database knows of each name: the stamp of its file, its state, its builds, the stamp of its last done
-//! and the digest of its present build.
+//! What the database knows of each name: the stamp of its file, its state, its builds, the stamp of its last done and
+//! the digest of its present build.
 #![tactic(auto)]
 
 mod cell;

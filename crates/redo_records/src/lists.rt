@@ -1,10 +1,10 @@
-//! Lists that get more places.
+//! Copies of lists with more places.
 
 ghost use Rattle.std.specs.Prelude.{◌≡◌, ◌≤◌, ℕ, length, slice_index_or, IfOk};
 
 use std::alloc::{AllocError, Global};
 
-/// A copy of the list with that many places, where each new one has `rest`.
+/// A copy of the list with that many places; each new one has `rest`.
 pub fn extended<T: Copy + Drop>(
     alloc: Global,
     items: &[T],

@@ -6,9 +6,9 @@ use redo_terms::FileStamp;
 /// What a change row records of a name.
 #[derive(Clone, Copy, Debug, PartialEq, Eq)]
 pub enum Mark {
-    /// It is built, and its build told this digest.
+    /// It is built, and its build stamped content with this digest.
     Digest([u8; 20]),
-    /// It is built, and its build told no digest: how often it was built.
+    /// It is built, and its build stamped no content: how often it was built.
     Builds(u32),
     /// It is being built, or its last build failed.
     Pending,

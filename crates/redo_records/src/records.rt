@@ -30,7 +30,7 @@ impl Model for Records {
 }
 
 impl Records {
-    /// The records of which nothing was said. But for `grown`, no other call takes memory.
+    /// Records in which nothing is known. But for `grown`, no other call allocates.
     pub fn new(alloc: Global, names: u32) -> Result<Records, AllocError>
         ensures { IfOk result (λ records. records ≡ replicate names idle) }
     {
@@ -38,7 +38,7 @@ impl Records {
         Ok(Records { cells })
     }
 
-    /// The same records with more names, of which nothing was said.
+    /// The same records with more names, of which nothing is known.
     pub fn grown(&self, alloc: Global, names: u32) -> Result<Records, AllocError>
         requires { length self.now ≤ names }
         ensures count { IfOk result (λ records. length records ≡ names) }
@@ -64,7 +64,7 @@ impl Records {
         self.cells[n as usize].file()
     }
 
-    /// How far it has come.
+    /// Its state.
     pub fn state(&self, n: u32) -> State
         requires { n < length self.now }
         ensures { target_state_of result ≡ (cell_at self.now n).state }
@@ -88,7 +88,7 @@ impl Records {
         &self.cells[n as usize]
     }
 
-    /// The mark that a change row on it records now.
+    /// The mark that a change row on it gets now.
     pub fn mark(&self, n: u32) -> Mark
         requires { n < length self.now }
         ensures { row_mark_of result ≡ mark_in (cell_at self.now n).state (cell_at self.now n) }
@@ -96,7 +96,7 @@ impl Records {
         self.cells[n as usize].mark()
     }
 
-    /// Whether it is built, and its file is another than its last done gave.
+    /// Whether it is built, and its file differs from the one that its last done gave.
     pub fn changed(&self, n: u32) -> bool
         requires { n < length self.now }
         ensures { IsTrue result ↔ IsBuiltAndEdited (cell_at self.now n) }
@@ -104,8 +104,8 @@ impl Records {
         self.cells[n as usize].is_edited()
     }
 
-    /// The first refusal that applies to a session's command on `t` whatever the names after `t` are, where `holds` says
-    /// whether it holds its lock.
+    /// The first refusal that applies to a session's command on `t` whatever the names after `t` are. `holds`: whether
+    /// the session holds the lock of `t`.
     pub fn verdict(&self, s: u8, kind: Kind, t: u32, holds: bool) -> Option<Refusal>
         requires { t < length self.now }
         ensures { option_map refusal_of result
@@ -132,7 +132,7 @@ impl Records {
         self.cells[t as usize].start(s);
     }
 
-    /// Its build told this digest.
+    /// Its build stamped content with this digest.
     pub fn stamp(&mut self, t: u32, digest: [u8; 20])
         requires number { t < length self.old }
         requires building { IsTrue (is_building (cell_at self.old t).state) }

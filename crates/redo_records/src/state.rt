@@ -1,4 +1,4 @@
-/// How far a name has come. It is idle until its first start, and a target from then on.
+/// The state of a name. It is idle until its first start, and a target from then on.
 #[derive(Clone, Copy, Debug, PartialEq, Eq)]
 pub enum State {
     Idle,
