@@ -1,4 +1,4 @@
--- What is read of known bytes, and why it is refused.
+-- What is read from known bytes, and why it is refused.
 use Rattle.std.proofs.Common.{◌≡◌, ◌≤◌, ◌⊎◌, inl, inr, Bool, Option, None, Some, Result, Ok, Err, length, subst, sym, ap}
 use Rattle.std.specs.Prelude.{IfSome}
 use Rattle.redo_model.specs.Names.{Text}
@@ -9,19 +9,19 @@ use Rattle.redo_history.specs.declared.fault.HistoryFault.{HistoryFault}
 use Rattle.redo_history.specs.declared.fault.HistoryFault.TheVariants as history_faults
 use Rattle.redo_replay.specs.declared.fault.ReplayFault.TheVariants.{Memory}
 
--- what holds of all that was read holds of the bytes, where they are known
+-- what holds of all that was read holds of the bytes, if they are known
 known_read : (known : Option Text) (whole : Text) (P : Text → Type 0)
     → IfSome known (λ bytes. whole ≡ bytes) → P whole → IfSome known P
 known_read None whole P same h = tt
 known_read (Some bytes) whole P same h = subst P same h
 
--- bytes that are known are what was read
+-- known bytes are what was read
 pub whole_known : (known : Option Text) (whole bytes : Text) → known ≡ Some bytes
     → IfSome known (λ all. whole ≡ all) → bytes ≡ whole
 whole_known known whole bytes is same =
     sym (subst (λ (k : Option Text). IfSome k (λ all. whole ≡ all)) is same)
 
--- an answer that is want of memory, or a read history, is the one or the other
+-- a result that is `Memory`, or a read history, is the one or the other
 pub memory_alone : {H : Type 0} {result : Result H HistoryFault} (fault : HistoryFault)
     → result ≡ Err fault → ((result ≡ Err history_faults.Memory) ⊎ ⊥)
     → (replay_fault fault ≡ Memory) ⊎ IsReplayDeviceFault (replay_fault fault)

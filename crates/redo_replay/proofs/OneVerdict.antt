@@ -31,7 +31,7 @@ without_first st first before wrong reply is = record {
   differs = is.differs;
 }
 
--- what answers at its point is not wrong
+-- a line with the right reply is not wrong
 not_wrong : (st : State Text) (line : Line Text) (reply : Reply Text)
     → Answers texts st line.session line.command line.reply → IsWrong st [] line reply → ⊥
 not_wrong st line reply answers is =
@@ -98,7 +98,7 @@ one_verdict lines (Differs m a) (Differs n b) p q =
     let counted : m ≡ n = p.counted ∙ ap (λ k. k + 1) both.0 ∙ sym q.counted in
     λ i. Differs (counted i) (both.1 i)
 
--- the lines are legal where their verdict says so
+-- the lines are legal if their verdict says so
 pub same_where_legal : (lines : List (Line Text)) (verdict : Verdict) → IsVerdict lines verdict
     → (verdict ≡ Same (length lines)) ↔ Legal texts lines
 same_where_legal lines verdict is = (
@@ -106,7 +106,7 @@ same_where_legal lines verdict is = (
   λ legal. one_verdict lines verdict (Same (length lines)) is (refl, legal),
 )
 
--- the same of what the code answers
+-- the same of the code's verdict
 pub answered_same : {E : Type 0} (names : List Text) (lines : List (Line Text))
     (result : Result declared.Verdict E)
     → IfOk result (λ verdict. IsVerdict lines (verdict_at names verdict))

@@ -1,4 +1,4 @@
--- What was replayed so far, over numbers, and what it says over their names.
+-- The lines that were replayed so far, over numbers and over their names.
 use Rattle.std.proofs.Common.{◌≡◌, ◌≢◌, ℕ, ◌+◌, ◌<◌, suc, List, [], ◌∷◌, ◌++◌, ap, ◌∙◌, sym, subst, map, length, take, drop, get_or, arith}
 use Rattle.std.specs.Prelude.{bytes_eq}
 use Rattle.std.specs.List.{AllByRecursion, IsDistinct}
@@ -85,7 +85,7 @@ replayed_next {order} {now_order} {state} {next} {lines} {now_lines} line reply 
 
 module _ (names : List Text) (distinct : IsDistinct bytes_eq names) (order : ℕ → ℕ → Ordering)
     (orders : OrdersAlike (numbering names) texts order) where
-  -- what is legal over numbers is so over the names
+  -- a line that is legal over numbers is legal over the names
   pub replayed_same : (state : State ℕ) (lines : List Line) → AreLinesBelow names lines
       → Replayed order state lines → Legal texts (map (line_at names) lines)
   replayed_same state lines below replayed =
@@ -94,7 +94,7 @@ module _ (names : List Text) (distinct : IsDistinct bytes_eq names) (order : ℕ
       (map line_of lines) (all_map line_of (IsLineBelow (length names)) lines below)).0
       replayed.legal)
 
-  -- after legal lines the database replies so to this line, over the names too
+  -- after legal lines the database gives this line this reply, over the names too
   answers_after : (state : State ℕ) (before : List Line) (line : Line) (reply : Reply)
       → AreLinesBelow names before → IsBelow (length names) (command_of line.command)
       → IsReplyBelow (length names) (reply_of reply)

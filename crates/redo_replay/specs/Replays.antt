@@ -20,8 +20,8 @@ abbrev pub IsKnownAs : Option Text → List (Line Text) → Type 0
 IsKnownAs known lines =
     (input : Text) × (names : List Text) × (known ≡ Some input) × IsReadAs input names lines
 
--- the input, where it is known, is a history; the verdict is the right one on its lines, and this
--- is its text
+-- the input, if it is known, is a history; the verdict is the right one on its lines, and this is
+-- its text
 abbrev pub HasVerdict : Option Text → declared.Verdict → Text → Type 0
 HasVerdict known verdict text =
     (names : List Text) × (lines : List (Line Text))
@@ -29,19 +29,19 @@ HasVerdict known verdict text =
     × IsVerdict lines (verdict_at names verdict)
     × (text ≡ verdict_text_of (verdict_at names verdict))
 
--- the same, where its text was written
+-- the same, and its text was written
 abbrev pub WritesVerdict : Option Text → Option Text → Option Text → declared.Verdict → Type 0
 WritesVerdict known before after verdict =
     (text : Text) × HasVerdict known verdict text × Appends before after text
 
--- the same, where of the verdict's text a front was written
+-- the same, and a prefix of the verdict's text was written
 abbrev pub WritesReplayPart : Option Text → Option Text → Option Text → Type 0
 WritesReplayPart known before after =
     (verdict : declared.Verdict) × (sent : Text) × (rest : Text)
     × HasVerdict known verdict (sent ++ rest) × Appends before after sent
 
--- the cause of a fault: `known` are the input's bytes, where they are known, `failed` says whether
--- a read failed, and `out_failed` whether a write failed
+-- the cause of a fault: `known` are the input's bytes, if they are known, `failed` says whether a
+-- read failed, and `out_failed` whether a write failed
 abbrev pub IsReplayCause : Option Text → Bool → Bool → ReplayFault → Type 0
 IsReplayCause known failed out_failed Memory = ⊤
 IsReplayCause known failed out_failed (History fault) =
@@ -51,7 +51,7 @@ IsReplayCause known failed out_failed Device = IsTrue failed
 IsReplayCause known failed out_failed TooLong = IfSome known (λ input. 1073741824 < length input)
 IsReplayCause known failed out_failed Write = IsTrue out_failed
 
--- the fault is one of a device: a read or a write failed
+-- the fault is a device's: a read or a write failed
 abbrev pub IsReplayDeviceFault : ReplayFault → Type 0
 IsReplayDeviceFault Memory = ⊥
 IsReplayDeviceFault (History fault) = ⊥

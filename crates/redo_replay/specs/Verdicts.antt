@@ -11,7 +11,7 @@ use Rattle.redo_history.specs.Histories.{ended}
 use Rattle.redo_replay.specs.declared.verdict.Verdict as declared
 use Rattle.redo_replay.specs.declared.verdict.Verdict.TheVariants as coded
 
--- they are, in so many lines; or the first wrong one is in this line, counted from 1, and this is
+-- they are, in so many lines; or the first wrong reply is on this line, counted from 1, and this is
 -- the right one
 pub data Verdict : Type 0 where
   Same : ℕ → Verdict

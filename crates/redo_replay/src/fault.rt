@@ -7,7 +7,7 @@ use thiserror::Error;
 pub enum ReplayFault {
     #[error("out of memory")]
     Memory,
-    /// The fault of the history, but for want of memory.
+    /// The fault of the history, but for `Memory`.
     #[error("{0}")]
     History(HistoryFault),
     #[error("a read failed")]

@@ -1,4 +1,4 @@
-//! What holds of verdicts.
+//! Laws of verdicts.
 
 ghost use Rattle.std.specs.Prelude.{◌≡◌, ◌↔◌, List, length};
 ghost use Rattle.redo_model.specs.Names.{Text, texts};
@@ -11,7 +11,7 @@ pub fn one_verdict()
         IsVerdict lines a → IsVerdict lines b → a ≡ b }
 {}
 
-/// The verdict on lines is `Same` exactly where they are legal.
+/// The verdict on lines is `Same` exactly if they are legal.
 pub fn same_where_legal()
     ensures { (lines : List (Line Text)) (verdict : Verdict) → IsVerdict lines verdict →
         (verdict ≡ Same (length lines)) ↔ Legal texts lines }

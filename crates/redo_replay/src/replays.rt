@@ -22,7 +22,7 @@ fn verdict_on(alloc: Global, names: &Names, lines: &[Line]) -> Result<Verdict, A
         IsVerdict (map (line_at names.now) lines.now) (verdict_at names.now verdict)) }
     ensures below { IfOk result (λ verdict. IsVerdictBelow (length names.now) verdict) }
 {
-    // This call says that the names are distinct.
+    // This call shows that the names are distinct.
     let _ = names.len();
     let mut redo = Redo::new(alloc, names)?;
     for (at, line) in lines.iter().enumerate() {
@@ -37,7 +37,7 @@ fn verdict_on(alloc: Global, names: &Names, lines: &[Line]) -> Result<Verdict, A
     Ok(Verdict::Same(lines.len()))
 }
 
-/// Does the commands of a history again, and compares each reply with the one that it has.
+/// Does the commands of a history again, and compares each reply with that of its line.
 pub fn replay(alloc: Global, history: &History) -> Result<Verdict, AllocError>
     // The verdict is the right one: all lines are legal, or this is the first wrong line and its
     // right reply.

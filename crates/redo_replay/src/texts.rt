@@ -18,7 +18,7 @@ use std::io::{Read, Write};
 /// An input of more bytes is refused.
 pub const INPUT_LIMIT: usize = 1_073_741_824;
 
-/// The fault of a replay whose input has this one.
+/// The replay's fault if its input has this one.
 fn whole_fault(fault: WholeFault) -> ReplayFault
     ensures memory { (result ≡ ReplayFault.Memory) ↔ (fault ≡ WholeFault.Memory) }
     ensures device { (result ≡ ReplayFault.Device) ↔ (fault ≡ WholeFault.Device) }
@@ -73,8 +73,8 @@ fn verdict_on_input<R: Read>(
     Ok((verdict, text))
 }
 
-/// Reads a history, does its commands again, and writes the verdict. Nothing is written before the
-/// verdict stands.
+/// Reads a history, does its commands again, and writes the verdict. Writes nothing before the
+/// verdict is complete.
 pub fn replay_text<R: Read, W: Write>(
     alloc: Global,
     input: &mut Watched<R>,
@@ -84,7 +84,7 @@ pub fn replay_text<R: Read, W: Write>(
     ensures verdict { IfOk result (WritesVerdict (known_in R.remaining input.old)
         (known_in W.contents out.old) (known_in W.contents out.new)) }
 
-    // A history is refused for want of memory and by devices alone, and is the same exactly where
+    // A history is refused only if memory runs out or a device fails, and is the same exactly if
     // its lines are legal.
     ensures only { (lines : List (Line Text)) → IsKnownAs (known_in R.remaining input.old) lines
         → IfErr result (λ fault. (fault ≡ ReplayFault.Memory) ⊎ IsReplayDeviceFault fault) }
@@ -100,7 +100,7 @@ pub fn replay_text<R: Read, W: Write>(
         → WritesReplayPart (known_in R.remaining input.old)
         (known_in W.contents out.old) (known_in W.contents out.new) }
 
-    // A device's fault is answered exactly where a read or a write of this call failed.
+    // A device's fault is the result exactly if a read or a write of this call failed.
     ensures device { IsErrAnd result IsReplayDeviceFault
         ↔ (IsTrue (has_failed input.old input.new) ⊎ IsTrue (has_failed out.old out.new)) }
 {

@@ -4,7 +4,7 @@ use Rattle.redo_history.specs.declared.fault.HistoryFault.TheVariants as history
 use Rattle.redo_replay.specs.declared.fault.ReplayFault.{ReplayFault}
 use Rattle.redo_replay.specs.declared.fault.ReplayFault.TheVariants.{Memory, History}
 
--- want of memory has one name
+-- running out of memory has one name
 abbrev pub replay_fault : HistoryFault → ReplayFault
 replay_fault history_faults.Memory = Memory
 replay_fault fault = History fault
