@@ -1,4 +1,4 @@
--- The rows that stand, where one target is replaced by another.
+-- The rows if one target is replaced by another.
 use Rattle.std.proofs.Common.{◌≡◌, ◌≢◌, ℕ, ◌<◌, Bool, true, false, cond, ◌||◌, List, length, set, refl, sym, ap, ◌∙◌, subst, get_or, inl, inr, Option, Some, eqb, ne_eqb, eq-eqb}
 use Rattle.std.proofs.Math.Path.{fun_ext}
 use Rattle.std.proofs.lemmas.Bool.{cases_eq}
@@ -18,7 +18,7 @@ rows_ext a b change created always =
     ∙ ap (λ (f : ℕ → Bool). record { change = b.change; created = b.created; always = f })
     (fun_ext always))
 
--- what holds of a value of each target, where it holds of the new one and of the others as they are
+-- a property of each target's value, if it holds of the new one and of the others as they are
 each_target : {Y : Type 0} (f : TargetRows → Y) (g : ℕ
     → Y) (targets : List TargetRows) (t : ℕ) (new : TargetRows) → t < length targets → f new ≡ g t
     → ((u : ℕ) → u ≢ t → f (target_at targets u) ≡ g u) → (u : ℕ)
@@ -29,7 +29,7 @@ each_target f g targets t new below own others u = elim (cases_eq u t) [
   | inr off ↦ ap f (target_other targets t u new off) ∙ others u off
 ]
 
--- the rows of t are these, and those of the others stay
+-- the rows of t are these, and the other targets keep theirs
 pub record IsRowsWith (old : Rows ℕ) (t : ℕ) (target : TargetRows) (new : Rows ℕ) : Type 0 where
   pub change : (n : ℕ) → (slot_at target.slots n).change ≡ new.change t n
   pub created : (n : ℕ) → (slot_at target.slots n).created ≡ new.created t n

@@ -1,4 +1,4 @@
--- What the fields of the rows keep, where one target is replaced by another.
+-- The invariant of the rows, if one target is replaced by another.
 use Rattle.std.proofs.Common.{◌≡◌, ◌≢◌, ◌↔◌, ℕ, ◌<◌, ◌+◌, Bool, true, false, cond, ◌||◌, List, [], ◌∷◌, length, get_or, set, drop, refl, sym, ap, ◌∙◌, subst, inl, inr, arith, IsTrue, eqb, ne_eqb, eq-eqb, ◌^◌, suc}
 use Rattle.std.proofs.lemmas.Bool.{cases_eq, or_right}
 use Rattle.std.proofs.lemmas.List.{length-set, set-set, get_or_default, drop_more, get_or-drop, length-drop}
@@ -129,7 +129,7 @@ rest_slots targets t i slot below in' at =
     (target_same targets t (record { slots = drop i slots; always = false }) below)
     ∙ drop_more slots i slot in' ∙ ap (λ s. s ∷ drop (i + 1) slots) (sym at)
 
--- the i-th slot of t, its name, and the rows that stand there
+-- the i-th slot of t, its name, and its rows
 pub record AtSlot (targets : List TargetRows) (t i : ℕ) (slot : Slot) (n : ℕ)
     (changed created : Bool) : Type 0 where
   pub below : t < length targets
@@ -187,7 +187,7 @@ kept_rest targets t i slot n changed created needed awaited needed' awaited' slo
     (rest_slots targets t i slot a.below a.inside a.found)
     (no_later slots i slot a.rise a.inside a.found) f' g' less' h))
 
--- what the fields say of a slot of t, where those before it are gone
+-- the fields' facts about a slot of t, if those before it are gone
 pub record KnowsSlot (t n : ℕ) (changed created : Bool) (needed awaited : List NumberList)
     (slotted : List ℕ) : Type 0 where
   pub needed_in : n < length needed

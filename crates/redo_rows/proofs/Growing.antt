@@ -1,4 +1,4 @@
--- What the fields of the rows keep, where there are more targets.
+-- The invariant of the rows, if there are more targets.
 use Rattle.std.proofs.Common.{◌≡◌, ◌↔◌, ℕ, zero, suc, ◌<◌, ◌≤◌, ◌+◌, ◌^◌, Bool, false, List, [], ◌∷◌, ◌++◌, length, get_or, refl, sym, ap, ◌∙◌, subst, inl, inr, arith, IsTrue, length-append}
 use Rattle.std.proofs.Math.ListN.{replicate, length-replicate}
 use Rattle.std.proofs.lemmas.Bool.{cases_Bool, cases_lt, false≢true}
@@ -12,7 +12,7 @@ use Rattle.redo_rows.specs.Kept.{has_change, has_created, no_numbers, passes_on,
 use Rattle.redo_rows.specs.Inside.Kept.{AreEmpty}
 use Rattle.redo_rows.proofs.Inverses.{flag, IsRowTest, no_slot_no_row, slotted_row}
 
--- the lists with empty ones behind
+-- the lists, and empty ones after them
 lists_more : (lists more : List NumberList) → AreEmpty more → (n : ℕ)
     → ((numbers_at (lists ++ more) n).items ≡ (numbers_at lists n).items)
     × ((numbers_at lists n).room ≤ (numbers_at (lists ++ more) n).room)

@@ -200,7 +200,7 @@ counts_stay targets t new slotted below sits h = record {
   );
 }
 
--- a row stands on a slot
+-- a name with a row has a slot
 pub slotted_row : (test : Slot → Bool) → IsRowTest test → (slots : List Slot) (n : ℕ)
     → test (slot_at slots n) ≡ true → has_slot slots n ≡ true
 slotted_row test blank [] n row = absurd (false≢true (sym (blank n) ∙ row))
@@ -236,7 +236,7 @@ count_le p q (x ∷ xs) f =
       count_le p q xs f,
     )
 
--- there is room for the row of a slot that has none
+-- the list has memory for the row of a slot without one
 pub has_room_for : (test : Slot → Bool) → IsRowTest test
     → (targets : List TargetRows) (t n : ℕ) (list : NumberList) → t < length targets
     → IsInverseOn test targets n list
@@ -260,7 +260,7 @@ has_room_for test blank targets t n list below h sits no_row =
       ap flag (blank n),
     )
 
--- one target has a slot, where the count is not 0
+-- one target has a slot if the count is not 0
 pub slot_counted : (targets : List TargetRows) (t n : ℕ) → t < length targets
     → sits_on n (target_at targets t) ≡ true → 0 < slots_on targets n
 slot_counted targets t n below sits =

@@ -1,4 +1,4 @@
--- An edit of the slots keeps what a target's rows keep.
+-- An edit of the slots keeps the invariant of a target's rows.
 use Rattle.std.proofs.Common.{◌≡◌, ◌⊎◌, ◌↔◌, ℕ, ◌≤◌, ◌+◌, Bool, true, false, not, cond, eqb, eq-eqb, ne_eqb, List, [], ◌∷◌, length, get_or, set, refl, sym, ap, ◌∙◌, subst, inl, inr, arith, is_some, IsSome, IsTrue}
 use Rattle.std.proofs.lemmas.Bool.{cases_eq, or_cases, or_left, or_right}
 use Rattle.std.proofs.lemmas.List.{length-set}
@@ -25,7 +25,7 @@ row_decided slot = (
   ],
 )
 
--- a name is listed where its slot has a row
+-- a name is listed if its slot has a row
 pub row_listed : (slots : List Slot) (names : NumberList) (n : ℕ) (listed : Bool)
     → IsKept slots names → listed ≡ has_row (slot_at slots n)
     → IsTrue listed ↔ Contains names.items n
@@ -88,7 +88,7 @@ module _ (f : Slot → Slot) (keeps : (slot : Slot) → (f slot).name ≡ slot.n
   new_named =
       ap (λ (slot : Slot). slot.name) is_new ∙ (keeps (slot_at slots n) ∙ slot_named slots n)
 
-  -- what stands on the name is changed by f, and no other
+  -- f changes the slot of the name, and no other
   pub rows_written : Ascending slots → (k : ℕ)
       → slot_at (set slots i new) k ≡ cond (eqb n k) (f (slot_at slots k)) (slot_at slots k)
   rows_written ascending k =
@@ -99,7 +99,7 @@ module _ (f : Slot → Slot) (keeps : (slot : Slot) → (f slot).name ≡ slot.n
             ∙ sym (ap (λ b. cond b (f (slot_at slots k)) (slot_at slots k)) (ne_eqb n k off))
       ]
 
--- a blank slot more, and memory for its name
+-- one more blank slot, and reserved memory for its name
 pub kept_added : (slots : List Slot) (names after : NumberList) (n i : ℕ) → IsKept slots names
     → IsGapFor slots n i → after.items ≡ names.items → length slots + 1 ≤ after.room
     → IsKept (insert slots i (blank n)) after

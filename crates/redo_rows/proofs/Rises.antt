@@ -19,7 +19,7 @@ rises_to xs rising i j le in' = elim (cases_eq i j) [
   | inr n ↦ omega (arith, rising i j 0 (omega arith) in')
 ]
 
--- what a binary search found is the place
+-- a binary search finds this place
 pub place_found : (xs : List ℕ) (x i : ℕ) → Rising xs
     → IsBinarySearchResult (λ y. nat_cmp y x) xs (Ok i) → IsPlaceOf xs x i
 place_found xs x i rising found =
@@ -40,7 +40,7 @@ place_absent xs x i rising found =
       after = λ k le in'. omega (arith, gap.2 k le in');
     }
 
--- a number that stands elsewhere is greater from its place on
+-- a number that is elsewhere is greater from its place on
 above : (xs : List ℕ) (x i : ℕ) → IsPlaceOf xs x i → (Contains xs x → ⊥) → (k : ℕ) → i ≤ k
     → k < length xs → x < get_or xs k 0
 above xs x i place out k le in' =
@@ -94,7 +94,7 @@ Contains-insert xs i x u = (
   ]),
 )
 
--- a number that is there stands at its place
+-- a number that is in the list is at its place
 pub stands_there : (xs : List ℕ) (x i : ℕ) → Rising xs → IsPlaceOf xs x i → Contains xs x
     → (i < length xs) × (get_or xs i 0 ≡ x)
 stands_there xs x i rising place there =
@@ -106,7 +106,7 @@ stands_there xs x i rising place there =
     let most : get_or xs i 0 ≤ get_or xs k 0 = rises_to xs rising i k le in' in
     (omega arith, omega arith)
 
--- it stands nowhere else
+-- it is nowhere else
 gone : (xs : List ℕ) (x i : ℕ) → Rising xs → i < length xs → get_or xs i 0 ≡ x
     → Contains (remove xs i) x → ⊥
 gone xs x i rising in' at there =

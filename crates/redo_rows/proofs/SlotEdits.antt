@@ -1,4 +1,4 @@
--- Slots with one written over, and with one more.
+-- Slots with one replaced, and with one more.
 use Rattle.std.proofs.Common.{◌≡◌, ℕ, zero, suc, ◌<◌, ◌+◌, ◌-◌, ◌||◌, Bool, true, false, cond, eqb, eq-eqb, ne_eqb, List, [], ◌∷◌, length, get_or, set, refl, sym, ap, ◌∙◌, subst, inl, inr, arith}
 use Rattle.std.proofs.lemmas.Bool.{cases_eq, or_parts}
 use Rattle.std.proofs.lemmas.List.{length-set, get_or-set_same, get_or-set_other}
@@ -21,7 +21,7 @@ swapped m n k x y z off = elim (cases_eq n k) [
   | inr d ↦ let f : eqb n k ≡ false = ne_eqb n k d in rw f refl
 ]
 
--- a slot written over another of its name stands on the name, and nothing else changes
+-- a slot that replaces another of its name is that name's slot, and nothing else changes
 pub slot_at-set : (slots : List Slot) (n i : ℕ) (new : Slot) → Ascending slots → IsSlotOf slots n i
     → new.name ≡ n → (k : ℕ) → slot_at (set slots i new) k ≡ cond (eqb n k) new (slot_at slots k)
 slot_at-set [] n i new ascending at same k = absurd (omega (arith, at.within))
@@ -69,7 +69,7 @@ blank_stands slots n none k = elim (cases_eq n k) [
   | inr off ↦ ap (λ b. cond b (blank n) (slot_at slots k)) (ne_eqb n k off)
 ]
 
--- a blank slot more changes nothing that stands
+-- one more blank slot changes no row
 pub slot_at-insert : (slots : List Slot) (n i : ℕ) → has_slot slots n ≡ false → (k : ℕ)
     → slot_at (insert slots i (blank n)) k ≡ slot_at slots k
 slot_at-insert slots n zero none k = blank_stands slots n none k
@@ -84,7 +84,7 @@ flipped m n = elim (cases_eq m n) [
   | inr off ↦ ne_eqb m n off ∙ sym (ne_eqb n m (λ e. off (sym e)))
 ]
 
--- its name has a slot then, beside those that had one
+-- its name has a slot then, and so have those that had one
 pub has_slot-insert : (slots : List Slot) (n i k : ℕ)
     → has_slot (insert slots i (blank n)) k ≡ (eqb k n || has_slot slots k)
 has_slot-insert slots n i k =

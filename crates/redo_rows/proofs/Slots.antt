@@ -1,4 +1,4 @@
--- What stands on a name, by the place of its slot.
+-- The rows on a name, by the place of its slot.
 use Rattle.std.proofs.Common.{◌≡◌, ℕ, zero, suc, ◌<◌, ◌≤◌, true, false, cond, eqb, eq-eqb, ne_eqb, List, [], ◌∷◌, length, get_or, refl, sym, ap, ◌∙◌, inl, inr, arith, Result, Ok, Err, IfOk, IfErr}
 use Rattle.std.proofs.lemmas.Bool.{cases_lt, cases_eq, eqb-true, or_parts}
 use Rattle.std.proofs.lemmas.Bool.Decides.{nat_tests}
@@ -12,12 +12,12 @@ use Rattle.redo_rows.specs.Rows.{Slot, slot_at, has_slot}
 use Rattle.redo_rows.specs.Target.{Ascending}
 use Rattle.redo_rows.specs.Inside.Target.{blank, name_at, IsSlotOf, IsGapFor}
 
--- whatever stands past the end, the name is that of the place
+-- whichever the default, the name is that of the place
 pub name_read : (slots : List Slot) (i : ℕ) (d : Slot) → i < length slots
     → (get_or slots i d).name ≡ name_at slots i
 name_read slots i d in' = ap (λ (slot : Slot). slot.name) (get_or_default slots i d (blank 0) in')
 
--- a slot is what stands on its name
+-- a slot of the list is the slot of its name
 pub slot_found : (slots : List Slot) (i : ℕ) (d : Slot) → Ascending slots → i < length slots
     → (slot_at slots (get_or slots i d).name ≡ get_or slots i d)
     × (has_slot slots (get_or slots i d).name ≡ true)
@@ -51,7 +51,7 @@ slot_there slots k there =
           ∙ eqb-true at.1.name k at.4,
     )
 
--- the place of a name's slot gives what stands on it
+-- the place of a name's slot gives the rows on it
 pub slot_stands : (slots : List Slot) (n i : ℕ) (d : Slot) → Ascending slots → IsSlotOf slots n i
     → (get_or slots i d ≡ slot_at slots n) × (has_slot slots n ≡ true)
 slot_stands slots n i d ascending at =
@@ -68,7 +68,7 @@ none_in_gap slots n i gap =
       | inr from ↦ omega (arith, name_read slots k d in', gap.after k from in', e)
     ]))
 
--- nothing stands on a name without a slot
+-- no row is on a name without a slot
 pub nothing_stands : (slots : List Slot) (n : ℕ) → has_slot slots n ≡ false
     → slot_at slots n ≡ blank n
 nothing_stands [] n none = refl
@@ -76,7 +76,7 @@ nothing_stands (slot ∷ slots) n none =
     let both = or_parts (eqb slot.name n) (has_slot slots n) none in
     ap (λ b. cond b slot (slot_at slots n)) both.0 ∙ nothing_stands slots n both.1
 
--- what stands on a name has it
+-- the slot of a name has that name
 pub slot_named : (slots : List Slot) (n : ℕ) → (slot_at slots n).name ≡ n
 slot_named [] n = refl
 slot_named (slot ∷ slots) n = elim (cases_eq slot.name n) [

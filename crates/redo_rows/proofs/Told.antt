@@ -1,4 +1,4 @@
--- Which news the slots of a target tell, by their places.
+-- The news of a target's slots, by their places.
 use Rattle.std.proofs.Common.{◌≡◌, ◌≢◌, refl, ℕ, ◌<◌, Bool, true, false, List, length, get_or, sym, subst, ◌∙◌, ◌⊎◌, inl, inr, Option, Some, None, IfSome, IsSome, MatchOption, ◌↔◌, IsTrue, not}
 use Rattle.std.proofs.lemmas.Bool.{false≢true}
 use Rattle.std.proofs.lemmas.Option.{none-some, same_Some}
@@ -20,14 +20,14 @@ pub named_slot : (slots : List Slot) (i : ℕ) (d : Slot) → Ascending slots �
     → has_slot slots (get_or slots i d).name ≡ true
 named_slot slots i d ascending in' = (slot_found slots i d ascending in').1
 
--- no news stand where there is no slot
+-- there are no news without a slot
 blank_tells_nothing : (r : Records ℕ) (n : ℕ) → HasNews r (blank n) n → ⊥
 blank_tells_nothing r n news = elim news [
   | inl appeared ↦ false≢true appeared.0
   | inr changed ↦ none-some changed.0 changed.1
 ]
 
--- where no slot has news there are none
+-- if no slot has news there are none
 pub no_news : (r : Records ℕ) (slots : List Slot) → Ascending slots
     → ((k : ℕ) (d : Slot) → k < length slots → HasNews r (get_or slots k d) (get_or slots k d).name
     → ⊥)
@@ -46,7 +46,7 @@ no_news r slots ascending none some = at (has_slot slots some.0) refl
         blank_tells_nothing r some.0
         (subst (λ slot. HasNews r slot some.0) (nothing_stands slots some.0 none_there) some.1)
 
--- a row has another mark exactly where the test for this mark fails
+-- a row has another mark exactly if the test for this mark fails
 pub other_told : (change : Option Mark) (kept mark : Mark) (same : Bool) → change ≡ Some kept
     → IsTrue same ↔ (kept ≡ mark)
     → IsTrue (not same) ↔ ((x : Mark) × (change ≡ Some x) × (x ≢ mark))
@@ -94,14 +94,14 @@ news_told cells targets t slots found same told =
     (subst (λ ss. MatchOption found (SomeNews (known cells) ss → ⊥) (IsNewsIn (known cells) ss))
     same told)
 
--- the name that news are of has a slot
+-- a name with news has a slot
 news_slotted : (r : Records ℕ) (slots : List Slot) (news : News) → IsNewsIn r slots news
     → has_slot slots (name_of news) ≡ true
 news_slotted r slots (Appeared n) is = slotted_row has_created (λ k. refl) slots n is.0
 news_slotted r slots (Changed n) is =
     slotted_row has_change (λ k. refl) slots n (subst IsSome (sym is.1) refl)
 
--- so it is below a count that the slots' names are below
+-- so it is below a bound on the slots' names
 pub news_below : (r : Records ℕ) (slots : List Slot) (count : ℕ) (found : Option News)
     → ((n : ℕ) → has_slot slots n ≡ true → n < count)
     → MatchOption found (SomeNews r slots → ⊥) (IsNewsIn r slots)

@@ -20,11 +20,11 @@ slots_read targets now t target slots is t_in at same =
     same ∙ ap (λ (x : TargetRows). x.slots) own.1
     ∙ ap (λ (ts : List TargetRows). (target_at ts t).slots) is
 
--- the names that the slots are for
+-- the names of the slots
 abbrev pub slot_names : List Slot → List ℕ
 slot_names slots = map (λ slot. slot.name) slots
 
--- the name of a slot at some place is below a count that all of them are below
+-- the name of a slot at some place is below a bound on all of them
 pub name_below_all : (slots : List Slot) (count k : ℕ) (slot : Slot) → Ascending slots
     → ((n : ℕ) → has_slot slots n ≡ true → n < count) → k < length slots
     → slot ≡ get_or slots k slot → slot.name < count

@@ -1,4 +1,4 @@
--- What the fields of the rows keep, where a row is written, or a slot comes.
+-- The invariant of the rows, if a row is written, or a slot added.
 use Rattle.std.proofs.Common.{◌≡◌, ◌≢◌, ◌↔◌, ℕ, ◌<◌, ◌≤◌, ◌+◌, ◌^◌, Bool, true, false, cond, ◌||◌, List, length, get_or, set, refl, sym, ap, ◌∙◌, subst, inl, inr, arith, IsTrue, eqb, ne_eqb, eq-eqb, Some}
 use Rattle.std.proofs.lemmas.Bool.{cases_eq, eqb-true, or_cases}
 use Rattle.std.proofs.lemmas.List.{get_or-set_same, get_or-set_other, length-set, get_or_default}
@@ -12,7 +12,7 @@ use Rattle.redo_rows.proofs.Inverses.{found_target, flag, IsRowTest, inverse_sta
 use Rattle.redo_rows.proofs.Forgetting.{kept_stays, below_set}
 use Rattle.redo_rows.proofs.Changed.{WritesChange, WritesCreated, AddsSlot, field_of_cond, cond_same}
 
--- a row comes, or stays, at n
+-- n gets a row, or keeps it
 inverse_put : (test : Slot → Bool) (targets : List TargetRows) (t n : ℕ) (new : TargetRows)
     (was : Bool) (lists lists' : List NumberList) → t < length targets
     → ((k : ℕ) → k ≢ n → passes_on test k new ≡ passes_on test k (target_at targets t))
@@ -75,7 +75,7 @@ keeps_created targets t n new was needed awaited awaited' slotted below w was_is
       counts = counts_stay targets t new slotted below w.room h.counts;
     }
 
--- what the inverses say of the row of t on n, before it is written
+-- the inverses' facts about the row of t on n, before it is written
 pub record KnowsRow (t n : ℕ) (was : Bool) (lists : List NumberList) : Type 0 where
   pub name : n < length lists
   pub listed : Contains (numbers_at lists n).items t ↔ IsTrue was
@@ -94,7 +94,7 @@ row_known test blank targets t n was lists below n_in sits was_is h = record {
       (sym was_is ∙ none);
 }
 
--- the list of n gets more room
+-- the list of n reserves more memory
 inverse_grown : (test : Slot
     → Bool) (targets : List TargetRows) (n : ℕ) (lists : List NumberList) (old new : NumberList)
     → n < length targets → old ≡ get_or lists n old → new.items ≡ old.items → old.room ≤ new.room
@@ -146,7 +146,7 @@ kept_awaited targets n needed awaited slotted old new n_in at same larger h = re
   counts = h.counts;
 }
 
--- a slot comes, where there is room for its row
+-- a slot is added if memory is reserved for its row
 inverse_slot : (test : Slot → Bool) (targets : List TargetRows) (t n : ℕ) (new : TargetRows)
     (lists : List NumberList) → t < length targets → n < length targets
     → AddsSlot (target_at targets t) new n → slots_on targets n + 1 ≤ (numbers_at lists n).room
@@ -243,7 +243,7 @@ kept_always targets now t old new needed awaited slotted is t_in at same h =
     kept_stays targets t new needed awaited slotted found.0 (λ k. ap (λ ss. slot_at ss k) slots)
     (λ k. ap (λ ss. has_slot ss k) slots) h
 
--- the list of n in other lists has room
+-- the list of n in other lists has reserved memory
 room_there : (lists : List NumberList) (n m : ℕ) (new : NumberList) → n < length lists
     → m ≤ new.room → m ≤ (numbers_at (set lists n new) n).room
 room_there lists n m new n_in room =

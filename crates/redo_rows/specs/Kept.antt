@@ -1,5 +1,4 @@
--- What the fields of the rows keep: the inverses of the rows, and how many targets have a slot for
--- each name.
+-- The invariant of the rows: their inverses, and how many targets have a slot for each name.
 use Rattle.std.specs.Prelude.{◌≡◌, ◌↔◌, ◌<◌, ◌≤◌, ◌^◌, ℕ, Bool, List, [], IsTrue, is_some, slice_index_or, length, Contains, count_by}
 use Rattle.redo_rows.specs.Rows.{Slot, TargetRows, slot_at, has_slot, target_at, room_of}
 use Rattle.redo_rows.specs.Numbers.{NumberList}
@@ -24,7 +23,7 @@ sits_on n target = has_slot target.slots n
 abbrev pub slots_on : List TargetRows → ℕ → ℕ
 slots_on targets n = count_by (sits_on n) targets
 
--- no numbers and no room
+-- no numbers and no memory for any
 abbrev pub no_numbers : NumberList
 no_numbers = record { items = []; room = 0 }
 
@@ -32,7 +31,7 @@ no_numbers = record { items = []; room = 0 }
 abbrev pub numbers_at : List NumberList → ℕ → NumberList
 numbers_at lists n = slice_index_or lists n no_numbers
 
--- the targets whose slot for n passes, and room for each that has a slot for n
+-- the targets whose slot for n passes, and memory for each that has a slot for n
 pub record IsInverseOn (test : Slot → Bool) (targets : List TargetRows) (n : ℕ)
     (list : NumberList) : Type 0 where
   pub listed : (t : ℕ) → Contains list.items t ↔ IsTrue (passes_on test n (target_at targets t))

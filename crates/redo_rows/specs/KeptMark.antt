@@ -1,4 +1,4 @@
--- What a mark means as a slot keeps it.
+-- The meaning of a mark in a slot.
 use Rattle.std.specs.Prelude.{◌≡◌, refl}
 use Rattle.redo_model.specs.State as states
 use Rattle.redo_rows.specs.declared.kept_mark.KeptMark.{KeptMark}

@@ -1,4 +1,4 @@
--- What the rows of a target tell of the names that they are on.
+-- What the rows of a target say of the names that they are on.
 use Rattle.std.specs.Prelude.{◌≡◌, ◌≢◌, ℕ, Some}
 use Rattle.redo_model.specs.State.{Mark, Records, mark_of}
 use Rattle.redo_model.specs.OutOfDate.{HasFile, HasCreatedRow}

@@ -1,4 +1,4 @@
--- The rows of the targets, and the room that was made for more.
+-- The rows of the targets, and the memory that is reserved for more.
 use Rattle.std.specs.Prelude.{ℕ, Bool, true, false, List, [], ◌∷◌, Option, Some, None, IsSome, IsTrue, ◌⊎◌, ◌==◌, if◌then◌else◌, slice_index_or, length}
 use Rattle.std.specs.List.{list_any}
 use Rattle.std.specs.Ordering.{nat_cmp}
@@ -6,7 +6,7 @@ use Rattle.redo_model.specs.Names.{Naming, numbers, put}
 use Rattle.redo_model.specs.State.{Cell, Mark, Records, Rows}
 use Rattle.redo_records.specs.Cells.{cell_at}
 
--- room for a target's rows on one name, and those of them that there are
+-- reserved memory for a target's rows on one name, and the rows that are there
 pub record Slot : Type 0 where
   pub name : ℕ
   pub change : Option Mark
@@ -17,11 +17,11 @@ pub record TargetRows : Type 0 where
   pub slots : List Slot
   pub always : Bool
 
--- a target without room and without rows
+-- a target without slots and without rows
 abbrev pub bare : TargetRows
 bare = record { slots = []; always = false }
 
--- what stands on the name: that of its slot, and no row where it has none
+-- the slot of the name; one without rows if the name has none
 abbrev pub slot_at : List Slot → ℕ → Slot
 slot_at [] n = record { name = n; change = None; created = false }
 slot_at (slot ∷ slots) n = if slot.name == n then slot else slot_at slots n
@@ -36,7 +36,7 @@ target_at targets t = slice_index_or targets t bare
 abbrev pub rows_count : List TargetRows → ℕ
 rows_count targets = length targets
 
--- the rows that stand
+-- the rows of the model
 abbrev pub rows_of : List TargetRows → Rows ℕ
 rows_of targets = record {
   change = λ t n. (slot_at (target_at targets t).slots n).change;
@@ -44,7 +44,7 @@ rows_of targets = record {
   always = λ t. (target_at targets t).always;
 }
 
--- whether there is room for t's rows on n
+-- whether memory is reserved for t's rows on n
 abbrev pub room_of : List TargetRows → ℕ → ℕ → Bool
 room_of targets t n = has_slot (target_at targets t).slots n
 
@@ -52,7 +52,7 @@ room_of targets t n = has_slot (target_at targets t).slots n
 abbrev pub by_number : Naming ℕ
 by_number = numbers nat_cmp
 
--- the rows with a change row of t on n, in place of an earlier one
+-- the rows with a change row of t on n, which replaces an earlier one
 abbrev pub with_change : Rows ℕ → ℕ → ℕ → Mark → Rows ℕ
 with_change rows t n mark = record rows
     { change = put by_number t (put by_number n (Some mark) (rows.change t)) rows.change }

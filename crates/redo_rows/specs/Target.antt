@@ -1,4 +1,4 @@
--- What the rows of one target keep.
+-- The invariant of the rows of one target.
 use Rattle.std.specs.Prelude.{◌≡◌, ◌≢◌, ◌↔◌, ◌⊎◌, ℕ, ◌+◌, ◌<◌, ◌≤◌, Bool, not, ◌||◌, List, Some, IsSome, is_some, IsTrue, length, AllPairs, Contains, count_by}
 use Rattle.redo_model.specs.State.{Mark}
 use Rattle.redo_rows.specs.Numbers.{NumberList}
@@ -15,11 +15,11 @@ HasRowIn slots n = IsSome (slot_at slots n).change ⊎ IsTrue (slot_at slots n).
 abbrev pub HasChangeBut : Mark → Slot → Type 0
 HasChangeBut mark slot = (kept : Mark) × (slot.change ≡ Some kept) × (kept ≢ mark)
 
--- the slots stand in the order of their names, one for each
+-- the slots are in the order of their names, one for each
 abbrev pub Ascending : List Slot → Type 0
 Ascending slots = AllPairs (λ x y. x.name < y.name) slots
 
--- the names are those with a row, and there is memory for all that have a slot
+-- the names are those with a row, and memory is reserved for all that have a slot
 pub record IsKept (slots : List Slot) (names : NumberList) : Type 0 where
   pub ascending : Ascending slots
   pub listed : (n : ℕ) → Contains names.items n ↔ HasRowIn slots n

@@ -6,7 +6,7 @@ ghost use Rattle.redo_rows.specs.Inside.Kept.{FollowsOn};
 use crate::numbers::Numbers;
 use crate::target::Target;
 
-/// Puts `t` into the list of `n`, unless it was there. Takes no memory.
+/// Puts `t` into the list of `n`, unless it was there. Allocates nothing.
 pub(crate) fn put_in(lists: &mut Vec<Numbers>, n: u32, t: u32, was: bool)
     requires name { n < length lists.old.items }
     requires was { Contains (numbers_at lists.old.items n).items t ↔ IsTrue was }

@@ -7,7 +7,7 @@ use redo_records::{Cell, Mark};
 use redo_terms::FileStamp;
 use std::marker::Model;
 
-/// How often a name was built, in four bytes that may stand at any address.
+/// How often a name was built, in four bytes at any address.
 #[derive(Clone, Copy, Debug)]
 pub struct BuildCount {
     bytes: [u8; 4],
@@ -44,7 +44,7 @@ impl BuildCount {
     }
 }
 
-/// A mark as a slot keeps it, without the padding that a `Mark` has.
+/// A mark in a slot, without the padding of a `Mark`.
 #[derive(Clone, Copy, Debug)]
 pub enum KeptMark {
     Digest([u8; 20]),
@@ -79,7 +79,7 @@ impl KeptMark {
         }
     }
 
-    /// Whether it is the mark that the name has now of which this is known.
+    /// Whether it is the mark of a name with this cell.
     pub fn is_of(&self, cell: &Cell) -> bool
         ensures { IsTrue result ↔ (kept_mark_of self.now ≡ mark_in cell.now.state cell.now) }
     {

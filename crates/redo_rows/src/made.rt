@@ -6,7 +6,7 @@ use crate::numbers::Numbers;
 use crate::target::Target;
 use std::alloc::{AllocError, Global};
 
-/// That many targets without rows and room.
+/// That many targets without rows and slots.
 pub(crate) fn bare_targets(alloc: Global, count: usize) -> Result<Vec<Target>, AllocError>
     ensures { IfOk result (λ targets. targets.items ≡ replicate count bare) }
 {
@@ -29,7 +29,7 @@ pub(crate) fn empty_lists(alloc: Global, count: usize) -> Result<Vec<Numbers>, A
     Ok(lists)
 }
 
-/// Room for that many more of each.
+/// Reserves memory for that many more of each.
 pub(crate) fn reserve_each(
     targets: &mut Vec<Target>,
     needed: &mut Vec<Numbers>,

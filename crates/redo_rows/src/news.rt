@@ -1,4 +1,4 @@
-//! What the rows of a target tell of the names that they are on.
+//! What the rows of a target say of the names that they are on.
 
 ghost use Rattle.std.specs.Prelude.{◌≡◌, ◌↔◌, ◌<◌, ℕ, IsTrue, MatchOption, length, true};
 ghost use Rattle.redo_rows.specs.Rows.{has_slot};
@@ -8,7 +8,7 @@ ghost use Rattle.redo_rows.specs.Inside.News.{known, HasAppeared, HasChanged, Ha
 use crate::target::Slot;
 use redo_records::Records;
 
-/// What has become of a name since a target took a row on it.
+/// How a name has changed since a target got a row on it.
 #[derive(Clone, Copy)]
 pub enum News {
     /// There is a created row on it, and it has a file now.
@@ -48,7 +48,7 @@ fn news_of(records: &Records, slot: &Slot) -> Option<News>
     }
 }
 
-/// The first name that has appeared or changed on which there is a row.
+/// The first name with a row that has appeared or changed.
 pub(crate) fn first_news(records: &Records, slots: &[Slot]) -> Option<News>
     requires names { (n : ℕ) → has_slot slots.now n ≡ true → n < length records.now }
     requires ascending { Ascending slots.now }

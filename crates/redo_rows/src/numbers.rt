@@ -5,7 +5,7 @@ ghost use Rattle.redo_rows.specs.Inside.Numbers.{IsPlaceOf};
 use std::alloc::{AllocError, Global};
 use std::marker::Model;
 
-/// Numbers in ascending order, each once, with room for more.
+/// Numbers in ascending order, each once, with reserved memory for more.
 #[derive(Drop)]
 pub struct Numbers {
     items: Vec<u32>,
@@ -25,7 +25,7 @@ impl Model for Numbers {
     ghost invariant = { λ inside. Rising inside.items.items };
 }
 
-/// Where the number stands, or where it would go.
+/// The place of the number, or the place where it would go.
 fn number_place(items: &[u32], x: u32) -> usize
     requires { Rising items.now }
     ensures { IsPlaceOf items.now x result }
@@ -53,7 +53,7 @@ impl Numbers {
         self.items.as_slice()
     }
 
-    /// Makes room for that many numbers in all.
+    /// Reserves memory for that many numbers in all.
     pub fn reserve(&mut self, total: usize) -> Result<(), AllocError>
         ensures items { self.new.items ≡ self.old.items }
         ensures ok { OnOk result (total ≤ self.new.room) }
@@ -63,7 +63,7 @@ impl Numbers {
         self.items.reserve(more)
     }
 
-    /// Takes no memory.
+    /// Allocates nothing.
     pub fn insert(&mut self, x: u32)
         requires out { Contains self.old.items x → ⊥ }
         requires room { length self.old.items < self.old.room }
@@ -75,7 +75,7 @@ impl Numbers {
         let _inserted = self.items.insert(place, x);
     }
 
-    /// Keeps its room.
+    /// Keeps its capacity.
     pub fn remove(&mut self, x: u32)
         requires { Contains self.old.items x }
         ensures each { (u : ℕ)
@@ -87,7 +87,7 @@ impl Numbers {
         let _removed = self.items.remove(place);
     }
 
-    /// Keeps its room.
+    /// Keeps its capacity.
     pub fn clear(&mut self)
         ensures items { self.new.items ≡ [] }
         ensures room { self.old.room ≤ self.new.room }

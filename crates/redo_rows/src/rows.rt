@@ -17,7 +17,7 @@ use std::alloc::{AllocError, Global};
 use std::marker::Model;
 
 /// The rows of each target, and their inverses. Targets and names are numbers below the number of names it was made
-/// for. Only `new`, `grow` and `reserve` take memory.
+/// for. Only `new`, `grow` and `reserve` allocate.
 #[derive(Drop)]
 pub struct DepRows {
     targets: Vec<Target>,
@@ -25,7 +25,7 @@ pub struct DepRows {
     needed: Vec<Numbers>,
     // and those with a created row on it
     awaited: Vec<Numbers>,
-    // and how many targets have room for rows on it
+    // and how many targets have a slot for it
     slotted: Vec<usize>,
 }
 
@@ -43,7 +43,7 @@ impl Model for DepRows {
 }
 
 impl DepRows {
-    /// No rows and no room.
+    /// No rows and no slots.
     pub fn new(alloc: Global, names: u32) -> Result<DepRows, AllocError>
         ensures count { IfOk result (λ rows. rows_count rows ≡ names) }
         ensures rows { IfOk result (λ rows. rows_of rows ≡ no_rows) }
@@ -58,7 +58,7 @@ impl DepRows {
         })
     }
 
-    /// More names, without rows and room. All memory that this takes is asked for before anything changes.
+    /// More names, without rows and slots. It allocates all that it needs before anything changes.
     pub fn grow(&mut self, names: u32) -> Result<(), AllocError>
         requires { rows_count self.old ≤ names }
         ensures count { OnOk result (rows_count self.new ≡ names) }
@@ -80,8 +80,8 @@ impl DepRows {
         Ok(())
     }
 
-    /// Makes room for rows of `t` on these names, and changes no row. Room that was there stays, also where memory
-    /// runs out.
+    /// Reserves memory for rows of `t` on these names, and changes no row. What was reserved stays, also if memory runs
+    /// out.
     pub fn reserve(&mut self, t: u32, names: &[u32]) -> Result<(), AllocError>
         requires target { t < rows_count self.old }
         requires names { AllBelow (rows_count self.old) names.now }
@@ -99,7 +99,7 @@ impl DepRows {
         Ok(())
     }
 
-    /// Makes room for rows of `t` on `n`.
+    /// Reserves memory for rows of `t` on `n`.
     fn reserve_slot(&mut self, t: u32, n: u32) -> Result<(), AllocError>
         requires target { t < rows_count self.old }
         requires name { n < rows_count self.old }
@@ -120,7 +120,7 @@ impl DepRows {
         Ok(())
     }
 
-    /// Whether there is room for a row of `t` on `n`, and so for its change row and its created row.
+    /// Whether `t` has a slot for `n`, and so memory for its change row and its created row.
     pub fn has_room(&self, t: u32, n: u32) -> bool
         requires { t < rows_count self.now }
         ensures { result ≡ room_of self.now t n }
@@ -128,7 +128,7 @@ impl DepRows {
         self.targets[t as usize].has_slot(n)
     }
 
-    /// A change row of `t` on `n`, in place of an earlier one.
+    /// A change row of `t` on `n`, which replaces an earlier one.
     pub fn put_change(&mut self, t: u32, n: u32, mark: Mark)
         requires target { t < rows_count self.old }
         requires name { n < rows_count self.old }
@@ -164,7 +164,7 @@ impl DepRows {
         self.targets[t as usize].put_always();
     }
 
-    /// Takes away the rows of `t`, and their room.
+    /// Removes the rows of `t`, and their slots.
     pub fn clear(&mut self, t: u32)
         requires { t < rows_count self.old }
         ensures rows { rows_of self.new ≡ without_rows (rows_of self.old) t }

@@ -13,7 +13,7 @@ use std::alloc::{AllocError, Global};
 use std::marker::Model;
 use std::mem::size_of;
 
-/// Room for a target's rows on one name, and those of them that there are.
+/// Reserved memory for a target's rows on one name, and the rows that are there.
 #[derive(Clone, Copy, Debug)]
 pub struct Slot {
     name: u32,
@@ -61,7 +61,7 @@ impl Slot {
         self.change.map(|kept| kept.mark())
     }
 
-    /// Whether there is a change row with another mark than the name has now, of which this is known.
+    /// Whether there is a change row with another mark than a name with this cell has.
     pub fn has_changed(&self, cell: &Cell) -> bool
         ensures { IsTrue result ↔ HasChangeBut (mark_in cell.now.state cell.now) self.now }
     {
@@ -102,7 +102,7 @@ impl Slot {
     }
 }
 
-/// The place of the name's slot, or that of the gap for it.
+/// The place of the name's slot, or of the gap for it.
 fn search(slots: &[Slot], n: u32) -> Result<usize, usize>
     requires { Ascending slots.now }
     ensures found { IfOk result (IsSlotOf slots.now n) }
@@ -111,7 +111,7 @@ fn search(slots: &[Slot], n: u32) -> Result<usize, usize>
     slots.binary_search_by_key(&n, |slot| slot.name())
 }
 
-/// Where the name's slot stands, or where it would go.
+/// The place of the name's slot, or the place where it would go.
 fn slot_place(slots: &[Slot], n: u32) -> usize
     requires { Ascending slots.now }
     ensures there { has_slot slots.now n ≡ true → IsSlotOf slots.now n result }
@@ -123,7 +123,7 @@ fn slot_place(slots: &[Slot], n: u32) -> usize
     }
 }
 
-/// Lists a name that may be there already.
+/// Lists a name that may be listed already.
 fn list_name(names: &mut Numbers, n: u32, listed: bool)
     requires listed { IsTrue listed ↔ Contains names.old.items n }
     requires room { listed ≡ false → length names.old.items < names.old.room }
@@ -136,7 +136,7 @@ fn list_name(names: &mut Numbers, n: u32, listed: bool)
     }
 }
 
-/// The rows of one target, and the room for more.
+/// The rows of one target, and reserved memory for more.
 #[derive(Drop)]
 pub struct Target {
     slots: Vec<Slot>,
@@ -156,7 +156,7 @@ impl Model for Target {
 }
 
 impl Target {
-    /// No rows and no room.
+    /// No rows and no slots.
     pub fn new(alloc: Global) -> Target
         ensures { result ≡ bare }
     {
@@ -178,7 +178,7 @@ impl Target {
         }
     }
 
-    /// Whether there is room for rows on the name.
+    /// Whether the name has a slot.
     pub fn has_slot(&self, n: u32) -> bool
         ensures { result ≡ has_slot self.now.slots n }
     {
@@ -227,7 +227,7 @@ impl Target {
         self.slots.as_slice()
     }
 
-    /// Makes room for rows on a name. No other call takes memory.
+    /// Reserves memory for rows on a name. No other call allocates.
     pub fn add_slot(&mut self, n: u32) -> Result<(), AllocError>
         requires new { has_slot self.old.slots n ≡ false }
         ensures rows { (k : ℕ) → slot_at self.new.slots k ≡ slot_at self.old.slots k }
@@ -241,7 +241,7 @@ impl Target {
         Ok(self.slots.insert(place, Slot::blank(n))?)
     }
 
-    /// A change row on a name with a slot, in place of an earlier one. Answers whether there was one.
+    /// A change row on a name with a slot, which replaces an earlier one. Returns whether there was one.
     pub fn put_change(&mut self, n: u32, mark: Mark) -> bool
         requires { has_slot self.old.slots n ≡ true }
         ensures was { result ≡ is_some (slot_at self.old.slots n).change }
@@ -260,7 +260,7 @@ impl Target {
         was
     }
 
-    /// A created row on a name with a slot. Answers whether there was one.
+    /// A created row on a name with a slot. Returns whether there was one.
     pub fn put_created(&mut self, n: u32) -> bool
         requires { has_slot self.old.slots n ≡ true }
         ensures was { result ≡ (slot_at self.old.slots n).created }
@@ -286,7 +286,7 @@ impl Target {
         self.always = true;
     }
 
-    /// Takes away the rows and their room.
+    /// Removes the rows and their slots.
     pub fn clear(&mut self)
         ensures { self.new ≡ bare }
     {

@@ -1,8 +1,8 @@
--- What the rows of one target keep.
+-- The invariant of the rows of one target.
 use Rattle.std.specs.Prelude.{◌≡◌, ℕ, ◌<◌, ◌≤◌, false, List, None, length, slice_index_or}
 use Rattle.redo_rows.specs.Rows.{Slot}
 
--- room on the name, and no row
+-- reserved memory for rows on the name, and no row
 abbrev pub blank : ℕ → Slot
 blank n = record { name = n; change = None; created = false }
 

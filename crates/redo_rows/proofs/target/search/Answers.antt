@@ -4,7 +4,7 @@ use Rattle.redo_rows.specs.Rows.{Slot}
 use Rattle.redo_rows.proofs.Slots.{searched}
 use Rattle.redo_rows.proofs.target.search.Goals as goal
 
--- the closure gives a slot's name
+-- the closure returns a slot's name
 pub returns : goal.returns
 returns c =
     let facts = c.binary_search_by_key.ensures in

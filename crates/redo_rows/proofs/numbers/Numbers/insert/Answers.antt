@@ -6,7 +6,7 @@ use Rattle.redo_rows.proofs.Rises.{insert_rises, Contains-insert}
 use Rattle.redo_rows.proofs.numbers.Numbers.insert.Goals as goal
 use Rattle.redo_rows.proofs.numbers.Numbers.insert.Goals.{After-insert-inserted}
 
--- there is room, so the number was put in
+-- memory is reserved, so the number was put in
 placed : (c : After-insert-inserted) → c.insert-inserted.new.self.items
     ≡ insert c.self.inside.items.items c.number_place-place.result c.args.x
 placed c =

@@ -6,7 +6,7 @@ use Rattle.redo_rows.specs.Kept.{IsKept}
 use Rattle.redo_rows.proofs.Growing.{kept_grown, rows_grown}
 use Rattle.redo_rows.proofs.rows.DepRows.grow.Goals as goal
 
--- what an `append` that succeeds leaves
+-- the list after an `append` that succeeds
 joined : {X : Type 0} (ok : Bool) (new old kept other : List X) → ok ≡ true
     → new ≡ cond ok (old ++ other) old → old ≡ kept → new ≡ kept ++ other
 joined {X = X} ok new old kept other fits is same =

@@ -10,7 +10,7 @@ use Rattle.redo_rows.proofs.Keeping.{row_listed, kept_written, new_named, rows_w
 use Rattle.redo_rows.proofs.target.Target.put_change.Goals as goal
 use Rattle.redo_rows.proofs.target.Target.put_change.Goals.{After-put_change}
 
--- the slot that the call leaves
+-- the slot after the call
 abbrev with_mark : Mark → Slot → Slot
 with_mark mark slot = record slot { change = Some (row_mark_of mark) }
 
@@ -23,7 +23,7 @@ at c =
     subst (λ slots. IsSlotOf slots c.args.n c.slot_place-place.result) c.as_slice.ensures.value
     (c.slot_place-place.ensures.there there)
 
--- the slot there is what stood on the name
+-- the slot there has the rows on the name
 stood : (c : After-put_change)
     → c.index_mut-slot.result.now ≡ slot_at c.self.inside.slots.items c.args.n
 stood c =

@@ -9,7 +9,7 @@ use Rattle.redo_rows.proofs.Keeping.{row_listed, kept_written, new_named, rows_w
 use Rattle.redo_rows.proofs.target.Target.put_created.Goals as goal
 use Rattle.redo_rows.proofs.target.Target.put_created.Goals.{After-put_created}
 
--- the slot that the call leaves
+-- the slot after the call
 abbrev with_created : Slot → Slot
 with_created slot = record slot { created = true }
 
@@ -22,7 +22,7 @@ at c =
     subst (λ slots. IsSlotOf slots c.args.n c.slot_place-place.result) c.as_slice.ensures.value
     (c.slot_place-place.ensures.there there)
 
--- the slot there is what stood on the name
+-- the slot there has the rows on the name
 stood : (c : After-put_created)
     → c.index_mut-slot.result.now ≡ slot_at c.self.inside.slots.items c.args.n
 stood c =
