@@ -29,7 +29,7 @@ AreAccepted-append names (f ∷ files) [] middle file script after none is = abs
 AreAccepted-append names (f ∷ files) (s ∷ scripts) middle file script after are is =
     (are.0, are.1, AreAccepted-append are.0 files scripts middle file script after are.2 is)
 
--- there is a script for each file
+-- each file has a script
 pub AreAccepted-length : (names : List Text) (files : List (Option Text))
     (scripts : List (List (commands.Item Text))) (after : List Text)
     → AreAccepted names files scripts after → length files ≡ length scripts
@@ -67,7 +67,7 @@ script_at-Extends old new (c ∷ cs) x below =
     let rest = script_at-Extends old new cs x below.1 in
     λ i. record { guarded = c.guarded; command = first i } ∷ rest i
 
--- what scripts say does not change where names are added
+-- adding names does not change what scripts mean
 scripts_at-Extends : (old new : List Text) (scripts : List (List Item)) → Extends old new
     → AreScriptsBelow old scripts → scripts_at new scripts ≡ scripts_at old scripts
 scripts_at-Extends old new [] x below = refl

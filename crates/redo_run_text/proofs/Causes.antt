@@ -39,13 +39,13 @@ IsCause-file files failed out at names (TooLong file) before cause = (
       (sym cause.0) cause.1,
 )
 
--- what an element shows, where it shows what it did at first
+-- an element's value, if it has its first value
 pub shown_at : {X : Type 0} (known : X → Option Text) (files initial : List X) (at : ℕ) (d : X)
     → at < length files → get_or (map known files) at None ≡ get_or (map known initial) at None
     → known (get_or files at d) ≡ get_or (map known initial) at None
 shown_at known files initial at d within same = sym (get_or-map known files at d None within) ∙ same
 
--- an element is replaced: those after it show what they did
+-- an element is replaced: those after it keep their values
 pub shown_after : {X : Type 0} (known : X → Option Text) (files : List X) (at k : ℕ) (file : X)
     → at < k
     → get_or (map known (set files at file)) k None ≡ get_or (map known files) k None
@@ -62,7 +62,7 @@ count_at count files at file within =
     ∙ get_or-set_same (map count files) at (count file) 0
     (omega (arith, length-map files count))
 
--- an element is replaced, where the counts were as at first: whether its own is another now
+-- an element is replaced, and the counts were as at first: whether its own is another now
 failed_there : {X : Type 0} (count : X → ℕ) (initial files : List X) (at : ℕ) (d file : X)
     → at < length files → map count files ≡ map count initial
     → not (count file == count (get_or files at d))
@@ -76,7 +76,7 @@ failed_there count initial files at d file within same =
     ap (λ (n : ℕ). not (n == count (get_or files at d))) after
     ∙ ap (λ (n : ℕ). not (get_or (map count (set files at file)) at 0 == n)) before
 
--- the fault of the file that is read, where those before it are accepted
+-- the fault of the file that is read, if those before it are accepted
 pub IsCause-read : {X : Type 0} (known : X → Option Text) (count : X → ℕ) (initial files : List X)
     (at : ℕ) (d file : X) (names : List Text) (scripts : List (List (Item Text)))
     (fault : TextFault)

@@ -1,4 +1,4 @@
--- What holds of each element of a list.
+-- Facts about each element of a list.
 use Rattle.std.proofs.Common.{List, [], ◌∷◌, map}
 use Rattle.std.specs.List.{AllByRecursion}
 

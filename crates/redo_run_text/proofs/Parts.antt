@@ -10,7 +10,7 @@ use Rattle.redo_terms.specs.Meaning.{line_at}
 use Rattle.redo_terms.specs.declared.reply.Line.{Line}
 use Rattle.redo_run_text.specs.Inside.Printed.{part_in}
 
--- the part of a line and more, where it is said whether the line is the session's
+-- the part of a line and more, by whether the line is the session's
 abbrev part_with : List Text → ℕ → Line → List Line → Bool → List (histories.Line Text)
 part_with names s line lines own =
     let rest = part_in names s lines in
@@ -24,7 +24,7 @@ module _ (names : List Text) (s : ℕ) (lines : List Line) (k : ℕ) (line : Lin
       ap (part_in names s) (drop_more lines k line less)
       ∙ ap (λ (l : Line). part_with names s l (drop (k + 1) lines) (eqb l.session s)) (sym is)
 
-  -- a line of another session is passed over
+  -- a line of another session is skipped
   pub of_another : line.session ≢ s
       → part_in names s (drop k lines) ≡ part_in names s (drop (k + 1) lines)
   of_another other =
@@ -39,7 +39,7 @@ module _ (names : List Text) (s : ℕ) (lines : List Line) (k : ℕ) (line : Lin
       from_here
       ∙ ap (part_with names s line (drop (k + 1) lines)) (eq-eqb line.session s own)
 
--- where all lines are of session 0, they are its part
+-- if all lines are of session 0, they are its part
 pub whole_part : {N : Type 0} (lines : List (histories.Line N))
     → AllByRecursion (λ line. line.session ≡ 0) lines → part_of 0 lines ≡ lines
 whole_part [] h = refl

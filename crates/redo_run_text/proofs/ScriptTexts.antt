@@ -23,7 +23,7 @@ use Rattle.redo_run_text.specs.Inside.Printed.{part_in, closing_lines_of, ArePri
 use Rattle.redo_run_text.proofs.Lists.{all-unmapped}
 use Rattle.redo_run_text.proofs.Parts.{of_own}
 
--- what is printed from item i on, where the session's next line is the one at this place or comes
+-- what is printed from item i on, if the session's next line is the one at this place or comes
 -- after it
 abbrev pub lines_from : List Text → ℕ → List Item → List Line → Bool → ℕ → ℕ → List Text
 lines_from names s items lines through i at =
@@ -49,7 +49,7 @@ module _ (names : List Text) (s : ℕ) (items : List Item) (lines : List Line) (
       items i item less
       ∙ ap (λ (x : Item). session_lines_of through (item_at names x ∷ rest) part) (sym is)
 
-  -- the line has the reply to it
+  -- the line has its reply
   pub done_line : (line : Line) (later : ℕ) → at < length lines → line ≡ get_or lines at line
       → line.session ≡ s → (through || not item.guarded) ≡ true
       → part_in names s (drop later lines) ≡ part_in names s (drop (at + 1) lines)
@@ -107,7 +107,7 @@ module _ (names : List Text) (s : ℕ) (items : List Item) (lines : List Line) (
       let line = get_or lines at some in
       skipped_here line there (get_or_default lines at some line there) (own some there) stopped
 
--- past its last item only closing commands are left
+-- only closing commands are left past its last item
 pub script_ends : (names : List Text) (s : ℕ) (items : List Item) (lines : List Line)
     (through : Bool) (i at : ℕ) → length items ≤ i
     → lines_from names s items lines through i at

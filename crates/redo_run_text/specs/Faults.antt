@@ -22,8 +22,8 @@ HasFaultyLine names line fault bytes =
 abbrev pub AreTooLong : Text → Type 0
 AreTooLong bytes = 67108864 < length bytes
 
--- the cause of a fault: `files` are the files' bytes, where they are known, `failed` says of which
--- files a read failed, and `out_failed` whether a write failed
+-- the cause of a fault: `files` are the files' bytes, if they are known, `failed` says which files
+-- had a failed read, and `out_failed` whether a write failed
 abbrev pub IsCause : List (Option Text) → (ℕ → Bool) → Bool → TextFault → Type 0
 IsCause files failed out_failed Memory = ⊤
 IsCause files failed out_failed (Read file line fault) =
@@ -42,7 +42,7 @@ IsCause files failed out_failed (TooLong file) =
     (names : List Text) × FilesBefore files file names
     × IfSome (slice_index_or files file None) AreTooLong
 
--- the fault is one of a device: a read or a write failed
+-- the fault is a device's: a read or a write failed
 abbrev pub IsDeviceFault : TextFault → Type 0
 IsDeviceFault Memory = ⊥
 IsDeviceFault (Read file line fault) = ⊥

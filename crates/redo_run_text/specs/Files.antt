@@ -7,7 +7,7 @@ use Rattle.redo_whole.specs.declared.watched.Watched.{Watched}
 use Rattle.redo_whole.specs.Watched.{failures_of}
 use Rattle.redo_whole.specs.Devices.{known_in}
 
--- what each file has left, where it is known; `remaining` says it of a reader
+-- what each file has left, if that is known; `remaining` gives it for a reader
 abbrev pub bytes_of_files : {R : Type 0} → (R → Option Text) → List (Watched R) → List (Option Text)
 bytes_of_files remaining files = map (known_in remaining) files
 
@@ -15,16 +15,16 @@ bytes_of_files remaining files = map (known_in remaining) files
 abbrev pub failures_of_files : {R : Type 0} → List (Watched R) → List ℕ
 failures_of_files files = map (λ file. failures_of file) files
 
--- whether a read of this file failed on the way from the one count to the other
+-- whether a read of this file failed between the two counts
 abbrev pub failed_at : List ℕ → List ℕ → ℕ → Bool
 failed_at before after file = not (slice_index_or after file 0 == slice_index_or before file 0)
 
--- of which files a read failed
+-- which files had a failed read
 abbrev pub failed_files : {R : Type 0} → List (Watched R) → List (Watched R) → ℕ → Bool
 failed_files before after = failed_at (failures_of_files before) (failures_of_files after)
 
--- the file's bytes, where they are known, are a script of these lines, with the names before
--- and after it
+-- the file's bytes, if they are known, are a script of these lines, with the names before and after
+-- it
 abbrev pub IsAccepted : List Text → Option Text → List (Item Text) → List Text → Type 0
 IsAccepted names file script after =
     IfSome file (λ bytes. (length bytes ≤ 67108864) × IsScript names bytes script after)

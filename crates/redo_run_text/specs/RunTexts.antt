@@ -8,17 +8,17 @@ use Rattle.redo_model.specs.History.{Line, part_of}
 use Rattle.redo_text.specs.Texts.{item_text_of, reply_text_of}
 use Rattle.redo_history.specs.Histories.{ended, answer_text_of, history_text_of}
 
--- a line of a script with the reply to it
+-- a line of a script with its reply
 abbrev pub done_text_of : Item Text → Reply Text → Text
 done_text_of item reply = item_text_of item ++ codes " => " ++ reply_text_of reply
 
--- and one that was not done
+-- a line that was not done
 abbrev pub skipped_text_of : Item Text → Text
 skipped_text_of item = item_text_of item ++ codes " => skipped"
 
--- what is printed of a session with this script and these lines: each line of the script, with its
--- reply where it is done, unguarded or let through; and then the lines that are left, which are
--- closing commands
+-- the text of a session with this script and these lines: each line of the script, with its reply
+-- if it is done, unguarded or let through; and then the lines that are left, which are closing
+-- commands
 abbrev pub session_lines_of : Bool → List (Item Text) → List (Line Text) → List Text
 session_lines_of through [] part = map answer_text_of part
 session_lines_of through (item ∷ items) [] =

@@ -20,7 +20,7 @@ use std::io::Read;
 /// A file of more bytes is refused.
 pub const FILE_LIMIT: usize = 67_108_864;
 
-/// The run's fault where the bytes of this file have this one.
+/// The run's fault if the bytes of this file have this one.
 fn whole_fault(file: usize, fault: WholeFault) -> TextFault
     ensures memory { (result ≡ TextFault.Memory) ↔ (fault ≡ WholeFault.Memory) }
     ensures device { fault ≡ WholeFault.Device → result ≡ TextFault.Device file }
@@ -33,7 +33,7 @@ fn whole_fault(file: usize, fault: WholeFault) -> TextFault
     }
 }
 
-/// The run's fault where the commands of this file have this one.
+/// The run's fault if the commands of this file have this one.
 fn read_fault(file: usize, fault: ReadFault) -> TextFault
     ensures memory { (result ≡ TextFault.Memory) ↔ (fault ≡ ReadFault.Memory) }
     ensures line { (line : ℕ) (own : LineFault) → fault ≡ ReadFault.Line line own
@@ -45,7 +45,7 @@ fn read_fault(file: usize, fault: ReadFault) -> TextFault
     }
 }
 
-/// Reads one file, which is the one of this number.
+/// Reads the file of this number.
 fn read_file<R: Read>(
     alloc: Global,
     at: usize,
@@ -80,7 +80,7 @@ pub fn read_files<R: Read>(
 ) -> Result<Vec<Script>, TextFault>
     requires { names.old ≡ [] }
 
-    // Each file is a script, and what is answered are their commands.
+    // Each file is a script, and the result is their commands.
     ensures accepted { IfOk result (λ scripts. AreAccepted []
         (bytes_of_files R.remaining files.old) (scripts_at names.new scripts.items) names.new) }
     ensures below { IfOk result (λ scripts. AreScriptsBelow names.new scripts.items) }
@@ -90,7 +90,7 @@ pub fn read_files<R: Read>(
         (bytes_of_files R.remaining files.old) (failed_files files.old files.new) false) }
     ensures some { OnErr result (0 < length files.old) }
 
-    // Only where a device failed, a file counts a failure more.
+    // A file counts one failure more only if a device failed.
     ensures others { ¬ (IsErrAnd result IsDeviceFault)
         → failures_of_files files.new ≡ failures_of_files files.old }
 {

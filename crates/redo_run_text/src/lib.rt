@@ -1,4 +1,4 @@
-//! The texts of a run: session files are read into scripts, and what was done is printed.
+//! The texts of a run: reads session files into scripts, and prints what was done.
 #![tactic(auto)]
 
 mod files;

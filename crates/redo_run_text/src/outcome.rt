@@ -1,7 +1,7 @@
 use redo_journal::Journal;
 use redo_terms::Line;
 
-/// What a run left: one history of all sessions, and what each session did.
+/// The result of a run: one history of all sessions, and what each session did.
 #[derive(Debug, Drop)]
 pub struct Outcome {
     pub history: Vec<Line>,

@@ -19,7 +19,7 @@ use redo_terms::{Item, Line, Reply};
 use redo_text::{put_item, put_reply};
 use std::alloc::{AllocError, Global};
 
-/// Where the session's first line stands from here on; past all lines where there is none.
+/// The place of the session's first line from here on; past all lines if there is none.
 fn own_from(session: u8, lines: &[Line], from: usize) -> usize
     requires { from ≤ length lines.now }
     ensures within { result ≤ length lines.now }
@@ -45,7 +45,7 @@ fn is_answered(item: &Item, through: bool, at: usize, count: usize) -> bool
     at < count && (through || !item.guarded)
 }
 
-/// Prints a line of a script with the reply to it.
+/// Prints a line of a script with its reply.
 fn put_done(
     alloc: Global,
     text: &mut Vec<u8>,
@@ -81,8 +81,8 @@ fn put_skipped(
     Ok(())
 }
 
-/// Prints each line of the session's script, with the reply where it was done. Answers from where
-/// on the session's lines are closing ones.
+/// Prints each line of the session's script, with its reply if it was done. Returns the place from
+/// which on the session's lines are closing ones.
 fn put_script(
     alloc: Global,
     text: &mut Vec<u8>,
@@ -114,7 +114,7 @@ fn put_script(
     Ok(at)
 }
 
-/// Prints the session's lines from here on, which are closing ones, and answers how many they are.
+/// Prints the session's lines from here on, which are closing ones, and returns how many they are.
 fn put_closing(
     alloc: Global,
     text: &mut Vec<u8>,

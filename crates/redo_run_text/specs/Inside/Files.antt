@@ -1,4 +1,4 @@
--- Scripts within the numbers of names, and what they say.
+-- Scripts within the numbers of names, and their meaning.
 use Rattle.std.specs.Prelude.{List, length, map}
 use Rattle.std.specs.List.{AllByRecursion}
 use Rattle.redo_model.specs.Names.{Text}
@@ -14,6 +14,6 @@ IsScriptBelow names script = AreBelow (length names) script
 abbrev pub AreScriptsBelow : List Text → List (List Item) → Type 0
 AreScriptsBelow names scripts = AllByRecursion (IsScriptBelow names) scripts
 
--- what the scripts' lines say
+-- the meaning of the scripts' lines
 abbrev pub scripts_at : List Text → List (List Item) → List (List (commands.Item Text))
 scripts_at names scripts = map (λ script. map (item_at names) script) scripts

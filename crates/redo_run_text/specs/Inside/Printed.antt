@@ -12,11 +12,11 @@ use Rattle.redo_history.specs.Histories.{ended, answer_text_of}
 abbrev pub part_in : List Text → ℕ → List Line → List (histories.Line Text)
 part_in names session lines = part_of session (map (line_at names) lines)
 
--- what is printed of closing commands
+-- the text of closing commands
 abbrev pub closing_lines_of : List (histories.Line Text) → List Text
 closing_lines_of part = map answer_text_of part
 
--- of all these lines the first are printed behind the text before, so many, and the rest is left
+-- the first so many of all these lines are printed after the text before, and the rest is left
 pub record ArePrinted (all : List Text) (before text : Text) (count : ℕ) (rest : List Text)
     : Type 0 where
   pub printed : List Text
