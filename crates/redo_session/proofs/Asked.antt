@@ -1,4 +1,4 @@
--- The commands that accepted files ask.
+-- The commands in accepted files.
 use Rattle.std.proofs.Common.{ℕ, zero, suc, ◌<◌, ◌≤◌, Some, List, [], ◌∷◌, ◌++◌, length, map, get_or, sym, ap, subst, arith}
 use Rattle.std.specs.List.{AllByRecursion, flat_map}
 use Rattle.redo_model.specs.Names.{Text}
@@ -9,12 +9,12 @@ use Rattle.redo_history.specs.Inside.HistoryTexts.{IsSaid}
 use Rattle.redo_history.proofs.CommandsSaid.{commands_said}
 use Rattle.redo_history.proofs.KnownNames.{IsKnown, AreKnown, known-with_names, added_are_known}
 
--- the command may stand in a script, and its names are among these
+-- the command may be in a script, and its names are among these
 pub record IsAsked (names : List Text) (command : Command Text) : Type 0 where
   pub said : IsSaid command
   pub known : AreKnown names (names_in command)
 
--- so is each of a script, which isn't too long
+-- so may each of a script, which isn't too long
 pub record AreAsked (names : List Text) (script : List (Item Text)) : Type 0 where
   pub each : AllByRecursion (IsAsked names) (commands_in script)
   pub few : length script ≤ 4096
@@ -65,7 +65,7 @@ asked_more names more kept (command ∷ script) asked = (
   asked_more names more kept script asked.1,
 )
 
--- names that were known stay so
+-- names that were known stay known
 kept : (names : List Text) (texts : List Text) (scripts : List (List (Item Text)))
     (after : List Text) → AreAccepted names (map Some texts) scripts after → (n : Text)
     → IsKnown names n → IsKnown after n

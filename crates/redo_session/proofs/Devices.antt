@@ -1,4 +1,4 @@
--- Counts and faults: a device's fault is answered exactly where a count is another than before.
+-- Counts and faults: a device's fault is the result exactly if a count has changed.
 use Rattle.std.proofs.Common.{◌≡◌, ℕ, Bool, false, not, ◌==◌, Option, List, get_or, refl, sym, subst, eq-eqb, ◌⊎◌, inl, inr}
 use Rattle.std.specs.Prelude.{IsTrue, ◌↔◌}
 use Rattle.std.proofs.lemmas.Bool.{both_ways, not_from_true}
@@ -8,11 +8,11 @@ use Rattle.redo_command.specs.declared.fault.TextFault.TheVariants.{Memory, Read
 use Rattle.redo_run_text.specs.Files.{failed_at}
 use Rattle.redo_run_text.specs.Faults.{IsCause, IsDeviceFault}
 
--- a count that is as it was is no other
+-- a count that stays the same isn't another
 pub is_same : (n : ℕ) → not (n == n) ≡ false
 is_same n = not_from_true (n == n) (eq-eqb n n refl)
 
--- counts that are as they were tell of no failure
+-- counts that stay the same show no failure
 pub none_failed : (before after : List ℕ) → after ≡ before
     → (file : ℕ) × IsTrue (failed_at before after file) → ⊥
 none_failed before after same (file, failed) =
@@ -20,7 +20,7 @@ none_failed before after same (file, failed) =
     (subst (λ (counts : List ℕ). failed_at before counts file ≡ false) (sym same)
     (is_same (get_or before file 0))) failed
 
--- where no write was tried, a device's fault is answered exactly where a file's count is another
+-- if no write was tried, a device's fault is the result exactly if a file's count has changed
 pub device_read : (known : List (Option Text)) (before after : List ℕ) (out : Bool)
     (fault : TextFault)
     → IsCause known (failed_at before after) false fault

@@ -1,4 +1,4 @@
--- A run leaves no target held, and none building.
+-- After a run no target is held, and none is building.
 use Rattle.std.proofs.Common.{◌≡◌, ℕ, ◌<◌, ◌≤◌, cond, List, [], ◌∷◌, ◌++◌, None, length, ap, sym, ◌∙◌, refl, arith, append_assoc, append-nil}
 use Rattle.std.specs.List.{AllByRecursion}
 use Rattle.std.proofs.lemmas.Bool.{ne_eqb}
@@ -13,7 +13,7 @@ use Rattle.redo_model.proofs.Letting.{nothing_held}
 use Rattle.redo_model.proofs.Texts.{texts_are_names}
 use Rattle.redo_session.specs.Runs.{IsRun, LeavesNothingHeld}
 
--- a session that isn't there has no lines
+-- a session that isn't in the plan has no lines
 no_part : {N : Type 0} (n s : ℕ) (lines : List (Line N)) → n ≤ s
     → AllByRecursion (λ line. line.session < n) lines → part_of s lines ≡ []
 no_part n s [] past below = refl

@@ -1,4 +1,4 @@
--- Files that are accepted have no fault but want of memory and the faults of devices.
+-- Accepted files have no fault but `Memory` and the faults of devices.
 use Rattle.std.proofs.Common.{◌≡◌, ℕ, zero, suc, ◌<◌, ◌≤◌, ◌⊎◌, Bool, Option, None, Some, List, [], ◌∷◌, map, take, length, get_or, refl, ap, subst, inl, inr, arith}
 use Rattle.std.specs.Prelude.{IfSome}
 use Rattle.redo_model.specs.Names.{Text}

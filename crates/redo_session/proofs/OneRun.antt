@@ -1,4 +1,4 @@
--- What a session asks decides what it is answered.
+-- A session's commands determine its replies.
 use Rattle.std.proofs.Common.{◌≡◌, ℕ, ◌<◌, Bool, true, false, not, ◌||◌, cond, List, [], ◌∷◌, ◌++◌, Some, length, refl, ap, ◌∙◌, sym, subst, map, lit<, arith}
 use Rattle.std.specs.List.{AllByRecursion}
 use Rattle.redo_model.specs.Names.{Naming, Text, texts}
@@ -27,7 +27,7 @@ alone [] h = tt
 alone (line ∷ lines) h = (omega (arith, h.0), alone lines h.1)
 
 module _ {N : Type 0} {naming : Naming N} (law : IsNaming naming) where
-  -- one state gives one reply to what is the same
+  -- one state gives one reply to one command
   one_line : (st : State N) (a b : Line N) → a.session ≡ b.session → a.command ≡ b.command
       → Answers naming st a.session a.command a.reply
       → Answers naming st b.session b.command b.reply → a ≡ b
@@ -55,7 +55,7 @@ module _ {N : Type 0} {naming : Naming N} (law : IsNaming naming) where
   taken true c ds es xs ys m n done skipped e f = done e f
   taken false c ds es xs ys m n done skipped e f = skipped e f
 
-  -- where the scripts are the same, so are the lines
+  -- if the scripts are the same, so are the lines
   one_history : (st : State N) (through : Bool) (items : List (Item N)) (lines more : List (Line N))
       → AllByRecursion (λ line. line.session ≡ 0) lines
       → AllByRecursion (λ line. line.session ≡ 0) more
@@ -107,7 +107,7 @@ module _ {N : Type 0} {naming : Naming N} (law : IsNaming naming) where
       let rest = legal_parts (after naming st line.session line.command) own closing legal.1 in
       ((legal.0, rest.0), rest.1)
 
-  -- after the same lines the same closing ones come
+  -- the same closing lines follow the same lines
   one_closing : (st : State N) (own a b : List (Line N))
       → AllByRecursion (λ line. line.session ≡ 0) a → AllByRecursion (λ line. line.session ≡ 0) b
       → ClosesAfter naming own a → ClosesAfter naming own b

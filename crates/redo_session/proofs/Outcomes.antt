@@ -1,5 +1,5 @@
--- The lines of a joint order of whole journals are a run of the scripts, where one history serves
--- the journals.
+-- The lines of a joint order of whole journals are a run of the scripts, if one history has these
+-- journals.
 use Rattle.std.proofs.Common.{◌≡◌, ℕ, ◌<◌, ◌++◌, eqb, Bool, true, false, cond, List, [], ◌∷◌, length, map, get_or, refl, sym, ap, ◌∙◌, subst, arith}
 use Rattle.std.specs.List.{AllByRecursion}
 use Rattle.std.specs.Ordering.{nat_cmp}
@@ -149,7 +149,7 @@ module _ (p : PlanOf) (js : List Journal) (plan : IsPlan p) (whole : AreWhole p 
       subst (Does texts items) (map-map line_of name own)
       (whole_does texts s items (map name own) whole)
 
-  -- each session does what its script says, as the replies come
+  -- each session does what its script says, given the replies
   commands_done : Serves p js → (lines : List (PlacedLine ℕ)) → Joint lines → (s : ℕ)
       → Does texts (get_or (scripts_named p) s []) (histories.part_of s (map at_names lines))
   commands_done serves lines joint s =
@@ -215,7 +215,7 @@ module _ (p : PlanOf) (js : List Journal) (plan : IsPlan p) (whole : AreWhole p 
       (subst (AllByRecursion (IsLineBelow (length p.names))) (sym says)
       (all_map line_of (IsLineBelow (length p.names)) lines below))
 
--- what a session had seen stands before
+-- what a session had seen comes before
 pub seen_before : (p : PlanOf) (js : List Journal) → SeenStands p js
 seen_before p js before later line place joint seen =
     seen_stands (by_text_is_naming p.names) line.session before place

@@ -1,5 +1,5 @@
--- The lines of a run: how many they are, and that each asks what a script does, or lets go of what
--- was locked.
+-- The lines of a run: how many they are, and that each has a command that a script may have, or
+-- closes what was locked.
 use Rattle.std.proofs.Common.{◌≡◌, ℕ, ◌*◌, ◌<◌, ◌≤◌, suc, Bool, true, false, not, ◌||◌, cond, get_or, List, [], ◌∷◌, ◌++◌, length, length-append, map, sym, ap, subst, arith, ◌&&◌}
 use Rattle.std.specs.Prelude.{IsTrue, nat_le}
 use Rattle.std.specs.List.{AllByRecursion, filter_map, cons_option, list_all}
@@ -34,7 +34,7 @@ module _ {N : Type 0} where
   either_all P true xs ys p q = p
   either_all P false xs ys p q = q
 
-  -- what is done are commands of the script
+  -- the commands that are done are commands of the script
   done_all : (P : Command N → Type 0) (through : Bool) (items : List (Item N))
       (replies : List (Reply N)) → AllByRecursion P (commands_in items)
       → AllByRecursion P (done_by through items replies)
@@ -120,7 +120,7 @@ module _ (names : List Text) where
   all_both [] closing all others = others
   all_both (line ∷ own) closing all others = (all.0, all_both own closing all.1 others)
 
-  -- a closing command lets go of a target that the session locked
+  -- a closing command is about a target that the session locked
   closing_asked : (own closing : List (Line Text)) → AreAskedLines own
       → ClosesAfter texts own closing → AreAskedLines closing
   closing_asked own [] all closes = tt
@@ -133,7 +133,7 @@ module _ (names : List Text) where
       subst (IsAsked names) (sym is) (letting_asked (builds texts own t) t target) in
       (asked, closing_asked (own ++ line ∷ []) closing (all_then own line all asked) closes.1)
 
-  -- all lines of a session ask what a script may
+  -- all lines of a session have commands that a script may have
   part_asked : (script : List (Item Text)) (part : List (Line Text)) → AreAsked names script
       → Does texts script part → AreAskedLines part
   part_asked script part asked does =
@@ -147,7 +147,7 @@ module _ (names : List Text) where
 module _ (names : List Text) (scripts : List (List (Item Text)))
     (asked : AllByRecursion (AreAsked names) scripts) (lines : List (Line Text))
     (run : IsRun scripts lines) where
-  -- each line's command is asked
+  -- each line's command is one
   pub lines_asked : AllByRecursion (λ line. IsAsked names line.command) lines
   lines_asked =
       all_by_part (λ line. IsAsked names line.command) (length scripts) lines run.sessions

@@ -55,7 +55,7 @@ run_text_here p names scripts history text same run is =
       is ∙ (λ i. run_text_of (named i) (sessions_below (long i)) lines),
     )
 
--- the text of accepted files, where they are neither none nor too many
+-- the text of accepted files, which are neither none nor too many
 pub runs_as : {A : Type 0} (result : Result (Vec ℕ A) TextFault) (files : List (Option Text))
     (scripts : List (List Item)) (names : List Text)
     → AreAccepted [] files (scripts_at names scripts) names

@@ -1,4 +1,4 @@
--- What a closed board tells of the journals of all sessions.
+-- What a closed board says of the journals of all sessions.
 use Rattle.std.proofs.Common.{◌≡◌, ◌≢◌, ℕ, zero, suc, ◌+◌, ◌<◌, List, [], ◌∷◌, length, Option, option_map, slice_get, Some, refl, sym, ap, ◌∙◌, subst, inl, inr, arith}
 use Rattle.std.specs.Prelude.{All}
 use Rattle.std.specs.Option.{unwrap_or}
@@ -27,7 +27,7 @@ pub record Serves (p : PlanOf) (js : List Journal) : Type 0 where
   pub history : IsHistoryOf p lines
   pub joint : IsJointOrder by_number (journals_of p js) lines
 
--- the parts that the journals tell have the lines of each session
+-- the parts of the journals have the lines of each session
 told_has : (p : PlanOf) (n t k : ℕ) (js : List Journal) → t ≡ n + k → k < length js
     → (own : List Line) × HasPart (parts_told p n js) t own
 told_has p n t k [] e less = absurd (omega (arith, less))
@@ -126,7 +126,7 @@ module _ (p : PlanOf) (b : Board) (seat : Seat) (js : List Journal)
         };
   }
 
--- also where there is no such session
+-- also if there is no such session
 pub whole_at : (p : PlanOf) (js : List Journal) → AreWhole p js → (s : ℕ)
     → IsWholeJournal (naming_of p) s (script_of p s) (journals_of p js s)
 whole_at p js whole s =

@@ -1,4 +1,4 @@
--- Whose the lines of a journal are.
+-- The session of a journal's lines.
 use Rattle.std.proofs.Common.{◌≡◌, ℕ, List, [], ◌∷◌, ◌++◌, refl, ap, ◌∙◌, sym, inl, inr}
 use Rattle.redo_model.specs.Names.{Naming}
 use Rattle.redo_model.specs.Command.{Item}

@@ -1,4 +1,4 @@
--- What a run leaves.
+-- The result of a run.
 use Rattle.std.specs.Prelude.{◌≡◌, ℕ, List, ◌∷◌, ◌++◌, length, Some, All, slice_get}
 use Rattle.redo_model.specs.Placed.{Place, PlacedLine, part_of}
 use Rattle.redo_model.specs.Journals.{IsWholeJournal, IsJointOrder}
@@ -23,7 +23,7 @@ pub record AreWhole (p : PlanOf) (journals : List Journal) : Type 0 where
   pub each : (s : ℕ) (journal : Journal) → slice_get journals s ≡ Some journal
       → IsWholeOf p s journal
 
--- in each joint order of the journals, what a session had seen at a line stands before that line
+-- in each joint order of the journals, what a session had seen at a line comes before that line
 abbrev pub SeenStands : PlanOf → List Journal → Type 0
 SeenStands p journals =
     (before later : List (PlacedLine ℕ)) (line : PlacedLine ℕ) (place : Place ℕ)

@@ -41,7 +41,7 @@ RunsAs files text =
 abbrev pub WritesRun : List (Option Text) → Option Text → Option Text → Type 0
 WritesRun files before after = (text : Text) × RunsAs files text × Appends before after text
 
--- the files are accepted, and of the run text of their commands a front was written
+-- the files are accepted, and a prefix of the run text of their commands was written
 abbrev pub WritesPart : List (Option Text) → Option Text → Option Text → Type 0
 WritesPart files before after =
     (sent : Text) × (rest : Text) × RunsAs files (sent ++ rest) × Appends before after sent

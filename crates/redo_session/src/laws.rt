@@ -1,4 +1,4 @@
-//! What follows for runs.
+//! Laws of runs.
 
 ghost use Rattle.std.specs.Prelude.{◌≡◌, List, [], ◌∷◌, Some, map};
 ghost use Rattle.redo_model.specs.Names.{Text, texts};
@@ -7,8 +7,8 @@ ghost use Rattle.redo_model.specs.History.{Line, Legal};
 ghost use Rattle.redo_history.specs.HistoryTexts.{IsHistory};
 ghost use Rattle.redo_session.specs.Runs.{IsRun, LeavesNothingHeld, RunsAs};
 
-/// One file whose bytes are known has at most one run text: what is printed for a file is a
-/// function of its bytes.
+/// One file whose bytes are known has at most one run text: the output for a file is a function of
+/// its bytes.
 pub fn one_run()
     ensures { (file a b : Text) → RunsAs (Some file ∷ []) a → RunsAs (Some file ∷ []) b → a ≡ b }
 {}
@@ -19,8 +19,8 @@ pub fn run_lets_go()
         → IsRun scripts lines → LeavesNothingHeld lines }
 {}
 
-/// The run text of files whose bytes are known is a history, whose lines are legal: to replay it
-/// gives that it is the same.
+/// The run text of files whose bytes are known is a history, whose lines are legal: its replay
+/// answers `same`.
 pub fn run_replays()
     ensures { (files : List Text) (text : Text) → RunsAs (map Some files) text
         → (names : List Text) × (lines : List (Line Text)) × IsHistory text names lines

@@ -16,7 +16,7 @@ use std::sync::Wait;
 use std::thread::Threads;
 use thiserror::Error;
 
-/// Why there is no outcome.
+/// Why a run has no outcome.
 #[derive(Clone, Copy, Debug, PartialEq, Eq, Error)]
 pub enum RunFault {
     /// A growth, or the start of a thread, was refused.
@@ -46,8 +46,8 @@ impl From<RunFault> for TextFault {
     }
 }
 
-/// Runs the plan, each session on a thread of its own, the caller's among them. All threads are
-/// joined before it answers.
+/// Runs the plan, each session on a thread of its own, one of them the caller's. It joins all
+/// threads before it returns.
 pub fn run<G: Gate + Sync, R: Threads + Wait + Sync>(
     rt: &R,
     alloc: Global,
@@ -57,18 +57,18 @@ pub fn run<G: Gate + Sync, R: Threads + Wait + Sync>(
     // The journals of all sessions, in order, each with all that the session does.
     ensures journals { IfOk result (λ outcome. AreWhole plan.now outcome.journals.items) }
 
-    // The history is that of their first joint order. Whatever a session had seen at a line stands
+    // The history is that of their first joint order. Whatever a session had seen at a line comes
     // before it.
     ensures merged { IfOk result (λ outcome. AreMerged plan.now outcome.journals.items
         (map line_of outcome.history.items)) }
     ensures seen { IfOk result (λ outcome. SeenStands plan.now outcome.journals.items) }
 
     // Over the names it is a run of the scripts: one legal history, in which each session does all
-    // that its script says, and then lets go of what it holds.
+    // that its script says, and then closes what it holds.
     ensures run { IfOk result (λ outcome. IsRun (scripts_named plan.now)
         (map (line_at plan.now.names) outcome.history.items)) }
 
-    // When all is done no target is held, and none is building.
+    // After all is done no target is held, and none is building.
     ensures let_go { IfOk result (λ outcome. LeavesNothingHeld
         (map (line_at plan.now.names) outcome.history.items)) }
     ensures below { IfOk result (λ outcome.

@@ -10,7 +10,7 @@ use std::sync::Wait;
 use std::thread;
 use std::thread::{Promise, Scope, Threads};
 
-/// The sessions from `first` on and below `end`, which none has begun, and their seat.
+/// The sessions from `first` on and below `end`, none of which has begun, and their seat.
 #[derive(Drop)]
 pub(crate) struct Sessions {
     pub(crate) seat: Seat,
@@ -66,7 +66,7 @@ fn work<G: Gate>(
     Ok(worker.leave())
 }
 
-/// What the thread of one session answers.
+/// The result of the thread of one session.
 #[derive(Clone, Copy)]
 struct Answer<'a> {
     board: &'a Board,
@@ -82,11 +82,11 @@ impl<'a> Promise<Result<(Seat, Journal), AllocError>> for Answer<'a> {
         a.session (a.session + 1) done.0 (done.1 ∷ [])) };
 }
 
-/// The seat that the sessions leave, and their journals, in order.
+/// The seat of the sessions after their end, and their journals, in order.
 type Done = (Seat, Vec<Journal>);
 
-/// Does all that the sessions do, each on a thread of the scope but the last, which the caller's
-/// does. All threads that it starts are joined before it answers.
+/// Does all that the sessions do, each on a thread of the scope but the last, which runs on the
+/// caller's. It joins all threads that it starts before it returns.
 fn run_in<'s, E, G: Gate + Sync, R: Threads + Sync>(
     rt: &'s R,
     scope: &'s Scope<'s, E>,
@@ -129,8 +129,8 @@ fn run_in<'s, E, G: Gate + Sync, R: Threads + Sync>(
     Ok((seat.meet(other, board), journals))
 }
 
-/// Does all that the sessions do, each on a thread of its own, the caller's among them. All threads
-/// are joined before it answers.
+/// Does all that the sessions do, each on a thread of its own, one of them the caller's. It joins
+/// all threads before it returns.
 pub(crate) fn run_all<G: Gate + Sync, R: Threads + Wait + Sync>(
     rt: &R,
     alloc: Global,

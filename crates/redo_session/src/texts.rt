@@ -19,7 +19,7 @@ use std::io::{Read, Write};
 use std::sync::Wait;
 use std::thread::Threads;
 
-/// The run's fault where its plan has this one.
+/// The run's fault if its plan has this one.
 fn plan_fault(fault: PlanFault) -> TextFault
     ensures none { (result ≡ TextFault.NoSession) ↔ (fault ≡ PlanFault.NoSession) }
     ensures many { (result ≡ TextFault.TooManySessions) ↔ (fault ≡ PlanFault.TooManySessions) }
@@ -72,8 +72,8 @@ fn text_of_files<R: Read, T: Threads + Wait + Sync>(
     text_of_scripts(rt, alloc, scripts, names)
 }
 
-/// Reads each file in order, runs their sessions side by side, and writes the run text. Nothing is
-/// written before the run has returned.
+/// Reads each file in order, runs their sessions side by side, and writes the run text. Writes
+/// nothing before the run has returned.
 pub fn run_texts<R: Read, W: Write, T: Threads + Wait + Sync>(
     rt: &T,
     alloc: Global,
@@ -97,11 +97,11 @@ pub fn run_texts<R: Read, W: Write, T: Threads + Wait + Sync>(
         → WritesPart (bytes_of_files R.remaining files.old)
         (known_in W.contents out.old) (known_in W.contents out.new) }
 
-    // Files whose bytes are known and that are accepted are refused for memory and devices alone.
+    // If the files' bytes are known and accepted, only memory and devices refuse the run.
     ensures only { AreKnownSessions (bytes_of_files R.remaining files.old)
         → IfErr result (λ fault. (fault ≡ TextFault.Memory) ⊎ IsDeviceFault fault) }
 
-    // A device's fault is answered exactly where a read or a write of this call failed.
+    // A device's fault is the result exactly if a read or a write of this call failed.
     ensures device { IsErrAnd result IsDeviceFault
         ↔ (((file : ℕ) × IsTrue (failed_files files.old files.new file))
         ⊎ IsTrue (has_failed out.old out.new)) }

@@ -1,4 +1,4 @@
--- Sessions of a plan, one behind the other: before they begin, and when they have done all.
+-- Sessions of a plan, one after the other: before they begin, and when they have done all.
 use Rattle.std.specs.Prelude.{◌≡◌, ℕ, ◌+◌, ◌<◌, ◌≤◌, List, [], ◌∷◌, length, None, All}
 use Rattle.redo_model.specs.Journals.{next_of}
 use Rattle.redo_journal.specs.Plans.{PlanOf, script_of}
@@ -18,7 +18,7 @@ pub record AreReady (p : PlanOf) (b : Board) (s : Sessions) : Type 0 where
   pub some : s.first < s.end
   pub within : s.end ≤ length p.scripts
 
--- the lines that the journals of the sessions from s on tell
+-- the lines of the journals of the sessions from s on
 abbrev pub parts_told : PlanOf → ℕ → List Journal → List Part
 parts_told p s [] = []
 parts_told p s (journal ∷ journals) =
@@ -38,7 +38,7 @@ AllEnded p s [] = Unit {0}
 AllEnded p s (journal ∷ journals) = IsEnded p s journal × AllEnded p (s + 1) journals
 
 -- the sessions from this one on and below that one have nothing left to do, and their seat has the
--- lines that their journals tell
+-- lines of their journals
 pub record AreDone (p : PlanOf) (b : Board) (first end : ℕ) (seat : Seat)
     (journals : List Journal) : Type 0 where
   pub sits : SitsAt p b seat

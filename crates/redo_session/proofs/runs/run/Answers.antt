@@ -27,7 +27,7 @@ all_done p b scripts seat js same done =
     let told : List Item → List (model.Item ℕ) = λ script. map item_of script in
     subst (λ e. AreDone p b 0 e seat js) (sym (length-map scripts told) ∙ ap length same) done
 
--- what the closed board tells of them
+-- what the closed board says of them
 record Closed (p : PlanOf) (js : List Journal) : Type 0 where
   pub serves : Serves p js
   pub journals : AreJournals p js
