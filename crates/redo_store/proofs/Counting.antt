@@ -86,7 +86,7 @@ none_built count cells all_idle n =
     ∙ ap (λ (x : Cell). x.builds) (same_everywhere count n idle) in
     omega arith
 
--- a store whose numbers stand in their own order
+-- a store whose numbers are in their own order
 pub IsStored-by_number : (t : Stored) (count : ℕ) → t.sorted ≡ up_to count
     → length t.cells ≡ count → rows_count t.rows ≡ count
     → ((n : ℕ) → (cell_at t.cells n).builds ≤ t.applied) → count < 2 ^ 32 → IsStored t

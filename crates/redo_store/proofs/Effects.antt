@@ -1,4 +1,4 @@
--- Rows that are written one by one, and what a command makes of the records by them.
+-- Rows that are written one by one, and the command's effect on the records that they make up.
 use Rattle.std.proofs.Common.{◌≡◌, ℕ, ◌+◌, ◌<◌, ◌≤◌, ◌==◌, Bool, true, false, cond, ◌||◌, List, Option, Some, None, length, get_or, take, refl, sym, ap, ◌∙◌, subst, inl, inr}
 use Rattle.std.proofs.Math.Path.{fun_ext}
 use Rattle.std.proofs.lemmas.Bool.{cases_eq, eq-eqb, ne_eqb}
@@ -146,7 +146,7 @@ module _ {cells : List Cell} {from now : List TargetRows} {t : ℕ} (ns : List �
       subst (λ (names : List ℕ). AreRowsAfter cells from now (commands.IfCreate t names))
       (take_all i ns all)
 
--- what is written to the store by a start and an always
+-- what a start and an always write to the store
 module _ (t : Stored) (n : ℕ) (to : List TargetRows) where
   pub started : (s : ℕ) → n < length t.cells → rows_of to ≡ without_rows (rows_of t.rows) n
       → records_of (record t {

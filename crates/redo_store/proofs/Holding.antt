@@ -30,7 +30,7 @@ held_below tables s t is = elim (cases_lt t (length tables.holders)) [
       absurd (cc)
 ]
 
--- numbers in their order rise
+-- numbers in order rise
 pub rising : {P : ℕ → Type 0} (ts : List ℕ) → IsListed by_number P ts → IsStrictlyIncreasing ts
 rising ts listed k below =
     ranked (get_or ts k 0) (get_or ts (k + 1) 0) Less

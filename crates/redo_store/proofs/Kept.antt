@@ -1,4 +1,4 @@
--- Writes that keep the tables.
+-- Writes that keep the invariant of the tables.
 use Rattle.std.proofs.Common.{◌≡◌, ℕ, zero, suc, ◌<◌, ◌≤◌, ◌+◌, ◌^◌, ◌==◌, Bool, cond, List, [], ◌∷◌, Option, Some, None, length, get_or, sym, ap, ◌∙◌, subst, arith, inl, inr}
 use Rattle.std.proofs.Math.ListN.{set, length-set, replicate, length-replicate}
 use Rattle.std.proofs.Math.Path.{fun_ext}
@@ -47,7 +47,7 @@ IsStored-set_rows t to h same = record {
   few_names = h.few_names;
 }
 
--- a store that knows nothing
+-- a store in which nothing is known
 pub IsStored-new : (names : List (List ℕ)) (t : Stored) → AreSorted names t.sorted
     → t.cells ≡ replicate (length names) idle → rows_count t.rows ≡ length names
     → length names < 2 ^ 32 → IsStored t
@@ -66,7 +66,7 @@ IsStored-new names t sorted cells each few =
       few_names = subst (λ (m : ℕ). m < 2 ^ 32) (sym count) few;
     }
 
--- a write to a list is one to the function of its places
+-- a write to a list is a write to its function from places to values
 pub set_is_put : {X : Type 0} (xs : List X) (i : ℕ) (x d : X) → i < length xs → (k : ℕ)
     → get_or (set xs i x) k d ≡ cond (i == k) x (get_or xs k d)
 set_is_put xs i x d below k = elim (cases_eq i k) [

@@ -28,7 +28,7 @@ pub record AreFirst (t : Stored) (P : ℕ → Type 0) (items : List ℕ) (k : �
 
 module _ (naming : Naming ℕ) (P : ℕ → Type 0) (sorted : List ℕ) (k d : ℕ)
     (below : k < length sorted) where
-  -- what is among the first k stands before the next
+  -- what is among the first k comes before the next
   before_next : Ascending naming sorted → (n : ℕ) → Contains (take k sorted) n
       → naming.order n (get_or sorted k d) ≡ Less
   before_next up n (j, less, is) =
@@ -91,7 +91,7 @@ module _ (naming : Naming ℕ) (P : ℕ → Type 0) (sorted : List ℕ) (k d : �
       subst (IsListed naming (λ n. Contains (take k sorted ++ get_or sorted k d ∷ []) n × P n))
       (sym (append-nil names)) (listed_without names (λ p. false≢true (is.1 p)) h)
 
--- the next item is added where it is due
+-- the next item is added if it is due
 pub listed_next : (naming : Naming ℕ) (P : ℕ → Type 0) (items : List ℕ) (k d : ℕ)
     → k < length items → Ascending naming items → (names new_names : List ℕ) (due : Bool)
     → (IsTrue due ↔ P (get_or items k d)) → new_names ≡ names ++ cond due (get_or items k d ∷ []) []
@@ -161,7 +161,7 @@ pub named_below : {count : ℕ} (names : List ℕ) (n : ℕ) → AllBelow count 
 named_below {count} names n below h =
     All-contains (λ m. m < count) names n (All-from_recursion (λ m. m < count) names below) h
 
--- there is a name with P just where their list isn't empty
+-- a name has P exactly if their list isn't empty
 some_in : {P : ℕ → Type 0} (naming : Naming ℕ) (names : List ℕ) → IsListed naming P names
     → IsTrue (not (length names == 0)) ↔ ((n : ℕ) × P n)
 some_in naming [] h =

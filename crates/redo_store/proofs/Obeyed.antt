@@ -1,4 +1,4 @@
--- What a command that is no lock leaves of the locks.
+-- The locks after a command that is no lock.
 use Rattle.std.proofs.Common.{◌≡◌, ◌==◌, ℕ, zero, suc, ◌+◌, Bool, true, false, cond, List, [], ◌∷◌, Option, Some, None, get_or, refl, sym, ap, ◌∙◌, subst, inl, inr}
 use Rattle.std.specs.Prelude.{MatchOption}
 use Rattle.std.proofs.Math.ListN.{set}
@@ -23,7 +23,7 @@ abbrev pub freed : Naming ℕ → Locks ℕ → Option ℕ → Locks ℕ
 freed naming locks None = locks
 freed naming locks (Some t) = locks_freed naming locks t
 
--- an unlock frees its target where it is answered okay
+-- an unlock frees its target if the reply is okay
 unlocked : (naming : Naming ℕ) (locks : Locks ℕ) (t : ℕ) (reply : Reply ℕ)
     (verdict : Option (Refusal ℕ))
     → MatchOption verdict (reply ≡ Okay) (λ refusal. reply ≡ Refused refusal)
@@ -35,7 +35,7 @@ unlocked naming locks t reply (Some refusal) h =
     ap (λ (r : Reply ℕ). freed naming locks (freed_by (Unlock t) r)) (sym h)
 
 module _ (old : Tables) (s : ℕ) (holds : Bool) where
-  -- the locks that a command leaves, by its reply
+  -- the locks after a command, by its reply
   freed_after : (command : Command ℕ) (reply : Reply ℕ) → asked_lock command ≡ None
       → Replies (tables_naming old) (tables_records old) s holds command reply
       → locks_after (tables_naming old) (locks_of old) s
@@ -58,7 +58,7 @@ module _ (old : Tables) (s : ℕ) (holds : Bool) where
   freed_after Targets reply none h = refl
   freed_after Sources reply none h = refl
 
-  -- the state that it leaves, where its target's lock is freed after its change
+  -- the state after it, if its target's lock is freed after its change
   pub obeyed : (new : Tables) (command : Command ℕ) (reply : Reply ℕ) → asked_lock command ≡ None
       → holds ≡ holds_target (locks_of old) s command
       → Replies (tables_naming old) (tables_records old) s holds command reply
@@ -100,7 +100,7 @@ freed_at t n =
     fun_ext (none_is_put t.holders n) in
     λ i. record { holder = holders i; grants = (locks_of t).grants }
 
--- a command that is no lock is accepted where it isn't refused
+-- a command that is no lock is accepted if it isn't refused
 pub accepted_told : (t : Tables) (s : ℕ) (command : Command ℕ) (reply : Reply ℕ)
     → asked_lock command ≡ None → Answers (tables_naming t) (state_of t) s command reply
     → lets_through reply ≡ true
@@ -127,7 +127,7 @@ obeyed_accepted t to s new command reply none told through changed records locks
     obeyed t s holds new command reply none refl replies
     (records ∙ changed_accepted t.store to s holds command accepted changed) locks
 
--- a call that isn't let through leaves the state
+-- a command whose reply lets nothing through leaves the state
 pub stopped_call : (old counted : Tables) (s : ℕ) (command : Command ℕ) (reply : Reply ℕ)
     → Answers (tables_naming old) (state_of old) s command reply → lets_through reply ≡ false
     → counted ≡ record old { calls = calls_of old + 1 }
@@ -135,7 +135,7 @@ pub stopped_call : (old counted : Tables) (s : ℕ) (command : Command ℕ) (rep
 stopped_call old counted s command reply told stopped is =
     ap state_of is ∙ sym (stopped_same (tables_naming old) (state_of old) s command reply told stopped)
 
--- a call after room was made
+-- a call after memory was reserved
 pub called_in : (old made new : Tables) (s : ℕ) (command : Command ℕ) → IsAsBefore old made
     → state_of new ≡ after (tables_naming made) (state_of made) s command
     → state_of new ≡ after (tables_naming old) (state_of old) s command

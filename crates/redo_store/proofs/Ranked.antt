@@ -114,7 +114,7 @@ module _ (t : Stored) (Q : ℕ → Type 0) (names : List ℕ) (i : ℕ) (in' : i
       subst (PlacesOf t Q (take (i + 1) names)) (sym (append-nil ranks))
       (places_without ranks (λ q. false≢true (is.1 q)) h)
 
--- numbers that were sorted, and of which each was kept once
+-- numbers that were sorted, each kept once
 module _ (from sorted to : List ℕ) (moved : IsPermutation from sorted)
     (filtered : IsFiltered (DiffersFromLast ◌==◌) [] sorted to)
   where
@@ -137,7 +137,7 @@ module _ (from sorted to : List ℕ) (moved : IsPermutation from sorted)
           subst (λ (ks : List ℕ). Contains ks k) (sym kept) (Contains-dedup_nat sorted k there),
     )
 
--- what holds of each number holds of each that is kept
+-- what holds of each number holds of each kept one
 pub all_kept : (P : ℕ → Type 0) (from to : List ℕ) → ((k : ℕ) → Contains to k ↔ Contains from k)
     → All P from → All P to
 all_kept P from to same all i d in' =

@@ -1,5 +1,4 @@
--- What a command changes of the records and rows is at one name, so the memo was right but for
--- that.
+-- A command changes the records and rows at one name, so the memo was right but for that.
 use Rattle.std.proofs.Common.{◌≡◌, ◌∙◌, ◌≤◌, ℕ, length, Bool, true, false, cond, List, [], ◌∷◌, Option, None, refl, sym, ap, subst}
 use Rattle.std.specs.List.{Contains}
 use Rattle.std.proofs.Math.ListN.{replicate}
@@ -24,7 +23,7 @@ use Rattle.redo_store.proofs.Kept.{IsStored-set_cell, IsStored-set_rows}
 other_name : (n m : ℕ) → (Contains (n ∷ []) m → ⊥) → m ≡ n → ⊥
 other_name n m far e = far (subst (Contains (n ∷ [])) (sym e) (contains_first n []))
 
--- what is put at a name leaves the others
+-- a write at a name leaves the others
 put_far : {X : Type 0} (n m : ℕ) (x : X) (f : ℕ → X) → (Contains (n ∷ []) m → ⊥)
     → f m ≡ put by_number n x f m
 put_far n m x f far =
@@ -136,7 +135,7 @@ module _ {inside : Inside} (kept : KeepsStored inside) (n : ℕ) where
       subst (λ (cs : List Cell). WasRight (n ∷ []) inside.memo (with_rows cs inside.rows))
       (sym written) (was_right_by_cell inside.memo inside.records inside.rows n kept.memo_right c)
 
-  -- and the store is kept, where the cell has no more builds than commands were applied
+  -- and the store's invariant holds, if the cell has no more builds than commands were applied
   pub cell_refreshed : (c : Cell) {cells : List Cell} {memo : List Bool}
       → cells ≡ with_cell_at inside.records n c → c.builds ≤ inside.applied
       → memo_count memo ≡ length cells → IsRight memo (with_rows cells inside.rows)
@@ -155,7 +154,7 @@ rows_refreshed {inside} targets kept same =
     refreshed inside.records targets kept
     (IsStored-set_rows (stored_of inside) targets kept.stored same)
 
--- what stands in the records in the empty state
+-- the records of the empty state
 pub empty_records : (count : ℕ) (cells : List Cell) (targets : List TargetRows)
     → cells ≡ replicate count idle → rows_of targets ≡ no_rows
     → with_rows cells targets ≡ empty.records

@@ -1,4 +1,4 @@
--- The verdict on a command as the store finds it.
+-- The verdict on a command as the store computes it.
 use Rattle.std.proofs.Common.{◌≡◌, ℕ, Bool, Option, Some, None, refl, sym, ap, ◌∙◌, arith}
 use Rattle.std.specs.Option.{option_or}
 use Rattle.redo_terms.specs.declared.command.Command.{Command}
@@ -14,7 +14,7 @@ use Rattle.redo_model.specs.Step.{verdict_of}
 use Rattle.redo_records.specs.Refusals.{refusal_by_target, refusal_of_names, kind_for}
 use Rattle.redo_records.proofs.Refusals.{verdict_on_target}
 
--- the kind of a command is that of what it means
+-- the kind of a command is that of its meaning
 same_kind : (command : Command) → kind_of command ≡ kind_for (command_of command)
 same_kind (coded.File n stamp) = refl
 same_kind (coded.Gone n) = refl

@@ -1,4 +1,4 @@
--- Room, and what it leaves of the store.
+-- Reserved memory, and what it leaves of the store.
 use Rattle.std.proofs.Common.{◌≡◌, ℕ, Bool, true, false, List, None, Result, Ok, Err, refl, sym, ap, ◌∙◌}
 use Rattle.std.specs.Prelude.{IsTrue, Contains, OnErr}
 use Rattle.std.specs.List.{list_all}
@@ -20,7 +20,7 @@ all_of_them test ns each =
     list_all-from_AllPass test ns
     (All-weaker (Contains ns) (λ n. test n ≡ true) each ns (All-contains_itself ns))
 
--- what is accepted is accepted from one that holds its target
+-- a command that is accepted is accepted from a session that holds its target
 pub accepted_of_holder : (naming : Naming ℕ) (r : Records ℕ) (s : ℕ) (holds : Bool)
     (command : Command ℕ) → verdict_of naming r s holds command ≡ None
     → verdict_of naming r s true command ≡ None
@@ -40,7 +40,7 @@ accepted_of_holder naming r s false Ood none = none
 accepted_of_holder naming r s false Targets none = none
 accepted_of_holder naming r s false Sources none = none
 
--- what an accepted command made of the records is what it leaves
+-- the effect of an accepted command is what the command leaves
 pub changed_accepted : (old new : Stored) (s : ℕ) (holds : Bool) (command : Command ℕ)
     → verdict_of (naming_of old) (records_of old) s holds command ≡ None
     → HasEffect old new s command
@@ -50,7 +50,7 @@ changed_accepted old new s holds command accepted changed =
     ∙ ap (λ verdict. unless_refused verdict (records_of old)
     (effect_of (naming_of old) (records_of old) s command)) (sym accepted)
 
--- a command is applied after its room was made
+-- a command is applied after memory was reserved for it
 module _ (old made : Stored) (same : IsSameButRoom old made) (s : ℕ) (holds : Bool)
     (command : Command ℕ)
     (accepted : verdict_of (naming_of old) (records_of old) s holds command ≡ None) where
@@ -76,7 +76,7 @@ pub on_err_from : {X E P : Type 0} (r : Result X E) → P → OnErr r P
 on_err_from (Ok x) p = tt
 on_err_from (Err e) p = p
 
--- more room leaves all that callers see
+-- more reserved memory changes nothing that callers see
 pub IsAsBefore-room : (t : Tables) (to : Stored) → IsSameButRoom t.store to
     → IsAsBefore t (record t { store = to })
 IsAsBefore-room t to same = record {

@@ -1,4 +1,4 @@
--- What is known stays where there are more numbers.
+-- What is known stays if there are more numbers.
 use Rattle.std.proofs.Common.{◌≡◌, ◌↔◌, ℕ, Bool, List, None, get_or, IsTrue, sym, subst}
 use Rattle.redo_model.specs.OutOfDate.{OutOfDate}
 use Rattle.redo_model.specs.State.{Cell, Records}

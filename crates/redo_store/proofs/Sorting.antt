@@ -106,7 +106,7 @@ module _ {names : List (List ℕ)} (are : AreNames names) {from : List Pair}
       let lt : k < length names = omega (arith, h.whole) in
       subst (λ (n : ℕ). n < length names) (sym (h.number k d lt)) lt)
 
--- a number is there where a pair is at its place
+-- a number is in the list if a pair is at its place
 number_there : (from : List Pair) (n : ℕ) → n < length from → ((d : Pair) → (get_or from n d).1 ≡ n)
     → Contains (numbers_in from) n
 number_there [] n below is = absurd (omega arith)

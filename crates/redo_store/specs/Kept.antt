@@ -1,4 +1,4 @@
--- What the fields of the database show, and what they keep.
+-- The value of the database's fields, and their invariant.
 use Rattle.redo_store.specs.Tables.{Tables, AreTables}
 use Rattle.redo_store.specs.declared.redo.Redo.TheInside.{Inside}
 

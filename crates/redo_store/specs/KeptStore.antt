@@ -1,4 +1,4 @@
--- What the fields of the store show, and what they keep.
+-- The value of the store's fields, and their invariant.
 use Rattle.std.specs.Prelude.{◌≡◌}
 use Rattle.redo_ood.specs.Memo.{memo_count, IsRight}
 use Rattle.redo_store.specs.Orders.{AreRanks}
@@ -13,7 +13,7 @@ stored_of inside = record {
   applied = inside.applied;
 }
 
--- the fields are a store's, each name has its rank, and the memo has what is out of date
+-- the fields are a store's, each name has its rank, and the memo has the out-of-date targets
 pub record KeepsStored (inside : Inside) : Type 0 where
   pub stored : IsStored (stored_of inside)
   pub ranked : AreRanks inside.sorted.items inside.ranks.items

@@ -1,4 +1,4 @@
--- What the answers of the code mean.
+-- The meaning of the code's answers.
 use Rattle.std.specs.Prelude.{ℕ}
 use Rattle.redo_model.specs.Deps as model
 use Rattle.redo_store.specs.declared.deps.Deps.{Deps}

@@ -10,11 +10,11 @@ pub use Rattle.redo_terms.specs.Meaning.{by_text}
 abbrev pub place : List ℕ → ℕ → ℕ
 place sorted n = position_or_len (λ m. m == n) sorted
 
--- the order in which numbers stand in a list
+-- the order of the numbers in a list
 unfoldable pub by_place : List ℕ → ℕ → ℕ → Ordering
 by_place sorted m n = nat_cmp (place sorted m) (place sorted n)
 
--- the numbers below the count stand in their own order
+-- the numbers below the count are in their own order
 abbrev pub IsByNumber : ℕ → (ℕ → ℕ → Ordering) → Type 0
 IsByNumber count order = (m n : ℕ) → m < count → n < count → order m n ≡ nat_cmp m n
 
@@ -23,7 +23,7 @@ pub record AreSorted (names : List (List ℕ)) (sorted : List ℕ) : Type 0 wher
   pub listed : IsListed (by_text names) (λ n. n < length names) sorted
   pub whole : length sorted ≡ length names
 
--- each number of the list has a rank, at which it stands there
+-- each number of the list has a rank, which is its place there
 pub record AreRanks (sorted ranks : List ℕ) : Type 0 where
   pub has : (n : ℕ) → Contains sorted n → n < length ranks
   pub below : (n : ℕ) → Contains sorted n → slice_index ranks n < length sorted

@@ -1,4 +1,4 @@
--- What the store holds.
+-- The value of a store.
 use Rattle.std.specs.Prelude.{◌≡◌, ℕ, ◌<◌, ◌≤◌, ◌^◌, Bool, true, false, IsTrue, List, length}
 use Rattle.std.specs.List.{list_all}
 use Rattle.redo_model.specs.Command.{Command, IfChange, IfCreate, Ood, Targets, Sources}
@@ -35,7 +35,7 @@ naming_of stored = numbers (order_of stored)
 abbrev pub applied_of : Stored → ℕ
 applied_of stored = stored.applied
 
--- each name has a cell and rows, each number stands once, in order, no name was built more often
+-- each name has a cell and rows, each number is listed once, in order, no name was built more often
 -- than commands were applied, and each name has a number of 32 bits
 pub record IsStored (stored : Stored) : Type 0 where
   pub rows_for_each : rows_count stored.rows ≡ count_of stored
@@ -43,13 +43,13 @@ pub record IsStored (stored : Stored) : Type 0 where
   pub few_builds : (n : ℕ) → (cell_at stored.cells n).builds ≤ stored.applied
   pub few_names : count_of stored < 2 ^ 32
 
--- whether there is room for all rows of the command
+-- whether memory is reserved for all rows of the command
 abbrev pub has_room_for : Stored → Command ℕ → Bool
 has_room_for stored (IfChange t ns) = list_all (room_of stored.rows t) ns
 has_room_for stored (IfCreate t ns) = list_all (room_of stored.rows t) ns
 has_room_for stored command = true
 
--- whether a command is answered a list of names, where it isn't refused: that takes memory
+-- whether the reply to a command lists names, if it isn't refused: that allocates
 abbrev pub lists_names : Command ℕ → Bool
 lists_names (IfChange t ns) = true
 lists_names Ood = true
@@ -57,7 +57,7 @@ lists_names Targets = true
 lists_names Sources = true
 lists_names command = false
 
--- the same but for room, of which none is lost
+-- the same but for reserved memory, none of which is freed
 pub record IsSameButRoom (old new : Stored) : Type 0 where
   pub records : records_of new ≡ records_of old
   pub count : count_of new ≡ count_of old

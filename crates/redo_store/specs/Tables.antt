@@ -1,4 +1,4 @@
--- What the tables of the one-thread database hold.
+-- The value of the one-thread database.
 use Rattle.std.specs.Prelude.{◌≡◌, ℕ, ◌≤◌, List, Option, None, slice_index, slice_index_or, length}
 use Rattle.std.specs.declared.cmp.Ordering.{Ordering}
 use Rattle.redo_model.specs.State.{Records, Locks, State}
@@ -21,7 +21,7 @@ locks_of tables = record {
   grants = λ t. slice_index tables.grants t;
 }
 
--- the state that the tables hold
+-- the state of the tables
 abbrev pub state_of : Tables → State ℕ
 state_of tables = record { records = tables_records tables; locks = locks_of tables }
 

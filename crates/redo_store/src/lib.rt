@@ -1,4 +1,4 @@
-//! The redo database for one thread: what it knows and answers, and over that its locks.
+//! The redo database for one thread: the store of the records, and the database with its locks.
 #![tactic(auto)]
 
 mod deps;

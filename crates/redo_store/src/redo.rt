@@ -61,8 +61,8 @@ impl Redo {
         })
     }
 
-    /// The reply to a session's command, and its change. Want of memory changes neither the state nor the calls, and is
-    /// no answer to a lock or to a command that is refused.
+    /// The reply to a session's command, and its change. An error changes neither the state nor the calls. A lock, or a
+    /// command that is refused, gives no error.
     pub fn call(
         &mut self,
         alloc: Global,

@@ -26,8 +26,8 @@ mod room;
 mod spare;
 mod stale;
 
-/// The database without its locks, for one thread. Names are numbers below the number of names it was made for.
-/// Whether a session holds the target of its command is said with the command.
+/// The database without its locks, for one thread. Names are numbers below the number of names it was made for. Callers
+/// pass `holds`: whether the session holds the lock of the command's target.
 #[derive(Drop)]
 pub struct Store {
     records: Records,
@@ -80,8 +80,7 @@ impl Store {
         })
     }
 
-    /// The reply to a session's command, which is no lock. `holds` says whether the session holds its target. Only
-    /// lists of names take memory, and a refusal takes none.
+    /// The reply to a session's command, which is no lock. Only the lists of names allocate, and a refusal doesn't.
     pub fn reply(
         &self,
         alloc: Global,
@@ -104,8 +103,8 @@ impl Store {
         }
     }
 
-    /// Makes the change of a session's command, which is no lock. All room that this takes is made first, where there
-    /// is none: want of memory changes nothing but room.
+    /// Makes the change of a session's command, which is no lock. Reserves memory first, if it isn't reserved: an error
+    /// changes nothing but reserved memory.
     pub fn apply(&mut self, s: u8, command: &Command, holds: bool) -> Result<(), AllocError>
         requires numbers { IsBelow (count_of self.old) (command_of command.now) }
         requires no_lock { asked_lock (command_of command.now) ≡ None }
@@ -117,7 +116,7 @@ impl Store {
         ensures order { order_of self.new ≡ order_of self.old }
         ensures ok { has_room_for self.old (command_of command.now) ≡ true → IsOk result }
 
-        // That it is refused is found before any room is made, so want of memory is no answer then.
+        // A refused command reserves no memory, so it gives no error.
         ensures refused { IsSome (verdict_of (naming_of self.old) (records_of self.old) s holds
             (command_of command.now)) → IsOk result }
         ensures err { OnErr result (IsSameButRoom self.old self.new) }
@@ -132,7 +131,7 @@ impl Store {
         Ok(())
     }
 
-    /// Makes the change of a session's command that is accepted, and for which there is room. Takes no memory.
+    /// Makes the change of a session's accepted command, for which memory is reserved. Allocates nothing.
     pub(crate) fn apply_accepted(&mut self, s: u8, command: &Command)
         requires numbers { IsBelow (count_of self.old) (command_of command.now) }
         requires applied { applied_of self.old + 1 < 2 ^ 32 }
@@ -168,7 +167,7 @@ impl Store {
         }
     }
 
-    /// What an accepted command is answered.
+    /// The reply to an accepted command.
     fn answer(&self, alloc: Global, command: &Command) -> Result<Reply, AllocError>
         requires numbers { IsBelow (count_of self.now) (command_of command.now) }
         requires no_lock { asked_lock (command_of command.now) ≡ None }
@@ -188,7 +187,7 @@ impl Store {
         self.applied += 1;
     }
 
-    /// Makes the change of an accepted command, after that was counted.
+    /// Makes the change of an accepted command, which is counted already.
     fn change(&mut self, s: u8, command: &Command)
         requires numbers { IsBelow (count_of self.old) (command_of command.now) }
         requires accepted { verdict_of (naming_of self.old) (records_of self.old) s true

@@ -1,7 +1,7 @@
 //! The rows of the table of commands as code of the store.
 
-/// Returns the refusal of a need of a row, where the need is not met, by the store and the command's fields. A need of
-/// the target alone is passed over.
+/// Returns the refusal of a need, if the store and the command's fields don't meet the need. A need about the target
+/// alone is skipped.
 macro_rules! refuse_names_unless {
     (held $refusal:ident $row:tt) => {};
     (resting $refusal:ident $row:tt) => {};

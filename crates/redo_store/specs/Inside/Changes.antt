@@ -1,4 +1,4 @@
--- What a command that is accepted changes of the store.
+-- How an accepted command changes the store.
 use Rattle.std.specs.Prelude.{◌≡◌, ℕ, List, Option}
 use Rattle.redo_model.specs.Command.{Command}
 use Rattle.redo_model.specs.Names.{Text}
@@ -7,22 +7,22 @@ use Rattle.redo_model.specs.Step.{effect_of, with_cell}
 use Rattle.redo_rows.specs.Rows.{TargetRows, by_number, with_rows}
 use Rattle.redo_store.specs.Stored.{Stored, records_of, naming_of}
 
--- the new store knows what the command of the session makes of what the old one knew
+-- the records of the new store are the effect of the session's command on those of the old
 abbrev pub HasEffect : Stored → Stored → ℕ → Command ℕ → Type 0
 HasEffect old new s command =
     records_of new ≡ effect_of (naming_of old) (records_of old) s command
 
--- so it is whichever session's command it was
+-- the same whichever session gives the command
 abbrev pub HasEffectOfAny : Stored → Stored → Command ℕ → Type 0
 HasEffectOfAny old new command = (s : ℕ) → HasEffect old new s command
 
--- over these cells, the new rows are what the command makes of the old ones, whichever session's
--- it is
+-- over these cells, the new rows are the effect of the command on the old ones, whichever session
+-- gives it
 pub record AreRowsAfter (cells : List Cell) (old new : List TargetRows)
     (command : Command ℕ) : Type 0 where
   pub effect : (s : ℕ) → with_rows cells new ≡ effect_of by_number (with_rows cells old) s command
 
--- what the store knew, with this file of the name, or with none
+-- the store's records, with this file of the name, or with none
 abbrev pub records_with_file : Stored → ℕ → Option Text → Records ℕ
 records_with_file old n file =
     with_cell (naming_of old) (records_of old) n (record ((records_of old).cell n) { file = file })

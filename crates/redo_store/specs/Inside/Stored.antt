@@ -1,4 +1,4 @@
--- What the store holds.
+-- The value of a store.
 use Rattle.std.specs.Prelude.{◌≡◌, ℕ, ◌<◌, ◌^◌, List, All, Contains, length, slice_index}
 use Rattle.redo_model.specs.Names.{IsListed}
 use Rattle.redo_model.specs.Renaming.{AllBelow}

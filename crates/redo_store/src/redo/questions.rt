@@ -1,4 +1,4 @@
-//! Questions about what the database holds.
+//! Questions about the database.
 ghost use Rattle.std.specs.Prelude.{◌≡◌, ℕ, ◌<◌, ◌≤◌, ◌↔◌, Some, Contains, IfOk, IfSome, IsOk, option_map};
 ghost use Rattle.std.specs.List.Sorted.{IsStrictlyIncreasing};
 ghost use Rattle.redo_model.specs.Changes.{changes};
@@ -26,8 +26,8 @@ use redo_terms::{Command, FileStamp, Reply};
 use std::alloc::{AllocError, Global};
 
 impl Redo {
-    /// Why the target is out of date, where it is so. Changes nothing, and looks at names that a chain of change rows
-    /// leads to. Takes memory for these alone, and none where it is up to date.
+    /// Why the target is out of date, if it is. Changes nothing. Looks at names that a chain of change rows leads to,
+    /// and allocates for these alone; nothing if the target is up to date.
     pub fn why(&mut self, alloc: Global, t: u32) -> Result<Option<Why>, AllocError>
         requires { t < tables_count self.old }
         ensures kept { self.new ≡ self.old }
@@ -50,7 +50,7 @@ impl Redo {
         self.store.deps(alloc, t)
     }
 
-    /// How far it has come.
+    /// Its state.
     pub fn state(&self, n: u32) -> State
         requires { n < tables_count self.now }
         ensures { target_state_of result ≡ target_state (tables_records self.now) n }
@@ -74,7 +74,7 @@ impl Redo {
         self.holders[n as usize]
     }
 
-    /// How many numbers there are for names. Of no other number is anything known.
+    /// How many numbers there are for names. Nothing is known of any other number.
     pub fn count(&self) -> u32
         ensures count { result ≡ tables_count self.now }
         ensures others { (n : ℕ) → tables_count self.now ≤ n → IsUnknown (state_of self.now) n }
@@ -105,7 +105,7 @@ impl Redo {
         self.store.is_building(t)
     }
 
-    /// Whether the command with this reply changes what is known.
+    /// Whether the command with this reply changes the state.
     pub fn changes(&self, command: &Command, reply: &Reply) -> bool
         requires { IsBelow (tables_count self.now) (command_of command.now) }
         ensures { result

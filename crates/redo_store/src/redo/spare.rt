@@ -1,4 +1,4 @@
-//! A database with numbers for names that are still to come.
+//! A database with numbers for names that come later.
 
 ghost use Rattle.std.specs.Prelude.{◌≡◌, ◌≤◌, IfOk, OnOk, OnErr};
 ghost use Rattle.redo_model.specs.State.{empty};
@@ -29,7 +29,7 @@ impl Redo {
         })
     }
 
-    /// More numbers for names, up to `numbers` in all, and all of them in their own order. Want of memory changes nothing.
+    /// More numbers for names, up to `numbers` in all, and all of them in their own order. An error changes nothing.
     pub fn grow(&mut self, numbers: u32) -> Result<(), AllocError>
         requires { tables_count self.old ≤ numbers }
         ensures state { state_of self.new ≡ state_of self.old }

@@ -1,4 +1,4 @@
-//! A call in its three steps: the reply, the room, and the change.
+//! The three steps of a call: the reply, reserving memory, and the change.
 ghost use Rattle.std.specs.Prelude.{◌≡◌, ℕ, ◌+◌, ◌^◌, ◌<◌, Some, None, true, slice_set, IfOk, IsOk, IsSome, OnOk};
 ghost use Rattle.redo_model.specs.Names.{numbers};
 ghost use Rattle.redo_model.specs.Command as commands;
@@ -15,7 +15,7 @@ use crate::redo::Redo;
 use redo_terms::{Command, Reply};
 use std::alloc::{AllocError, Global};
 
-/// The name whose lock a command asks for.
+/// The name that a `lock` is about.
 fn asked_lock(command: &Command) -> Option<u32>
     ensures { result ≡ asked_lock (command_of command.now) }
 {
@@ -25,7 +25,7 @@ fn asked_lock(command: &Command) -> Option<u32>
     }
 }
 
-/// The target that a command with this reply sets free.
+/// The target that a command with this reply frees.
 fn freed_by(command: &Command, reply: &Reply) -> Option<u32>
     ensures { result ≡ freed_by (command_of command.now) (reply_of reply.now) }
 {
@@ -36,7 +36,7 @@ fn freed_by(command: &Command, reply: &Reply) -> Option<u32>
 }
 
 impl Redo {
-    /// The reply that `call` gives, without its change. A lock and a refusal take no memory.
+    /// The reply that `call` gives, without its change. A lock and a refusal allocate nothing.
     pub fn reply(&self, alloc: Global, session: u8, command: &Command) -> Result<Reply, AllocError>
         requires numbers { IsBelow (tables_count self.now) (command_of command.now) }
         requires calls { calls_of self.now + 1 < 2 ^ 32 }
@@ -59,7 +59,8 @@ impl Redo {
         }
     }
 
-    /// Room for the change of a command, and no other change. Where there is room already, no memory is asked for.
+    /// Reserves memory for the change of a command, and changes nothing else. Allocates nothing if it is reserved
+    /// already.
     pub fn reserve(&mut self, command: &Command) -> Result<(), AllocError>
         requires numbers { IsBelow (tables_count self.old) (command_of command.now) }
         ensures same { IsAsBefore self.old self.new }
@@ -69,7 +70,7 @@ impl Redo {
         self.store.make_room(command)
     }
 
-    /// The change of a session's command that is answered so. Takes no memory.
+    /// The change of a session's command with this reply. Allocates nothing.
     pub fn change(&mut self, session: u8, command: &Command, reply: &Reply)
         requires numbers { IsBelow (tables_count self.old) (command_of command.now) }
         requires calls { calls_of self.old + 1 < 2 ^ 32 }

@@ -43,7 +43,7 @@ fn create_each(rows: &mut DepRows, t: u32, names: &[u32])
     }
 }
 
-/// Makes the memo right after a change of the name's record or rows.
+/// Corrects the memo after a change of the name's record or rows.
 fn refresh(memo: &mut Ood, records: &Records, rows: &DepRows, n: u32)
     requires name { n < length records.now }
     requires rows { rows_count rows.now ≡ length records.now }
@@ -61,7 +61,7 @@ impl Store {
         ensures after { records_of self.new ≡ records_with_file self.old n file }
         ensures kept { KeepsNames self.old self.new }
     {
-        // Where it changes nothing, the memo is right as it is.
+        // If nothing changes, the memo is right already.
         if self.is_file(n, &file) {
             return;
         }

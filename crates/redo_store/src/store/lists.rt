@@ -34,7 +34,7 @@ fn reply_to_ifchange(stale: Vec<u32>) -> Reply
 }
 
 impl Store {
-    /// Which of the names are stale, or that none is.
+    /// Which of the names are stale, if any.
     pub(crate) fn stale_reply(&self, alloc: Global, names: &[u32]) -> Result<Reply, AllocError>
         requires { AllBelow (count_of self.now) names.now }
         ensures tells { IfOk result (λ reply. (t : ℕ) → Tells (naming_of self.now)

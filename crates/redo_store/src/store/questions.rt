@@ -1,4 +1,4 @@
-//! Questions about what the store knows.
+//! Questions about the store.
 ghost use Rattle.std.specs.Prelude.{◌≡◌, ◌↔◌, ◌<◌, IsTrue, IfOk, IfSome, IsOk, option_map};
 ghost use Rattle.redo_model.specs.Deps.{AreDeps};
 ghost use Rattle.redo_model.specs.Inside.Deps.{AreDepsBelow};
@@ -23,8 +23,8 @@ use redo_terms::FileStamp;
 use std::alloc::{AllocError, Global};
 
 impl Store {
-    /// Why the target is out of date, where it is so. Changes nothing, and looks at names that a chain of change rows
-    /// leads to. Takes memory for these alone, and none where it is up to date.
+    /// Why the target is out of date, if it is. Changes nothing. Looks at names that a chain of change rows leads to,
+    /// and allocates for these alone; nothing if the target is up to date.
     pub fn why(&mut self, alloc: Global, t: u32) -> Result<Option<Why>, AllocError>
         requires { t < count_of self.old }
         ensures kept { self.new ≡ self.old }
@@ -51,7 +51,7 @@ impl Store {
         })
     }
 
-    /// How far it has come.
+    /// Its state.
     pub fn state(&self, n: u32) -> State
         requires { n < count_of self.now }
         ensures { target_state_of result ≡ target_state (records_of self.now) n }

@@ -10,7 +10,7 @@ use redo_terms::Command;
 use std::alloc::AllocError;
 
 impl Store {
-    /// Whether there is room for all rows of the command.
+    /// Whether memory is reserved for all rows of the command.
     pub fn has_room(&self, command: &Command) -> bool
         requires numbers { IsBelow (count_of self.now) (command_of command.now) }
         ensures { result ≡ has_room_for self.now (command_of command.now) }
@@ -22,7 +22,7 @@ impl Store {
         }
     }
 
-    /// Makes room for all rows of the command, and changes nothing else. Room that was there stays, also where memory
+    /// Reserves memory for all rows of the command, and changes nothing else. What was reserved stays, also if memory
     /// runs out.
     pub fn reserve(&mut self, command: &Command) -> Result<(), AllocError>
         requires numbers { IsBelow (count_of self.old) (command_of command.now) }
@@ -36,7 +36,7 @@ impl Store {
         }
     }
 
-    /// Room for all rows of the command. Where there is room already, no memory is asked for.
+    /// Reserves memory for all rows of the command. Allocates nothing if it is reserved already.
     pub(crate) fn make_room(&mut self, command: &Command) -> Result<(), AllocError>
         requires numbers { IsBelow (count_of self.old) (command_of command.now) }
         ensures same { IsSameButRoom self.old self.new }

@@ -1,4 +1,4 @@
-//! A store with numbers for names that are still to come.
+//! A store with numbers for names that come later.
 
 ghost use Rattle.std.specs.Prelude.{◌≡◌, ◌≤◌, IfOk, OnOk, OnErr};
 ghost use Rattle.std.specs.List.{range_with_len};
@@ -42,8 +42,8 @@ impl Store {
         })
     }
 
-    /// More numbers for names, up to `numbers` in all, and all of them in their own order. What takes memory is done before
-    /// anything changes.
+    /// More numbers for names, up to `numbers` in all, and all of them in their own order. It allocates before anything
+    /// changes.
     pub fn grow(&mut self, numbers: u32) -> Result<(), AllocError>
         requires { count_of self.old ≤ numbers }
         ensures records { records_of self.new ≡ records_of self.old }

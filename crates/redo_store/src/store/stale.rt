@@ -18,7 +18,7 @@ fn in_order(mut ranks: Vec<u32>) -> Vec<u32>
     ranks
 }
 
-/// The names that stand at these places of the order.
+/// The names at these places of the order.
 fn names_at(alloc: Global, sorted: &[u32], places: &[u32]) -> Result<Vec<u32>, AllocError>
     requires { All (λ k. k < length sorted.now) places.now }
     ensures { IfOk result (λ names.
