@@ -1,4 +1,4 @@
--- What a line asks, by its cut at the first space.
+-- The session and the text of a line, by its cut at the first space.
 use Rattle.std.proofs.Common.{◌≡◌, ℕ, ◌+◌, ◌∷◌, ◌++◌, sym, ap, ◌∙◌, subst, append_assoc, arith}
 use Rattle.std.specs.Prelude.{codes, decimal}
 use Rattle.std.specs.List.{Contains}

@@ -1,4 +1,4 @@
--- A conversation as its readers see it: after a history.
+-- The public view of a conversation: after a history.
 use Rattle.std.proofs.Common.{◌≡◌, List, [], ◌++◌, Option, refl, sym, ap, ◌∙◌, subst, append-nil}
 use Rattle.std.specs.Io.KnownBytes.{Consumes, Appends, Keeps}
 use Rattle.std.proofs.KnownBytes.{Appends-nil, Consumes-nil, Consumes-kept}
@@ -23,7 +23,7 @@ abbrev pub nothing : Waiting
 nothing = record { said = []; logged = [] }
 
 module _ (before : List (Line Text)) (first now : Moment) (led : LeadsTo before first.known) where
-  -- what is logged of lines after the history
+  -- what lines after the history log
   logged_after : (lines : List (Line Text)) → logged_of first.known.state lines
       ≡ logged_of (left_by texts empty before) lines
   logged_after lines = ap (λ st. logged_of st lines) led.state_is
@@ -82,11 +82,11 @@ left_by_all : (live : LiveState) (lines : List (Line Text)) → LeadsTo lines (k
 left_by_all live lines is =
     record { legal = is.legal; names_are = is.names_are; state_is = is.state_is }
 
--- an empty database is as the history without lines leaves it
+-- an empty database is in the state after the history without lines
 pub left_by_none : (live : LiveState) → live.names ≡ [] → state_in live ≡ empty → IsLeftBy live []
 left_by_none live names state = record { legal = tt; names_are = names; state_is = state }
 
--- where nothing was heard from the start on
+-- if no line was read from the start on
 pub none_heard : (left log out : Option Text) → (rounds : List Round) × (torn : Text)
     × IsConversation [] rounds torn left left log log out out
 none_heard left log out = (
@@ -102,7 +102,7 @@ none_heard left log out = (
   },
 )
 
--- where nothing was heard after a history
+-- if no line was read after a history
 pub nothing_heard : (live : LiveState) (left log out : Option Text) (before : List (Line Text))
     → IsLeftBy live before → (rounds : List Round) × (torn : Text)
     × IsConversation before rounds torn left left log log out out
@@ -129,7 +129,7 @@ module _ (live now : LiveState) (left0 left log0 log out0 out : Option Text)
     first : Moment
     first = record { known = known_of live; left = left0; log = log0; out = out0 }
 
-    -- what was heard, where nothing waits
+    -- the lines that were read, if no answer waits
     pub all_heard : logged ≡ [] → said ≡ [] → HasNoEnd begun → (before : List (Line Text))
         → IsLeftBy live before → (rounds : List Round) × (torn : Text)
         × IsConversation before rounds torn left0 left log0 log out0 out
@@ -174,7 +174,7 @@ module _ (live now : LiveState) (left0 left log0 log out0 out : Option Text)
         heard_more first (record { known = known_of now; left = left; log = log; out = out })
         (record { said = said; logged = logged }) left' begun bytes taken talk
 
--- where a write failed
+-- if a write failed
 pub cut_short : (live : LiveState) (left0 log0 out0 : Option Text) (now : Moment)
     → IsBrokenOff (record { known = known_of live; left = left0; log = log0; out = out0 }) now
     → (before : List (Line Text)) → IsLeftBy live before → (sent : List Round) × (kept : List Round)

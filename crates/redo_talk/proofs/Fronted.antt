@@ -1,4 +1,4 @@
--- What is logged of a round is a front of what is said.
+-- What a round logs is a prefix of its answer.
 use Rattle.std.proofs.Common.{◌≡◌, Bool, true, false, cond, [], ◌∷◌, ◌++◌, refl, sym, ap, ◌∙◌, append-nil, inl, inr}
 use Rattle.redo_model.specs.Names.{Text, texts}
 use Rattle.redo_model.specs.History.{Line}
@@ -35,7 +35,7 @@ ending_front old new round is =
       is.said_is ∙ ap (λ ls. lines_text_of ls ++ end_text_of is.session) (sym all),
     )
 
--- where no line was made nothing is logged
+-- if no line was made nothing is logged
 none_front : (old : Known) (round : Round) → round.lines ≡ [] → LogsFront old.state round
 none_front old round none =
     (round.said, ap (λ ls. logged_of old.state ls ++ round.said) (sym none))

@@ -16,7 +16,7 @@ no_end_both a b x y is = elim (Contains-append_cases a b 10 is) [
   | inr c ↦ y c
 ]
 
--- behind a front there is room for so much of what comes
+-- after a prefix, so much of what comes fits
 pub kept_behind : (front more : Text) → length front ≤ 8196
     → front ++ take (8196 - length front) more ≡ kept_of (front ++ more)
 kept_behind front more few =
@@ -24,7 +24,7 @@ kept_behind front more few =
     sym (take-append-add front more (8196 - length front))
     ∙ ap (λ n. take n (front ++ more)) split
 
--- of a line of which so much is kept, more is kept only behind a short front
+-- of a line of which so much is kept, more is kept only after a short prefix
 pub kept_more : (whole more : Text) → kept_of (kept_of whole ++ more) ≡ kept_of (whole ++ more)
 kept_more whole more = elim (cases_lt (length whole) 8196) [
   | inl short ↦ ap (λ t. kept_of (t ++ more)) (take_all 8196 whole (omega arith))
@@ -60,7 +60,7 @@ pub heard_behind : (begun front piece line : Text) → IsFrontOf begun front
 heard_behind begun front piece line is e =
     inr (e ∙ ap (λ t. kept_of (t ++ piece)) is.kept ∙ kept_more begun piece)
 
--- a line goes on behind a piece that ends one
+-- a line goes on after a piece that ends one
 pub next_line : (begun rest piece after : Text) → rest ≡ piece ++ 10 ∷ after
     → begun ++ rest ≡ ended (begun ++ piece) ++ after
 next_line begun rest piece after e =

@@ -1,4 +1,4 @@
--- Steps from where a history led are rounds after that history.
+-- Steps from the state after a history are rounds after that history.
 use Rattle.std.proofs.Common.{◌≡◌, ◌⊎◌, ℕ, ◌+◌, ◌≤◌, Bool, true, false, cond, List, [], ◌∷◌, ◌++◌, length, refl, sym, ap, ◌∙◌, subst, append-nil, append_assoc, inl, inr}
 use Rattle.std.specs.Prelude.{codes, decimal}
 use Rattle.std.specs.List.{AllByRecursion, flat_map}
@@ -38,7 +38,7 @@ IsClosing s line = (line.session ≡ s) × (line.reply ≡ Okay)
 abbrev line_names : Line Text → List Text
 line_names line = names_in line.command
 
--- the lines that let go of a target, and more
+-- the closing lines of a target, and more
 abbrev lets_go : ℕ → Text → Bool → List (Line Text) → List (Line Text)
 lets_go s t building more =
     (cond building (okay_line s (Failed t) ∷ []) [] ++ okay_line s (Unlock t) ∷ []) ++ more
@@ -62,7 +62,7 @@ closing_each s st (t ∷ ts) =
     each_with s t (closing_lines_of s st ts) (is_building (target_state st.records t))
     (closing_each s st ts)
 
--- it speaks of names that are known
+-- its names are known
 closing_known : (names : List Text) (s : ℕ) (st : State Text) (ts : List Text) → AreKnown names ts
     → AreKnown names (flat_map line_names (closing_lines_of s st ts))
 closing_known names s st [] known = tt
@@ -72,7 +72,7 @@ closing_known names s st (t ∷ ts) known =
 
 module _ (before : List (Line Text)) (old new : Known) (round : Round) (led : LeadsTo before old)
   where
-    -- what a step leaves, where its lines are known
+    -- the state after a step, if its lines are known
     led_by : (lines : List (Line Text)) → round.lines ≡ lines → LeadsTo (before ++ lines) new
         → LeadsTo (before ++ round.lines) new
     led_by lines e is = subst (λ ls. LeadsTo (before ++ ls) new) (sym e) is
@@ -154,7 +154,7 @@ module _ (before : List (Line Text)) (old new : Known) (round : Round) (led : Le
       none = step.none;
     }
 
-    -- the lines of an end, by what the history before it left
+    -- the lines of an end, by the state after the history before it
     closing_is : (step : Ending old new round) → round.lines
         ≡ closing_lines_of step.session (left_by texts empty before) step.held
     closing_is step =
@@ -212,7 +212,7 @@ module _ (before : List (Line Text)) (old new : Known) (round : Round) (led : Le
     step_leads (inr (inr (inr step))) =
         unchanged_leads step.none step.same_names step.same_state
 
--- steps from where a history led are rounds after it, and lead on with their lines
+-- steps from the state after a history are rounds after it, and extend it by their lines
 pub steps_are_rounds : (before : List (Line Text)) (old new : Known) (rounds : List Round)
     → LeadsTo before old → AreSteps old new rounds → AreRounds before rounds
 steps_are_rounds before old new [] led same = tt

@@ -1,4 +1,4 @@
--- What is kept of a line tells the fault of the whole line.
+-- What is kept of a line determines the fault of the whole line.
 use Rattle.std.proofs.Common.{◌≡◌, ◌⊎◌, ℕ, ◌+◌, ◌-◌, ◌<◌, ◌≤◌, List, ◌++◌, length, take, drop, length-append, append_assoc, sym, ap, ◌∙◌, subst, inl, inr, arith}
 use Rattle.std.specs.Prelude.{codes, decimal}
 use Rattle.std.proofs.Math.Seq.{take-append-add}
@@ -23,7 +23,7 @@ front_is_short s few =
       length-decimal-le 2 (s + 1) (omega arith) (omega arith) (omega arith),
     )
 
--- what a line asks, what is kept of it asks too, with a front of the text
+-- what is kept of a line has the line's session, with a prefix of its text
 asks_in_front : (whole : Text) (s : ℕ) (text : Text) → Asks whole s text
     → Asks (kept_of whole) s (take (8196 - length (front_of s)) text)
 asks_in_front whole s text (few, parts) =
@@ -34,7 +34,7 @@ asks_in_front whole s text (few, parts) =
           ∙ take-append-add d text (8196 - length d),
     )
 
--- and what is kept of it asks, it asks with more
+-- and the line has the session of what is kept, with more text
 asks_with_more : (whole : Text) (s : ℕ) (text : Text) → Asks (kept_of whole) s text
     → Asks whole s (text ++ drop 8196 whole)
 asks_with_more whole s text (few, parts) =
@@ -120,7 +120,7 @@ module _ (old new : Known) (round : Round) (whole : Text) (heard : round.heard �
           ))
       long_step (inr (inr (inr step))) = inr (inr (inr (refusing_whole step)))
 
-    -- what is answered to what is kept of a line is the answer to the line
+    -- the answer to what is kept of a line is the answer to the line
     step_of_kept : IsStep old new round → IsStep old new (record round { heard = whole })
     step_of_kept step = elim (cases_lt (length whole) 8196) [
       | inl short ↦ subst (λ h. IsStep old new (record round { heard = h }))

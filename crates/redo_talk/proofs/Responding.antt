@@ -1,4 +1,4 @@
--- A conversation goes on, or breaks off, by what is answered to a line and by what is sent.
+-- A conversation goes on, or breaks off, by the answer to a line and by what is sent.
 use Rattle.std.proofs.Common.{◌≡◌, ◌⊎◌, [], ◌++◌, Option, refl, sym, ap, ◌∙◌, subst, append-nil, inl, inr}
 use Rattle.std.specs.Io.KnownBytes.{Appends, Keeps}
 use Rattle.std.proofs.KnownBytes.{Appends-kept}
@@ -30,7 +30,7 @@ same_waiting first left known log out logged said logged' said' more e f talk =
     subst (λ w. IsTalk first (moment_at (place known log out logged said) left) w more)
     (λ i. record { said = sym f i; logged = sym e i }) talk
 
--- devices that keep what they hold
+-- devices whose contents stay the same
 kept_devices : (first now : Moment) (waiting : Waiting) (more : Text) (log out : Option Text)
     → Keeps now.log log → Keeps now.out out → IsTalk first now waiting more
     → IsTalk first (record now { log = log; out = out }) waiting more
@@ -89,7 +89,7 @@ module _ (old new : Known) (log out : Option Text) (logged said : Text) (round :
             (record { said = said ++ round.said; logged = logged }) log' out' more is.to_log
             is.to_out (refused_waits first left talk))
 
-        -- a fault that was told
+        -- a fault that was written
         pub told_goes_on : IsKeptBack log log' out out' logged logged' said said' round.said
             ⊎ IsSent log log' out out' logged logged' said said' round.said
             → GoesOn (place old log out logged said) (place new log' out' logged' said')
@@ -97,7 +97,7 @@ module _ (old new : Known) (log out : Option Text) (logged said : Text) (round :
         told_goes_on (inl is) = kept_back_goes_on is
         told_goes_on (inr is) = sent_goes_on is
 
-        -- a fault that could not be told
+        -- a fault that could not be written
         pub untold_breaks_off : SendsFronts log log' out out' logged (said ++ round.said)
             → BreaksOff (place old log out logged said) (place new log' out' logged' said')
             (ended whole ++ more)

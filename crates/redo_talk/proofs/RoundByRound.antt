@@ -1,4 +1,4 @@
--- A conversation goes on: a line more is answered, what waits is sent, more is heard.
+-- A conversation goes on: one more line is answered, answers are sent, more is read.
 use Rattle.std.proofs.Common.{◌≡◌, ◌⊎◌, List, [], ◌∷◌, ◌++◌, Option, refl, sym, ap, ◌∙◌, subst, append-nil, append_assoc, inl, inr, cond}
 use Rattle.std.specs.List.{flat_map}
 use Rattle.std.specs.Io.KnownBytes.{Consumes, Appends}
@@ -28,7 +28,7 @@ steps_more old middle new [] round same step =
 steps_more old middle new (first ∷ rounds) round (next, one, steps) step =
     (next, one, steps_more next middle new rounds round steps step)
 
--- what a step leaves is what its lines leave
+-- the state after a step is that after its lines
 step_state : (old new : Known) (round : Round) → IsStep old new round
     → new.state ≡ left_by texts old.state round.lines
 step_state old new round (inl step) =
@@ -77,7 +77,7 @@ abbrev pub with_known : Moment → Known → Moment
 with_known now known = record now { known = known }
 
 module _ (first now : Moment) (waiting : Waiting) where
-  -- a line was heard and answered
+  -- a line was read and answered
   pub answered_more : (round : Round) (known : Known) (more : Text) → IsStep now.known known round
       → IsTalk first now waiting (ended round.heard ++ more)
       → IsTalk first (with_known now known) (record {
@@ -135,7 +135,7 @@ module _ (first now : Moment) (waiting : Waiting) where
     to_say = refl;
   }
 
-  -- more was heard
+  -- more was read
   pub heard_more : (left : Option Text) (more bytes : Text) → Consumes now.left left bytes
       → IsTalk first now waiting more → IsTalk first (record now { left = left }) waiting
       (more ++ bytes)
@@ -153,7 +153,7 @@ module _ (first now : Moment) (waiting : Waiting) where
     to_say = talk.to_say;
   }
 
-  -- a front of what waited was sent
+  -- a prefix of what waited was sent
   pub broken_off : (log out : Option Text) (more log_front log_rest said_front said_rest : Text)
       → waiting.logged ≡ log_front ++ log_rest → waiting.said ≡ said_front ++ said_rest
       → Appends now.log log log_front → Appends now.out out said_front
@@ -181,7 +181,7 @@ module _ (first now : Moment) (waiting : Waiting) where
         log_first = order;
       }
 
--- at first nothing was heard
+-- at first nothing was read
 pub talk_begins : (now : Moment) → IsTalk now now (record { said = []; logged = [] }) []
 talk_begins now = record {
   sent = [];

@@ -1,4 +1,4 @@
--- What a line would be told where there is room for it.
+-- The answer to a line, if it fits.
 use Rattle.std.proofs.Common.{◌≡◌, ◌≢◌, ◌⊎◌, ℕ, ◌+◌, List, [], ◌∷◌, ◌++◌, refl, sym, ap, ◌∙◌, subst, append-nil, inl, inr, length, None}
 use Rattle.std.specs.Prelude.{codes, decimal}
 use Rattle.std.specs.List.{flat_map}
@@ -85,7 +85,7 @@ module _ (old : LiveState) (heard : Text) (session : ℕ) where
         front = logs_front (known_of old) (known_of new) round step;
       }
 
-  -- and what would be told
+  -- and what the answer would be
   pub would_answer : (text : Text) (size : ℕ) → WouldAnswer old session text size
       → Asks heard session text → WouldTell (known_of old) heard size
   would_answer text size would asks =
@@ -162,7 +162,7 @@ module _ (old : LiveState) (heard : Text) (session : ℕ) where
     size_is = e;
   }
 
--- the line of a fault, which names no session or has this cause
+-- the line of a fault, whose line has no session or this cause
 abbrev IsFaultLine : List Text → Text → Text → Type 0
 IsFaultLine names heard line =
     (HasNoSession heard × (line ≡ fault_text_of (codes "0") (codes "bad-session")))
@@ -209,7 +209,7 @@ module _ (old new : LiveState) (same : IsAsKnown old new) (heard line : Text)
     refusal_put_off most (Unanswered why) e = e
     refusal_put_off most (TooLong size) (more, e) = (more, would_refuse size e)
 
--- why a text was not heeded, and its fault
+-- why a text was refused, and its fault
 pub undone_end : (live : LiveState) (session : ℕ) (text : Text) (most : ℕ) (why : Withheld)
     → text ≡ end_word → IsUnendedFor live session most why → IsUndoneFor live session text most why
 undone_end live session text most (Unanswered why) is e = inr (inl (ap refusal_word_of e))

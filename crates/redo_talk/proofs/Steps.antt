@@ -1,4 +1,4 @@
--- What the database answers is a step of a conversation.
+-- An answer of the database is a step of a conversation.
 use Rattle.std.proofs.Common.{◌≡◌, ℕ, Bool, true, false, cond, List, [], ◌∷◌, ◌++◌, Option, Some, None, refl, sym, ap, ◌∙◌, subst, append-nil, inl, inr}
 use Rattle.std.specs.Prelude.{bytes_eq, if◌then◌else◌}
 use Rattle.std.specs.List.{flat_map, position}
@@ -29,7 +29,7 @@ use Rattle.redo_talk.specs.Logs.{logged_of}
 use Rattle.redo_talk.specs.Inside.Steps.{IsStep}
 use Rattle.redo_talk.specs.Inside.Hearing.{known_of}
 
--- what is logged of one line
+-- what one line logs
 one_logged : (st : State Text) (line : Line Text)
     → logged_text st line ≡ logged_of st (line ∷ [])
 one_logged st line = by (changes st.records line.command line.reply)
@@ -39,7 +39,7 @@ one_logged st line = by (changes st.records line.command line.reply)
     by true = sym (append-nil (line_text_of line))
     by false = refl
 
--- the lines that let go of a target
+-- the closing lines of a target
 abbrev lets_go : ℕ → Text → Bool → List (Line Text) → List (Line Text)
 lets_go s t building more =
     (cond building (okay_line s (Failed t) ∷ []) [] ++ okay_line s (Unlock t) ∷ []) ++ more
@@ -62,7 +62,7 @@ closing_changes s plan (t ∷ ts) st =
     changing_with s t (closing_lines_of s plan ts) (is_building (target_state plan.records t)) st
     (closing_changes s plan ts)
 
--- a name that has a number is among the names
+-- a name with a number is among the names
 number_has : (names : List Text) (t : Text) (k : ℕ) → position (bytes_eq t) names ≡ Some k
     → has names t ≡ true
 number_has names t k e =
@@ -75,7 +75,7 @@ held_has : (names : List Text) (locks : Locks ℕ) (t : Text) (s : ℕ) (o : Opt
 held_has names locks t s None is e = absurd cc
 held_has names locks t s (Some k) is e = number_has names t k is
 
--- what a session holds are names that were spoken of
+-- the names that a session holds were in commands
 pub held_are_known : (live : LiveState) (s : ℕ) (ts : List Text) → AreHeld texts s (state_in live) ts
     → AreKnown live.names ts
 held_are_known live s ts held =
@@ -147,7 +147,7 @@ module _ (old new : LiveState) (heard : Text) (session : ℕ) where
         is.logs ∙ ap (λ ls. logged ++ lines_text_of ls) (sym all),
       )
 
-  -- something about a name that was told
+  -- an answer about a name
   pub telling_step : (text : Text) (inquiry : Inquiry) (name line said said' logged : Text)
       → Asks heard session text → text ≡ inquiry_text_of inquiry name → inquiry_fault text ≡ None
       → AnswersInquiry (state_in old) session inquiry name line → IsAsKnown old new

@@ -1,4 +1,4 @@
--- What a log holds: the texts of the lines that change something.
+-- The contents of a log: the texts of the lines that change something.
 use Rattle.std.specs.Prelude.{List, Contains}
 use Rattle.redo_model.specs.Names.{Text, texts}
 use Rattle.redo_model.specs.State.{State}

@@ -1,4 +1,4 @@
--- A conversation: what was heard, which lines of the history it made, and what was said.
+-- A conversation: the lines that were read, the history's lines that they made, and the answers.
 use Rattle.std.specs.Prelude.{◌≡◌, ◌≢◌, ◌⊎◌, ℕ, ◌<◌, ◌≤◌, ◌+◌, List, [], ◌∷◌, ◌++◌, Some, None, length, codes, decimal}
 use Rattle.std.specs.List.{AllByRecursion, flat_map}
 use Rattle.redo_model.specs.Names.{Text, texts}
@@ -16,17 +16,17 @@ use Rattle.redo_history.specs.Histories.{ended, line_text_of}
 use Rattle.redo_live.specs.Lines.{names_after}
 use Rattle.redo_live.specs.Answers.{AnswersInquiry}
 
--- a line that was heard, without its LF; the lines of the history that it made; what was said to it
+-- a line that was read, without its LF; the lines of the history that it made; its answer
 pub record Round : Type 0 where
   pub heard : Text
   pub lines : List (Line Text)
   pub said : Text
 
--- the line asks the session, whose number it counts from 1, for this text
+-- the line gives the session, whose number it counts from 1, this text
 abbrev pub Asks : Text → ℕ → Text → Type 0
 Asks heard s text = (s < 64) × (heard ≡ decimal (s + 1) ++ codes " " ++ text)
 
--- the line asks for a command whose names fit: the database answered it, and that was said
+-- the line has a command whose names fit: the database's reply is the answer
 pub record IsAnswered (before : List (Line Text)) (round : Round) : Type 0 where
   pub line : Line Text
   pub text : Text
@@ -40,11 +40,11 @@ pub record IsAnswered (before : List (Line Text)) (round : Round) : Type 0 where
 abbrev pub end_word : Text
 end_word = codes "end"
 
--- what is said behind the closing commands of a session
+-- the answer after the closing commands of a session
 abbrev pub end_text_of : ℕ → Text
 end_text_of s = ended (decimal (s + 1) ++ codes " end => ok")
 
--- the line asks for the session's end: its closing commands were done and said
+-- the line is a session's end: its closing commands were done and are the answer
 pub record IsEnded (before : List (Line Text)) (round : Round) : Type 0 where
   pub session : ℕ
   pub asks : Asks round.heard session end_word
@@ -52,7 +52,7 @@ pub record IsEnded (before : List (Line Text)) (round : Round) : Type 0 where
   pub closes : ClosesAfter texts (part_of session before) round.lines
   pub said_is : round.said ≡ flat_map line_text_of round.lines ++ end_text_of session
 
--- the line asks something about a name: that was told, as it is after the history so far
+-- the line is a question about a name: the answer is right after the history so far
 pub record IsTold (before : List (Line Text)) (round : Round) : Type 0 where
   pub session : ℕ
   pub inquiry : Inquiry
@@ -66,18 +66,18 @@ pub record IsTold (before : List (Line Text)) (round : Round) : Type 0 where
 abbrev pub fault_text_of : Text → Text → Text
 fault_text_of number word = ended (number ++ codes " fault " ++ word)
 
--- the line names no session in front
+-- the line does not begin with a session
 abbrev pub HasNoSession : Text → Type 0
 HasNoSession heard = (s : ℕ) (text : Text) → ¬ (Asks heard s text)
 
--- the word for the first fault of a text that is no end, or for want of memory or of counters
+-- the word of the first fault of a text that is no end, or of running out of memory or of counters
 abbrev pub IsFaultWord : List Text → Text → Text → Type 0
 IsFaultWord names text word =
     ((fault : LineFault) × (text ≢ end_word) × (asked_fault names text ≡ Some fault)
     × (word ≡ fault_word_of fault))
     ⊎ ((word ≡ codes "memory") ⊎ (word ≡ codes "worn"))
 
--- the line has a fault: that was said, and it made no line of the history
+-- the line has a fault: that is the answer, and the line made no line of the history
 pub record IsFaulty (before : List (Line Text)) (round : Round) : Type 0 where
   pub none : round.lines ≡ []
   pub cause : (HasNoSession round.heard
@@ -90,7 +90,7 @@ abbrev pub IsRound : List (Line Text) → Round → Type 0
 IsRound before round =
     IsAnswered before round ⊎ (IsEnded before round ⊎ (IsTold before round ⊎ IsFaulty before round))
 
--- each is a round after the lines of the history that stood before it
+-- each is a round after the lines of the history before it
 abbrev pub AreRounds : List (Line Text) → List Round → Type 0
 AreRounds before [] = Unit {0}
 AreRounds before (round ∷ rounds) =

@@ -1,4 +1,4 @@
--- What a conversation hears, says and logs, and what is left where it breaks off.
+-- What a conversation reads, answers and logs, and what is left if it breaks off.
 use Rattle.std.specs.Prelude.{◌≡◌, ◌⊎◌, List, [], ◌++◌, Option}
 use Rattle.std.specs.Io.KnownBytes.{Consumes, Appends}
 use Rattle.redo_model.specs.Names.{Text, texts}
@@ -7,8 +7,9 @@ use Rattle.redo_model.specs.History.{Line, Legal, left_by}
 use Rattle.redo_talk.specs.Rounds.{Round, AreRounds, lines_in, heard_in, said_in}
 use Rattle.redo_talk.specs.Logs.{HasNoEnd, logged_of}
 
--- after the history these rounds were heard, each with its LF, and then bytes without one; what
--- changes something was logged, and all was said; the history goes on by their lines, and is legal
+-- after the history these rounds were read, each with its LF, and then bytes without one; what
+-- changes something was logged, and all answers were written; the history goes on by their lines,
+-- and is legal
 pub record IsConversation (before : List (Line Text)) (rounds : List Round) (torn : Text)
     (input input_after log log_after out out_after : Option Text) : Type 0 where
   pub legal : Legal texts (before ++ lines_in rounds)
@@ -18,8 +19,8 @@ pub record IsConversation (before : List (Line Text)) (rounds : List Round) (tor
   pub logged : Appends log log_after (logged_of (left_by texts empty before) (lines_in rounds))
   pub said : Appends out out_after (said_in rounds)
 
--- after the history the rounds of `sent` were heard, logged and said; of those of `kept`, heard
--- behind them, a front was logged and, if that was all of it, a front was said
+-- after the history the rounds of `sent` were read, logged and answered; of those of `kept`, read
+-- after them, a prefix was logged and, if that was all of it, a prefix of the answers was written
 pub record IsCutShort (before : List (Line Text)) (sent kept : List Round)
     (input input_after log log_after out out_after : Option Text) : Type 0 where
   pub are_rounds : AreRounds before (sent ++ kept)

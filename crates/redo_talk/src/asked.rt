@@ -3,7 +3,7 @@ ghost use Rattle.redo_talk.specs.Rounds.{Asks, HasNoSession};
 
 use redo_history::{cut_at, session_of};
 
-/// The session, counted from 0, that a line asks, and the text for it.
+/// The session, counted from 0, and the text of a line.
 pub(crate) fn asked(line: &[u8]) -> Option<(u8, &[u8])>
     ensures { MatchOption result (HasNoSession line.now)
         (λ parts. Asks line.now parts.0 parts.1.now) }

@@ -12,15 +12,15 @@ use redo_whole::Watched;
 use std::alloc::Global;
 use std::io::{Read, Write};
 
-/// A conversation with a database that knows nothing at first.
+/// A conversation with a database that is empty at first.
 pub fn converse<R: Read, L: Write, W: Write>(
     alloc: Global,
     input: &mut Watched<R>,
     log: &mut Watched<L>,
     out: &mut Watched<W>,
 ) -> Result<(), TalkFault>
-    // Each line that was heard was answered, in order, by one legal history or by its fault; what
-    // changes something was logged, and nothing else was said or logged.
+    // Each line that was read was answered, in order, by one legal history or by its fault; what
+    // changes something was logged, and nothing else was written to `out` or `log`.
     ensures talk { OnOk result ((rounds : List Round) × (torn : Text)
         × IsConversation [] rounds torn
         (known_in R.remaining input.old) (known_in R.remaining input.new)
@@ -28,14 +28,14 @@ pub fn converse<R: Read, L: Write, W: Write>(
         (known_in W.contents out.old) (known_in W.contents out.new)) }
     ensures end { OnOk result (IsAtEnd (known_in R.remaining input.new)) }
 
-    // Unless a write failed, all that was heard was answered.
+    // Unless a write failed, all that was read was answered.
     ensures read { IfErr result (λ fault. fault ≢ TalkFault.Write
         → (rounds : List Round) × (torn : Text) × IsConversation [] rounds torn
         (known_in R.remaining input.old) (known_in R.remaining input.new)
         (known_in L.contents log.old) (known_in L.contents log.new)
         (known_in W.contents out.old) (known_in W.contents out.new)) }
 
-    // Where a write failed, nothing was said of what isn't whole in the log.
+    // If a write failed, no answer was written whose lines aren't whole in the log.
     ensures write { IsErrOf result TalkFault.Write
         → (sent : List Round) × (kept : List Round) × IsCutShort [] sent kept
         (known_in R.remaining input.old) (known_in R.remaining input.new)

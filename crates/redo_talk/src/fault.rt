@@ -7,12 +7,12 @@ use thiserror::Error;
 /// Why a conversation ended before its input did.
 #[derive(Clone, Copy, Debug, PartialEq, Eq, Error)]
 pub enum TalkFault {
-    /// There was no memory to begin.
+    /// Memory ran out at the beginning.
     #[error("out of memory")]
     Memory,
     #[error("a read failed")]
     Read,
-    /// A write to the log or to the output failed, or passing on what was written.
+    /// A write to the log or to the output failed, or a flush.
     #[error("a write failed")]
     Write,
     /// More reads than can be counted gave bytes.
@@ -42,7 +42,7 @@ impl From<WriteFault> for TalkFault {
     }
 }
 
-/// The fault of a line: the number that is told, 0 where no session is named, and its word.
+/// The fault of a line: the session's number in the answer, 0 if the line has none, and its word.
 #[derive(Clone, Copy, Debug)]
 pub(crate) struct Refusal {
     pub number: u8,
@@ -53,7 +53,7 @@ impl Refusal {
     ghost use Rattle.std.specs.Prelude.{◌≡◌, ◌+◌, ◌<◌, ◌≤◌, codes, length};
     ghost use Rattle.redo_talk.specs.Inside.Sending.{refusal_word_of};
 
-    /// No session is named.
+    /// The line has no session.
     pub fn no_session() -> Refusal
         ensures number { result.number ≡ 0 }
         ensures word { result.word.now ≡ codes "bad-session" }

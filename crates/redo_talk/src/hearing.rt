@@ -32,7 +32,7 @@ fn first(bytes: &[u8], most: usize) -> &[u8]
     }
 }
 
-/// Puts bytes behind what is kept of a line. Takes no memory.
+/// Appends bytes to what is kept of a line. Allocates nothing.
 fn keep(front: &mut Vec<u8>, bytes: &[u8])
     requires room { MOST_KEPT ≤ vec_capacity front.old }
     requires few { length front.old.items ≤ MOST_KEPT }
@@ -44,7 +44,7 @@ fn keep(front: &mut Vec<u8>, bytes: &[u8])
     let _ = front.extend_from_slice(first(bytes, room));
 }
 
-/// Answers a line: what it says and logs waits behind what waited.
+/// Answers a line: appends its answer and its log lines to what waits.
 fn answer(alloc: Global, live: &mut Live, line: &[u8], unsent: &mut Unsent) -> Result<(), Refusal>
     ensures step { OnOk result ((round : Round) × (round.heard ≡ line.now)
         × IsStep (known_of live.old) (known_of live.new) round
@@ -80,7 +80,7 @@ fn answer(alloc: Global, live: &mut Live, line: &[u8], unsent: &mut Unsent) -> R
     }
 }
 
-/// Answers a line, or tells its fault.
+/// Answers a line, by its fault if it has one.
 fn respond<L: Write, W: Write>(
     alloc: Global,
     live: &mut Live,
@@ -104,7 +104,7 @@ fn respond<L: Write, W: Write>(
     }
 }
 
-/// Answers the line that ends with this piece, and of which a front may be kept.
+/// Answers the line that ends with this piece, and of which a prefix may be kept.
 fn respond_to_piece<L: Write, W: Write>(
     alloc: Global,
     live: &mut Live,
@@ -158,7 +158,7 @@ fn send_much<L: Write, W: Write>(
     Ok(())
 }
 
-/// Answers each line that ends in the bytes, and sends all answers. Of a line that doesn't end in them a front is kept.
+/// Answers each line that ends in the bytes, and sends all answers. Keeps a prefix of a line that doesn't end in them.
 pub(crate) fn hear<L: Write, W: Write>(
     alloc: Global,
     live: &mut Live,

@@ -1,4 +1,4 @@
-//! Conversations: lines that are heard are answered by one database, and what changes it is logged.
+//! Conversations: one database answers the lines that are read, and what changes it is logged.
 #![tactic(auto)]
 
 mod asked;

@@ -1,4 +1,4 @@
-//! The answer to one line, into the room that is given.
+//! The answer to one line, in so many bytes at most.
 ghost use Rattle.std.specs.Prelude.{◌≡◌, ◌≤◌, ◌+◌, ◌++◌, length, decimal, IfErr, OnOk, OnErr};
 ghost use Rattle.redo_model.specs.Names.{Text};
 ghost use Rattle.redo_live.specs.Answers.{AnswersInquiry};
@@ -18,13 +18,13 @@ use std::alloc::Global;
 /// How a line was answered.
 #[derive(Clone, Copy, Debug, PartialEq, Eq)]
 pub enum Replied {
-    /// As it asked.
+    /// It was done.
     Done,
     /// By its fault, which changes nothing.
     Fault,
 }
 
-/// Tells a session what it asks about a name, in so many bytes at most.
+/// Answers a session's question about a name, in at most `most` bytes.
 fn tell_within(
     alloc: Global,
     live: &mut Live,
@@ -54,7 +54,7 @@ fn tell_within(
     Ok(())
 }
 
-/// Does what a session says, where it doesn't say its end and so many bytes suffice for the answer.
+/// Does a session's command or question, which isn't its end, if the answer has at most `most` bytes.
 fn heed_within(
     alloc: Global,
     live: &mut Live,
@@ -81,7 +81,7 @@ fn heed_within(
     }
 }
 
-/// Does what a session says, where so many bytes suffice for the answer.
+/// Does a session's line, if the answer has at most `most` bytes.
 pub(crate) fn respond_within(
     alloc: Global,
     live: &mut Live,
@@ -107,7 +107,7 @@ pub(crate) fn respond_within(
     heed_within(alloc, live, session, text, most, said, logged)
 }
 
-/// Tells a fault in so many bytes at most.
+/// Answers a fault in at most `most` bytes.
 fn tell_refusal(fault: Refusal, most: usize, said: &mut Vec<u8>) -> Result<Replied, Withheld>
     requires { length fault.word.now ≤ 20 }
     ensures told { OnOk result (said.new.items
@@ -127,8 +127,8 @@ fn tell_refusal(fault: Refusal, most: usize, said: &mut Vec<u8>) -> Result<Repli
     Ok(Replied::Fault)
 }
 
-/// Answers a line, without its LF, as a conversation does, where what is said to it has so many bytes at most. What is
-/// longer isn't told, and then nothing is done: the same line can be given again, with more room.
+/// Answers a line, without its LF, as a conversation does, if the answer has at most `most` bytes. If it has more,
+/// nothing is done, and the caller can give the same line again with a greater `most`.
 pub fn reply(
     alloc: Global,
     live: &mut Live,

@@ -20,7 +20,7 @@ const READ_BYTES: usize = 65_536;
 
 /// Answers line after line, until the input ends.
 ///
-/// What is said goes to `out`, and what changes something first to `log`. Both are written and flushed before more is
+/// Answers go to `out`, and lines that change something first to `log`. Both are written and flushed before more is
 /// read: lines that came together share one write. A last line without LF is not answered.
 pub fn talk<R: Read, L: Write, W: Write>(
     alloc: Global,
@@ -29,7 +29,7 @@ pub fn talk<R: Read, L: Write, W: Write>(
     log: &mut Watched<L>,
     out: &mut Watched<W>,
 ) -> Result<(), TalkFault>
-    // All lines were answered, in their order, and the database is as their history leaves it.
+    // All lines were answered, in their order, and the database is in the state after their history.
     ensures talk { OnOk result ((before : List (Line Text)) → IsLeftBy live.old before
         → (rounds : List Round) × (torn : Text) × IsConversation before rounds torn
         (known_in R.remaining input.old) (known_in R.remaining input.new)
@@ -38,7 +38,7 @@ pub fn talk<R: Read, L: Write, W: Write>(
         × IsLeftBy live.new (before ++ lines_in rounds)) }
     ensures end { OnOk result (IsAtEnd (known_in R.remaining input.new)) }
 
-    // Unless a write failed, all that was heard was answered.
+    // Unless a write failed, all that was read was answered.
     ensures read { IfErr result (λ fault. fault ≢ TalkFault.Write
         → (before : List (Line Text)) → IsLeftBy live.old before
         → (rounds : List Round) × (torn : Text) × IsConversation before rounds torn
@@ -47,7 +47,7 @@ pub fn talk<R: Read, L: Write, W: Write>(
         (known_in W.contents out.old) (known_in W.contents out.new)
         × IsLeftBy live.new (before ++ lines_in rounds)) }
 
-    // Where a write failed, nothing was said of what isn't whole in the log.
+    // If a write failed, no answer was written whose lines aren't whole in the log.
     ensures write { IsErrOf result TalkFault.Write
         → (before : List (Line Text)) → IsLeftBy live.old before
         → (sent : List Round) × (kept : List Round) × IsCutShort before sent kept

@@ -11,13 +11,13 @@ use redo_whole::{Watched, WriteFault, write_whole};
 use std::alloc::Global;
 use std::io::Write;
 
-/// The line of a fault: a number of two digits, ` fault `, the longest word and an LF have room in it.
+/// The line of a fault: a number of two digits, ` fault `, the longest word and an LF fit in it.
 pub(crate) type FaultLine = ArrayVec<u8, 32>;
 
-/// So many bytes are sent without waiting for more.
+/// More bytes than these are sent without waiting for more.
 const MANY: usize = 65_536;
 
-/// What was answered and isn't sent yet: what is said, and what the log takes.
+/// The answers that aren't sent yet, and their log lines.
 #[derive(Drop)]
 pub(crate) struct Unsent {
     pub said: Vec<u8>,
@@ -25,7 +25,7 @@ pub(crate) struct Unsent {
 }
 
 impl Unsent {
-    /// Nothing. Takes no memory.
+    /// Nothing. Allocates nothing.
     pub fn new(alloc: Global) -> Unsent
         ensures said { result.said.items ≡ [] }
         ensures logged { result.logged.items ≡ [] }
@@ -49,7 +49,7 @@ impl Unsent {
     }
 }
 
-/// Writes the bytes, if there are any, and has them passed on.
+/// Writes the bytes, if there are any, and flushes them.
 fn put<D: Write>(device: &mut Watched<D>, bytes: &[u8]) -> Result<(), WriteFault>
     ensures whole { OnOk result (Writes D.contents device.old device.new bytes.now) }
     ensures front { OnErr result
@@ -62,7 +62,7 @@ fn put<D: Write>(device: &mut Watched<D>, bytes: &[u8]) -> Result<(), WriteFault
     device.flush()
 }
 
-/// Sends what waits: first to the log, and when that was passed on, to the output. Takes no memory.
+/// Sends what waits: first to the log, and after its flush to the output. Allocates nothing.
 pub(crate) fn send<L: Write, W: Write>(
     unsent: &mut Unsent,
     log: &mut Watched<L>,
@@ -83,7 +83,7 @@ pub(crate) fn send<L: Write, W: Write>(
     Ok(())
 }
 
-/// Appends the bytes. Takes no memory.
+/// Appends the bytes. Allocates nothing.
 fn add(line: &mut FaultLine, bytes: &[u8])
     requires { length line.old.items + length bytes.now ≤ 32 }
     ensures { line.new.items ≡ line.old.items ++ bytes.now }
@@ -91,7 +91,7 @@ fn add(line: &mut FaultLine, bytes: &[u8])
     let _ = line.try_extend_from_slice(bytes);
 }
 
-/// The line of a fault. Takes no memory.
+/// The line of a fault. Allocates nothing.
 pub(crate) fn fault_line(fault: Refusal) -> FaultLine
     requires { length fault.word.now ≤ 20 }
     ensures { result.items ≡ fault_text_of (decimal fault.number) fault.word.now }
@@ -105,7 +105,7 @@ pub(crate) fn fault_line(fault: Refusal) -> FaultLine
     line
 }
 
-/// Tells a fault: behind what waits to be said where there is memory for it, else behind what was sent.
+/// Answers a fault: appends it to what waits if memory suffices, else writes it after that was sent.
 pub(crate) fn tell_fault<L: Write, W: Write>(
     fault: Refusal,
     unsent: &mut Unsent,

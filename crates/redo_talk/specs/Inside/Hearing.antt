@@ -11,7 +11,7 @@ use Rattle.redo_talk.specs.declared.unsent.Unsent.{Unsent}
 abbrev pub known_of : LiveState → Known
 known_of live = record { names = live.names; state = state_in live }
 
--- what is known, what the log and the output hold, and what waits to be sent
+-- what is known, the contents of the log and the output, and what waits to be sent
 pub record Place : Type 0 where
   pub known : Known
   pub log : Option Text
@@ -26,7 +26,7 @@ as_place live log out unsent = record {
   waiting = record { said = unsent.said.items; logged = unsent.logged.items };
 }
 
--- the moment at that place where these bytes are left to be heard
+-- the moment at that place if these bytes are left to be read
 abbrev pub moment_at : Place → Option Text → Moment
 moment_at place left =
     record { known = place.known; left = left; log = place.log; out = place.out }
@@ -34,8 +34,8 @@ moment_at place left =
 abbrev pub TalksAt : Moment → Option Text → Place → Text → Type 0
 TalksAt first left place more = IsTalk first (moment_at place left) place.waiting more
 
--- any conversation that came to the old place goes on to the new one: of the bytes that were heard
--- and not answered `before` there is `after` left
+-- any conversation that came to the old place goes on to the new one: of the bytes that were read
+-- and not answered, `before`, there is `after` left
 abbrev pub GoesOn : Place → Place → Text → Text → Type 0
 GoesOn old new before after =
     (first : Moment) (left : Option Text) → TalksAt first left old before
@@ -47,7 +47,7 @@ BreaksOff old new before =
     (first : Moment) (left : Option Text) → TalksAt first left old before
     → IsBrokenOff first (moment_at new left)
 
--- it goes on, and of a line that has not ended in front of the rest a front is kept
+-- it goes on, and a prefix is kept of a line that has not ended before the rest
 abbrev pub GoesOnInLine : Place → Place → Text → Text → Text → Type 0
 GoesOnInLine old new before front rest =
     (first : Moment) (left : Option Text) → TalksAt first left old before

@@ -1,9 +1,9 @@
--- Lines of any length, of which a front is kept.
+-- Lines of any length, of which a prefix is kept.
 use Rattle.std.specs.Prelude.{◌≡◌, ◌⊎◌, take}
 use Rattle.redo_model.specs.Names.{Text}
 use Rattle.redo_talk.specs.Logs.{HasNoEnd}
 
--- so much of a line is kept as tells its fault
+-- so much of a line is kept that its fault is known
 abbrev pub kept_of : Text → Text
 kept_of line = take 8196 line
 

@@ -6,7 +6,7 @@ use Rattle.redo_model.specs.History.{Line, Legal, left_by}
 use Rattle.redo_live.specs.Lines.{names_after}
 use Rattle.redo_live.specs.Inside.LiveState.{LiveState, state_in}
 
--- the database is as this legal history leaves it, and knows the names of its commands
+-- the database is in the state after this legal history, and knows the names of its commands
 pub record IsLeftBy (live : LiveState) (before : List (Line Text)) : Type 0 where
   pub legal : Legal texts before
   pub names_are : live.names ≡ names_after before

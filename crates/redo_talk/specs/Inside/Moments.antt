@@ -1,4 +1,4 @@
--- Moments of a conversation: what was heard and answered since the first, and what waits to be sent.
+-- Moments of a conversation: what was read and answered since the first, and what waits to be sent.
 use Rattle.std.specs.Prelude.{◌≡◌, ◌⊎◌, List, [], ◌++◌, Option}
 use Rattle.std.specs.Io.KnownBytes.{Consumes, Appends}
 use Rattle.redo_model.specs.Names.{Text}
@@ -6,8 +6,7 @@ use Rattle.redo_talk.specs.Rounds.{Round, lines_in, heard_in, said_in}
 use Rattle.redo_talk.specs.Logs.{logged_of}
 use Rattle.redo_talk.specs.Inside.Steps.{Known, AreSteps}
 
--- what is known, the bytes that are left to be heard, and those that the log and the output hold,
--- where they are known
+-- what is known, the bytes that are left to be read, and the contents of the log and the output, if they are known
 pub record Moment : Type 0 where
   pub known : Known
   pub left : Option Text
@@ -19,8 +18,7 @@ pub record Waiting : Type 0 where
   pub said : Text
   pub logged : Text
 
--- since the first moment these rounds were heard and sent, these were heard and wait, and then these
--- bytes were heard
+-- since the first moment these rounds were read and sent, these were read and wait, and then these bytes were read
 pub record IsTalk (first now : Moment) (waiting : Waiting) (more : Text) : Type 0 where
   pub sent : List Round
   pub kept : List Round
@@ -32,8 +30,8 @@ pub record IsTalk (first now : Moment) (waiting : Waiting) (more : Text) : Type 
   pub said : Appends first.out now.out (said_in sent)
   pub to_say : said_in kept ≡ waiting.said
 
--- since the first moment these rounds were sent; of those that waited a front went to the log and,
--- if that was whole, a front to the output
+-- since the first moment these rounds were sent; a prefix of those that waited was written to the log and, if that was
+-- whole, a prefix to the output
 pub record IsBrokenOff (first now : Moment) : Type 0 where
   pub known : Known
   pub sent : List Round

@@ -1,4 +1,4 @@
--- What one line is told into the room that is given.
+-- The answer to one line in so many bytes.
 use Rattle.std.specs.Prelude.{◌≡◌, ℕ, ◌<◌, ◌++◌, length}
 use Rattle.redo_model.specs.Names.{Text}
 use Rattle.redo_model.specs.State.{State}
@@ -14,11 +14,11 @@ use Rattle.redo_talk.specs.Inside.Hearing.{known_of}
 use Rattle.redo_talk.specs.Inside.Sending.{IsRefusedFor, refusal_word_of}
 use Rattle.redo_talk.specs.Inside.Steps.{Known, IsStep}
 
--- what is logged of the round is a front of what is said
+-- what the round logs is a prefix of its answer
 abbrev pub LogsFront : State Text → Round → Type 0
 LogsFront st round = (rest : Text) × (round.said ≡ logged_of st round.lines ++ rest)
 
--- the line was heard, and a round was said and logged
+-- the line was read, and its round appended to `said` and `logged`
 pub record TellsRound (old new : Known) (heard said said_after logged logged_after : Text) : Type 0
   where
     pub round : Round
@@ -28,7 +28,7 @@ pub record TellsRound (old new : Known) (heard said said_after logged logged_aft
     pub logs : logged_after ≡ logged ++ logged_of old.state round.lines
     pub front : LogsFront old.state round
 
--- what the line would be told has so many bytes
+-- the answer to the line would have so many bytes
 pub record WouldTell (old : Known) (heard : Text) (size : ℕ) : Type 0 where
   pub round : Round
   pub next : Known
@@ -36,32 +36,32 @@ pub record WouldTell (old : Known) (heard : Text) (size : ℕ) : Type 0 where
   pub step : IsStep old next round
   pub size_is : size ≡ length round.said
 
--- there was no memory, or that is more than the room
+-- memory ran out, or that is more than `most`
 abbrev pub IsPutOffFor : Known → Text → ℕ → Withheld → Type 0
 IsPutOffFor old heard most (Unanswered why) = why ≡ Memory
 IsPutOffFor old heard most (TooLong size) = (most < size) × WouldTell old heard size
 
--- there was no memory, or the answer about the name is longer than the room
+-- memory ran out, or the answer about the name is longer than `most`
 abbrev pub IsUntoldFor : State Text → ℕ → Inquiry → Text → ℕ → Withheld → Type 0
 IsUntoldFor st session inquiry name most (Unanswered why) = why ≡ Memory
 IsUntoldFor st session inquiry name most (TooLong size) =
     (most < size)
     × ((line : Text) × AnswersInquiry st session inquiry name line × (size ≡ length line))
 
--- why a text that is no end was not heeded
+-- why a text that is no end was refused
 abbrev pub IsUnheededFor : LiveState → ℕ → Text → ℕ → Withheld → Type 0
 IsUnheededFor live session text most (Unanswered why) = IsRefusedFor live.names text why
 IsUnheededFor live session text most (TooLong size) =
     (most < size) × ((heard : Text) → Asks heard session text → WouldTell (known_of live) heard size)
 
--- why a text was not heeded
+-- why a text was refused
 abbrev pub IsUndoneFor : LiveState → ℕ → Text → ℕ → Withheld → Type 0
 IsUndoneFor live session text most (Unanswered why) =
     IsFaultWord live.names text (refusal_word_of why)
 IsUndoneFor live session text most (TooLong size) =
     (most < size) × ((heard : Text) → Asks heard session text → WouldTell (known_of live) heard size)
 
--- there was no memory, or this text is longer than the room
+-- memory ran out, or this text is longer than `most`
 abbrev pub IsUnsaidFor : Text → ℕ → Withheld → Type 0
 IsUnsaidFor text most (Unanswered why) = why ≡ Memory
 IsUnsaidFor text most (TooLong size) = (most < size) × (size ≡ length text)

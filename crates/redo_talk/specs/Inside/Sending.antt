@@ -1,4 +1,4 @@
--- What is written where a write fails, and what becomes of a fault that is told.
+-- What is written if a write fails, and what becomes of a fault's line.
 use Rattle.std.specs.Prelude.{◌≡◌, ◌⊎◌, List, [], ◌++◌, Option, Some, codes, ⊤}
 use Rattle.std.specs.Io.KnownBytes.{Appends, Keeps}
 use Rattle.redo_model.specs.Names.{Text}
@@ -7,20 +7,20 @@ use Rattle.redo_text.specs.Inquiries.{asked_fault}
 use Rattle.redo_live.specs.declared.fault.Unanswered.{Unanswered}
 use Rattle.redo_live.specs.declared.fault.Unanswered.TheVariants.{Memory, Worn, Fault}
 
--- the word that tells why a session was not answered
+-- the word of the cause why a session was not answered
 abbrev pub refusal_word_of : Unanswered → Text
 refusal_word_of Memory = codes "memory"
 refusal_word_of Worn = codes "worn"
 refusal_word_of (Fault fault) = fault_word_of fault
 
--- why a text that is no end was not answered: for want of memory or of calls, or for its fault
+-- why a text that is no end was not answered: memory or calls ran out, or it has a fault
 abbrev pub IsRefusedFor : List Text → Text → Unanswered → Type 0
 IsRefusedFor names text Memory = ⊤
 IsRefusedFor names text Worn = ⊤
 IsRefusedFor names text (Fault fault) = asked_fault names text ≡ Some fault
 
--- a front of what is to be logged went to the log and, if that was whole, a front of what is to be
--- said to the output
+-- a prefix of `logged` was written to the log and, if that was whole, a prefix of `said` to the
+-- output
 pub record SendsFronts (log log_after out out_after : Option Text) (logged said : Text)
     : Type 0 where
   pub log_front : Text
@@ -33,7 +33,7 @@ pub record SendsFronts (log log_after out out_after : Option Text) (logged said 
   pub to_out : Appends out out_after said_front
   pub log_first : (log_rest ≡ []) ⊎ (said_front ≡ [])
 
--- the text waits behind what waited
+-- the text waits after what waited
 pub record IsKeptBack (log log_after out out_after : Option Text)
     (logged logged_after said said_after text : Text) : Type 0 where
   pub log_same : Keeps log log_after

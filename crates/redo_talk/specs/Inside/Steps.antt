@@ -1,4 +1,4 @@
--- Rounds by what is known before and after each, whatever history led there.
+-- Rounds by what is known before and after each, after whatever history.
 use Rattle.std.specs.Prelude.{◌≡◌, ◌⊎◌, ℕ, ◌≤◌, ◌+◌, true, List, [], ◌∷◌, ◌++◌, None, length, codes, decimal}
 use Rattle.std.specs.List.{AllByRecursion, flat_map}
 use Rattle.redo_names.specs.Names.{has}
@@ -16,12 +16,12 @@ use Rattle.redo_live.specs.Answers.{AnswersInquiry}
 use Rattle.redo_live.specs.Lines.{names_after}
 use Rattle.redo_talk.specs.Rounds.{Round, Asks, IsFaultWord, HasNoSession, end_word, end_text_of, fault_text_of}
 
--- the names that were spoken of, and what is known of names
+-- the names of the commands so far, and the state over names
 pub record Known : Type 0 where
   pub names : List Text
   pub state : State Text
 
--- the history led there
+-- the state after the history
 pub record LeadsTo (lines : List (Line Text)) (known : Known) : Type 0 where
   pub legal : Legal texts lines
   pub names_are : known.names ≡ names_after lines
@@ -40,7 +40,7 @@ pub record Answering (old new : Known) (round : Round) : Type 0 where
   pub lines_are : round.lines ≡ line ∷ []
   pub said_is : round.said ≡ line_text_of line
 
--- a session let go of the targets that it held
+-- a session closed the targets that it held
 pub record Ending (old new : Known) (round : Round) : Type 0 where
   pub session : ℕ
   pub asks : Asks round.heard session end_word
@@ -52,7 +52,7 @@ pub record Ending (old new : Known) (round : Round) : Type 0 where
   pub lines_are : round.lines ≡ closing_lines_of session old.state held
   pub said_is : round.said ≡ flat_map line_text_of round.lines ++ end_text_of session
 
--- something about a name was told
+-- a question about a name was answered
 pub record Telling (old new : Known) (round : Round) : Type 0 where
   pub session : ℕ
   pub inquiry : Inquiry
@@ -64,7 +64,7 @@ pub record Telling (old new : Known) (round : Round) : Type 0 where
   pub same_state : new.state ≡ old.state
   pub none : round.lines ≡ []
 
--- a fault was told
+-- a fault was answered
 pub record Refusing (old new : Known) (round : Round) : Type 0 where
   pub same_names : new.names ≡ old.names
   pub same_state : new.state ≡ old.state
