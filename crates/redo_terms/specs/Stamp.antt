@@ -4,7 +4,7 @@ use Rattle.std.proofs.Common.{ap, sym, ◌∙◌}
 use Rattle.std.specs.List.{list_all}
 use Rattle.redo_names.specs.Names.{is_visible}
 
--- "-" stands for no stamp, and "=>" is the arrow of a history
+-- "-" is no stamp, and "=>" is the arrow of a history
 abbrev pub is_placeholder : List ℕ → Bool
 is_placeholder text = bytes_eq text (codes "-") || bytes_eq text (codes "=>")
 

@@ -1,18 +1,18 @@
-/// The table of the commands, a row for each. The macro `$then` is handed the arguments in brackets, and then the rows.
+/// The table of the commands, a row for each. The macro `$then` gets the arguments in brackets, and then the rows.
 ///
 /// A row holds, in this order:
 ///
 /// - the case of `Command` and of `Kind`, with a name for each field of the command;
 /// - the word that a line of it begins with;
-/// - what it needs, in the order of the tests, each need with the refusal where it is not met: `held`, the session
-///   holds the target's lock; `resting`, nobody builds the target; `own_build`, the session builds it; `others`, the
-///   target is not among the names after it; `missing`, none of these has a file;
-/// - the answer where it is accepted: `okay`; `grant`, whether the lock is the session's, and the number of its grant;
-///   `stale`, which of the names after the target are stale, or that none is; `digest`, that of the content; `ood`, the
-///   targets that have a file and are out of date; `targets`, those that have a file; `sources`, the sources;
-/// - what it then changes: `set_file` and `clear_file` the name's file; `start`, `stamp`, `done` and `failed`
-///   the target's build; `put_changes` and `put_created` its rows on the names after it, `put_always` that it is
-///   always out of date; `nothing`.
+/// - - what it needs, in the order of the tests, each need with its refusal: `held`, the session holds the target's
+///   lock; `resting`, nobody builds the target; `own_build`, the session builds it; `others`, the target is not among
+///   the names after it; `missing`, none of these has a file;
+/// - - the reply if it is accepted: `okay`; `grant`, whether the session gets the lock, and the number of the grant;
+///   `stale`, which of the names after the target are stale, if any; `digest`, that of the content; `ood`, the targets
+///   that have a file and are out of date; `targets`, those that have a file; `sources`, the sources;
+/// - - what it then changes: `set_file` and `clear_file` the name's file; `start`, `stamp`, `done` and `failed` the
+///   target's build; `put_changes` and `put_created` its rows on the names after it; `put_always` its always row;
+///   `nothing`.
 #[macro_export]
 macro_rules! cases {
     ($then:ident $($args:tt)*) => {

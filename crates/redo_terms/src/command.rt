@@ -2,7 +2,7 @@ use crate::kind::Kind;
 use crate::stamp::FileStamp;
 use std::alloc::{AllocError, Global};
 
-/// What a session asks of the database. Names are numbers.
+/// A command of a session. Names are numbers.
 #[derive(Debug, Drop)]
 pub enum Command {
     /// The name has a file with this stamp.
@@ -13,13 +13,13 @@ pub enum Command {
     Unlock(u32),
     /// The target is built from now on.
     Start(u32),
-    /// The target depends on these names as they are now; a line holds 1 to 64.
+    /// The target depends on these names as they are now; a line has 1 to 64.
     IfChange(u32, Vec<u32>),
-    /// The target depends on none of these names having a file; a line holds 1 to 64.
+    /// The target depends on none of these names having a file; a line has 1 to 64.
     IfCreate(u32, Vec<u32>),
     /// Once built, the target is always out of date.
     Always(u32),
-    /// The target's digest is that of this content, of which a line holds up to 4,092 bytes.
+    /// The target's digest is that of this content; a line has up to 4,092 bytes of it.
     Stamp(u32, Vec<u8>),
     /// The target was built; its file has this stamp, or there is none.
     Done(u32, Option<FileStamp>),
@@ -61,7 +61,7 @@ impl Command {
         }
     }
 
-    /// The number of its target; none where it tells of a file, or asks about all names.
+    /// The number of its target; none for `file` and `gone`, and for the three lists.
     pub fn target(&self) -> Option<u32>
         ensures { result ≡ target_of (command_of self.now) }
     {

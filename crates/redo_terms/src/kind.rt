@@ -1,4 +1,4 @@
-/// The case of a command alone.
+/// The kind of a command: its case alone.
 #[derive(Clone, Copy, Debug, PartialEq, Eq)]
 pub enum Kind {
     File,

@@ -16,13 +16,13 @@ pub enum Refusal {
     Exists(u32),
 }
 
-/// What the database answers. Names are numbers. Lists of names are sorted by the bytes of the names.
+/// The reply of the database. Names are numbers. Lists of names are sorted by the bytes of the names.
 #[derive(Debug, Drop)]
 pub enum Reply {
     Okay,
-    /// The lock is the session's, by the grant of this number.
+    /// The session gets the lock, by the grant of this number.
     Granted(u32),
-    /// The lock is taken, by the grant of this number.
+    /// A session holds the lock, by the grant of this number.
     Busy(u32),
     /// Those of the names after the target that are out of date, or idle without a file; at least one.
     Stale(Vec<u32>),
@@ -49,7 +49,7 @@ impl Reply {
         !matches!(self, Reply::Busy(_) | Reply::Refused(_))
     }
 
-    /// Whether the other says the same.
+    /// Whether the other is equal.
     pub fn is_same(&self, other: &Reply) -> bool
         ensures { IsTrue result ↔ (reply_of self.now ≡ reply_of other.now) }
     {

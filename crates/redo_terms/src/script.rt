@@ -3,7 +3,7 @@ ghost use Rattle.std.specs.Prelude.{◌≡◌, ◌≤◌, length};
 use crate::command::Command;
 use std::marker::Model;
 
-/// A line of a script. A guarded one is done only where the session's latest reply lets it through.
+/// A line of a script. A guarded one is done only if the session's latest reply lets it through.
 #[derive(Debug, Drop)]
 pub struct Item {
     pub guarded: bool,

@@ -60,7 +60,7 @@ fn padded(text: &[u8]) -> [u8; LONGEST_STAMP]
 }
 
 impl FileStamp {
-    /// The stamp that has these bytes, where they are those of a stamp.
+    /// The stamp with these bytes, if they are those of a stamp.
     #[tactic(auto, unfolding(crate::specs::Stamp::is_stamp))]
     pub fn new(text: &[u8]) -> Option<FileStamp>
         ensures stamp { is_some result ≡ stamp_test text.now }
