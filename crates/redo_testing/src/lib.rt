@@ -1,5 +1,5 @@
-//! What the crates of tests share: numbers drawn at random, plans of texts, and how it is said that a call was told of a
-//! refusal.
+//! What the crates of tests share: random numbers, plans of texts, and how a test reports that a call met a refusal of
+//! memory.
 #![tactic(auto)]
 
 mod plans;

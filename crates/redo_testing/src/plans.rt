@@ -4,7 +4,7 @@ use redo_names::Names;
 use redo_run_text::read_files;
 use std::alloc::{AllocError, Global};
 
-/// The files, to be read.
+/// The files, as readers.
 fn readers<'a>(alloc: Global, files: &[&'a str]) -> Result<Vec<Watched<&'a [u8]>>, AllocError> {
     let mut readers = Vec::new(alloc);
     for file in files {
@@ -13,7 +13,7 @@ fn readers<'a>(alloc: Global, files: &[&'a str]) -> Result<Vec<Watched<&'a [u8]>
     Ok(readers)
 }
 
-/// The plan of sessions that have these files; none where a file is faulty, or there is none or too many.
+/// The plan of sessions with these files; none if a file is faulty, or there is none or too many.
 pub fn planned(alloc: Global, files: &[&str]) -> Result<Option<Plan>, AllocError> {
     let mut readers = readers(alloc, files)?;
     let mut names = Names::new(alloc);

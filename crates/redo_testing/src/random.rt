@@ -6,7 +6,7 @@ use rand_core::utils::NextWord;
 use rand_xoshiro::SplitMix64;
 use std::marker::Model;
 
-/// Numbers that look like chance, the same for the same seed.
+/// Pseudorandom numbers, the same for the same seed.
 #[derive(Drop)]
 pub struct Random {
     numbers: SplitMix64,
