@@ -1,4 +1,4 @@
--- Adding names: what the names are after, and what they leave alone.
+-- Adding names: the names after it, and what it leaves unchanged.
 use Rattle.std.proofs.Common.{◌≡◌, ℕ, ◌+◌, ◌<◌, ◌≤◌, Bool, true, false, cond, List, [], ◌∷◌, ◌++◌, map, length, get_or, Result, Ok, Err, refl, sym, ap, ◌∙◌, arith, eqb, length-append}
 use Rattle.std.proofs.lemmas.Bool.Decides.{nat_tests}
 use Rattle.std.proofs.lemmas.List.{get_or_append_left}
@@ -27,7 +27,7 @@ extends_then = Extends-then
 abbrev names_read : List Text → Result (List Text) LineFault
 names_read names = Ok names
 
--- what adding gives are the names with this one, of which there are not too many
+-- adding gives the names with this one, which are not too many
 pub added_is : (names : List Text) (t : Text) (after : List Text) → length names ≤ 65536
     → added names t ≡ Ok after → (after ≡ with_name names t) × (length after ≤ 65536)
 added_is names t after few e = by (has names t) (eqb (length names) 65536) refl e
@@ -45,7 +45,7 @@ added_is names t after few e = by (has names t) (eqb (length names) 65536) refl 
         sym (length-append names (t ∷ [])) ∙ ap length same in
         (sym same, grind (arith, nat_tests, len, full, few))
 
--- where there are not too many names with this one, it is added
+-- if the names with this one are not too many, it is added
 pub added_fits : (names : List Text) (t : Text) (after : List Text) → after ≡ with_name names t
     → length after ≤ 65536 → added names t ≡ Ok after
 added_fits names t after e few = by (has names t) (eqb (length names) 65536) refl e
@@ -58,7 +58,7 @@ added_fits names t after e few = by (has names t) (eqb (length names) 65536) ref
         absurd (grind (arith, nat_tests, len, full, few))
     by false false full h = ap names_read (sym h)
 
--- the same of the names of a command that has one
+-- the same of the names of a command with one name
 pub one_added : (names : List Text) (t : Text) (command : commands.Command Text) (after : List Text)
     → length names ≤ 65536 → commands.names_in command ≡ t ∷ [] → added names t ≡ Ok after
     → AddsNames names (command ∷ []) after
@@ -78,7 +78,7 @@ pub text_at-Extends : (old new : List Text) (n : ℕ) → Extends old new → n 
 text_at-Extends old new n x lt =
     ap (λ (l : List Text). get_or l n []) x.is ∙ get_or_append_left old x.more [] n lt
 
--- what the numbers stand for does not change where names are added
+-- adding names does not change what the numbers stand for
 pub texts-Extends : (old new : List Text) (ns : List ℕ) → Extends old new → AllBelow (length old) ns
     → map (text_at new) ns ≡ map (text_at old) ns
 texts-Extends old new [] x all = refl
@@ -101,7 +101,7 @@ pub IsBelow-Extends : (old new : List Text) (command : commands.Command ℕ) →
 IsBelow-Extends old new command x below =
     all_below-Extends old new (commands.names_in command) x below
 
--- what a command says does not change where names are added
+-- adding names does not change what a command means
 pub command_at-Extends : (old new : List Text) (command : Command) → Extends old new
     → IsBelow (length old) (command_of command) → command_at new command ≡ command_at old command
 command_at-Extends old new (File n stamp) x below =

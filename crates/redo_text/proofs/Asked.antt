@@ -1,4 +1,4 @@
--- The questions about a line tell the fault that its reading by steps ends with.
+-- The questions about a line give the fault that its reading by steps ends with.
 use Rattle.std.proofs.Common.{◌≡◌, ℕ, ◌%◌, ◌≤◌, Bool, true, false, cond, not, ◌&&◌, ◌||◌, List, [], ◌∷◌, ◌++◌, map, drop, length, Option, Some, None, Result, Ok, Err, refl, sym, ap, ◌∙◌, arith, eqb, ltb, leb}
 use Rattle.std.specs.Prelude.{codes, bytes_eq}
 use Rattle.std.specs.List.{list_all}
@@ -326,7 +326,7 @@ item_last : (line : Text) (r : Reading)
 item_last line (Ok x) = refl
 item_last line (Err fault) = refl
 
--- and that of a line of a session file as well
+-- and that of a line of a session file too
 pub asked_file_line : (count : ℕ) (names : List Text) (line : Text) → length names ≤ 65536
     → fault_in (script_line_in count names line) ≡ file_line_fault count names line
 unfolding script_line_in file_line_fault
@@ -365,7 +365,7 @@ last_no [] false fault e = refl
 last_no (question ∷ qs) b fault e =
     last_no qs b fault (later question (qs ++ (b, fault) ∷ []) e)
 
--- where no question is answered by yes, there are not too many names before
+-- if no answer is "yes", there are not too many names before
 pub few_before : (names : List Text) (line : Text) → line_fault names line ≡ None
     → length names ≤ 65536
 unfolding line_fault

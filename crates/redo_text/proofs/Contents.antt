@@ -45,7 +45,7 @@ some_read (Ok (b ∷ bs)) content e =
     (subst (λ (t : Text). t ≢ []) same (λ h. cc), λ i. Ok (same i))
 some_read (Err fault) content e = absurd cc
 
--- what is read of a word is the content that it stands for
+-- reading a word gives the content that it stands for
 pub content_says : (word content : Text) → content_in word ≡ Ok content → IsContent word content
 content_says word content e = by (bytes_eq word (codes "-")) refl e
   where

@@ -97,7 +97,7 @@ script_or_fault names text few =
     start : AreScriptLines names [] [] names
     start = record { short = tt; said = tt; few = omega arith; named = (refl, few) }
 
--- a line of a list, with those before it, stands before another, is it, or stands after it
+-- a line of a list, together with those before it, comes before another, is it, or comes after it
 abbrev Stand : List Text → Text → List Text → Text → Type 0
 Stand before line others other =
     ((before ≡ others) × (line ≡ other))

@@ -32,7 +32,7 @@ pub more_words : (text word rest : Text) → words_of text ≡ word ∷ words_of
 more_words text word rest e one =
     absurd (omega (arith, one, ap length e, length-slice_split (λ b. b == 32) rest))
 
--- words where there are to be none
+-- words, although there are to be none
 pub no_words_some : (form : Command Text) (names : List Text) (text : Text)
     → no_words_in form names (words_of text) ≡ Err WrongWords
 unfolding no_words_in
@@ -41,7 +41,7 @@ no_words_some form names text = let first = some_word text in ap (no_words_in fo
 pub okay_some : (text : Text) → okay_in (words_of text) ≡ Err WrongWords
 okay_some text = let first = some_word text in ap okay_in first.2
 
--- words of which there are to be some
+-- words, of which there are to be some
 pub some_after : (args : Option (Bor Text)) (text : Bor Text) → args ≡ Some text
     → some_names_in_words (words_after args) ≡ names_in_words (words_after args)
 some_after args text is =

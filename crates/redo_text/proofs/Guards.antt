@@ -45,7 +45,7 @@ not_longer line =
     subst (λ (l : Text). length (unguarded line) ≤ length l) (sym (with_its_guard line))
     (guard_is_longer (is_guarded line) (unguarded line))
 
--- what is asked about what stands after a line's guard is asked about the line
+-- the questions about what follows a line's guard are those about the line
 pub asked_unguarded : (names : List Text) (line : Text) → is_too_long line ≡ false
     → line_fault names (unguarded line) ≡ first_yes ((has_bad_byte line, BadByte)
     ∷ word_list_questions names (words_of (unguarded line)))
@@ -69,7 +69,7 @@ guard_off : (guarded : Bool) (text : Text) → is_guarded text ≡ false
 guard_off true text none = (refl, refl)
 guard_off false text none = (none, ap (λ (b : Bool). cond b (drop 2 text) text) none)
 
--- what is read after a line's guard, the line says
+-- what is read after a line's guard is what the line says
 pub item_found : (names : List Text) (line : Text) (command : Command Text) (after : List Text)
     → length names ≤ 65536 → length line ≤ 8192
     → line_in names (unguarded line) ≡ Ok (command, after)
@@ -85,7 +85,7 @@ item_found names line command after few short e =
       found.1,
     )
 
--- what a line says, is read after its guard
+-- what a line says is read after its guard
 pub item_only : (names : List Text) (line : Text) (item : Item Text) (after : List Text)
     → length names ≤ 65536 → IsItemLine line item → AddsNames names (item.command ∷ []) after
     → (line_in names (unguarded line) ≡ Ok (item.command, after))

@@ -1,4 +1,4 @@
--- The fault of a line that may ask something, by what it begins with and by how long it is.
+-- The fault of a line that may be a question, by its beginning and its length.
 use Rattle.std.proofs.Common.{◌≡◌, ◌<◌, ◌≤◌, true, cond, List, length, Option, Some, None, refl, sym, ap, ◌∙◌, inl, inr, arith}
 use Rattle.std.specs.Prelude.{IsSome, is_some}
 use Rattle.std.proofs.lemmas.Bool.{cases_lt, lt-ltb}
@@ -20,7 +20,7 @@ asked_by : (names : List Text) (text : Text) (o : Option Inquiry) → IsSome o
 asked_by names text None some = absurd cc
 asked_by names text (Some inquiry) some = refl
 
--- of what asks something, it is that of the inquiry
+-- of a question, it is that of the question
 pub asked_of_inquiry : (names : List Text) (text : Text) → IsSome (inquiry_in (words_of text))
     → asked_fault names text ≡ inquiry_fault text
 asked_of_inquiry names text some = asked_by names text (inquiry_in (words_of text)) some
@@ -41,13 +41,13 @@ both_too_long : (names : List Text) (text : Text) (o : Option Inquiry)
 both_too_long names text None e = command_too_long names text e
 both_too_long names text (Some inquiry) e = inquiry_too_long text e
 
--- a text that is too long has that fault, whatever it asks
+-- a text that is too long has that fault, whatever its words
 pub asked_when_long : (names : List Text) (text : Text) → 8192 < length text
     → asked_fault names text ≡ Some LineTooLong
 asked_when_long names text long =
     both_too_long names text (inquiry_in (words_of text)) (lt-ltb 8192 (length text) long)
 
--- what asks something and has no fault is short
+-- a question without a fault is short
 pub fits_is_short : (text : Text) → inquiry_fault text ≡ None → length text ≤ 8192
 fits_is_short text fits = elim (cases_lt 8192 (length text)) [
   | inl long ↦ absurd (let e = sym fits ∙ inquiry_too_long text (lt-ltb 8192 (length text) long) in cc)

@@ -1,4 +1,4 @@
--- What an error leaves of the names.
+-- The names after an error.
 use Rattle.std.proofs.Common.{◌≡◌, ℕ, ◌+◌, ◌<◌, ◌≤◌, Bool, true, false, cond, List, [], ◌∷◌, ◌++◌, length, get_or, take, drop, Result, Ok, Err, refl, sym, ap, subst, ◌∙◌, arith, eqb, inl, inr, take-append-drop}
 use Rattle.std.specs.Prelude.{IfErr, OnErr}
 use Rattle.std.specs.List.{list_all}
@@ -67,7 +67,7 @@ front_left start names after ws i w (unread.Fault fault) front same reads =
     let full = full_at names w fault reads in
     (front_at start after ws i (same ∙ front), (full.0, ap length same ∙ full.1))
 
--- the words before it, and it, are added, and then there is no memory
+-- the words before it, and it, are added, and then memory runs out
 pub front_kept : (start after ws : List Text) (i : ℕ) → after ≡ with_names start (take i ws)
     → LeavesFront start ws after unread.Memory
 front_kept start after ws i front = (front_at start after ws i front, tt)
@@ -126,7 +126,7 @@ words_left names text kind args after why words left =
         ∙ spaced_is_text (word_of kind) args (word_is_visible kind)
         (names_are_visible args (each_name args all))
 
--- where nothing is added
+-- if nothing is added
 pub same_left : {X : Type 0} (result : Result X Unread) (names : List Text) (text : Text)
     (after : List Text) → after ≡ names → IfErr result (LeavesWords names text after)
 same_left (Ok x) names text after same = tt
@@ -140,7 +140,7 @@ same_left_on (Err why) names text after same = inl same
 none_added : (names words : List Text) → AddsFront names words names
 none_added names words = record { own = []; rest = words; words_are = refl; adds = refl }
 
--- what is left after the error of a line that is read alone
+-- the names after the error of a line that is read alone
 pub names_left : (names : List Text) (line : Text) (after : List Text) (why : Unread)
     (result : ReadFault) → LeavesWords names line after why
     → (why ≡ unread.Memory → result ≡ faults.Memory)

@@ -42,7 +42,7 @@ line_found names line command after few e =
         (sym (line_is_spaced line word args split)) says.spelled in
         ((says.form, short, spelled), says.adds)
 
--- what the words of a line are read as has no bad byte
+-- the words that a line is read as have no bad byte
 pub good_line : (names : List Text) (line : Text) (command : Command Text) (after : List Text)
     → length names ≤ 65536 → words_in names (words_of line) ≡ Ok (command, after)
     → list_any is_bad line ≡ false
@@ -94,7 +94,7 @@ length-with_names names [] = omega arith
 length-with_names names (t ∷ ts) =
     omega (arith, length-with_names (with_name names t) ts, length-with_name names t)
 
--- a command's names alone fit
+-- the names of a command alone fit
 fits_alone : (command : Command Text) → HasForm command
     → AddsNames [] (command ∷ []) (with_names [] (names_in command ++ []))
 fits_alone command form = (

@@ -5,7 +5,7 @@ use Rattle.std.proofs.lemmas.Option.{cond_some}
 use Rattle.std.specs.List.{slice_split, position_or_len, onto_first}
 use Rattle.std.proofs.lemmas.List.Splits.{slice_split_first}
 
--- where a byte passes, the first part ends at it, and what stands after it is split on
+-- if a byte passes, the first part ends at it, and the part after it is split on
 pub cut_some : (p : ℕ → Bool) (xs : List ℕ) (i : ℕ) → position p xs ≡ Some i
     → (slice_split p xs ≡ take i xs ∷ slice_split p (drop (i + 1) xs)) × (i < length xs)
 cut_some p xs i e =
@@ -29,7 +29,7 @@ not_before : (b : Bool) (n : ℕ) → cond b (Some n) None ≡ None → b ≡ fa
 not_before true n e = absurd cc
 not_before false n e = refl
 
--- where none passes, there is one part
+-- if none passes, there is one part
 pub cut_none : (p : ℕ → Bool) (xs : List ℕ) → position p xs ≡ None → slice_split p xs ≡ xs ∷ []
 cut_none p xs e =
     split_whole p xs

@@ -47,7 +47,7 @@ all_added-none names t ts fault e =
     lt-leb _ _ (omega arith) in
     rw (test, full.0) refl
 
--- where the first is added, the others are added after it
+-- if the first is added, the others are added after it
 pub with_names-next : (names : List Text) (t : Text) (ts after : List Text) → length names ≤ 65536
     → added names t ≡ Ok after → with_names names (t ∷ ts) ≡ with_names after ts
 with_names-next names t ts after few e =
@@ -64,7 +64,7 @@ pub all_added-next : (names : List Text) (t : Text) (ts after : List Text) → l
 all_added-next names t ts after few e =
     all_added-same names after (t ∷ ts) ts (with_names-next names t ts after few e)
 
--- what adding gives are the names with these, of which there are not too many
+-- adding gives the names with these, which are not too many
 pub all_added-is : (names ts after : List Text) → all_added names ts ≡ Ok after
     → (after ≡ with_names names ts) × (length after ≤ 65536)
 unfolding all_added
@@ -113,7 +113,7 @@ rest_done start names ws i le few rest =
     let none : drop i ws ≡ [] = nil_from_length (drop i ws) (omega (arith, length-drop i ws)) in
     all_added-fits start ws names (sym (rest ∙ ap (with_names names) none)) few
 
--- where one reading fails as another does, a reader that met the one meets the other
+-- if one reading fails as another does, a reader that met the one meets the other
 pub fails_alike : {X Y A B : Type 0} (view : X → A) (seen : Y
     → B) (u : Unread) (r : Result A LineFault) (s : Result B LineFault)
     → ((fault : LineFault) → r ≡ Err fault → s ≡ Err fault) → Reads view (Err u) r
@@ -198,7 +198,7 @@ all_names (n ∷ ns) each =
     let others = all_names ns each.1 in
     λ i. first i && others i
 
--- what is read of the words is what they are
+-- what is read from the words is what they are
 pub target_and_names_found : (args : List Text) (t : Text) (ns : List Text)
     → target_and_names_in args ≡ Ok (t, ns) → IsTargetAndNames args t ns
 unfolding target_and_names_in
@@ -233,7 +233,7 @@ pub names_are_visible : (ns : List Text) → AreAllNames ns
 names_are_visible [] each = tt
 names_are_visible (n ∷ ns) each = (name_is_visible n each.0, names_are_visible ns each.1)
 
--- the names of a command that has these are added
+-- the names of a command with these names are added
 pub all_adds : (names ts : List Text) (command : Command Text) (after : List Text)
     → names_in command ≡ ts → all_added names ts ≡ Ok after → AddsNames names (command ∷ []) after
 all_adds names ts command after own e =

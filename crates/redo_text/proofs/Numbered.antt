@@ -19,7 +19,7 @@ use Rattle.redo_text.proofs.NameLists.{all_added-fits, each_name, target_and_nam
 use Rattle.redo_text.proofs.Spaced.{name_is_visible, words_of-spaced}
 use Rattle.redo_text.proofs.Steps.{same_found}
 
--- a name that has a number is among the names
+-- a name with a number is among the names
 pub has_at : (names : List Text) (n : ℕ) (t : Text) → slice_get names n ≡ Some t
     → has names t ≡ true
 has_at [] n t e = absurd cc
@@ -49,7 +49,7 @@ text_at_known names t n is = get_or_from_slice_get names n t [] is.at
 pub below_known : (names : List Text) (t : Text) (n : ℕ) → IsNumbered names t n → n < length names
 below_known names t n is = slice_get_within names n t is.at
 
--- such a name is there already
+-- such a name is known already
 pub added_known : (names : List Text) (t : Text) (n : ℕ) → IsNumbered names t n
     → added names t ≡ Ok names
 added_known names t n is =
@@ -70,7 +70,7 @@ one_name_known form names args t n alone is =
     let text : text_at names n ≡ t = text_at_known names t n is in
     rw (alone, name, there, text) refl
 
--- the texts of numbers of names are names, and are there already
+-- the texts of numbers of names are names, and are known already
 all_known : (names : List Text) (ns : List ℕ) → AreNames names → AllBelow (length names) ns
     → list_all is_name (map (text_at names) ns) ≡ true
 all_known names [] are below = refl

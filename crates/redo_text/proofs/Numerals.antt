@@ -40,11 +40,11 @@ printed_digits n le = digits_decimal own n (small n le)
 pub printed_value : (n : ℕ) → n ≤ 4294967295 → digits_value 10 (decimal n) ≡ n
 printed_value n le = digits_value-decimal own n (small n le)
 
--- it is 0, or begins with another digit than 0
+-- it is 0, or does not begin with 0
 pub printed_first : (n : ℕ) → n ≤ 4294967295 → 0 < n → 48 < get_or (decimal n) 0 0
 printed_first n le some = first_decimal n some (small n le)
 
--- digits with no zero in front are printed so
+-- digits without a leading zero are printed so
 pub printed_again : (word : Text) → 0 < length word → (get_or word 0 0 ≡ 48 → length word ≡ 1)
     → all_ascii_digits word ≡ true → digits_value 10 word ≤ 4294967295
     → word ≡ decimal (digits_value 10 word)
@@ -60,7 +60,7 @@ printed_back word first digits le =
     long [] h = absurd (omega (arith, h))
     long (b ∷ bs) h = omega arith
 
--- what is printed is not empty, and has a zero in front only where it is that
+-- what is printed is not empty, and begins with a zero only if it is that zero
 pub printed_some : (n : ℕ) → n ≤ 4294967295 → 0 < length (decimal n)
 printed_some n le = decimal_nonempty n (small n le)
 

@@ -33,7 +33,7 @@ pub none_then_block : (p : ℕ → Bool) (xs : List ℕ) (at before : ℕ)
 none_then_block p xs at before front block k lt =
     elim (cases_lt k at) [ inl below ↦ front k below | inr from ↦ block k from lt ]
 
--- where there is no first place, none passes
+-- if there is no first place, none passes
 pub none_passes : (p : ℕ → Bool) (xs : List ℕ) → position p xs ≡ None → (k : ℕ) → k < length xs
     → p (get_or xs k 0) ≡ false
 none_passes p xs none k lt =

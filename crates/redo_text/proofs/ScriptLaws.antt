@@ -54,7 +54,7 @@ read_from line (Ok x) read after e =
     let h = read_is (Some (item_in line x.0), x.1) read after e in
     record { command = x.0; is = sym h.0; rest = λ i. Ok (x.0, h.1 i) }
 
--- the line alone is read so, and there is room for its item
+-- the line alone is read so, and the script has a place for its item
 pub record Taken (count : ℕ) (names : List Text) (line : Text) (read : Option (Item Text))
     (after : List Text) : Type 0 where
   pub script : AreScriptLines names (line ∷ []) (items_read read) after
@@ -139,7 +139,7 @@ said_line count names line item after short s room e =
     (cond (f i) (Err TooManyLines) (then_item line (e.0 i)))))
     ∙ ap (λ (said : Item Text). line_read (Some said, after)) e.1
 
--- what reading a line of a script gives, where the items are the line's
+-- what reading a line of a script gives, if the items are the line's
 pub record Takes (count : ℕ) (names : List Text) (text : Text) (items : List (Item Text))
     (after : List Text) : Type 0 where
   pub read : Option (Item Text)

@@ -1,4 +1,4 @@
--- The reading of a script: how it goes on from line to line, and ends.
+-- Reading a script: from line to line, and to its end.
 use Rattle.std.proofs.Common.{◌≡◌, ℕ, ◌+◌, List, [], ◌∷◌, ◌++◌, length, Err, refl, sym, ap, subst, ◌∙◌, arith, length-append, append_assoc}
 use Rattle.std.specs.Prelude.{MatchOption, Option, Some, None}
 use Rattle.redo_model.specs.Names.{Text}
@@ -99,7 +99,7 @@ module _ (names : List Text) (text : Text) (number : ℕ) (why : Unread) (result
       by (unread.Fault fault) e =
           subst (IsReadFault names text) (sym (line fault e)) (first fault e)
 
-  -- where the text is a script, memory ran out
+  -- if the text is a script, memory ran out
   pub only_memory : (items : List (Item Text)) (after : List Text)
       → IsScript names text items after → result ≡ faults.Memory
   only_memory items after script = by why refl
@@ -109,7 +109,7 @@ module _ (names : List Text) (text : Text) (number : ℕ) (why : Unread) (result
       by (unread.Fault fault) e =
           absurd (no_first_fault names text items after number fault script (first fault e))
 
--- the first line is there
+-- the first line exists
 pub first_is : {X : Type 0} (o : Option X) (lines : List Text) (line : Text) (f : X
     → List Text) (g : X → Type 0)
     → MatchOption o (lines ≡ line ∷ []) (λ r. (lines ≡ line ∷ f r) × g r)

@@ -20,7 +20,7 @@ use Rattle.redo_text.proofs.ScriptLaws.{items_read, Taken, line_taken}
 abbrev pub AreBelow : ℕ → List Item → Type 0
 AreBelow n cs = AllByRecursion (λ item. IsBelow n (command_of item.command)) cs
 
--- what an item says does not change where names are added
+-- adding names does not change what an item means
 item_at-Extends : (old new : List Text) (c : Item) → Extends old new
     → IsBelow (length old) (command_of c.command) → item_at new c ≡ item_at old c
 item_at-Extends old new c x below =

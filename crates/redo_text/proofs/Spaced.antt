@@ -96,7 +96,7 @@ stamp_is_visible t h =
     (both long (list_all is_visible t)
     (both (long && list_all is_visible t) (not (is_placeholder t)) h).0).1
 
--- a stamp is not what stands for none
+-- a stamp is not the word for no stamp
 pub stamp_is_no_dash : (t : Text) → is_stamp t ≡ true → bytes_eq t (codes "-") ≡ false
 unfolding is_stamp
 stamp_is_no_dash t h =

@@ -1,4 +1,4 @@
--- What it takes that reading by steps comes to its end.
+-- When reading by steps comes to its end.
 use Rattle.std.proofs.Common.{◌≡◌, ℕ, zero, suc, ◌+◌, ◌<◌, Bool, true, false, cond, ◌&&◌, ◌||◌, List, [], ◌∷◌, length, drop, slice_index_or, Option, Some, Result, Ok, Err, refl, ap, ◌∙◌, arith}
 use Rattle.std.specs.List.{find}
 use Rattle.redo_model.specs.Names.{Text}
@@ -14,19 +14,19 @@ pub neither : (a b : Bool) → (a || b) ≡ false → (a ≡ false) × (b ≡ fa
 neither true b e = absurd cc
 neither false b e = (refl, e)
 
--- each of two steps is made
+-- each of two steps succeeds
 pub bind_ok : {A B : Type 0} (r : Result A LineFault) (f : A → Result B LineFault) (y : B)
     → (r >>= f) ≡ Ok y → (x : A) × (r ≡ Ok x) × (f x ≡ Ok y)
 bind_ok (Ok x) f y e = (x, refl, e)
 bind_ok (Err d) f y e = absurd cc
 
--- a test that leads to a fault otherwise is passed
+-- a test that else leads to a fault passes
 pub guard_ok : {A : Type 0} (b : Bool) (d : LineFault) (x y : A) → cond b (Ok x) (Err d) ≡ Ok y
     → (b ≡ true) × (x ≡ y)
 guard_ok true d x y e = (refl, cc)
 guard_ok false d x y e = absurd cc
 
--- a test that leads to a fault is not passed
+-- a test that leads to a fault does not pass
 pub unless_ok : {A : Type 0} (b : Bool) (d : LineFault) (r : Result A LineFault) (y : A)
     → cond b (Err d) r ≡ Ok y → (b ≡ false) × (r ≡ Ok y)
 unless_ok true d r y e = absurd cc
@@ -43,7 +43,7 @@ found_passes test (y ∷ ys) x e = by (test y) refl e (found_passes test ys x)
     by true passes h later = cc
     by false fails h later = later h
 
--- a search goes on past what doesn't pass
+-- a search passes over what doesn't pass its test
 pub find_past : {X : Type 0} (test : X → Bool) (xs : List X) (k : ℕ) (d : X) → k < length xs
     → test (slice_index_or xs k d) ≡ false → find test (drop k xs) ≡ find test (drop (k + 1) xs)
 find_past test [] k d below fails = absurd (omega arith)
@@ -70,13 +70,13 @@ read x = Ok x
 abbrev pub gave : {X : Type 0} → X → Result X LineFault
 gave x = Ok x
 
--- what a step gives is one thing
+-- a step gives one result
 pub same_given : {X : Type 0} (x y : X) → gave x ≡ gave y → x ≡ y
 same_given x y e = cc
 
 abbrev pub found : {X : Type 0} → X → Option X
 found x = Some x
 
--- and so is what a search finds
+-- and so does a search
 pub same_found : {X : Type 0} (x y : X) → found x ≡ found y → x ≡ y
 same_found x y e = cc

@@ -14,7 +14,7 @@ pub record IsNameList (names : List Text) : Type 0 where
   pub few : length names ≤ 64
   pub each : AreAllNames names
 
--- what the words of a command have to be
+-- what is required of the words of a command
 abbrev pub HasForm : Command Text → Type 0
 HasForm (File n stamp) = IsTrue (is_name n) × IsTrue (is_stamp stamp)
 HasForm (Gone n) = IsTrue (is_name n)
@@ -51,14 +51,15 @@ IsSpelled line command = line ≡ command_text_of command
 abbrev pub IsCommandLine : Text → Command Text → Type 0
 IsCommandLine line command = HasForm command × IsShort line × IsSpelled line command
 
--- the line says the item: after its guard, where it has one, stands the command's line
+-- the line says the item: after its guard, if it has one, comes the command's line
 pub record IsItemLine (line : Text) (item : Item Text) : Type 0 where
   pub short : IsShort line
   pub said : Text
   pub guard : line ≡ with_guard item.guarded said
   pub command : IsCommandLine said item.command
 
--- the names, and after them the new ones of these, each once, in the order in which they are met
+-- the names, and after them the new ones of these, each once, in the order of their first
+-- occurrence
 abbrev pub with_names : List Text → List Text → List Text
 with_names names [] = names
 with_names names (t ∷ ts) = with_names (with_name names t) ts
@@ -68,8 +69,8 @@ abbrev pub AddsNames : List Text → List (Command Text) → List Text → Type 
 AddsNames names commands after =
     (after ≡ with_names names (flat_map names_in commands)) × (length after ≤ 65536)
 
--- the pieces between line feeds: what stands after a last line feed is an empty piece, which is
--- skipped as any
+-- the pieces between line feeds: the piece after a last line feed is empty, and is skipped as any
+-- empty one
 abbrev pub lines_of : Text → List Text
 lines_of text = slice_split (λ b. b == 10) text
 

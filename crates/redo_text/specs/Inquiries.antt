@@ -1,4 +1,4 @@
--- What is asked about a name: the texts, and what is wrong with a line whose first word asks.
+-- Questions about a name: their texts, and the faults of a line whose first word is a question's.
 use Rattle.std.specs.Prelude.{List, [], ◌∷◌, drop, length, Option, None, not, ◌==◌, bytes_eq, codes, find, is_some, if◌then◌else◌}
 use Rattle.redo_model.specs.Names.{Text}
 use Rattle.redo_text.specs.declared.fault.LineFault.{LineFault}
@@ -8,7 +8,7 @@ use Rattle.redo_text.specs.declared.inquiries.Inquiry.TheVariants.{Why, Deps, St
 use Rattle.redo_text.specs.Texts.{spaced}
 use Rattle.redo_text.specs.Questions.{first_yes, is_too_long, has_bad_byte, words_of, word_questions, a_name, line_fault}
 
--- the word that asks this
+-- the question's word
 abbrev pub inquiry_word : Inquiry → Text
 inquiry_word Why = codes "why"
 inquiry_word Deps = codes "deps"
@@ -18,16 +18,16 @@ inquiry_word State = codes "state"
 abbrev pub inquiry_text_of : Inquiry → Text → Text
 inquiry_text_of inquiry name = spaced (inquiry_word inquiry) (name ∷ [])
 
--- what a word asks
+-- the question of a word
 abbrev pub inquiry_named : Text → Option Inquiry
 inquiry_named word = find (λ inquiry. bytes_eq word (inquiry_word inquiry)) (Why ∷ Deps ∷ State ∷ [])
 
--- what words ask, by the first of them
+-- the question of words, by the first of them
 abbrev pub inquiry_in : List Text → Option Inquiry
 inquiry_in [] = None
 inquiry_in (word ∷ words) = inquiry_named word
 
--- the fault of a line that asks: it is too long, has a bad byte, hasn't one word more, or that is
+-- the fault of a question: it is too long, has a bad byte, does not have one more word, or that is
 -- no name
 unfoldable pub inquiry_fault : Text → Option LineFault
 inquiry_fault line =
@@ -35,7 +35,7 @@ inquiry_fault line =
     first_yes ((is_too_long line, LineTooLong) ∷ (has_bad_byte line, BadByte)
     ∷ (not (length words == 1), WrongWords) ∷ word_questions (a_name ∷ []) words)
 
--- the fault of a line that asks, or else of a command's
+-- the fault of a question, else of a command
 abbrev pub asked_fault : List Text → Text → Option LineFault
 asked_fault names line =
     if is_some (inquiry_in (words_of line)) then inquiry_fault line else line_fault names line

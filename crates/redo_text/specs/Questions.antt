@@ -1,5 +1,5 @@
 -- What is wrong with a line: a list of questions about it, each with its fault. The first question
--- that is answered by yes tells the line's fault.
+-- that is answered by "yes" gives the line's fault.
 use Rattle.std.specs.Prelude.{ℕ, ◌%◌, List, [], ◌∷◌, ◌++◌, map, drop, length, Option, Some, None}
 use Rattle.std.specs.Prelude.{Bool, true, false, not, ◌&&◌, ◌||◌, ◌==◌, nat_lt, nat_le, if◌then◌else◌, codes, bytes_eq, find}
 use Rattle.std.specs.List.{slice_split, list_any, list_all}
@@ -14,7 +14,7 @@ use Rattle.redo_terms.specs.Stamp.{is_stamp}
 use Rattle.redo_text.specs.Texts.{word_of}
 use Rattle.redo_text.specs.Grammar.{with_names, is_skipped}
 
--- a question is its answer, and the fault where that is yes
+-- a question is its answer, and its fault if that is yes
 abbrev pub Question : Type 0
 Question = Bool × LineFault
 
@@ -23,14 +23,14 @@ abbrev pub first_yes : List Question → Option LineFault
 first_yes [] = None
 first_yes (question ∷ others) = if question.0 then Some question.1 else first_yes others
 
--- what is wanted of a word
+-- what a word has to be
 pub data Wanted : Type 0 where
   a_name : Wanted
   a_stamp : Wanted
   a_stamp_or_none : Wanted
   some_content : Wanted
 
--- what is wanted after the first word, where it says a command of this kind, and these words follow
+-- what the words after the first have to be, if that is of this kind, and these words follow
 abbrev pub wanted : Kind → List Text → List Wanted
 wanted kinds.File words = a_name ∷ a_stamp ∷ []
 wanted kinds.Gone words = a_name ∷ []
@@ -51,7 +51,7 @@ wanted kinds.Sources words = []
 abbrev pub are_digits : Text → Bool
 are_digits word = nat_le 2 (length word) && length word % 2 == 0 && list_all is_hex_digit word
 
--- whether it is that; "-" stands for no stamp, and for content of no bytes
+-- whether it is that; "-" means no stamp, and content of no bytes
 abbrev pub is_it : Wanted → Text → Bool
 is_it a_name word = is_name word
 is_it a_stamp word = is_stamp word
@@ -65,21 +65,21 @@ fault_of a_stamp = BadStamp
 fault_of a_stamp_or_none = BadStamp
 fault_of some_content = BadHex
 
--- word by word from the left: is it not what is wanted?
+-- word by word from the left: is it not what it has to be?
 abbrev pub word_questions : List Wanted → List Text → List Question
 word_questions [] words = []
 word_questions (want ∷ wants) [] = []
 word_questions (want ∷ wants) (word ∷ words) =
     (not (is_it want word), fault_of want) ∷ word_questions wants words
 
--- the words of which names are wanted
+-- the words that have to be names
 abbrev pub names_among : List Wanted → List Text → List Text
 names_among [] words = []
 names_among (want ∷ wants) [] = []
 names_among (a_name ∷ wants) (word ∷ words) = word ∷ names_among wants words
 names_among (want ∷ wants) (word ∷ words) = names_among wants words
 
--- the kind of command whose word this is
+-- the kind of command with this word
 abbrev pub all_kinds : List Kind
 all_kinds =
     kinds.File ∷ kinds.Gone ∷ kinds.Lock ∷ kinds.Unlock ∷ kinds.Start ∷ kinds.IfChange
@@ -94,7 +94,7 @@ abbrev pub is_full : List Text → List Text → Bool
 is_full names own = nat_lt 65536 (length (with_names names own))
 
 -- Is the first word no command? Is the number of words another? Are there more than 64 names after
--- the target? Word by word, is it not what is wanted? Would there be too many names?
+-- the target? Word by word, is it not what it has to be? Would there be too many names?
 abbrev pub form_questions : List Text → Option Kind → List Text → List Question
 form_questions names None words = (true, UnknownCommand) ∷ []
 form_questions names (Some kind) words =
@@ -122,7 +122,7 @@ has_bad_byte line = list_any (λ b. not (is_text_byte b)) line
 abbrev pub is_too_long : Text → Bool
 is_too_long line = nat_lt 8192 (length line)
 
--- what is asked about the bytes and words of a line, where these are the names before it
+-- the questions about the bytes and words of a line; these are the names before it
 abbrev pub text_questions : List Text → Text → List Question
 text_questions names line =
     (has_bad_byte line, BadByte) ∷ word_list_questions names (words_of line)
@@ -141,7 +141,7 @@ is_guarded (b ∷ c ∷ bs) = b == 63 && c == 32
 abbrev pub unguarded : Text → Text
 unguarded line = if is_guarded line then drop 2 line else line
 
--- what is asked about a line of a session file after so many items, where it is not too long
+-- the questions about a line of a session file after so many items, if it is not too long
 abbrev pub file_line_questions : ℕ → List Text → Text → List Question
 file_line_questions count names line =
     if is_skipped line then []

@@ -17,17 +17,17 @@ after_space word = 32 ∷ word
 abbrev pub spaced : Text → List Text → Text
 spaced first others = first ++ flat_map after_space others
 
--- "-" stands for no stamp
+-- "-" means no stamp
 abbrev pub stamp_word : Option Text → Text
 stamp_word None = codes "-"
 stamp_word (Some stamp) = stamp
 
--- "-" stands for empty content
+-- "-" means empty content
 abbrev pub content_word : Text → Text
 content_word [] = codes "-"
 content_word (b ∷ bs) = encode_lower (b ∷ bs)
 
--- the word that says which command it is
+-- the word of the command
 abbrev pub word_of : Kind → Text
 word_of kinds.File = codes "file"
 word_of kinds.Gone = codes "gone"

@@ -7,7 +7,7 @@ ghost use Rattle.redo_text.specs.Inside.Reading.{words_after};
 use crate::scan::place_of;
 use std::alloc::{AllocError, Global};
 
-/// The first word of a text, and what stands after its space, where it has one.
+/// The first word of a text, and the text after its space, if it has one.
 #[inline]
 pub(crate) fn cut_word(text: &[u8]) -> (&[u8], Option<&[u8]>)
     ensures { words_of text.now ≡ result.0.now ∷ words_after result.1 }
@@ -18,7 +18,7 @@ pub(crate) fn cut_word(text: &[u8]) -> (&[u8], Option<&[u8]>)
     }
 }
 
-/// The word, where there is one.
+/// The word, if there is one.
 #[inline]
 pub(crate) fn one(args: Option<&[u8]>) -> Option<&[u8]>
     ensures { MatchOption result (length (words_after args.entry) ≢ 1)
@@ -34,7 +34,7 @@ pub(crate) fn one(args: Option<&[u8]>) -> Option<&[u8]>
     }
 }
 
-/// The words, where there are two.
+/// The words, if there are two.
 #[inline]
 pub(crate) fn two(args: Option<&[u8]>) -> Option<(&[u8], &[u8])>
     ensures { MatchOption result (length (words_after args.entry) ≢ 2)

@@ -4,7 +4,7 @@ ghost use Rattle.redo_text.specs.Faults.{fault_word_of};
 use std::alloc::{AllocError, AllocFailed};
 use thiserror::Error;
 
-/// What is wrong with a line. The numbers are those of the faults of reading, of which want of memory is 1.
+/// What is wrong with a line. The numbers are those of the faults of reading, of which `Memory` is 1.
 #[derive(Clone, Copy, Debug, PartialEq, Eq, Error)]
 pub enum LineFault {
     #[error("the line is too long")]
@@ -27,7 +27,7 @@ pub enum LineFault {
     TooManyNames = 10,
 }
 
-/// The word that tells a line's fault.
+/// The word of a line's fault.
 pub fn fault_word(fault: LineFault) -> &'static str
     ensures { result.now ≡ fault_word_of fault }
 {
@@ -80,7 +80,7 @@ impl<T: Drop> From<AllocFailed<T>> for ReadFault {
 pub enum ReplyFault {
     #[error("out of memory")]
     Memory,
-    /// It is no reply's text, or there is no room for its names.
+    /// It is no reply's text, or its names would be too many.
     #[error("not a reply")]
     BadReply,
 }
@@ -114,7 +114,7 @@ impl<T: Drop> From<AllocFailed<T>> for Unread {
     }
 }
 
-/// The fault of the line of this number: only want of memory stays want of memory.
+/// The fault of the line of this number; only `Memory` stays `Memory`.
 pub(crate) fn at_line(number: usize, unread: Unread) -> ReadFault
     ensures memory { (result ≡ ReadFault.Memory) ↔ (unread ≡ Unread.Memory) }
     ensures fault { (fault : LineFault) → unread ≡ Unread.Fault fault

@@ -22,7 +22,7 @@ use redo_names::Names;
 use redo_terms::{Command, Kind};
 use std::alloc::Global;
 
-/// The number of the one name that a form has.
+/// The number of the one name of a form.
 #[tactic(auto, using(crate::proofs::Added::extends_same), unfolding(crate::specs::Inside::Reading::one_name_in))]
 fn one_name_of(names: &mut Names, args: Option<&[u8]>) -> Result<u32, Unread>
     ensures reads { (form : Text → commands.Command Text)

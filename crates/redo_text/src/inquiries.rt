@@ -12,18 +12,18 @@ use crate::read::LONGEST_LINE;
 use crate::words::has_bad_byte;
 use redo_names::is_name;
 
-/// What is asked about a name.
+/// A question about a name.
 #[derive(Clone, Copy, Debug, PartialEq, Eq)]
 pub enum Inquiry {
     /// Why it is out of date.
     Why,
     /// On which names it has rows.
     Deps,
-    /// How far it has come, who holds its lock, and the stamp of its file.
+    /// Its state, who holds its lock, and the stamp of its file.
     State,
 }
 
-/// What the word asks.
+/// The question of the word.
 fn inquiry_of_word(word: &[u8]) -> Option<Inquiry>
     ensures named { result ≡ inquiry_named word.now }
     ensures word { IfSome result (λ inquiry. word.now ≡ inquiry_word inquiry) }
@@ -39,7 +39,7 @@ fn inquiry_of_word(word: &[u8]) -> Option<Inquiry>
     }
 }
 
-/// The name that is asked about.
+/// The name in the question.
 #[tactic(auto, unfolding(crate::specs::Inquiries::inquiry_fault))]
 fn name_asked<'a>(line: &'a [u8], args: Option<&'a [u8]>) -> Result<&'a [u8], LineFault>
     requires { drop 1 (words_of line.now) ≡ words_after args }
@@ -63,7 +63,8 @@ fn name_asked<'a>(line: &'a [u8], args: Option<&'a [u8]>) -> Result<&'a [u8], Li
     }
 }
 
-/// What a line asks, without its LF, and about which name, where its first word asks something.
+/// Which question a line asks, without its LF, and about which name; nothing if its first word is
+/// no question's.
 pub fn read_inquiry(line: &[u8]) -> Option<Result<(Inquiry, &[u8]), LineFault>>
     ensures { MatchOption result (inquiry_in (words_of line.now) ≡ None) (ReadsInquiry line.now) }
 {

@@ -8,14 +8,14 @@ ghost use Rattle.redo_text.specs.declared.fault.LineFault.TheVariants.{UnknownCo
 use crate::args::cut_word;
 use redo_terms::{Kind, cases};
 
-/// Leads to the kinds of all rows.
+/// Expands to the kinds of all rows.
 macro_rules! kinds {
     ([] $(($case:ident $(($($field:ident),*))?, $($rest:tt)*))*) => {
         [$(Kind::$case),*]
     };
 }
 
-/// Leads from a kind to the word in its row.
+/// Expands from a kind to the word in its row.
 macro_rules! word_by_kind {
     ([$given:ident] $(($case:ident $(($($field:ident),*))?, $word:literal, $($rest:tt)*))*) => {
         match $given {
@@ -24,7 +24,7 @@ macro_rules! word_by_kind {
     };
 }
 
-/// The kind of command that the word says.
+/// The kind of command with this word.
 fn kind_of_word(word: &[u8]) -> Option<Kind>
     ensures { result ≡ kind_named word.now }
 {
@@ -36,8 +36,7 @@ fn kind_of_word(word: &[u8]) -> Option<Kind>
     None
 }
 
-/// The kind of command that the first word of a text says, and what stands after its space,
-/// where it has one.
+/// The kind of command with the first word of a text, and the text after its space, if it has one.
 #[tactic(auto, using(crate::proofs::Fronts::words_by_kind, crate::proofs::Fronts::no_kind, crate::proofs::Fronts::word_is))]
 pub(crate) fn cut_kind(text: &[u8]) -> Option<(Kind, Option<&[u8]>)>
     ensures reads { (names : List Text)
@@ -52,7 +51,7 @@ pub(crate) fn cut_kind(text: &[u8]) -> Option<(Kind, Option<&[u8]>)>
     }
 }
 
-/// The word that says which command it is.
+/// The word of the command.
 pub(crate) fn keyword(kind: Kind) -> &'static [u8]
     ensures { result.now ≡ word_of kind }
 {

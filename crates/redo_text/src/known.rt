@@ -8,7 +8,7 @@ use crate::name_lists::MOST_LISTED_NAMES;
 use redo_names::Names;
 use std::alloc::{AllocError, Global};
 
-/// How many words there are, up to 64: room for them.
+/// How many words there are, up to 64: the capacity of their list.
 fn room_for(args: Option<&[u8]>) -> usize {
     match args {
         Some(text) => {
@@ -19,7 +19,7 @@ fn room_for(args: Option<&[u8]>) -> usize {
     }
 }
 
-/// The numbers of the words, where each is among the names.
+/// The numbers of the words, if each is among the names.
 pub(crate) fn known_numbers(
     alloc: Global,
     names: &Names,
@@ -42,7 +42,7 @@ pub(crate) fn known_numbers(
     Ok(Some(numbers))
 }
 
-/// The numbers of a target and of 1 to 64 names after it, where each word is among the names.
+/// The numbers of a target and of 1 to 64 names after it, if each word is among the names.
 pub(crate) fn known_target_and_numbers(
     alloc: Global,
     names: &Names,

@@ -1,4 +1,4 @@
-// What command lines, session files and the texts of replies are.
+// Laws of command lines, session files and the texts of replies.
 ghost use Rattle.std.specs.Prelude.{◌≡◌, ◌≤◌, ◌⊎◌, ℕ, List, [], ◌∷◌, length, None};
 ghost use Rattle.redo_model.specs.Names.{Text};
 ghost use Rattle.redo_model.specs.Command.{Command, Item};
@@ -12,14 +12,14 @@ ghost use Rattle.redo_text.specs.declared.fault.LineFault.{LineFault};
 ghost use Rattle.redo_text.specs.declared.fault.ReadFault.{ReadFault};
 ghost use Rattle.redo_text.specs.Replies.{HasReplyForm, IsReplyText};
 
-/// The text of a command is a line of that command, where it is not too long.
+/// The text of a command is a line of that command, if it is not too long.
 pub fn command_reads_back()
     ensures { (command : Command Text) → HasForm command → IsShort (command_text_of command)
         → IsCommandLine (command_text_of command) command }
 {}
 
 /// The text of a line of a script, as a file of one line, is the session file of that line alone,
-/// where it is not too long and its names fit.
+/// if it is not too long and its names fit.
 pub fn line_reads_back()
     ensures { (names : List Text) (item : Item Text) (after : List Text) → HasForm item.command
         → IsShort (item_text_of item) → AddsNames names (item.command ∷ []) after
@@ -49,7 +49,7 @@ pub fn one_script()
         → IsScript names text a n → IsScript names text b m → (a ≡ b) × (n ≡ m) }
 {}
 
-/// A session file has no fault but want of memory.
+/// A session file has no fault but `Memory`.
 pub fn no_read_fault()
     ensures { (names : List Text) (text : Text) (items : List (Item Text))
         (after : List Text) (fault : ReadFault) → IsScript names text items after

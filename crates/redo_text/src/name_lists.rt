@@ -29,7 +29,7 @@ pub(crate) fn are_names(words: &[&[u8]]) -> bool
     true
 }
 
-/// The word of the target and those of the names after it, of which there are 1 to 64.
+/// The word of the target and the 1 to 64 words of the names after it.
 #[tactic(auto, unfolding(crate::specs::Inside::Reading::target_and_names_in))]
 fn target_and_names<'a, 'b>(args: &'b [&'a [u8]]) -> Result<(&'a [u8], &'b [&'a [u8]]), Unread>
     ensures reads { Reads (λ p. (p.0.now, map (λ w. w.now) p.1.now)) result
@@ -52,7 +52,7 @@ fn target_and_names<'a, 'b>(args: &'b [&'a [u8]]) -> Result<(&'a [u8], &'b [&'a 
     Ok((*target, others))
 }
 
-/// The numbers of names, each of which is added if it is new.
+/// The numbers of names; each new name is added.
 pub(crate) fn numbers_of(
     alloc: Global,
     names: &mut Names,
@@ -98,7 +98,7 @@ fn target_and_numbers_in(
     Ok((number, numbers))
 }
 
-/// The numbers of the target and of the names that a form has.
+/// The numbers of the target and of the names of a form.
 #[tactic(auto, using(crate::proofs::Added::extends_same))]
 pub(crate) fn target_and_numbers_of(
     alloc: Global,
@@ -112,7 +112,7 @@ pub(crate) fn target_and_numbers_of(
     ensures left { IfErr result (LeavesSome names.old (words_after args.entry) names.new) }
     ensures kept { Extends names.old names.new }
 {
-    // This call says that each is a name.
+    // This call shows that each is a name.
     let _ = names.len();
     if let Some(known) = known_target_and_numbers(alloc, names, args)? {
         return Ok(known);

@@ -2,7 +2,7 @@ ghost use Rattle.std.specs.Prelude.{◌≡◌, ◌≢◌, ℕ, ◌≤◌, MatchO
 ghost use Rattle.std.specs.Str.{all_ascii_digits};
 ghost use Rattle.std.specs.Str.Parse.{digits_value};
 
-/// The number that decimal digits are, where all are digits and the number is not too large.
+/// The number with these decimal digits, if all are digits and the number is not too large.
 fn value_of(word: &[u8]) -> Option<u32>
     ensures { MatchOption result
         (all_ascii_digits word.now ≡ true → ¬ (digits_value 10 word.now ≤ 4294967295))
@@ -23,7 +23,7 @@ fn value_of(word: &[u8]) -> Option<u32>
     Some(value)
 }
 
-/// The number whose decimal digits a word is, without a sign and without a zero in front.
+/// The number with these decimal digits, without a sign and without a leading zero.
 pub fn read_number(word: &[u8]) -> Option<u32>
     ensures { MatchOption result ((n : ℕ) → n ≤ 4294967295 → word.now ≢ decimal n)
         (λ n. word.now ≡ decimal n) }

@@ -24,7 +24,7 @@ pub const LONGEST_LINE: usize = 8192;
 /// How many commands a session file has at most.
 pub const MOST_COMMANDS: usize = 4096;
 
-/// The command that a line is, without its LF.
+/// The command of a line without its LF.
 #[tactic(auto, using(crate::proofs::Added::extends_same), unfolding(crate::specs::Inside::Reading::line_in))]
 fn line_of(alloc: Global, line: &[u8], names: &mut Names) -> Result<Command, Unread>
     ensures reads { Reads (λ command. (command_at names.new command, names.new)) result
@@ -39,7 +39,7 @@ fn line_of(alloc: Global, line: &[u8], names: &mut Names) -> Result<Command, Unr
     if line.len() > LONGEST_LINE {
         return Err(Unread::Fault(LineFault::LineTooLong));
     }
-    // This call says that the names are not too many.
+    // This call shows that the names are not too many.
     let _ = names.len();
     match form_of(alloc, names, line) {
         Ok(command) => Ok(command),
@@ -48,9 +48,9 @@ fn line_of(alloc: Global, line: &[u8], names: &mut Names) -> Result<Command, Unr
     }
 }
 
-/// Reads the command that a line is, without its LF. Faults have line 1.
+/// Reads the command of a line without its LF. Faults have line 1.
 ///
-/// After a fault of the line the names are as before, but where they would be too many.
+/// After a fault of the line the names are as before, unless its own would be too many.
 pub fn read_command(alloc: Global, line: &[u8], names: &mut Names) -> Result<Command, ReadFault>
     // What is read is a command line, and its names are added.
     ensures read { IfOk result (λ command. IsCommandLine line.now (command_at names.new command)
@@ -60,9 +60,9 @@ pub fn read_command(alloc: Global, line: &[u8], names: &mut Names) -> Result<Com
         → AddsNames names.old (command ∷ []) after
         → (result ≡ Err ReadFault.Memory)
         ⊎ IsOkAnd result (λ read. (command_at names.new read ≡ command) × (names.new ≡ after)) }
-    // A fault is that of the first question about the line that is answered by yes.
+    // A fault is that of the first question about the line that is answered by "yes".
     ensures fault { IfErr result (IsLineFault names.old line.now) }
-    // These two come before want of memory.
+    // These two come before `Memory`.
     ensures too_long { ¬ (IsShort line.now)
         → result ≡ Err (ReadFault.Line 1 LineFault.LineTooLong) }
     ensures bad_byte { IsShort line.now → bad_byte_test line.now ≡ true
@@ -98,7 +98,7 @@ fn cut_guard(line: &[u8]) -> (bool, &[u8])
     }
 }
 
-/// Reads a line of a script that has `count` lines so far: nothing, where it is skipped.
+/// Reads a line of a script that has `count` lines so far; gives nothing if the line is skipped.
 #[tactic(auto, using(crate::proofs::Added::extends_same), unfolding(crate::specs::Inside::Reading::script_line_in))]
 pub(crate) fn read_script_line(
     alloc: Global,

@@ -16,7 +16,7 @@ use redo_names::{MOST_NAMES, Names};
 use redo_terms::Reply;
 use std::alloc::Global;
 
-/// The reply that a text is, without LF.
+/// The reply of a text, without LF.
 #[tactic(auto, using(crate::proofs::Added::extends_same, crate::proofs::ReplyNames::none_added), unfolding(crate::specs::Inside::ReplyReading::reply_in, crate::specs::Inside::ReplyReading::reply_args_in))]
 fn text_read(alloc: Global, text: &[u8], names: &mut Names) -> Result<Reply, Unread>
     requires { length names.old ≤ 65536 }
@@ -44,7 +44,7 @@ fn text_read(alloc: Global, text: &[u8], names: &mut Names) -> Result<Reply, Unr
     }
 }
 
-/// Reads the reply that a text is, without LF. After a fault the old names are a front of the names.
+/// Reads the reply of a text, without LF. After a fault the old names are a prefix of the names.
 pub fn read_reply(alloc: Global, text: &[u8], names: &mut Names) -> Result<Reply, ReplyFault>
     // What is read is a reply's text, and its names are added.
     ensures read { IfOk result (λ reply. IsReplyText text.now (reply_at names.new reply)

@@ -8,7 +8,7 @@ use crate::args::cut_word;
 use crate::keywords::keyword;
 use redo_terms::Kind;
 
-/// The case of a reply alone.
+/// The kind of a reply: its case alone.
 #[derive(Clone, Copy, Debug)]
 pub(crate) enum ReplyKind {
     Okay,
@@ -51,7 +51,7 @@ fn reply_word(kind: ReplyKind) -> &'static [u8]
     }
 }
 
-/// The kind of reply that the word begins.
+/// The kind of reply that begins with the word.
 fn reply_kind_of(word: &[u8]) -> Option<ReplyKind>
     ensures { result ≡ reply_kind_named word.now }
 {
@@ -63,8 +63,8 @@ fn reply_kind_of(word: &[u8]) -> Option<ReplyKind>
     None
 }
 
-/// The kind of reply that the first word of a text says, and what stands after its space,
-/// where it has one.
+/// The kind of reply that begins with the first word of a text, and the text after its space, if it
+/// has one.
 #[tactic(auto, using(crate::proofs::Fronts::reply_by_kind, crate::proofs::Fronts::no_reply_kind))]
 pub(crate) fn cut_reply_kind(text: &[u8]) -> Option<(ReplyKind, Option<&[u8]>)>
     ensures { MatchOption result (reply_words_in (words_of text.now) ≡ Err WrongWords)

@@ -20,7 +20,7 @@ use redo_names::{MOST_NAMES, Names};
 use redo_terms::Refusal;
 use std::alloc::Global;
 
-/// The number that a word is, from 1, without a sign or a zero in front.
+/// The number of a word, from 1, without a sign or a leading zero.
 fn grant_in_word(word: &[u8]) -> Result<u32, Unread>
     ensures { Reads (λ g. g) result (grant_in word.now) }
 {
@@ -33,7 +33,7 @@ fn grant_in_word(word: &[u8]) -> Result<u32, Unread>
     Ok(grant)
 }
 
-/// The number of a grant that is the one word.
+/// The number of a grant, from the one word.
 pub(crate) fn grant_of(args: Option<&[u8]>) -> Result<u32, Unread>
     ensures { Reads (λ g. g) result (one_word_in grant_in (words_after args.entry)) }
 {
@@ -44,7 +44,7 @@ pub(crate) fn grant_of(args: Option<&[u8]>) -> Result<u32, Unread>
     }
 }
 
-/// The 20 bytes whose digits a word is, with letters in lower case.
+/// The 20 bytes with the digits of a word, whose letters are in lower case.
 #[tactic(auto, unfolding(crate::specs::Inside::ReplyReading::digest_in))]
 fn digest_in_word(word: &[u8]) -> Result<[u8; 20], Unread>
     ensures { Reads (λ digest. digest) result (digest_in word.now) }
@@ -61,7 +61,7 @@ fn digest_in_word(word: &[u8]) -> Result<[u8; 20], Unread>
     }
 }
 
-/// The digest that is the one word.
+/// The digest, from the one word.
 pub(crate) fn digest_of(args: Option<&[u8]>) -> Result<[u8; 20], Unread>
     ensures { Reads (λ digest. digest) result (one_word_in digest_in (words_after args.entry)) }
 {
@@ -71,7 +71,7 @@ pub(crate) fn digest_of(args: Option<&[u8]>) -> Result<[u8; 20], Unread>
     }
 }
 
-/// The numbers of the names that words are, in any order, each of which is added if it is new.
+/// The numbers of the names of words, in any order; each new name is added.
 pub(crate) fn listed_of(
     alloc: Global,
     names: &mut Names,
@@ -83,7 +83,7 @@ pub(crate) fn listed_of(
     ensures within { IfOk result (λ numbers. AllBelow (length names.new) numbers.items) }
     ensures kept { Extends names.old names.new }
 {
-    // This call says that each is a name.
+    // This call shows that each is a name.
     let _ = names.len();
     if let Some(known) = known_numbers(alloc, names, args)? {
         return Ok(known);
@@ -95,7 +95,7 @@ pub(crate) fn listed_of(
     numbers_of(alloc, names, &words)
 }
 
-/// The same of one name at least.
+/// The same of at least one name.
 pub(crate) fn some_listed_of(
     alloc: Global,
     names: &mut Names,
@@ -113,7 +113,7 @@ pub(crate) fn some_listed_of(
     }
 }
 
-/// The refusal that a word says alone.
+/// The refusal of one word alone.
 #[tactic(auto, using(crate::proofs::ReplyNames::none_added))]
 fn plain_refusal_of(word: &[u8]) -> Result<Refusal, Unread>
     ensures reads { (names : List Text) → length names ≤ 65536
@@ -135,7 +135,7 @@ fn plain_refusal_of(word: &[u8]) -> Result<Refusal, Unread>
     }
 }
 
-/// The refusal that words are.
+/// The refusal of words.
 #[tactic(auto, using(crate::proofs::Added::extends_same, crate::proofs::ReplyNames::none_added, crate::proofs::ReplyNames::one_all_added))]
 pub(crate) fn refusal_of_words(names: &mut Names, args: Option<&[u8]>) -> Result<Refusal, Unread>
     requires { length names.old ≤ 65536 }

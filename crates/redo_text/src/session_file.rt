@@ -22,7 +22,7 @@ fn line_end(text: &[u8]) -> Option<usize>
     text.iter().position(|b| *b == b'\n')
 }
 
-/// The first line, and what stands after its LF, if it has one.
+/// The first line, and the text after its LF, if it has one.
 fn cut(text: &[u8]) -> (&[u8], Option<&[u8]>)
     ensures { MatchOption result.1 (lines_of text.now ≡ result.0.now ∷ [])
         (λ rest. (lines_of text.now ≡ result.0.now ∷ lines_of rest.now)
@@ -43,7 +43,7 @@ fn take_line(
 ) -> Result<(), Unread>
     requires { AllByRecursion
         (λ item. IsBelow (length names.old) (command_of item.command)) items.old.items }
-    // The lines before, read so far, are read with this line.
+    // The lines that were read before are read with this line.
     ensures taken { (start before : List Text)
         → AreScriptLines start before (map (item_at names.old) items.old.items) names.old
         → OnOk result (AreScriptLines start (before ++ line.now ∷ [])
@@ -54,7 +54,7 @@ fn take_line(
         (λ item. IsBelow (length names.new) (command_of item.command)) items.new.items) }
     ensures kept { Extends names.old names.new }
 {
-    // The check only knows how to move a command where the types within it are met.
+    // The prover can move a command only in a function that mentions the types within it.
     let _none: Option<FileStamp> = None;
     if let Some(item) = read_script_line(alloc, line, items.len(), names)? {
         items.push(item)?;
@@ -62,7 +62,7 @@ fn take_line(
     Ok(())
 }
 
-/// Reads the lines of a session file. After a fault the old names are a front of the names.
+/// Reads the lines of a session file. After a fault the old names are a prefix of the names.
 pub fn read_script(alloc: Global, text: &[u8], names: &mut Names) -> Result<Script, ReadFault>
     // What is read is a script, and its names are added.
     ensures read { IfOk result

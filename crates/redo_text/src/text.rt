@@ -127,7 +127,7 @@ pub fn command_text(alloc: Global, command: &Command, names: &Names) -> Result<V
     Ok(out)
 }
 
-/// Writes the text of a line of a script: that of its command, with `? ` before it where it is
+/// Writes the text of a line of a script: that of its command, with `? ` before it if it is
 /// guarded.
 pub fn put_item(
     alloc: Global,
@@ -164,7 +164,7 @@ fn put_numbered(out: &mut Vec<u8>, word: &[u8], number: u32) -> Result<(), Alloc
     put_word(out, Buffer::new().format(number).as_bytes())
 }
 
-/// Writes the words for a refusal.
+/// Writes the words of a refusal.
 fn put_refusal(out: &mut Vec<u8>, refusal: Refusal, names: &Names) -> Result<(), AllocError>
     requires { IsReplyBelow (length names.now) (Refused (refusal_of refusal)) }
     ensures { OnOk result (out.new.items ≡ out.old.items ++ flat_map after_space

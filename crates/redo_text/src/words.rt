@@ -11,7 +11,7 @@ use redo_names::{Names, NamesFault, is_name};
 use redo_terms::FileStamp;
 use std::alloc::Global;
 
-/// The name that a word is.
+/// The name of a word.
 pub(crate) fn name_of(word: &[u8]) -> Result<&[u8], Unread>
     ensures reads { Reads (λ name. name.now) result (name_in word.now) }
     ensures name { IfOk result (λ name. name_test name.now ≡ true) }
@@ -23,7 +23,7 @@ pub(crate) fn name_of(word: &[u8]) -> Result<&[u8], Unread>
     }
 }
 
-/// The stamp that a word is.
+/// The stamp of a word.
 pub(crate) fn file_stamp_of(word: &[u8]) -> Result<FileStamp, Unread>
     ensures { Reads (λ stamp. stamp) result (file_stamp_in word.now) }
 {
@@ -33,7 +33,7 @@ pub(crate) fn file_stamp_of(word: &[u8]) -> Result<FileStamp, Unread>
     }
 }
 
-/// The stamp that a word is, or none for `-`.
+/// The stamp of a word, or none for `-`.
 pub(crate) fn file_stamp_or_none_of(word: &[u8]) -> Result<Option<FileStamp>, Unread>
     ensures { Reads (λ stamp. stamp) result (file_stamp_or_none_in word.now) }
 {
@@ -44,7 +44,7 @@ pub(crate) fn file_stamp_or_none_of(word: &[u8]) -> Result<Option<FileStamp>, Un
     Ok(Some(stamp))
 }
 
-/// The bytes of the content that a word is.
+/// The bytes of the content of a word.
 pub(crate) fn content_of(alloc: Global, word: &[u8]) -> Result<Vec<u8>, Unread>
     ensures { Reads (λ content. content.items) result (content_in word.now) }
 {
@@ -62,27 +62,27 @@ pub(crate) fn content_of(alloc: Global, word: &[u8]) -> Result<Vec<u8>, Unread>
     Ok(content)
 }
 
-/// The number of a name that is all the words, where it is among the names.
+/// The number of the one word, if that is a name among the names.
 #[inline]
 pub(crate) fn known_alone(names: &Names, args: Option<&[u8]>) -> Option<u32>
     ensures { IfSome result (λ number. (text : Text) × (words_after args.entry ≡ text ∷ [])
         × IsNumbered names.now text number) }
 {
-    // This call says that each is a name.
+    // This call shows that each is a name.
     let _ = names.len();
     let text = args?;
     let number = names.number_of(text)?;
     Some(number)
 }
 
-/// The number of the name that a word is, where it is among the names.
+/// The number of a word, if it is among the names.
 #[inline]
 pub(crate) fn known_name(names: &Names, word: &[u8]) -> Result<Option<u32>, Unread>
     ensures reads { Reads (λ _. word.now) result (name_in word.now) }
     ensures name { IfOk result (λ _. name_test word.now ≡ true) }
     ensures known { IfOk result (λ known. IfSome known (IsNumbered names.now word.now)) }
 {
-    // This call says that each is a name.
+    // This call shows that each is a name.
     let _ = names.len();
     match names.number_of(word) {
         Some(number) => Ok(Some(number)),
@@ -91,7 +91,7 @@ pub(crate) fn known_name(names: &Names, word: &[u8]) -> Result<Option<u32>, Unre
     }
 }
 
-/// The number of a name, which is added if it is new. It may be known.
+/// The number of a name, which is added if it is new.
 #[inline]
 pub(crate) fn number_of(names: &mut Names, known: Option<u32>, name: &[u8]) -> Result<u32, Unread>
     requires name { name_test name.now ≡ true }

@@ -8,14 +8,13 @@ use Rattle.redo_text.specs.Grammar.{with_names}
 use Rattle.redo_text.specs.Questions.{line_fault, words_of}
 use Rattle.redo_text.specs.Faults.{IsFirstFault}
 
--- the fault of a line that is read alone, which counts as line 1; for want of memory nothing is
--- said
+-- the fault of a line that is read alone, which counts as line 1; `Memory` says nothing of the line
 abbrev pub IsLineFault : List Text → Text → ReadFault → Type 0
 IsLineFault names line faults.Memory = ⊤
 IsLineFault names line (faults.Line number fault) =
     (number ≡ 1) × (line_fault names line ≡ Some fault)
 
--- the fault of a session file; for want of memory nothing is said
+-- the fault of a session file; `Memory` says nothing of the text
 abbrev pub IsReadFault : List Text → Text → ReadFault → Type 0
 IsReadFault names text faults.Memory = ⊤
 IsReadFault names text (faults.Line number fault) = IsFirstFault names text number fault
@@ -27,9 +26,8 @@ pub record AddsFront (names words after : List Text) : Type 0 where
   pub words_are : words ≡ own ++ rest
   pub adds : after ≡ with_names names own
 
--- what an error of a line leaves: the names before it, but where its own are too many: then these,
--- or as many of its names added as there is room for; for want of memory some of its names may be
--- added
+-- the names after an error of a line: the names before it; if its own are too many, these, or as
+-- many of its names added as fit; after `Memory` some of its names may be added
 abbrev pub LeavesNames : List Text → Text → List Text → ReadFault → Type 0
 LeavesNames names line after faults.Memory = AddsFront names (drop 1 (words_of line)) after
 LeavesNames names line after (faults.Line number TooManyNames) =

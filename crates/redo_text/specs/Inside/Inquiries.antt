@@ -1,4 +1,4 @@
--- What is read of a line that asks.
+-- Reading a question.
 use Rattle.std.specs.Prelude.{◌≡◌, Some, None, Result, Ok, Err, IsSome}
 use Rattle.std.specs.Borrow.{Bor}
 use Rattle.redo_model.specs.Names.{Text}
@@ -7,7 +7,8 @@ use Rattle.redo_text.specs.declared.inquiries.Inquiry.{Inquiry}
 use Rattle.redo_text.specs.Questions.{words_of}
 use Rattle.redo_text.specs.Inquiries.{inquiry_text_of, inquiry_in, inquiry_fault}
 
--- the line asks this about this name, and has no fault; or it asks something, and has this fault
+-- the line is this question about this name, and has no fault; or it is a question, and has this
+-- fault
 abbrev pub ReadsInquiry : Text → Result (Inquiry × Bor Text) LineFault → Type 0
 ReadsInquiry line (Ok asked) =
     (line ≡ inquiry_text_of asked.0 asked.1.now) × (inquiry_fault line ≡ None)

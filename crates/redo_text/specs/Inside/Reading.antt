@@ -1,5 +1,5 @@
--- The steps of the private readers, which no public clause cites: what each gives, or the fault
--- where it fails.
+-- The steps of the private readers, which no public clause cites: the result of each, or its fault
+-- if it fails.
 use Rattle.std.specs.Prelude.{◌≡◌, ◌⊎◌, ℕ, List, [], ◌∷◌, ◌++◌, drop, length, Option, Some, None, Result, Ok, Err, not, nat_lt, nat_le, ◌==◌, if◌then◌else◌, codes, bytes_eq, slice_get, true, false, ⊤}
 use Rattle.std.specs.Borrow.{Bor}
 use Rattle.std.specs.List.{list_all}
@@ -36,7 +36,7 @@ abbrev pub file_stamp_or_none_in : Text → Result (Option Text) LineFault
 file_stamp_or_none_in word =
     if bytes_eq word (codes "-") then Ok None else (file_stamp_in word >>= λ s. Ok (Some s))
 
--- decoded bytes, of which there have to be some
+-- decoded bytes, at least one
 abbrev pub some_content : Result Text FromHexError → Result Text LineFault
 some_content (Ok []) = Err BadHex
 some_content (Ok (b ∷ bs)) = Ok (b ∷ bs)
@@ -46,7 +46,7 @@ some_content (Err e) = Err BadHex
 abbrev pub content_in : Text → Result Text LineFault
 content_in word = if bytes_eq word (codes "-") then Ok [] else some_content (decode_of word)
 
--- the names with this one, where it is there or there is room
+-- the names with this one, if it is known or fits
 abbrev pub added : List Text → Text → Result (List Text) LineFault
 added names text =
     if has names text then Ok names
@@ -79,7 +79,7 @@ target_and_names_in (t ∷ n ∷ ns) =
     else (if not (list_all is_name (t ∷ n ∷ ns)) then Err BadName
     else Ok (t, n ∷ ns))
 
--- the names with all of these, where they are not too many then
+-- the names with all of these, if they are not too many then
 unfoldable pub all_added : List Text → List Text → Result (List Text) LineFault
 all_added names ts =
     if nat_le (length (with_names names ts)) 65536 then Ok (with_names names ts)
@@ -127,7 +127,7 @@ unfoldable pub no_words_in : Command Text → List Text → List Text → Readin
 no_words_in form names [] = Ok (form, names)
 no_words_in form names (w ∷ ws) = Err WrongWords
 
--- the words after that of the kind, where there is one
+-- the words after that of the kind, if there is one
 unfoldable pub form_in : Option Kind → List Text → List Text → Reading
 form_in None names args = Err UnknownCommand
 form_in (Some kinds.File) names args = file_in names args
@@ -150,7 +150,7 @@ unfoldable pub words_in : List Text → List Text → Reading
 words_in names [] = Err UnknownCommand
 words_in names (word ∷ args) = form_in (kind_named word) names args
 
--- the words after a space, where there is one
+-- the words after a space, if there is one
 abbrev pub words_after : Option (Bor Text) → List Text
 words_after None = []
 words_after (Some text) = words_of text.now
@@ -181,7 +181,7 @@ Reads view (Ok x) reading = reading ≡ Ok (view x)
 Reads view (Err unread.Memory) reading = Unit {0}
 Reads view (Err (unread.Fault fault)) reading = reading ≡ Err fault
 
--- a fault met while names are added: they are too many
+-- a fault while names are added: they are too many
 abbrev pub IsFull : List Text → Unread → Type 0
 IsFull after unread.Memory = ⊤
 IsFull after (unread.Fault fault) = (fault ≡ TooManyNames) × (length after ≡ 65536)

@@ -23,7 +23,7 @@ one_word_in reader [] = Err WrongWords
 one_word_in reader (w ∷ []) = reader w
 one_word_in reader (w ∷ v ∷ vs) = Err WrongWords
 
--- the number from 1 to 4,294,967,295 whose digits these are, without a sign or a zero in front
+-- the number from 1 to 4,294,967,295 with these digits, without a sign or a leading zero
 unfoldable pub grant_in : Text → Result ℕ LineFault
 grant_in word =
     if nat_lt 48 (slice_index word 0) && all_ascii_digits word
@@ -31,13 +31,13 @@ grant_in word =
     then Ok (digits_value 10 word)
     else Err WrongWords
 
--- decoded bytes, where the word is how they are printed
+-- decoded bytes, if the word is how they are printed
 abbrev pub printed_digest : Text → Result Text FromHexError → Result Text LineFault
 printed_digest word (Ok digest) =
     if bytes_eq (encode_lower digest) word then Ok digest else Err BadHex
 printed_digest word (Err e) = Err BadHex
 
--- the 20 bytes whose digits these are
+-- the 20 bytes with these digits
 unfoldable pub digest_in : Text → Result Text LineFault
 digest_in word = printed_digest word (decode_sized word 20)
 
@@ -80,7 +80,7 @@ all_reply_kinds =
     kinds.Okay ∷ kinds.Granted ∷ kinds.Busy ∷ kinds.Stale ∷ kinds.Stamped ∷ kinds.Ood
     ∷ kinds.Targets ∷ kinds.Sources ∷ kinds.Refused ∷ []
 
--- the kind whose word this is
+-- the kind with this word
 abbrev pub reply_kind_named : Text → Option ReplyKind
 reply_kind_named word = find (λ kind. bytes_eq word (reply_word kind)) all_reply_kinds
 
@@ -88,7 +88,7 @@ abbrev pub okay_in : List Text → Result (Reply Text) LineFault
 okay_in [] = Ok Okay
 okay_in (w ∷ ws) = Err WrongWords
 
--- the words after that of the kind, where there is one
+-- the words after that of the kind, if there is one
 unfoldable pub reply_args_in : Option ReplyKind → List Text → Result (Reply Text) LineFault
 reply_args_in None args = Err WrongWords
 reply_args_in (Some kinds.Okay) args = okay_in args

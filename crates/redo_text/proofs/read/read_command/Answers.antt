@@ -28,7 +28,7 @@ returns-in-Ok-clause-only c command after is adds =
       ap (λ (x : Command Text × List Text). x.1) same,
     )
 
--- what could be read was refused for want of memory alone
+-- only lack of memory refuses what can be read
 memory_alone : (names : List Text) (why : Unread) (given : ReadFault) (reading : Reading)
     (x : Command Text × List Text)
     → Reads (λ (c : numbered.Command). (command_at names c, names)) (Err why) reading
