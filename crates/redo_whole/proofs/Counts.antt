@@ -1,4 +1,4 @@
--- A failure changes the count, and leaves none that is 0.
+-- A failure changes the count, and makes it greater than 0.
 use Rattle.std.proofs.Common.{◌≡◌, ◌+◌, ℕ, Bool, true, false, not, ◌||◌, ◌==◌, refl, ◌∙◌, eq-eqb, ne_eqb, arith}
 use Rattle.std.proofs.lemmas.Bool.{cond_both, eqb-true, not_from_true, not_from_false}
 use Rattle.redo_whole.specs.Inside.Counts.{counted, one_more}
@@ -23,12 +23,12 @@ or_true : (b : Bool) → true ≡ (b || true)
 or_true true = refl
 or_true false = refl
 
--- the count is another exactly after a failure
+-- the count changes exactly if there was a failure
 pub count_changes : (failed : Bool) (n : ℕ) → not (counted failed n == n) ≡ failed
 count_changes true n = not_from_false (one_more n == n) (ne_eqb (one_more n) n (another n))
 count_changes false n = not_from_true (n == n) (eq-eqb n n refl)
 
--- the count is 0 exactly where it was, and no failure came
+-- the count is 0 exactly if it was, and there was no failure
 pub count_is_some : (failed : Bool) (n : ℕ)
     → not (counted failed n == 0) ≡ (not (n == 0) || failed)
 count_is_some true n =

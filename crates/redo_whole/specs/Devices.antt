@@ -4,8 +4,8 @@ use Rattle.std.specs.Io.KnownBytes.{Appends, Keeps}
 use Rattle.redo_whole.specs.Watched.{inner_of}
 use Rattle.redo_whole.specs.declared.watched.Watched.{Watched}
 
--- the bytes that a reader has left, or those that a writer was given: `bytes` says them of the
--- reader or writer itself, where they are known
+-- the bytes that a reader has left, or that a writer got: `bytes` gives those of the reader or
+-- writer itself, if they are known
 abbrev pub known_in : {D : Type 0} → (D → Option (List ℕ)) → Watched D → Option (List ℕ)
 known_in bytes device = bytes (inner_of device)
 

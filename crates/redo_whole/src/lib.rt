@@ -1,4 +1,4 @@
-//! Whole reads and writes, by readers and writers that remember a failure.
+//! Whole reads and writes, by readers and writers that record a failure.
 #![tactic(auto)]
 
 mod watched;

@@ -8,15 +8,15 @@ use std::io::{Read, Write};
 
 /// A reader or a writer that counts its failures.
 ///
-/// It failed where a read, a write or a flush of it gave an error, or a write of some bytes took none.
+/// It failed if a read, a write or a flush of it gave an error, or a write of some bytes took none.
 #[derive(Drop)]
 pub struct Watched<T> {
     inner: T,
     failures: u64,
 }
 
-/// The count of failures after a call: one more where it failed. After the greatest comes 1, so that
-/// each failure changes the count, and none makes it 0.
+/// The count of failures after a call: one more if it failed. After the greatest comes 1, so that each failure changes
+/// the count, and none makes it 0.
 #[tactic(auto, using(crate::proofs::Counts::count_changes, crate::proofs::Counts::count_is_some))]
 fn counted(failed: bool, failures: u64) -> u64
     ensures count { result ≡ counted failed failures }
@@ -51,7 +51,7 @@ impl<T> Watched<T> {
 }
 
 impl<R: Read> Watched<R> {
-    /// How many bytes one read gave, where it did not fail: 0 at the end, or where the buffer is empty.
+    /// How many bytes one read gave, if it did not fail: 0 at the end, or if the buffer is empty.
     pub fn read(&mut self, buf: &mut [u8]) -> Option<usize>
         ensures within { IfSome result (λ n. n ≤ length buf.new) }
         ensures given { IfSome result (λ n. Consumes (R.remaining (inner_of self.old))
@@ -71,7 +71,7 @@ impl<R: Read> Watched<R> {
 }
 
 impl<W: Write> Watched<W> {
-    /// How many bytes one write took, where it did not fail.
+    /// How many bytes one write took, if it did not fail.
     pub(crate) fn write(&mut self, bytes: &[u8]) -> Option<usize>
         requires { 0 < length bytes.now }
         ensures within { IfSome result (λ n. (0 < n) × (n ≤ length bytes.now)) }
@@ -88,7 +88,7 @@ impl<W: Write> Watched<W> {
         taken
     }
 
-    /// Has the writer pass on what it holds back.
+    /// Flushes the writer.
     pub fn flush(&mut self) -> Result<(), WriteFault>
         ensures kept { Keeps (W.contents (inner_of self.old)) (W.contents (inner_of self.new)) }
         ensures count { failures_of self.new ≡ counted (is_err result) (failures_of self.old) }

@@ -13,7 +13,7 @@ use thiserror::Error;
 /// Why a reader was not read to its end.
 #[derive(Debug, Drop, Error)]
 pub enum WholeFault {
-    /// There is no memory for the bytes.
+    /// Memory for the bytes ran out.
     #[error("out of memory")]
     Memory,
     /// A read failed.
@@ -32,7 +32,7 @@ impl From<AllocError> for WholeFault {
     }
 }
 
-/// Why bytes did not all go out.
+/// Why not all bytes were written.
 #[derive(Debug, Drop, Error)]
 pub enum WriteFault {
     /// A write or a flush failed.
@@ -42,9 +42,9 @@ pub enum WriteFault {
 
 const READ_BYTES: usize = 16384;
 
-/// All the bytes up to the reader's end, where there are at most `limit`.
+/// All the bytes up to the reader's end, if they are at most `limit`.
 ///
-/// After an error no read is tried again.
+/// After an error it tries no read again.
 pub fn read_whole<R: Read>(
     alloc: Global,
     reader: &mut Watched<R>,
@@ -56,12 +56,12 @@ pub fn read_whole<R: Read>(
     ensures few { IfOk result (λ whole. length whole.items ≤ limit) }
     ensures too_long { IsErrOf result WholeFault.TooLong
         → IfSome (R.remaining (inner_of reader.old)) (λ bytes. limit < length bytes) }
-    // Memory is asked for only for bytes that came, and that the limit allows.
+    // It allocates only for bytes that were read and that the limit allows.
     ensures memory { IsErrOf result WholeFault.Memory
         → ConsumesSome (R.remaining (inner_of reader.old)) (R.remaining (inner_of reader.new))
         limit }
 
-    // A failed device is answered exactly where a read of this call failed.
+    // The fault of a device comes exactly if a read of this call failed.
     ensures device { IsErrOf result WholeFault.Device ↔ (has_failed reader.old reader.new ≡ true) }
     ensures others { ¬ (IsErrOf result WholeFault.Device)
         → failures_of reader.new ≡ failures_of reader.old }
@@ -83,16 +83,16 @@ pub fn read_whole<R: Read>(
     }
 }
 
-/// Writes all the bytes, and takes no memory.
+/// Writes all the bytes, and allocates nothing.
 ///
-/// After an error no write is tried again, and a front of the bytes went out.
+/// After an error it tries no write again, and a prefix of the bytes was written.
 pub fn write_whole<W: Write>(writer: &mut Watched<W>, bytes: &[u8]) -> Result<(), WriteFault>
     ensures whole { OnOk result
         (Appends (W.contents (inner_of writer.old)) (W.contents (inner_of writer.new)) bytes.now) }
     ensures front { OnErr result (AppendsFront (W.contents (inner_of writer.old))
         (W.contents (inner_of writer.new)) bytes.now) }
 
-    // A failed write is answered exactly where a write of this call failed.
+    // The fault of a device comes exactly if a write of this call failed.
     ensures write { IsErrOf result WriteFault.Write ↔ (has_failed writer.old writer.new ≡ true) }
     ensures count { failures_of writer.new ≡ counted (is_err result) (failures_of writer.old) }
     ensures flag { is_faulted writer.new ≡ (is_faulted writer.old || is_err result) }

@@ -1,8 +1,8 @@
--- Bytes that grow by a front of what was to be sent, or lose some of what is to be read.
+-- Bytes that grow by a prefix of what is sent, or lose some of what is to be read.
 use Rattle.std.specs.Prelude.{◌≡◌, ℕ, ◌<◌, ◌≤◌, Option, List, ◌++◌, length}
 use Rattle.std.specs.Io.KnownBytes.{Appends, Consumes}
 
--- known bytes grow by a front of these bytes
+-- known bytes grow by a prefix of these bytes
 abbrev pub AppendsFront : Option (List ℕ) → Option (List ℕ) → List ℕ → Type 0
 AppendsFront old new bytes =
     (sent : List ℕ) × (rest : List ℕ) × (bytes ≡ sent ++ rest) × Appends old new sent

@@ -6,7 +6,7 @@ use Rattle.std.specs.Io.KnownBytes.{Appends}
 use Rattle.redo_whole.specs.Watched.{inner_of}
 use Rattle.redo_whole.proofs.whole.write_whole.Goals as goal
 
--- a write of no byte more leaves a front
+-- a write that takes no more bytes leaves a prefix
 pub returns-in_default-clause-front : goal.returns-in_default-clause-front
 returns-in_default-clause-front g c =
     let at = c.loop-at.at in
