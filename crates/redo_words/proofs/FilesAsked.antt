@@ -1,4 +1,4 @@
--- What the matches of the words ask for.
+-- The meaning of the words' matches.
 use Rattle.std.proofs.Common.{◌≡◌, ◌∙◌, ap, sym, subst, length, ℕ, List, map, Option, Some, None, option_map, codes, string_bytes, String, Vec}
 use Rattle.std.specs.declared.alloc.Global.{Global}
 use Rattle.std.specs.Box.{box_value}
@@ -60,7 +60,7 @@ two_words same = absurd (unequal (ap (λ (word : Text). length word) same))
     unequal : ¬ (◌≡◌ {A = ℕ} 3 6)
     unequal same = absurd (cc)
 
--- without a FILE, `run` asks for nothing
+-- `run` without a FILE is no job
 pub asks_no_run : (m : ArgMatches) (name : Text) (inner : Found) (job : Job)
     → Some name ≡ subcommand_name_of m
     → Some (rows_of inner) ≡ option_map (λ (p : Text × List Row). p.1) (subcommand_rows_of m)
@@ -77,7 +77,7 @@ asks_no_run m name inner job is_name is_rows is_run none asks =
         sym none ∙ raw_values-rows inner (codes "FILE") ∙ h.1 in absurd (cc)
     go (Replay file) h = two_words (sym is_run ∙ h.0)
 
--- nor does `replay`
+-- nor is `replay`
 pub asks_no_replay : (m : ArgMatches) (name : Text) (inner : Found) (job : Job)
     → Some name ≡ subcommand_name_of m
     → Some (rows_of inner) ≡ option_map (λ (p : Text × List Row). p.1) (subcommand_rows_of m)

@@ -1,4 +1,4 @@
--- What the matches of a conversation's words ask for.
+-- The meaning of the matches of a conversation's words.
 use Rattle.std.proofs.Common.{◌≡◌, ◌∙◌, refl, sym, subst, true, false, Bool, List, [], Option, Some, None, option_map, codes, string_bytes, Bor}
 use Rattle.clap.specs.Words.{App, HasMatchesOf, Row, Text, fault_of, first_of, first_value, found_of, is_simple, is_simple_and_free, matches_of, rows_of}
 use Rattle.clap.specs.declared.parser.matches.ArgMatches.{ArgMatches}

@@ -1,4 +1,4 @@
--- The words that the program for conversations takes.
+-- The arguments of the program for conversations.
 use Rattle.std.specs.Prelude.{◌≡◌, ◌↔◌, List, [], map, Option, Some, None, true, codes, string_bytes, String}
 use Rattle.std.specs.declared.alloc.Global.{Global}
 use Rattle.clap.specs.Words.{App, Row, Rule, Text, fault_of, first_of, matches_of, new_app, new_rule, with_rule}
@@ -29,7 +29,7 @@ redodb_live = with_rule (with_rule (with_rule nameless log_rule) (flag_rule (cod
 abbrev pub IsGiven : Text → List Row → Type 0
 IsGiven flag rows = first_of flag rows ≡ Some (codes "true")
 
--- what clap finds in the words is the log and its flags, or nothing
+-- what clap finds in the words: the log and its flags, or nothing
 abbrev pub AsksForLog : List Row → Option LogFile → Type 0
 AsksForLog rows None = (first_of (codes "log") rows ≡ None)
     × (¬ (IsGiven (codes "sync") rows)) × (¬ (IsGiven (codes "salvage") rows))
@@ -40,7 +40,7 @@ AsksForLog rows (Some log) = (first_of (codes "log") rows ≡ Some (string_bytes
 abbrev pub Asks : List Row → Conversation → Type 0
 Asks rows conversation = AsksForLog rows conversation.log
 
--- the words after the program's name ask for the conversation
+-- the words after the program's name mean the conversation
 abbrev pub AskFor : List (String Global) → Conversation → Type 0
 AskFor words = Asks (matches_of redodb_live (map string_bytes words))
 

@@ -1,4 +1,4 @@
--- The words that the program takes.
+-- The arguments of the program.
 use Rattle.std.specs.Prelude.{◌≡◌, List, [], map, Option, Some, None, true, codes, string_bytes, String}
 use Rattle.std.specs.declared.alloc.Global.{Global}
 use Rattle.clap.specs.Words.{App, Row, Rule, Text, all_of, fault_of, first_of, new_app, new_rule, subcommand_of, with_rule, with_subcommand}
@@ -36,7 +36,7 @@ empty_app = record (new_app (codes "redodb")) {
 abbrev pub redodb : App
 redodb = with_subcommand (with_subcommand empty_app run_app.top) replay_app.top
 
--- the words name the job, and give its files: `asked` is what clap finds in them
+-- the words name the job, and give its files; clap finds `asked` in them
 abbrev pub Asks : Option (Text × List Row) → Job → Type 0
 Asks None job = ⊥
 Asks (Some (name, rows)) Input = ⊥
@@ -45,7 +45,7 @@ Asks (Some (name, rows)) (Run files) =
 Asks (Some (name, rows)) (Replay file) =
     (name ≡ codes "replay") × (first_of (codes "FILE") rows ≡ Some (string_bytes file))
 
--- the words after the program's name ask for the job
+-- the words after the program's name mean the job
 abbrev pub AskFor : List (String Global) → Job → Type 0
 AskFor words job = Asks (subcommand_of redodb (map string_bytes words)) job
 

@@ -1,6 +1,6 @@
 use thiserror::Error;
 
-/// Why there is no job.
+/// Why the words mean no job.
 #[derive(Debug, Drop, Error)]
 pub enum WordsFault {
     #[error("out of memory")]

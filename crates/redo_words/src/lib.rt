@@ -1,4 +1,4 @@
-//! The words after a program's name: what they ask for.
+//! The words after a program's name, and their meaning.
 #![tactic(auto)]
 
 mod fault;

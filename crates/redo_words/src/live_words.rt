@@ -45,7 +45,7 @@ fn is_given(matches: &ArgMatches<'_>, flag: &str) -> bool
     }
 }
 
-/// `None` where flags of a log are given without one.
+/// `None` if flags of a log are given without one.
 fn conversation_of(
     alloc: Global,
     matches: &ArgMatches<'_>,
@@ -72,7 +72,7 @@ fn conversation_of(
     }
 }
 
-/// The conversation that the words after the name of `redodb-live` ask for.
+/// The conversation that the words after the name of `redodb-live` mean.
 pub fn conversation(alloc: Global, words: &[String]) -> Result<Conversation, WordsFault>
     ensures others { IfErr result (λ fault. (fault ≡ WordsFault.Memory)
         ⊎ (fault ≡ WordsFault.Usage)) }
@@ -81,8 +81,8 @@ pub fn conversation(alloc: Global, words: &[String]) -> Result<Conversation, Wor
     ensures asked { IfOk result (AskFor words.now) }
     ensures sound { OnOk result (AreFaultless words.now) }
 
-    // Words that ask for a conversation, and in which clap finds no fault, are refused for want of
-    // memory alone.
+    // Words that mean a conversation, and in which clap finds no fault, are refused only if memory
+    // runs out.
     ensures only { (conversation : Conversation) → AskFor words.now conversation
         → AreFaultless words.now → IfErr result (λ fault. fault ≡ WordsFault.Memory) }
 {

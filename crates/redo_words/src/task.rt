@@ -1,6 +1,6 @@
 use std::slice;
 
-/// What the words ask for.
+/// What the words mean.
 #[derive(Debug, Drop)]
 pub enum Job {
     /// One session, from standard input.
@@ -31,13 +31,13 @@ impl Job {
 #[derive(Debug, Drop)]
 pub struct LogFile {
     pub name: String,
-    /// Whether each line is to be on the disk before it is answered.
+    /// Whether each line is synced to the disk before its answer.
     pub sync: bool,
-    /// Whether it is to be cut where it is damaged.
+    /// Whether it is cut if it is damaged.
     pub salvage: bool,
 }
 
-/// What the words of `redodb-live` ask for.
+/// What the words of `redodb-live` mean.
 #[derive(Debug, Drop)]
 pub struct Conversation {
     pub log: Option<LogFile>,

@@ -39,7 +39,7 @@ fn copies(alloc: Global, texts: &[&str]) -> Result<Vec<String>, AllocError>
     Ok(copies)
 }
 
-/// `None` where the matches are those of another command.
+/// `None` if the matches are those of another command.
 fn job_of(alloc: Global, matches: &ArgMatches<'_>) -> Result<Option<Job>, AllocError>
     ensures asked { IfOk result (λ found. IfSome found (Asks (subcommand_rows_of matches.now))) }
     ensures only { (job : Job) → Asks (subcommand_rows_of matches.now) job
@@ -58,8 +58,7 @@ fn job_of(alloc: Global, matches: &ArgMatches<'_>) -> Result<Option<Job>, AllocE
     }
 }
 
-/// Whatever is refused for another cause than memory is no use of the program, a call for help
-/// included.
+/// Every refusal for another cause than memory is the fault `usage`, a call for help included.
 pub(crate) fn refusal(error: &Error) -> WordsFault
     ensures memory { (result ≡ WordsFault.Memory) ↔ (kind_of error.now ≡ ErrorKind.OutOfMemory) }
     ensures usage { (result ≡ WordsFault.Usage) ↔ (kind_of error.now ≢ ErrorKind.OutOfMemory) }
@@ -70,7 +69,7 @@ pub(crate) fn refusal(error: &Error) -> WordsFault
     }
 }
 
-/// The job that the words after the program's name ask for. Without words no memory is taken.
+/// The job that the words after the program's name mean. Without words it allocates nothing.
 pub fn job(alloc: Global, words: &[String]) -> Result<Job, WordsFault>
     ensures input { IsOkAnd result (λ job. job ≡ Job.Input) ↔ (words.now ≡ []) }
     ensures others { IfErr result (λ fault. (fault ≡ WordsFault.Memory)
@@ -80,8 +79,7 @@ pub fn job(alloc: Global, words: &[String]) -> Result<Job, WordsFault>
     ensures asked { IfOk result (λ job. words.now ≢ [] → AskFor words.now job) }
     ensures sound { OnOk result (words.now ≢ [] → AreFaultless words.now) }
 
-    // Words that ask for a job, and in which clap finds no fault, are refused for want of memory
-    // alone.
+    // Words that mean a job, and in which clap finds no fault, are refused only if memory runs out.
     ensures only { (job : Job) → AskFor words.now job → AreFaultless words.now
         → IfErr result (λ fault. fault ≡ WordsFault.Memory) }
 {
