@@ -1,4 +1,4 @@
-/* The C side of libredodb: it tells null pointers and lengths that can't be, which Rattle can't, and calls redo_c. */
+/* The C side of libredodb: it tests for null pointers and impossible lengths, which Rattle can't, and calls redo_c. */
 #include "redodb.h"
 
 #include <stdint.h>
@@ -22,7 +22,7 @@ struct redodb {
     handle handle;
 };
 
-/* The calls of crates/redo_c. A slice is a pointer, which is never null, and a length. Where a database is open at the
+/* The calls of crates/redo_c. A slice is a pointer, which is never null, and a length. If a database is open at the
  * handle, redo_c_open and redo_c_restore end it if they return REDODB_OK, and else leave it; here none ever is. */
 size_t redo_c_room(void);
 void redo_c_place(unsigned char *at);
@@ -89,7 +89,7 @@ static int overlap(const void *one, size_t size, const void *other, size_t lengt
     return size > 0 && length > 0 && (first < second ? second - first < size : first - second < length);
 }
 
-/* Whether a fault is want of memory: the answer is `SESSION fault memory`. Then a caller is told so by the status. */
+/* Whether the fault is that memory ran out: the answer is `SESSION fault memory`. Then the status reports it. */
 static int lacks_memory(const char *answer, size_t size) {
     static const char end[] = " fault memory\n";
     size_t length = sizeof end - 1;

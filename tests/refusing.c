@@ -1,9 +1,8 @@
 // A malloc, a pthread_create and an open for tests. Refused are the request for memory whose number is FAIL_AT, counted
 // from 1, each one of more bytes than FAIL_ABOVE, the start of the thread whose number is FAIL_START, and each opening of
-// a file where FAIL_OPEN is set. At the end the file FAIL_REPORT has four counts: what was refused of memory and threads,
-// what was told, what was spared, and the threads that weren't joined. A test says that it was told of a refusal by a
-// request for as many bytes as MARK, which is never refused. Spared is a refused request after which the same thread at
-// once asks again, for no more.
+// a file if FAIL_OPEN is set. At the end the file FAIL_REPORT has four counts: refusals of memory and threads, reports,
+// spared refusals, and threads that weren't joined. A test reports a refusal that it met by a request for as many bytes
+// as MARK, which is never refused. A refusal is spared if the same thread at once requests again, no more.
 #define _GNU_SOURCE
 #include <dlfcn.h>
 #include <errno.h>

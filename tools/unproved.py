@@ -1,7 +1,7 @@
 """Answers a call of redodb by a program that `rt try` compiles for it alone, since none is proved.
 
 Words that the program refuses are refused here at once. Standard output, status and fault lines are the program's. One
-line on standard error says that it isn't proved, and one says so where `rt try` gives no answer."""
+line on standard error says that it isn't proved, and one says so if `rt try` gives no answer."""
 import os
 import re
 import shutil
@@ -15,7 +15,7 @@ TOP = Path(__file__).resolve().parent.parent
 NOTE = "redodb: not proved yet: compiling a program for this call alone, in a minute or two; ./prove proves it"
 NO_RT = "redodb: rt is not on the path: redodb wants the Rattle kit, as README.md says under 'Two commands'"
 NO_ANSWER = "redodb: no answer without the proved program ({}): ./prove first"
-# of standard input `rt try` takes no more; it waits so many seconds for the program, in place of 60
+# of standard input `rt try` takes no more; it waits so many seconds for the program, instead of 60
 MOST_INPUT = 67_108_864
 SECONDS = 600
 ENDED = re.compile(rb"^checked: ended status=(\d+)$", re.M)

@@ -1,4 +1,4 @@
-/* The records of a tiny tree in this process: a build of util.o is told, util.h changes, and then it is asked why util.o
+/* The records of a tiny tree in this process: a build of util.o is reported, util.h changes, and then a question asks why util.o
  * is out of date.
  *
  *     cc examples/embed/main.c -Iinclude library/out/libredodb.a -o main && ./main
@@ -14,13 +14,13 @@ static const char *const lines[] = {
     "2 ood",           "1 lock util.o",    "1 end",
 };
 
-/* Room for an answer, which grows where it has to. */
+/* A buffer for an answer, which grows if it has to. */
 typedef struct room {
     char *at;
     size_t most;
 } room;
 
-/* Answers a line, with as much room as it takes, and prints the answer. */
+/* Answers a line, with a large enough buffer, and prints the answer. */
 static int answer(redodb *database, const char *line, room *room) {
     size_t size;
     int status = redodb_answer(database, line, strlen(line), room->at, room->most, &size, NULL);

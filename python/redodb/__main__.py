@@ -1,4 +1,4 @@
-"""`python3 -m redodb serve|record|picture ..`: the words of redodb that are written in Python."""
+"""`python3 -m redodb serve|record|picture ..`: the subcommands of redodb in Python."""
 
 import importlib
 import sys
@@ -16,11 +16,11 @@ usage: redodb serve [--top DIR] [--idle SECONDS]
     picture   what a history or a log tells, as a picture
 """
 MODULES = {"serve": ".server.command", "record": ".record.main", "picture": ".picture.main"}
-"""Each word's module, which has a function main: the arguments behind the word, and the status."""
+"""Each word's module, which has a function main: the arguments after the word, and the status."""
 
 
 def main(arguments: list[str]) -> int:
-    """Run the word. Return its status: 2 where there is no such word."""
+    """Run the word. Return its status: 2 if there is no such word."""
     word = arguments[0] if arguments else ""
     if word in MODULES:
         module = importlib.import_module(MODULES[word], "redodb")

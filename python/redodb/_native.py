@@ -19,7 +19,7 @@ OK, FAULT, TOO_SMALL = range(3)
 
 
 class Library:
-    """The functions of the shared library. Raises LibraryError where there is none."""
+    """The functions of the shared library. Raises LibraryError if there is none."""
 
     def __init__(self, path: bytes | None = None) -> None:
         found = find_library() if path is None else path
@@ -53,8 +53,8 @@ class Database(Commands):
 
     log is what a log holds, from which it goes on; without it nothing is known. session is the
     session of the calls, from 1 to 64; `answer` takes lines of any session. One thread at a time
-    uses it. All calls raise RefusedError, FaultError, and LibraryError where there is no library,
-    no memory, or where log is none.
+    uses it. All calls raise RefusedError, FaultError, and LibraryError if there is no library,
+    no memory, or if log is none.
 
     >>> with Database() as database:
     ...     database.file("main.c", "1")
@@ -102,7 +102,7 @@ class Database(Commands):
             self.close()
 
     def answer(self, line: bytes) -> bytes:
-        """Return what is said to a line of any session, which has no LF: one line or more.
+        """Return the answer to a line of any session, which has no LF: one line or more.
 
         >>> with Database() as database:
         ...     database.answer(b"7 lock a")

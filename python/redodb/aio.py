@@ -44,7 +44,7 @@ class AsyncClient:
         self._connected: Wire | None = None
 
     async def connect(self, lines: Lines | None = None) -> None:
-        """Connect to the server, which is started where there is none; or go on with a plain
+        """Connect to the server, which is started if there is none; or go on with a plain
         connection.
 
         lines is one that has its session, and isn't used any more. Raises ServerError,
@@ -90,11 +90,11 @@ class AsyncClient:
         return await self._within(self._wire.send(list(asked)), self.timeout)
 
     async def file(self, name: Name, stamp: str) -> None:
-        """Say that there is a file, with this stamp."""
+        """Report that there is a file, with this stamp."""
         await self._do(requests.file(name, stamp))
 
     async def gone(self, name: Name) -> None:
-        """Say that there is no file."""
+        """Report that there is no file."""
         await self._do(requests.gone(name))
 
     async def lock(self, target: Name) -> Granted | Busy:
@@ -102,7 +102,7 @@ class AsyncClient:
         return await self._do(requests.lock(target))
 
     async def unlock(self, target: Name) -> None:
-        """Let go of a lock."""
+        """Release a lock."""
         await self._do(requests.unlock(target))
 
     async def start(self, target: Name) -> None:
@@ -110,15 +110,15 @@ class AsyncClient:
         await self._do(requests.start(target))
 
     async def ifchange(self, target: Name, names: Iterable[Name]) -> Names:
-        """Say that the build of target depends on names, and return the stale ones of them."""
+        """Report that the build of target depends on names, and return the stale ones of them."""
         return await self._do(requests.ifchange(target, names))
 
     async def ifcreate(self, target: Name, names: Iterable[Name]) -> None:
-        """Say that the build of target met no file of these names."""
+        """Report that the build of target met no file of these names."""
         await self._do(requests.ifcreate(target, names))
 
     async def always(self, target: Name) -> None:
-        """Say that the target is to be built every time."""
+        """Report that the target is to be built every time."""
         await self._do(requests.always(target))
 
     async def stamp(self, target: Name, content: bytes) -> str:
@@ -126,11 +126,11 @@ class AsyncClient:
         return await self._do(requests.stamp(target, content))
 
     async def done(self, target: Name, stamp: str | None) -> None:
-        """Say that the target is built, and its file's stamp; None where it has no file."""
+        """Report that the target is built, and its file's stamp; None if it has no file."""
         await self._do(requests.done(target, stamp))
 
     async def failed(self, target: Name) -> None:
-        """Say that the build of the target failed."""
+        """Report that the build of the target failed."""
         await self._do(requests.failed(target))
 
     async def ood(self) -> Names:
@@ -146,7 +146,7 @@ class AsyncClient:
         return await self._do(requests.sources())
 
     async def why(self, target: Name) -> Why | None:
-        """Return why the target is out of date; None where it isn't."""
+        """Return why the target is out of date; None if it isn't."""
         return await self._do(requests.why(target))
 
     async def deps(self, target: Name) -> Deps:
@@ -154,7 +154,7 @@ class AsyncClient:
         return await self._do(requests.deps(target))
 
     async def state(self, name: Name) -> NameState:
-        """Return how it stands with a name."""
+        """Return the state of a name."""
         return await self._do(requests.state(name))
 
     async def wait(
@@ -176,11 +176,11 @@ class AsyncClient:
         return request.result(await future)
 
     async def forget(self, target: Name, parent: Name = TOP_LEVEL) -> bool:
-        """Give up a wait of this session. False where none waits, since it was answered."""
+        """Give up a wait of this session. False if none waits, since it was answered."""
         return await self._do(requests.forget(target, parent))
 
     async def made(self, target: Name) -> str | None:
-        """Return the stamp that the last `done` of a target gave, None where it gave none."""
+        """Return the stamp that the last `done` of a target gave, None if it gave none."""
         return await self._do(requests.made(target))
 
     async def look(self, names: Iterable[Name] | None = None) -> int:
@@ -192,11 +192,11 @@ class AsyncClient:
         await self._do(requests.group(number))
 
     async def ungroup(self, number: int) -> None:
-        """Take back what `group` said, as of a group that has ended."""
+        """Take back the call of `group`, for a group that has ended."""
         await self._do(requests.ungroup(number))
 
     async def end(self) -> None:
-        """Fail what this session builds, and let go of what it holds. The session goes on."""
+        """Fail what this session builds, and release what it holds. The session goes on."""
         await self._do(requests.end())
 
     @property
@@ -206,7 +206,7 @@ class AsyncClient:
         return self._connected
 
     async def _take(self, lines: Lines) -> None:
-        """Go on with a connection; the session is 0 where the server ended before it came."""
+        """Go on with a connection; the session is 0 if the server ended before it came."""
         wire = Wire()
         session = lines.session
         await wire.take(*lines.detach(), session)
@@ -242,5 +242,5 @@ class AsyncClient:
         future.add_done_callback(answered)
 
     def _quietly(self, request: Request[Answer]) -> None:
-        """Ask what nobody waits for the answer of."""
+        """Send a request whose answer nobody waits for."""
         self._wire.send(request.lines).add_done_callback(lambda ended: ended.exception())

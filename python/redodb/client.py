@@ -19,9 +19,9 @@ class Client(Commands):
     """One connection to the server of a tree, which is one session of the database.
 
     top is the top of the tree; without it, that is the nearest folder upwards that has .redo. The
-    server is started where there is none, and ends `idle` seconds after its last client. A call
+    server is started if there is none, and ends `idle` seconds after its last client. A call
     that isn't answered within timeout seconds raises TimeoutError; without a timeout it waits as
-    long as it takes. All calls raise RefusedError, FaultError, and ServerError where the server has
+    long as it takes. All calls raise RefusedError, FaultError, and ServerError if the server has
     ended. Names may be text or bytes, and come as bytes.
 
     >>> with Client(top) as client:
@@ -87,7 +87,7 @@ class Client(Commands):
         """Take the lock of a target for the build of parent, as soon as it is free.
 
         The others that wait are served first. A Ring says that the wait can't end, since target
-        needs parent in turn. timeout is that of the client where it isn't given. After a
+        needs parent in turn. timeout is that of the client if it isn't given. After a
         TimeoutError the wait is given up.
 
         >>> client.wait("app")
@@ -108,7 +108,7 @@ class Client(Commands):
             raise
 
     def forget(self, target: Name, parent: Name = TOP_LEVEL) -> bool:
-        """Give up a wait of this session. False where none waits, since it was answered.
+        """Give up a wait of this session. False if none waits, since it was answered.
 
         >>> client.forget("app")
         False
@@ -116,7 +116,7 @@ class Client(Commands):
         return self._do(requests.forget(target, parent))
 
     def made(self, target: Name) -> str | None:
-        """Return the stamp that the last `done` of a target gave, None where it gave none.
+        """Return the stamp that the last `done` of a target gave, None if it gave none.
 
         A target that is built, and whose file has another stamp now, was changed by hand.
 
@@ -153,7 +153,7 @@ class Client(Commands):
         self._do(requests.group(number))
 
     def ungroup(self, number: int) -> None:
-        """Take back what `group` said, as of a group that has ended.
+        """Take back the call of `group`, for a group that has ended.
 
         >>> client.group(999999998)
         >>> client.ungroup(999999998)
@@ -174,7 +174,7 @@ class Client(Commands):
 
 
 def top_or_nearest(top: bytes | str | None) -> bytes:
-    """Return the top of a tree, absolute and resolved. Raises ServerError where there is none."""
+    """Return the top of a tree, absolute and resolved. Raises ServerError if there is none."""
     if top is not None:
         return os.path.realpath(os.fsencode(top))
     found = find_top()

@@ -10,7 +10,7 @@ from .requests import Answer, Name, Request
 
 
 class Commands(ABC):
-    """A method for each command and question. What they raise is said at client.Client and
+    """A method for each command and question. For what they raise see client.Client and
     _native.Database."""
 
     @abstractmethod
@@ -18,7 +18,7 @@ class Commands(ABC):
         """Ask, and return what the answer says."""
 
     def file(self, name: Name, stamp: str) -> None:
-        """Say that there is a file, with this stamp.
+        """Report that there is a file, with this stamp.
 
         >>> client.file("a.c", "10")
         >>> client.state("a.c").stamp
@@ -27,7 +27,7 @@ class Commands(ABC):
         self._do(requests.file(name, stamp))
 
     def gone(self, name: Name) -> None:
-        """Say that there is no file.
+        """Report that there is no file.
 
         >>> client.gone("a.c")
         >>> client.state("a.c").stamp is None
@@ -44,7 +44,7 @@ class Commands(ABC):
         return self._do(requests.lock(target))
 
     def unlock(self, target: Name) -> None:
-        """Let go of a lock.
+        """Release a lock.
 
         >>> client.unlock("a.o")
         Traceback (most recent call last):
@@ -64,7 +64,7 @@ class Commands(ABC):
         self._do(requests.start(target))
 
     def ifchange(self, target: Name, names: Iterable[Name]) -> Names:
-        """Say that the build of target depends on names, and return those of them that are stale.
+        """Report that the build of target depends on names, and return the stale ones of them.
 
         More names than one command takes are several commands.
 
@@ -77,7 +77,7 @@ class Commands(ABC):
         return self._do(requests.ifchange(target, names))
 
     def ifcreate(self, target: Name, names: Iterable[Name]) -> None:
-        """Say that the build of target met no file of these names. As ifchange, of any number of
+        """Report that the build of target met no file of these names. As ifchange, of any number of
         names.
 
         >>> client.lock("a.o")
@@ -90,7 +90,7 @@ class Commands(ABC):
         self._do(requests.ifcreate(target, names))
 
     def always(self, target: Name) -> None:
-        """Say that the target is to be built every time.
+        """Report that the target is to be built every time.
 
         >>> client.lock("a.o")
         Granted(number=1)
@@ -114,7 +114,7 @@ class Commands(ABC):
         return self._do(requests.stamp(target, content))
 
     def done(self, target: Name, stamp: str | None) -> None:
-        """Say that the target is built, and its file's stamp; None where it has no file.
+        """Report that the target is built, and its file's stamp; None if it has no file.
 
         >>> client.lock("all")
         Granted(number=1)
@@ -126,7 +126,7 @@ class Commands(ABC):
         self._do(requests.done(target, stamp))
 
     def failed(self, target: Name) -> None:
-        """Say that the build of the target failed.
+        """Report that the build of the target failed.
 
         >>> client.lock("a.o")
         Granted(number=1)
@@ -162,7 +162,7 @@ class Commands(ABC):
         return self._do(requests.sources())
 
     def why(self, target: Name) -> Why | None:
-        """Return why the target is out of date; None where it isn't.
+        """Return why the target is out of date; None if it isn't.
 
         >>> client.why("a.o") is None
         True
@@ -178,7 +178,7 @@ class Commands(ABC):
         return self._do(requests.deps(target))
 
     def state(self, name: Name) -> NameState:
-        """Return how it stands with a name.
+        """Return the state of a name.
 
         >>> client.state("a.o")
         NameState(state=<State.IDLE: 'idle'>, builder=None, holder=None, stamp=None)
@@ -186,7 +186,7 @@ class Commands(ABC):
         return self._do(requests.state(name))
 
     def end(self) -> None:
-        """Fail what this session builds, and let go of what it holds. The session goes on.
+        """Fail what this session builds, and release what it holds. The session goes on.
 
         >>> client.lock("a.o")
         Granted(number=1)

@@ -17,7 +17,7 @@ NOT_FOUND = "redodb-live: not found; $REDODB_LIVE names it"
 class Conversation:
     """redodb-live, asked line by line. It ends with the `with` block, or by close.
 
-    Raises ServerError where the program can't be started or has ended; the text is the program's
+    Raises ServerError if the program can't be started or has ended; the text is the program's
     own line.
     """
 
@@ -48,7 +48,7 @@ class Conversation:
         self.close()
 
     def close(self) -> None:
-        """End the input, and wait for the program's end. Raises ServerError where it failed."""
+        """End the input, and wait for the program's end. Raises ServerError if it failed."""
         _, errors = self._program.communicate()
         if self._program.returncode:
             raise ServerError(errors.decode(errors="replace").strip() or "redodb-live ended")

@@ -19,7 +19,7 @@ class NameTooLong(BadName):
 class RefusedError(RedodbError):
     """The database refused a command, and everything is as it was before.
 
-    refusal is the reason; name is the name that exists, where that is the reason, and else None.
+    refusal is the reason; name is the name that exists, if that is the reason, and else None.
     """
 
     def __init__(self, refusal: "Refusal", name: bytes | None, request: bytes) -> None:

@@ -39,7 +39,7 @@ class Lines:
     def greet(self, deadline: float | None = None) -> bool:
         """Wait for the session, which may take the time until one is free.
 
-        Return False where the server ended before. Raises ServerError, TimeoutError.
+        Return False if the server ended before. Raises ServerError, TimeoutError.
         """
         while b"\n" not in self._rest:
             data = self._receive(deadline)
@@ -94,7 +94,7 @@ class Lines:
         return [answers[number] for number in wanted]
 
     def _next(self, deadline: float | None) -> bytes:
-        """Send, and return what comes next. Raises ServerError where that is the end."""
+        """Send, and return what comes next. Raises ServerError if that is the end."""
         self._send()
         data = self._receive(deadline)
         if not data:
@@ -161,7 +161,7 @@ class Lines:
 
 
 def dial(places: Places) -> socket | None:
-    """Return a connection to the server of a tree, or None where no server listens."""
+    """Return a connection to the server of a tree, or None if no server listens."""
     connection = socket(AF_UNIX, SOCK_STREAM | SOCK_CLOEXEC)
     try:
         if len(places.socket) <= _LONGEST_PATH:

@@ -8,7 +8,7 @@ import os
 from .errors import BadName, NameTooLong
 
 ALWAYS = b"//always"
-"""The one name that stands for no file: its stamp changes in each run."""
+"""The one name without a file: its stamp changes in each run."""
 
 MOST_BYTES = 255
 
@@ -32,7 +32,7 @@ def name_of(path: bytes, top: bytes) -> bytes:
     """Return the name of a path, which is absolute or relative to the working folder.
 
     top is the top of the tree, absolute and without symbolic links, as places.find_top returns it.
-    The last part of the path is kept as it is, also where it is a symbolic link; a path that ends
+    The last part of the path is kept as it is, also if it is a symbolic link; a path that ends
     with `/`, `.` or `..` is a folder, and resolved whole. Raises BadName for an empty path, and
     NameTooLong.
 
@@ -55,9 +55,9 @@ def name_of(path: bytes, top: bytes) -> bytes:
 
 
 def path_of(name: bytes, top: bytes) -> bytes:
-    """Return the path of a name, below top (or beside it, where the name begins with `../`).
+    """Return the path of a name, below top (or beside it, if the name begins with `../`).
 
-    Raises BadName where the name is ALWAYS, or isn't one that name_of returns.
+    Raises BadName if the name is ALWAYS, or isn't one that name_of returns.
 
     >>> path_of(b"src/a%20file.c", b"/tree")
     b'/tree/src/a file.c'
@@ -86,7 +86,7 @@ def escape(path: bytes) -> bytes:
 
 
 def unescape(name: bytes) -> bytes:
-    """Return the relative path of a name. Raises BadName where escape returns no such name.
+    """Return the relative path of a name. Raises BadName if escape returns no such name.
 
     >>> unescape(b"%23notes")
     b'#notes'

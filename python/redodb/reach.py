@@ -1,4 +1,4 @@
-"""Reaching the server of a tree, which is started where there is none."""
+"""Reaching the server of a tree, which is started if there is none."""
 import fcntl
 import os
 import sys
@@ -15,7 +15,7 @@ _PAUSE = 0.02
 def connect(top: bytes, timeout: float | None = None, idle: float = 3.0) -> Lines:
     """Return a connection to the server of a tree, with its session.
 
-    Where no server listens, one is started, which ends `idle` seconds after its last client. More
+    If no server listens, one is started, which ends `idle` seconds after its last client. More
     than 64 connections wait for a session, for ever or timeout seconds. Raises ServerError,
     TimeoutError.
     """
@@ -35,7 +35,7 @@ def connect(top: bytes, timeout: float | None = None, idle: float = 3.0) -> Line
 
 
 def dialled(places: Places) -> Lines | None:
-    """Return a connection that has no session yet, or None where no server listens."""
+    """Return a connection that has no session yet, or None if no server listens."""
     connection = dial(places)
     return None if connection is None else Lines(connection)
 

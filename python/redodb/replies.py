@@ -70,7 +70,7 @@ class Granted:
 
 @dataclass(frozen=True, slots=True)
 class Busy:
-    """The lock is held; number is that of the grant that stands."""
+    """The lock is held; number is that of the grant in force."""
 
     number: int
 
@@ -167,7 +167,7 @@ def read_wait(answer: bytes, request: bytes) -> Granted | Ring | Forgotten:
 
 
 def read_forget(answer: bytes, request: bytes) -> bool:
-    """Read the answer to `forget`: False where the wait was answered before."""
+    """Read the answer to `forget`: False if the wait was answered before."""
     if answer == b"fault " + FaultWord.NOT_WAITING.value.encode():
         return False
     read_ok(answer, request)
@@ -175,7 +175,7 @@ def read_forget(answer: bytes, request: bytes) -> bool:
 
 
 def read_made(answer: bytes, request: bytes) -> str | None:
-    """Read `made STAMP`: None where a target was built without a file, or never."""
+    """Read `made STAMP`: None if a target was built without a file, or never."""
     stamp = _rest(answer, b"made", request)
     return None if stamp == b"-" else stamp.decode()
 
@@ -199,7 +199,7 @@ def read_names(answer: bytes, request: bytes) -> Names:
 
 
 def read_why(answer: bytes, request: bytes) -> Why | None:
-    """Read the answer to `why`: None where the target isn't out of date."""
+    """Read the answer to `why`: None if the target isn't out of date."""
     if answer == b"clean":
         return None
     reason, *names = answer.split(b" ")
@@ -240,7 +240,7 @@ def read_state(answer: bytes, request: bytes) -> NameState:
 
 
 def _rest(answer: bytes, word: bytes, request: bytes) -> bytes:
-    """Return what stands behind the first word, which has to be word."""
+    """Return the text after the first word, which has to be word."""
     first, _, rest = answer.partition(b" ")
     if first != word:
         _raise(answer, request)

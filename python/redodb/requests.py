@@ -14,7 +14,7 @@ Name = bytes | str
 Answer = TypeVar("Answer")
 
 TOP_LEVEL = b"-"
-"""The name in place of the one that is built, where a wait is for none."""
+"""The name instead of the one that is built, if a wait is for none."""
 
 _MOST_NAMES = 64
 _MOST_BYTES = 7_000
@@ -24,7 +24,7 @@ _MOST_KEPT = 1 << 16  # as many names as a tree has at most
 class Request(Generic[Answer]):
     """The lines of a request.
 
-    read reads the answer to each, which is the answer where there is one line; join makes one of
+    read reads the answer to each, which is the answer if there is one line; join makes one of
     several, or of none.
     """
 

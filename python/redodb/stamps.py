@@ -10,7 +10,7 @@ _MOST_BYTES = 64
 
 
 def stamp_of(path: bytes) -> str | None:
-    """Return the stamp of a file, or None where no file can be seen there.
+    """Return the stamp of a file, or None if no file can be seen there.
 
     The stamp is SIZE-MTIME-INODE-MODE: bytes, nanoseconds, and the mode with the kind of the file
     in octal. That of a folder is `folder`, whatever is in it. That of a symbolic link is `link-`

@@ -32,7 +32,7 @@ class Batch:
 class Wire(asyncio.BufferedProtocol):
     """One connection to the server. Requests of one turn of the loop leave by one write.
 
-    `greeted` ends with the number of the session, or None where the server ended before. What is
+    `greeted` ends with the number of the session, or None if the server ended before. What is
     read comes into one buffer, since a new one for each read would cost more than the read.
     """
 

@@ -21,7 +21,7 @@ static void expect(int is_so, const char *what, int line) {
 
 static const size_t HUGE_SIZE = (size_t)1 << 63;
 
-/* The status of a line that is answered into room for 256 bytes, and which answer it is. */
+/* The status of a line that is answered into a buffer of 256 bytes, and which answer it is. */
 static int told(redodb *database, const char *line, const char *want) {
     char room[256];
     size_t size;

@@ -1,6 +1,6 @@
-/* Each request for memory refused in turn: over a conversation, and over the restart from its log. The call that is refused
- * one answers REDODB_MEMORY, tells no length, and leaves the database as it was: the same call again answers as it does
- * with ample memory, and all that is said and logged from then on is the same. Prints a line for each expectation that
+/* Each request for memory refused in turn: over a conversation, and over the restart from its log. The call with a
+ * refused one returns REDODB_MEMORY, reports no length, and leaves the database as it was: the same call again answers as it does
+ * with ample memory, and all answers and log lines from then on are the same. Prints a line for each expectation that
  * fails, and how many held.
  *
  * It is linked with -Wl,--wrap for malloc, calloc, realloc and free. */

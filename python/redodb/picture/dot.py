@@ -22,12 +22,12 @@ COLOURS = {
 
 
 def quoted(text: str) -> str:
-    """Return the text as a string of dot, where a backslash stands for itself."""
+    """Return the text as a string of dot, in which a backslash means itself."""
     return '"' + text.replace("\\", "\\\\").replace('"', '\\"') + '"'
 
 
 def kind_of(node: Node) -> str:
-    """Return how it stands with a name, by a key of COLOURS."""
+    """Return the state of a name, by a key of COLOURS."""
     if not node.is_target:
         return "source" if node.has_file else "missing"
     if node.why is None:
@@ -79,7 +79,7 @@ class Dot:
         return node is not None and not node.is_target and name not in self.on_chain
 
     def _others(self, target: bytes, names: list[bytes]) -> list[str]:
-        """Return nodes that stand for those of a target's names that aren't drawn."""
+        """Return nodes for those of a target's names that aren't drawn."""
         lines = []
         sources = sum(name in self.graph.nodes for name in names)
         for count, what in ((sources, "sources"), (len(names) - sources, "targets")):

@@ -1,4 +1,4 @@
-"""What a target is built from, as the database tells it."""
+"""What a target is built from, as the database reports it."""
 
 import os
 from collections import deque
@@ -20,7 +20,7 @@ class Node:
     has_file: bool
     why: Why | None = None
     rows: Deps | None = None
-    """What it was built from; None where it is no target."""
+    """What it was built from; None if it is no target."""
 
     @property
     def is_target(self) -> bool:
@@ -33,10 +33,10 @@ class Graph:
 
     root: bytes
     nodes: dict[bytes, Node] = field(default_factory=dict)
-    """The names that the graph has; others that stand in rows are targets that it leaves out."""
+    """The names that the graph has; others in rows are targets that it leaves out."""
 
     def chain(self) -> list[bytes]:
-        """Return the names from the root to the reason why it is out of date, where it is."""
+        """Return the names from the root to the reason why it is out of date, if it is."""
         why = self.nodes[self.root].why
         if why is None:
             return []
@@ -44,7 +44,7 @@ class Graph:
 
 
 class Questions:
-    """A database that was told a history."""
+    """A database after a history."""
 
     def __init__(self, database: Conversation, path: bytes, lines: list[Line]) -> None:
         self._database = database
@@ -59,7 +59,7 @@ class Questions:
         return self._database.ask(asked).removeprefix(asked + b" => ")
 
     def node(self, name: bytes) -> Node:
-        """Return how it stands with a name, without its rows."""
+        """Return the state of a name, without its rows."""
         state = read_state(self._ask(b"state " + name), b"state")
         return Node(
             state.state, state.stamp is not None, read_why(self._ask(b"why " + name), b"why")
@@ -73,7 +73,7 @@ class Questions:
 def graph_of(questions: Questions, root: bytes, most: int) -> Graph:
     """Return the graph below this target, with at most so many targets.
 
-    The chain of why is always whole, and then come the nearest ones. Raises PictureError where the
+    The chain of why is always whole, and then come the nearest ones. Raises PictureError if the
     name is no target.
     """
     graph = Graph(root, {root: questions.node(root)})

@@ -37,7 +37,7 @@ class Build:
 
 @dataclass
 class Hold:
-    """A lock that a session held, from the line where it was granted to where it was let go."""
+    """A lock that a session held, from the line where it was granted to where it was released."""
 
     session: int
     target: str

@@ -25,11 +25,11 @@ Writes a picture of FILE, a history or a log of redodb-live, to standard output:
 
 
 class UsageError(Exception):
-    """Words that ask for nothing."""
+    """Words that mean nothing."""
 
 
 def _option(words: list[str], option: str, form: str) -> tuple[list[str], list[int]]:
-    """Return the words without this option, and the numbers of its value, where it is given."""
+    """Return the words without this option, and the numbers of its value, if it is given."""
     if option not in words:
         return words, []
     at = words.index(option)

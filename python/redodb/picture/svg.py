@@ -142,7 +142,7 @@ class Drawing:
             self._text(entry, "label", (left + 16, 21), text)
 
     def _hold(self, lane: ET.Element, hold: Hold) -> None:
-        """Draw a lock, its builds, and its target's name where there is room."""
+        """Draw a lock, its builds, and its target's name if it fits."""
         bar = self._group(lane, "hold", hold.target)
         top = self.tops[hold.session] + LANE_HEAD + ROW * hold.row - 4
         left, right = self.window.left(hold.first), self.window.left(hold.last + 1)

@@ -20,7 +20,7 @@ class Line:
     session: int
     command: str
     names: tuple[str, ...]
-    """The words behind the command."""
+    """The words after the command."""
     reply: str
 
     @property
@@ -35,7 +35,7 @@ class Line:
 def read_lines(path: bytes) -> list[Line]:
     """Return the lines of a history, or the whole lines of a log, which may be in use.
 
-    Raises PictureError where the file is neither, or a line is none of a history; OSError where
+    Raises PictureError if the file is neither, or a line is none of a history; OSError if
     it can't be read.
     """
     with open(path, "rb") as file:

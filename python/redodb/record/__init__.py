@@ -1,1 +1,1 @@
-"""What a build tool knows of a tree, told as a history: `redodb record ninja|make|depfiles DIR`."""
+"""What a build tool knows of a tree, as a history: `redodb record ninja|make|depfiles DIR`."""

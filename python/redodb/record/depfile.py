@@ -8,7 +8,7 @@ _CONTINUED = re.compile(rb"\\\r?\n")
 
 
 def _plain(word: bytes) -> bytes:
-    """Return the file's name that a word of a depfile stands for."""
+    """Return the name of the file that a word of a depfile means."""
     word = re.sub(rb"(\\+)([ \t])", _blank, word)
     word = re.sub(rb"\\([#:%\[\]*])", rb"\1", word)
     return word.replace(b"$$", b"$")
@@ -36,7 +36,7 @@ def read_rules(text: bytes) -> dict[bytes, list[bytes]]:
 
 
 def _split(line: bytes) -> tuple[bytes, bool, bytes]:
-    """Return what stands before the colon, whether there is one, and what stands behind it."""
+    """Return the text before the colon, whether there is one, and the text after it."""
     if line.lstrip().startswith(b"#"):
         return b"", False, b""
     found = re.search(rb"(?<!\\):(?=\s|$)", line)

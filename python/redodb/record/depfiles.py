@@ -9,7 +9,7 @@ from .graph import Graph, RecordError, Standing, Target
 def read_depfiles(top: bytes) -> Graph:
     """Return the targets of all files `*.d` below this folder; names in them are relative to it.
 
-    Raises RecordError where there is no such file, or one can't be read.
+    Raises RecordError if there is no such file, or one can't be read.
     """
     graph: Graph = {}
     for path in _found(top):

@@ -1,8 +1,8 @@
-"""The commands that tell the database what a build tool knows.
+"""The commands that report to the database what a build tool knows.
 
-Tools compare times: a target is out of date where an input was written after it. The database
+Tools compare times: a target is out of date if an input was written after it. The database
 compares what a build saw with what there is now. So the commands come in the order of the files'
-times: a target that is newer than an input is built behind the line that tells of the input, and an
+times: a target that is newer than an input is built after the line of the input, and an
 older one before it, when the input was another file.
 """
 
@@ -16,7 +16,7 @@ from ..stamps import stamp_of
 from .graph import Graph, Standing, Target
 
 MOST_NAMES = 64
-"""The names that one command takes behind its target."""
+"""The names that one command takes after its target."""
 MOST_BYTES = 8_192
 """The bytes of a command."""
 BEFORE = b"before"
@@ -73,7 +73,7 @@ class Story:
                     yield from self._build(event.name)
 
     def _written(self, name: bytes) -> float | None:
-        """Return when the file was written, in nanoseconds; None where there is none."""
+        """Return when the file was written, in nanoseconds; None if there is none."""
         try:
             return os.stat(path_of(name, self.top)).st_mtime_ns
         except OSError:
@@ -122,7 +122,7 @@ class Story:
                 yield Event(self._seen(name), rank, Kind.CHECKED, name)
 
     def _stamp(self, name: bytes) -> bytes:
-        """Return the stamp of a file, `-` where there is none."""
+        """Return the stamp of a file, `-` if there is none."""
         return (stamp_of(path_of(name, self.top)) or "-").encode()
 
     def _build(self, name: bytes) -> Iterator[bytes]:
@@ -161,7 +161,7 @@ def in_lines(start: bytes, names: list[bytes]) -> list[bytes]:
 
 
 def inputs_first(graph: Graph) -> list[bytes]:
-    """Return the targets, each behind those that are its inputs; a ring is cut somewhere."""
+    """Return the targets, each after those that are its inputs; a ring is cut somewhere."""
     order: list[bytes] = []
     met: set[bytes] = set()
     for root in graph:

@@ -9,10 +9,10 @@ class RecordError(Exception):
 
 
 class Standing(Enum):
-    """How the tool stands to a target, whatever the times of the files say."""
+    """How the tool treats a target, whatever the times of the files say."""
 
     BUILT = "built"
-    """It was built: it is out of date where an input is newer."""
+    """It was built: it is out of date if an input is newer."""
     UNBUILT = "unbuilt"
     """It wasn't built, or the tool no longer knows what it read: the tool builds it next time."""
     ALWAYS = "always"
@@ -29,9 +29,9 @@ class Target:
     inputs: list[bytes] = field(default_factory=list)
     standing: Standing = Standing.BUILT
     checked: int | None = None
-    """When the tool last found it right without writing it, in nanoseconds, where that is known."""
+    """When the tool last found it right without writing it, in nanoseconds, if that is known."""
     together: tuple[bytes, ...] = ()
-    """All outputs of the same build, where there are several: they are out of date together."""
+    """All outputs of the same build, if there are several: they are out of date together."""
 
 
 Graph = dict[bytes, Target]

@@ -1,4 +1,4 @@
-"""Telling the database what a tool knows, and writing down what it answers."""
+"""Reporting to the database what a tool knows, and writing its answers."""
 
 from collections.abc import Iterable
 from typing import BinaryIO
@@ -13,8 +13,8 @@ MOST_LINES = 1_048_576
 def answered(commands: Iterable[bytes], log: bytes | None = None) -> list[bytes]:
     """Return the lines of the history of session 1 with these commands, without its header.
 
-    The replies are those of redodb-live, which keeps the log, where one is named. Raises
-    RecordError where it has a fault to tell, as with too many names, and ServerError where it
+    The replies are those of redodb-live, which keeps the log, if one is named. Raises
+    RecordError if it answers a fault, as with too many names, and ServerError if it
     can't be asked.
     """
     words = [] if log is None else [b"--log", log]
@@ -27,7 +27,7 @@ def answered(commands: Iterable[bytes], log: bytes | None = None) -> list[bytes]
 
 
 def write_history(lines: list[bytes], out: BinaryIO) -> None:
-    """Write the lines as a history. Raises RecordError where these are more than a replay takes."""
+    """Write the lines as a history. Raises RecordError if these are more than a replay takes."""
     if len(lines) > MOST_LINES:
         raise RecordError(f"the history has {len(lines)} lines, over {MOST_LINES}")
     out.write(b"history %d\n" % len(lines))

@@ -28,7 +28,7 @@ Writes what a build tool knows of the tree in DIR to standard output, as one his
 
 
 class UsageError(Exception):
-    """Words that ask for nothing."""
+    """Words that mean nothing."""
 
 
 def _parsed(words: list[str]) -> tuple[str, bytes, bytes | None, list[str]]:

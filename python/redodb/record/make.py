@@ -17,14 +17,14 @@ _ALSO = b"#  Also makes: "
 _NO_TARGET = b"# Not a target:"
 
 Stanza = list[bytes]
-"""The lines about one file: `# Not a target:` where it is none, its rule, what make knows of it."""
+"""The lines about one file: `# Not a target:` if it is none, its rule, what make knows of it."""
 
 
 def read_make(top: bytes, words: list[str]) -> Graph:
     """Return what make knows of what its goals need; the words are goals and variables for make.
 
     A makefile that calls make in other folders is followed. As ever with -n, make builds what it
-    includes, and runs the recipes that call make. Raises RecordError where make fails.
+    includes, and runs the recipes that call make. Raises RecordError if make fails.
     """
     command = ["make", "-C", os.fsdecode(top), "-pn", "--print-directory", *words]
     try:
@@ -69,7 +69,7 @@ def _databases(text: bytes) -> list[tuple[bytes, list[Stanza]]]:
 
 
 def _rule(stanza: Stanza) -> bytes:
-    """Return the rule of a stanza, which is no comment; nothing where it has none."""
+    """Return the rule of a stanza, which is no comment; nothing if it has none."""
     return next((line for line in stanza if not line.startswith((b"#", b"\t"))), b"")
 
 
@@ -83,7 +83,7 @@ def _head(stanza: Stanza) -> bytes:
 def _inputs(stanza: Stanza, known: set[bytes]) -> list[bytes]:
     """Return the inputs of a rule but the order-only ones.
 
-    make prints them with blanks between, also where there are blanks in a name: so words that
+    make prints them with blanks between, also if there are blanks in a name: so words that
     together are the name of a file which make knows are taken as that name.
     """
     words = _rule(stanza).partition(b": ")[2].split(b" | ")[0].strip().split(b" ")
@@ -105,7 +105,7 @@ def _inputs(stanza: Stanza, known: set[bytes]) -> list[bytes]:
 
 
 def _add(graph: Graph, folder: bytes, stanza: Stanza, known: set[bytes]) -> None:
-    """Add the target of a stanza to the graph, where make met it on the way to its goals."""
+    """Add the target of a stanza to the graph, if make met it on the way to its goals."""
     if stanza[0] == _NO_TARGET or _CONSIDERED not in stanza:
         return
     inputs = [os.path.join(folder, name) for name in _inputs(stanza, known)]

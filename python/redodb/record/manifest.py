@@ -16,14 +16,14 @@ _SEPARATORS = (b"|", b"||", b"|@", b":")
 
 @dataclass
 class Scope:
-    """The variables and rules of a file; those of the file that includes it stand behind."""
+    """The variables and rules of a file; those of the file that includes it come after them."""
 
     outer: "Scope | None" = None
     variables: dict[bytes, bytes] = field(default_factory=dict)
     rules: dict[bytes, dict[bytes, bytes]] = field(default_factory=dict)
 
     def value(self, name: bytes) -> bytes:
-        """Return the variable's value; nothing where it has none."""
+        """Return the variable's value; nothing if it has none."""
         if name in self.variables:
             return self.variables[name]
         return self.outer.value(name) if self.outer else b""
@@ -76,7 +76,7 @@ class Manifest:
 def read_manifest(top: bytes, name: bytes = b"build.ninja") -> Manifest:
     """Return the edges of the file in the folder `top`, and of all files that it includes.
 
-    What dyndep files add to the edges is in them. Raises RecordError where a file can't be read, or
+    What dyndep files add to the edges is in them. Raises RecordError if a file can't be read, or
     a statement isn't one of ninja's.
     """
     manifest, scope = Manifest(), Scope()
@@ -98,7 +98,7 @@ def _text(top: bytes, name: bytes) -> bytes:
 
 
 def _add_dyndeps(top: bytes, name: bytes, edges: dict[bytes, Edge]) -> None:
-    """Add what a dyndep file tells of each edge: further outputs and inputs."""
+    """Add what a dyndep file says of each edge: further outputs and inputs."""
     for statement, bindings in _statements(name, _text(top, name)):
         word, _, rest = statement.partition(b" ")
         if word == b"build":
@@ -166,7 +166,7 @@ def _edge(name: bytes, rest: bytes, bindings: list[tuple[bytes, bytes]], scope: 
 
 
 def _parts(words: list[bytes], edge: Edge) -> dict[bytes, list[bytes]]:
-    """Return the paths behind each separator; the explicit ones stand at the colon."""
+    """Return the paths after each separator; the explicit ones are at the colon."""
     parts: dict[bytes, list[bytes]] = {separator: [] for separator in _SEPARATORS}
     part = b":"
     for word in words:

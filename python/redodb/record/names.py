@@ -24,9 +24,9 @@ class Names:
         return self.known[path]
 
     def graph(self, graph: Graph) -> Graph:
-        """Return the graph with names in place of paths, and no target among its own inputs.
+        """Return the graph with names instead of paths, and no target among its own inputs.
 
-        Where two paths are one file, what is known of both is put together.
+        If two paths are one file, what is known of both is put together.
         """
         named: Graph = {}
         for path, target in graph.items():

@@ -48,7 +48,7 @@ class NinjaTree:
         return output in self.built or bool(edge.value(b"generator"))
 
     def _found(self, edge: Edge) -> list[bytes] | None:
-        """Return the inputs that the edge's build found; None where the record of them is lost."""
+        """Return the inputs that the edge's build found; None if the record of them is lost."""
         output = edge.outputs[0]
         if edge.value(b"deps"):
             known = self.read.get(output, Read(-1, []))
@@ -64,7 +64,7 @@ class NinjaTree:
         return [posixpath.normpath(name) for inputs in rules.values() for name in inputs]
 
     def _time(self, name: bytes) -> int | None:
-        """Return when the file was written, in nanoseconds; None where there is none."""
+        """Return when the file was written, in nanoseconds; None if there is none."""
         try:
             return os.stat(os.path.join(self.top, name)).st_mtime_ns
         except OSError:
@@ -74,6 +74,6 @@ class NinjaTree:
 def read_ninja(top: bytes) -> Graph:
     """Return what ninja knows of the tree in this folder.
 
-    Raises RecordError where there is no build.ninja that can be read, or a log of another version.
+    Raises RecordError if there is no build.ninja that can be read, or a log of another version.
     """
     return NinjaTree(top).graph()

@@ -21,7 +21,7 @@ class Read:
 
 
 def _bytes_of(path: bytes) -> bytes | None:
-    """Return what the file holds; None where there is none."""
+    """Return what the file holds; None if there is none."""
     try:
         with open(path, "rb") as file:
             return file.read()
@@ -32,7 +32,7 @@ def _bytes_of(path: bytes) -> bytes | None:
 
 
 def read_deps_log(path: bytes) -> dict[bytes, Read]:
-    """Return what each output read, by the log's last record of it; nothing where there is no log.
+    """Return what each output read, by the log's last record of it; nothing if there is no log.
 
     A record that was torn at the end is left out, as ninja does. Raises RecordError for a log of
     another version.

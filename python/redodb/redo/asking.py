@@ -43,7 +43,7 @@ class Answerer:
         self._listener.close()
 
     def _let_in(self) -> None:
-        """Answers the programs that have come. Where no file is free for one, it waits a moment."""
+        """Answers the programs that have come. If no file is free for one, it waits a moment."""
         while True:
             try:
                 connection, _ = self._listener.accept()
@@ -70,7 +70,7 @@ class Answerer:
             connection.close()
 
     async def _message(self, connection: socket.socket) -> bytes:
-        """Returns what a program asks. Raises ValueError where that isn't a message."""
+        """Returns what a program asks. Raises ValueError if that isn't a message."""
         begin = b""
         while b"\n" not in begin and len(begin) < BLOCK:
             begin += await self._block(connection, BLOCK)

@@ -20,7 +20,7 @@ class Outcome(enum.Enum):
 class Build:
     """A script that runs for a target, whose file had this stamp before.
 
-    `log` is None where none is kept, and where the build has ended.
+    `log` is None if none is kept, and if the build has ended.
     """
 
     name: bytes

@@ -53,7 +53,7 @@ class Context:
         return shown(self.relative(name))
 
     async def tell_always(self) -> None:
-        """Gives ALWAYS its stamp of this run, where it hasn't got it yet."""
+        """Gives ALWAYS its stamp of this run, if it hasn't got it yet."""
         if not self.always_is_told:
             self.always_is_told = True
             await self.link.do_all([b"file %s %s" % (ALWAYS, run_stamp())])

@@ -18,7 +18,7 @@ class Entry:
 
 
 class Display:
-    """Shows what builds say. Where no logs are kept, a build's line is shown when it begins."""
+    """Shows what builds say. If no logs are kept, a build's line is shown when it begins."""
 
     def __init__(self, terminal: Terminal, top: bytes, keeps_logs: bool) -> None:
         self._terminal = terminal
@@ -56,7 +56,7 @@ class Display:
             self.pump()
 
     def say(self, build: Build | None, text: bytes) -> None:
-        """Shows a line of redo's own, in the log of a build where one is kept."""
+        """Shows a line of redo's own, in the log of a build if one is kept."""
         if build is not None and build.log is not None:
             build.log.say(b"redo: " + text)
         elif self._keeps_logs:

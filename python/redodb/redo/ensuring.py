@@ -38,7 +38,7 @@ class Found:
 class Batch:
     """Targets that were asked for together.
 
-    `stopped` where no more of them are to be begun, `over` where all are.
+    `stopped` if no more of them are to be begun, `over` if all are.
     """
 
     asker: Asker
@@ -49,7 +49,7 @@ class Batch:
     over: bool = False
 
     def release(self, slot: Slot) -> None:
-        """Gives a token back. Where all have ended, the asker is the first to get one again."""
+        """Gives a token back. If all have ended, the asker is the first to get one again."""
         if self.over and self.running == 0 and self.asker.slot is not None:
             self.asker.slot.end_loan()
         slot.release()
@@ -139,7 +139,7 @@ class Ensurer:
     async def _locked(self, name: bytes, asker: Asker, slot: Slot) -> Found | None:
         """Waits for the lock of a name; returns what is known of it then.
 
-        None where the wait can't end. Where the lock isn't free at once, the token is given
+        None if the wait can't end. If the lock isn't free at once, the token is given
         back meanwhile.
         """
         link = self._context.link
@@ -223,7 +223,7 @@ class Ensurer:
     async def _ensure_needs(self, name: bytes, asker: Asker, slot: Slot) -> list[bytes]:
         """Has that built which a target needs and is out of date; returns what was built.
 
-        Where one of them fails, the target's script finds out whether it still needs it.
+        If one of them fails, the target's script finds out whether it still needs it.
         """
         context = self._context
         request = b"deps " + name

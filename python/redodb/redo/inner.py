@@ -17,7 +17,7 @@ BLOCK = 65536
 
 
 def open_standard_files() -> None:
-    """Opens the files 0 to 2 where they are closed, so that nothing else becomes one of them."""
+    """Opens the files 0 to 2 if they are closed, so that nothing else becomes one of them."""
     for file in range(3):
         try:
             posix.fstat(file)

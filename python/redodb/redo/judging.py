@@ -18,8 +18,8 @@ class Todo(enum.Enum):
 def judge(state: NameState, why: Why | None, forced: bool, stamp_left: str | None) -> Todo:
     """Returns what is to be done.
 
-    `stamp_left` is what the file was when the latest build ended, `-` where there was none; None
-    where that isn't known, which is only where it failed. Of several reasons to be out of date,
+    `stamp_left` is what the file was when the latest build ended, `-` if there was none; None
+    if that isn't known, which is only if it failed. Of several reasons to be out of date,
     `why` may be any: so it doesn't say whether the file is what the build left.
     """
     is_file = state.stamp is not None and state.stamp != FOLDER

@@ -10,7 +10,7 @@ DONE = (b"ok", b"stale", b"stamped")
 
 
 def check_done(answer: bytes, request: bytes) -> None:
-    """Raises RefusedError or FaultError where a request wasn't done."""
+    """Raises RefusedError or FaultError if a request wasn't done."""
     if answer.partition(b" ")[0] not in DONE:
         read_ok(answer, request)
 
@@ -18,7 +18,7 @@ def check_done(answer: bytes, request: bytes) -> None:
 class Link(Wire):
     """One session of the server.
 
-    `lost` ends with what is to be said of it, once the session can't go on.
+    `lost` ends with the text of its error, once the session can't go on.
     """
 
     def __init__(self) -> None:
@@ -26,7 +26,7 @@ class Link(Wire):
         self.lost: asyncio.Future[str] = asyncio.get_running_loop().create_future()
 
     async def do_all(self, asked: Iterable[bytes]) -> None:
-        """Sends requests in one go. RefusedError or FaultError where one wasn't done."""
+        """Sends requests in one go. RefusedError or FaultError if one wasn't done."""
         asked = list(asked)
         for answer, request in zip(await self.send(asked), asked):
             check_done(answer, request)

@@ -20,7 +20,7 @@ def log_path(top: bytes, name: bytes) -> bytes:
 
 
 def forget(top: bytes, name: bytes) -> None:
-    """Removes the log of a name, where there is one: it is that of a build before the latest."""
+    """Removes the log of a name, if there is one: it is that of a build before the latest."""
     try:
         os.unlink(log_path(top, name))
     except OSError:
@@ -34,7 +34,7 @@ class Log:
     """
 
     def __init__(self, top: bytes, name: bytes, stamp: str | None) -> None:
-        """Begins the log anew. Raises OSError where it can't."""
+        """Begins the log anew. Raises OSError if it can't."""
         self.path = log_path(top, name)
         os.makedirs(os.path.dirname(self.path), exist_ok=True)
         flags = os.O_RDWR | os.O_CREAT | os.O_TRUNC | os.O_APPEND | os.O_CLOEXEC
@@ -56,7 +56,7 @@ class Log:
         self.file = -1
 
     def _line(self, line: bytes) -> None:
-        """Writes a line. Where the script wrote a part of one, that is ended first."""
+        """Writes a line. If the script wrote a part of one, that is ended first."""
         size = os.fstat(self.file).st_size
         if size and os.pread(self.file, 1, size - 1) != b"\n":
             line = b"\n" + line
@@ -73,7 +73,7 @@ class Lines:
     """Reads the lines of a log while it grows. What is longer than LONGEST_LINE is parted."""
 
     def __init__(self, path: bytes) -> None:
-        """Opens a log. Raises OSError where there is none."""
+        """Opens a log. Raises OSError if there is none."""
         self._file = os.open(path, os.O_RDONLY | os.O_CLOEXEC)
         self._rest = b""
         self._whole: list[bytes] = []
@@ -81,7 +81,7 @@ class Lines:
     def next(self, last: bool) -> bytes | None:
         """Returns the next line without its LF, or None.
 
-        A line without an LF counts where it is the last.
+        A line without an LF counts if it is the last.
         """
         while not self._whole:
             block = os.read(self._file, BLOCK)
@@ -104,7 +104,7 @@ class Lines:
 
 
 def stored(top: bytes, name: bytes) -> Iterator[bytes]:
-    """Yields the lines of a stored log without their LF. Raises OSError where there is none."""
+    """Yields the lines of a stored log without their LF. Raises OSError if there is none."""
     lines = Lines(log_path(top, name))
     try:
         while (line := lines.next(True)) is not None:
@@ -116,7 +116,7 @@ def stored(top: bytes, name: bytes) -> Iterator[bytes]:
 def stamp_at_end(top: bytes, name: bytes) -> str | None:
     """Returns the stamp of a target's file when its latest build ended.
 
-    It is `-` where there was no file, and None where no such build is known.
+    It is `-` if there was no file, and None if no such build is known.
     """
     try:
         with open(log_path(top, name), "rb") as log:

@@ -84,7 +84,7 @@ class Usage(Exception):
 
 
 class Options:
-    """The options of a run. `jobs` is None where none were asked for.
+    """The options of a run. `jobs` is None if none were asked for.
 
     It is no NamedTuple, since the module `typing` takes longer to import than all else of a run in
     which nothing is to be done.

@@ -27,7 +27,7 @@ STOPPING = (signal.SIGINT, signal.SIGTERM, signal.SIGHUP)
 
 @dataclass(frozen=True)
 class Call:
-    """How a run was called. The targets `wanted` are built in any case where `forced`."""
+    """How a run was called. The targets `wanted` are built in any case if `forced`."""
 
     options: Options
     wanted: list[bytes]
@@ -93,7 +93,7 @@ class Orchestrator:
         )
 
     def _jobs(self) -> tuple[Jobserver | None, str | None]:
-        """Returns the jobserver to use, and MAKEFLAGS for scripts where they are to be others."""
+        """Returns the jobserver to use, and MAKEFLAGS for scripts if they are to be others."""
         makeflags = os.environ.get("MAKEFLAGS", "")
         jobs = self._call.options.jobs
         try:

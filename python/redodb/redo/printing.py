@@ -16,7 +16,7 @@ def shown(path: bytes) -> bytes:
 
 
 def has_colours(file: int, environment: Mapping[str, str]) -> bool:
-    """Returns whether colours belong on a file: on a terminal, where NO_COLOR is empty."""
+    """Returns whether colours belong on a file: on a terminal, if NO_COLOR is empty."""
     return (
         os.isatty(file)
         and environment.get("TERM", "dumb") != "dumb"
@@ -25,7 +25,7 @@ def has_colours(file: int, environment: Mapping[str, str]) -> bool:
 
 
 class Terminal:
-    """Writes lines to a file, and where it is a terminal a line of progress behind them."""
+    """Writes lines to a file, and if it is a terminal a line of progress behind them."""
 
     def __init__(self, file: int, colours: bool, progress: bool) -> None:
         self._file = file
@@ -63,7 +63,7 @@ class Terminal:
             self._progress = text
 
     def _write(self, text: bytes) -> None:
-        """Writes all of the text. Where nobody reads it any more, it is dropped."""
+        """Writes all of the text. If nobody reads it any more, it is dropped."""
         try:
             while text:
                 text = text[os.write(self._file, text) :]

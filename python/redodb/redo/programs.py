@@ -33,7 +33,7 @@ def is_written() -> bool:
 
 
 def asks_for_text(arguments: list[str]) -> bool:
-    """Returns whether --help or --version stands in front of `--`."""
+    """Returns whether --help or --version comes before `--`."""
     for argument in arguments:
         if argument == "--":
             return False

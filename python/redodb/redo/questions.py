@@ -41,7 +41,7 @@ def relative_paths(found: list[bytes], top: bytes) -> list[bytes]:
 
 
 def listed(question: bytes, arguments: list[str]) -> int:
-    """Prints one of the three lists of the database. Where nothing was ever built, it is empty."""
+    """Prints one of the three lists of the database. If nothing was ever built, it is empty."""
     if arguments:
         raise Usage("it takes no arguments")
     top = find_top()
@@ -80,7 +80,7 @@ def redo_sources(arguments: list[str]) -> int:
 
 
 def redo_whichdo(arguments: list[str]) -> int:
-    """Prints the .do files of a target, up to the first that is there; 1 where none is."""
+    """Prints the .do files of a target, up to the first that is there; 1 if none is."""
     if len(arguments) != 1 or not arguments[0]:
         raise Usage("it takes one target")
     from redodb.redo.rules import candidates

@@ -1,4 +1,4 @@
-"""The beginning of a run: where nothing is to be done, its end as well."""
+"""The beginning of a run: if nothing is to be done, its end as well."""
 import os
 
 from redodb import names, reach
@@ -10,7 +10,7 @@ from redodb.stamps import FOLDER
 
 
 def top_for_building() -> bytes:
-    """Returns the top of the tree; where there is none, it becomes the working folder."""
+    """Returns the top of the tree; if there is none, it becomes the working folder."""
     top = find_top()
     if top is None:
         top = os.path.realpath(b".")
@@ -28,7 +28,7 @@ def connect(top: bytes) -> Lines:
 
 
 def start(options: Options, forced: bool, programs: bytes) -> int:
-    """Builds the targets, in any case where `forced`, and returns the status."""
+    """Builds the targets, in any case if `forced`, and returns the status."""
     top = top_for_building()
     folder = os.getcwdb()
     targets = options.targets or (["all"] if forced else [])
@@ -68,7 +68,7 @@ def is_right(why: bytes, state: bytes) -> bool:
 def look_and_ask(lines: Lines, asked: list[bytes]) -> tuple[bool, list[bytes]]:
     """Has the server look at all files that it knows, and returns the answers to requests then.
 
-    Where there are targets that are built in each run, they are out of date from now on, and the
+    If there are targets that are built in each run, they are out of date from now on, and the
     first of the two is True.
     """
     _, state, *answers = lines.ask_all([b"look", b"state " + names.ALWAYS, *asked])

@@ -33,7 +33,7 @@ class Outputs(NamedTuple):
 
 
 class Ending(NamedTuple):
-    """How a script ended: its status, 0 where the target is right, and what there is to say."""
+    """How a script ended: its status, 0 if the target is right, and what there is to say."""
 
     status: int
     messages: list[bytes]
@@ -52,13 +52,13 @@ def outputs_of(target: bytes) -> Outputs:
 
 
 def remove(outputs: Outputs) -> None:
-    """Removes output files, where they are there. Raises OSError where one can't be removed."""
+    """Removes output files, if they are there. Raises OSError if one can't be removed."""
     for path in outputs:
         remove_path(path)
 
 
 def remove_path(path: bytes) -> None:
-    """Removes a file or a folder with all that is in it, where it is there."""
+    """Removes a file or a folder with all that is in it, if it is there."""
     try:
         os.unlink(path)
     except FileNotFoundError:
@@ -175,7 +175,7 @@ def how_it_ended(status: int) -> bytes:
 def settle(
     target: bytes, outputs: Outputs, before: os.stat_result | None, status: int, script: bytes
 ) -> Ending:
-    """Makes what a script wrote the target, where all is well.
+    """Makes what a script wrote the target, if all is well.
 
     Its output files are gone afterwards.
     """
@@ -241,7 +241,7 @@ def _size(path: bytes) -> int:
 
 
 def status_of(path: bytes) -> os.stat_result | None:
-    """Returns what lstat tells of a file, or None where there is none."""
+    """Returns what lstat reports of a file, or None if there is none."""
     try:
         return os.lstat(path)
     except OSError:

@@ -12,7 +12,7 @@ WITHOUT_VALUES = ("-n", "--no-recurse", "--no-color")
 
 
 def redo_log(arguments: list[str]) -> int:
-    """Prints the logs of targets; returns 1 where one has none."""
+    """Prints the logs of targets; returns 1 if one has none."""
     place = arguments.index("--") if "--" in arguments else len(arguments)
     given = [word for word in arguments[:place] if word in WITHOUT_VALUES]
     targets = targets_of(
@@ -39,7 +39,7 @@ class Shower:
         self._shown: set[bytes] = set()
 
     def show_target(self, target: bytes) -> int:
-        """Shows the log of a target; returns 1 where there is none."""
+        """Shows the log of a target; returns 1 if there is none."""
         name = names.name_of(target, self._top)
         if not os.path.exists(log_path(self._top, name)):
             raise RedodbError(f"{os.fsdecode(target)} has no log")

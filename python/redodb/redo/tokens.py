@@ -45,7 +45,7 @@ def without_jobs(makeflags: str) -> str:
 def joined(makeflags: str) -> Jobserver | None:
     """Joins the jobserver that MAKEFLAGS names.
 
-    None where it names none; NoJobserver where it can't be reached.
+    None if it names none; NoJobserver if it can't be reached.
     """
     found = authority(makeflags)
     if found is None:
@@ -145,7 +145,7 @@ class Tokens:
         return False
 
     def _listen(self) -> None:
-        """Has the loop tell when the jobserver has a token, while somebody waits."""
+        """Has the loop report when the jobserver has a token, while somebody waits."""
         if self._jobserver is None or self._listens:
             return
         self._listens = True
@@ -184,7 +184,7 @@ class Slot:
             self.keep(await self.queue())
 
     def release(self) -> None:
-        """Gives the token back, where the slot holds one."""
+        """Gives the token back, if the slot holds one."""
         if self._token is not None:
             token, self._token = self._token, None
             self._tokens.give(token)
@@ -204,7 +204,7 @@ class Slot:
             self._back = self._tokens.wait(self._depth + 1)
 
     async def take_back(self) -> None:
-        """Returns, where no loan is left, once the slot holds a token again."""
+        """Returns, if no loan is left, once the slot holds a token again."""
         if self._back is not None:
             back, self._back = self._back, None
             self.keep(await back)

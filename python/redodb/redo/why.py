@@ -37,7 +37,7 @@ class Cause:
 
 
 def cause_of(name: bytes, why_answer: bytes, state_answer: bytes, top: bytes, here: bytes) -> Cause:
-    """Returns the cause that the answers to `why` and `state` tell."""
+    """Returns the cause in the answers to `why` and `state`."""
 
     def path(one: bytes) -> bytes:
         return os.path.relpath(names.path_of(one, top), here)
@@ -55,7 +55,7 @@ def cause_of(name: bytes, why_answer: bytes, state_answer: bytes, top: bytes, he
 
 
 def word_of_clean(state: NameState) -> str:
-    """Returns what is said of a name that isn't out of date."""
+    """Returns the text about a name that isn't out of date."""
     if state.state is not State.IDLE:
         return UP_TO_DATE
     return NO_TARGET if state.stamp is None else SOURCE

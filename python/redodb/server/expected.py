@@ -25,7 +25,7 @@ class Expected:
     """The paths of names, by what is to be there: a plain file, nothing, or what has a stamp.
 
     A look is one lstat for each plain file, whose status is compared as numbers, and one faccessat
-    for each path where nothing is to be. Where these are very many, processes share them. The
+    for each path where nothing is to be. If these are very many, processes share them. The
     status of a file is kept while its stamp is the one that is expected, which it was found to
     have.
     """
@@ -92,7 +92,7 @@ class Expected:
 
 
 def _path_of(name: bytes) -> bytes | None:
-    """Return the path of a name, or None where no path has it."""
+    """Return the path of a name, or None if no path has it."""
     if name == ALWAYS:
         return None
     try:

@@ -26,9 +26,9 @@ _MOST_AT_ONCE = 100
 class Hub:
     """One redodb-live, which start starts, and all clients.
 
-    A client that comes gets the lowest session that is free, or waits its turn. Where redodb-live
-    ends, each client is told why; where there is none, the next one is. The server ends `idle`
-    seconds after its last client, or some seconds after its start where none comes.
+    A client that comes gets the lowest session that is free, or waits its turn. If redodb-live
+    ends, each client learns why; if there is none, the next one is. The server ends `idle`
+    seconds after its last client, or some seconds after its start if none comes.
     """
 
     def __init__(self, taken: Taken, start: Callable[[], Program], idle: float) -> None:
@@ -88,7 +88,7 @@ class Hub:
     def live_ended(self, message: str) -> None:
         """Take it that redodb-live has ended, and what it said.
 
-        Where the log is in use, that is by the redodb-live of a server that was killed, and ends as
+        If the log is in use, that is by the redodb-live of a server that was killed, and ends as
         well.
         """
         if self._closing:
@@ -149,7 +149,7 @@ class Hub:
         self.loop.watch(listener.fileno(), READABLE if wanted else 0, self._let_in)
 
     def _let_in(self, _: int) -> None:
-        """Let all clients in that are waiting. Where there is no file for one, try again soon."""
+        """Let all clients in that are waiting. If there is no file for one, try again soon."""
         for _ in range(_MOST_AT_ONCE):
             try:
                 connected, _ = self._taken.listener.accept()
@@ -168,7 +168,7 @@ class Hub:
             self.live_ended(f"redodb-live can't be started: {error}")
 
     def _end_later(self) -> None:
-        """End in a while, if no client comes; at once where one was told of a failure."""
+        """End in a while, if no client comes; at once if one was told of a failure."""
         self.loop.drop(self._timer)
         self._timer = self.loop.later(0.0 if self._told else self._idle, self.close)
 

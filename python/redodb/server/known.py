@@ -64,16 +64,16 @@ class Known:
                             for name in reader(words, b"ok"):
                                 moved[name] = None
         except (FileNotFoundError, IsADirectoryError, PermissionError, IndexError):
-            pass  # there is none yet, or it is none, which redodb-live tells
+            pass  # there is none yet, or it is none, which redodb-live reports
         for name in moved:
             self._expect(name)
 
     def differing(self, names: Iterable[bytes] | None = None) -> list[bytes]:
-        """Look at files, and return the commands that tell the database what differs from what it
-        knows.
+        """Look at files, and return the commands that report to the database how they differ from
+        what it knows.
 
         Without names it looks at each known name that isn't building. The working folder is the top
-        of the tree. Raises BadName where one of the names given is none, and skips known ones that
+        of the tree. Raises BadName if one of the names given is none, and skips known ones that
         no path has.
         """
         if names is None:
@@ -87,7 +87,7 @@ class Known:
         return commands
 
     def _compared(self, name: bytes) -> bytes | None:
-        """Return the command that tells the database of a file, or None where it knows. Raises
+        """Return the command that reports a file to the database, or None if it knows. Raises
         BadName."""
         stamp = stamp_of(unescape(name))
         before = self.stamps.get(name)

@@ -58,7 +58,7 @@ class Live(Owner):
             self._stamped = self._asked
 
     def afterwards(self, call: Callable[[], None]) -> None:
-        """Call when all that was asked so far is answered; at once where it is."""
+        """Call when all that was asked so far is answered; at once if it is."""
         if self._takers:
             self._afterwards.append((self._asked, call))
         else:
@@ -87,7 +87,7 @@ class Live(Owner):
     def close(self) -> bool:
         """End the input of the program, which ends when it has answered all.
 
-        Say whether it was there, so that its end will be told to the hub.
+        Say whether it was there, so that its end will be reported to the hub.
         """
         if self._stream is None or self._stream.is_closing:
             return False

@@ -74,7 +74,7 @@ class Loop:
         return timer
 
     def drop(self, timer: Timer) -> None:
-        """Call a timer off, where it is still to come."""
+        """Call a timer off, if it is still to come."""
         if timer in self._timers:
             self._timers.remove(timer)
 
@@ -112,7 +112,7 @@ class Loop:
     def _ready(self) -> list[tuple[int, int]]:
         """Wait, and return the files that are ready, each with what it is ready for.
 
-        To sleep and be woken takes longer than all else that is done for a line. So where the last
+        To sleep and be woken takes longer than all else that is done for a line. So if the last
         came soon, this looks for the next one a while before it sleeps.
         """
         poll = self._epoll.poll

@@ -13,7 +13,7 @@ class Program:
     """A redodb-live, and the pipes to its standard input and from its standard output."""
 
     def __init__(self, program: bytes, log: bytes) -> None:
-        """Start the program. Raises OSError where it can't be started."""
+        """Start the program. Raises OSError if it can't be started."""
         asked, self.writing = os.pipe()
         self.reading, answers = os.pipe()
         self._errors, errors = os.pipe()

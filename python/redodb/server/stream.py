@@ -32,7 +32,7 @@ class Stream:
     """What comes goes to the owner; what can't be sent yet is kept.
 
     It reads from one file and writes to another, or to the same one; the files are the stream's.
-    Writing doesn't block. The stream closes itself where the other side has ended. What is written
+    Writing doesn't block. The stream closes itself if the other side has ended. What is written
     behind its close is dropped.
     """
 
@@ -66,7 +66,7 @@ class Stream:
             self._settle()
 
     def receive(self) -> None:
-        """Take what is there; wait for it, where the file may block."""
+        """Take what is there; wait for it, if the file may block."""
         try:
             data = os.read(self._reading, MOST_READ)
         except BlockingIOError:
@@ -112,7 +112,7 @@ class Stream:
             return len(data)
 
     def _settle(self) -> None:
-        """Watch for what is to be done now, and tell the owner where that is to be known."""
+        """Watch for what is to be done now, and tell the owner if that is to be known."""
         if self._is_lost:
             return
         unsent = len(self.unsent)

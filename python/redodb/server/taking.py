@@ -37,9 +37,9 @@ class Taken:
 
 
 def take(places: Places) -> Taken | None:
-    """Become the server of a tree, or return None where one is there.
+    """Become the server of a tree, or return None if one is there.
 
-    Who holds the flock of .redo/server/lock is the server; the kernel lets go of it when the
+    Who holds the flock of .redo/server/lock is the server; the kernel releases it when the
     process ends. So a socket that is found with the lock is that of a dead server, and is replaced.
     """
     places.make()

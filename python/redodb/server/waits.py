@@ -10,7 +10,7 @@ TOP_LEVEL = b"-"
 class Wait:
     """One request `wait TARGET PARENT` of a session.
 
-    answer takes the answer, once. is_open says whether its session can still let go of a lock.
+    answer takes the answer, once. is_open says whether its session can still release a lock.
     given_up says that nobody wants it any longer.
     """
 
