@@ -44,7 +44,7 @@ fn is_replay(job: &Result<Job, WordsFault>, name: &str) -> bool {
 fn jobs(rt: HostRuntime) -> Result<(), Fail> {
     let alloc = rt.alloc();
     assert!(rt; matches!(asked(alloc, &[])?, Ok(Job::Input)));
-    assert!(rt; is_run(&asked(alloc, &["run", "a"])?, &["a"]));
+    assert!(rt; is_run(&asked(alloc, &["run", " a "])?, &[" a "]));
     assert!(rt; is_run(&asked(alloc, &["run", "a", "a"])?, &["a", "a"]));
     assert!(rt; is_run(&asked(alloc, &["run", "--", "-x"])?, &["-x"]));
     assert!(rt; is_replay(&asked(alloc, &["replay", "a"])?, "a"));

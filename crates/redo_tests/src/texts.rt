@@ -23,7 +23,7 @@ fn fault_words(rt: HostRuntime) -> Result<(), Fail> {
     Ok(())
 }
 
-/// A line read alone is line 1, and nothing is skipped.
+/// A line read alone is line 1, and nothing is skipped. Of a faulty line no name stays.
 #[test]
 fn single_lines(rt: HostRuntime) -> Result<(), Fail> {
     let alloc = rt.alloc();
@@ -36,10 +36,12 @@ fn single_lines(rt: HostRuntime) -> Result<(), Fail> {
         ("#\r", LineFault::BadByte),
         ("lock a\n", LineFault::BadByte),
         ("lock -", LineFault::BadName),
+        ("file b -", LineFault::BadStamp),
     ] {
         let read = read_command(alloc, text.as_bytes(), &mut names);
         let is_right = matches!(read, Err(ReadFault::Line { line: 1, fault }) if fault == want);
         assert!(rt; is_right, "{text:?}");
     }
+    assert!(rt; names.len() == 1);
     Ok(())
 }
