@@ -164,3 +164,14 @@ fn lines_are_one_write(rt: HostRuntime) -> Result<(), Fail> {
     }
     Ok(())
 }
+
+/// The next line is written all the same where one failed.
+#[test]
+fn line_after_a_failed_one(rt: HostRuntime) -> Result<(), Fail> {
+    let mut device = FailingWriter::new(rt.alloc(), 0, true);
+    let mut err = Watched::new(&mut device);
+    finish(&Err(Fault::Usage), &[], &mut err);
+    finish(&Err(Fault::Usage), &[], &mut err);
+    assert!(rt; device.taken.as_slice() == b"redodb: usage\n".as_slice());
+    Ok(())
+}
