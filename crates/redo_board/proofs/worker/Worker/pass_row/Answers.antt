@@ -125,3 +125,6 @@ returns-clause-waits g c =
     waits_lost c.args.plan.now c.args.board.now w w' found c.requires.belongs.1
     (lost g (goal.at.returns-clause-waits g c).After-compare_exchange) refl refl refl
     (x.2.2 ∙ e.2.2)
+
+pub returns-clause-tries : goal.returns-clause-tries
+returns-clause-tries g c = λ filled. refl

@@ -67,3 +67,14 @@ returns-in_err-reserve-clause-err g c =
     e.seat (c.pass_row.ensures.same c.if-pass_row.false))
     refl refl refl in
     search rules
+
+pub returns-in_err-list-clause-err : goal.returns-in_err-list-clause-err
+returns-in_err-list-clause-err g c =
+    let p = c.args.plan.now in
+    let w = c.args.self.now in
+    let x = c.pass_row.new.self in
+    let e = c.catch_up.ensures in
+    let waits : Waits p w x =
+    still p w c.rows.self c.catch_up.new.self x c.rows.invariant.2 e.same.0 e.same.1 e.seat
+    (c.pass_row.ensures.same c.if-pass_row.false) in
+    search rules
