@@ -1,2 +1,3 @@
 mod FilesAsked
 mod LogAsked
+mod Matched

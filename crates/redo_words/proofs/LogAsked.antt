@@ -1,9 +1,9 @@
 -- The meaning of the matches of a conversation's words.
-use Rattle.std.proofs.Common.{◌≡◌, ◌∙◌, refl, sym, subst, true, false, Bool, List, [], Option, Some, None, option_map, codes, string_bytes, Bor}
-use Rattle.clap.specs.Words.{App, HasMatchesOf, Row, Text, fault_of, first_of, first_value, found_of, is_simple, is_simple_and_free, matches_of, rows_of}
+use Rattle.std.proofs.Common.{◌≡◌, ◌∙◌, refl, sym, true, false, Bool, List, Option, Some, None, option_map, codes, string_bytes, Bor}
+use Rattle.clap.specs.Words.{Row, Text, first_of, first_value, found_of, rows_of}
 use Rattle.clap.specs.declared.parser.matches.ArgMatches.{ArgMatches}
 use Rattle.clap.proofs.WalkLemmas.{first_value-rows}
-use Rattle.redo_words.specs.LiveWords.{Asks, AsksForLog, IsGiven, redodb_live}
+use Rattle.redo_words.specs.LiveWords.{Asks, AsksForLog, IsGiven}
 use Rattle.redo_words.specs.declared.task.Conversation.{Conversation}
 use Rattle.redo_words.specs.declared.task.LogFile.{LogFile}
 
@@ -31,22 +31,3 @@ no_flags rows conversation none asks = go conversation.log asks
 pub is_off : (b : Bool) (Given : Type 0) → (b ≡ true → Given) → ¬ Given → b ≡ false
 is_off true Given on off = absurd (off (on refl))
 is_off false Given on off = refl
-
-is_simple_live : is_simple redodb_live ≡ true
-is_simple_live = refl
-
-is_free_live : is_simple_and_free redodb_live ≡ true
-is_free_live = refl
-
--- the matches are those of the words
-pub by_words : (app : App) (words : List Text) (m : ArgMatches) → app ≡ redodb_live
-    → HasMatchesOf app words m → rows_of (found_of m) ≡ matches_of redodb_live words
-by_words app words m is_app has =
-    (subst (λ (a : App). HasMatchesOf a words m) is_app has is_simple_live).0
-
-pub no_fault : (app : App) (words : List Text) → app ≡ redodb_live
-    → (is_simple_and_free app ≡ true → fault_of app words ≡ [])
-    → fault_of redodb_live words ≡ []
-no_fault app words is_app free =
-    subst (λ (a : App). is_simple_and_free a ≡ true → fault_of a words ≡ []) is_app free
-    is_free_live

@@ -1,6 +1,6 @@
-ghost use Rattle.std.specs.Prelude.{◌≡◌, ◌≢◌, ◌↔◌, ◌⊎◌, [], map, string_bytes, IfOk, IfErr, IfSome, IsSome, OnOk, IsOkAnd};
-ghost use Rattle.clap.specs.Words.{app_of, kind_of, subcommand_rows_of};
-ghost use Rattle.redo_words.specs.Words.{redodb, Asks, AreFaultless, AskFor};
+ghost use Rattle.std.specs.Prelude.{◌≡◌, ◌≢◌, ◌↔◌, ◌⊎◌, [], false, map, string_bytes, IfOk, IfErr, IfSome, IsSome, OnOk, IsOkAnd};
+ghost use Rattle.clap.specs.Words.{app_of, kind_of, rule_of, subcommand_rows_of};
+ghost use Rattle.redo_words.specs.Words.{redodb, file_rule, files_rule, Asks, AreFaultless, AskFor};
 
 use crate::fault::WordsFault;
 use crate::task::Job;
@@ -8,19 +8,33 @@ use clap::error::ErrorKind;
 use clap::{Arg, ArgAction, ArgMatches, Command, Error};
 use std::alloc::{AllocError, Global};
 
+/// `FILE...`.
+fn files<'a>(alloc: Global) -> Arg<'a>
+    ensures rule { rule_of result ≡ files_rule }
+    ensures own { result.global ≡ false }
+{
+    Arg::new(alloc, "FILE")
+        .required(true)
+        .num_args(1..)
+        .action(ArgAction::Append)
+}
+
+/// `FILE`.
+fn file<'a>(alloc: Global) -> Arg<'a>
+    ensures rule { rule_of result ≡ file_rule }
+    ensures own { result.global ≡ false }
+{
+    Arg::new(alloc, "FILE")
+        .required(true)
+        .action(ArgAction::Set)
+}
+
 /// `run FILE...` and `replay FILE`.
 fn command<'a>(alloc: Global) -> Result<Command<'a>, AllocError>
     ensures { IfOk result (λ command. app_of command ≡ redodb) }
 {
-    let files = Arg::new(alloc, "FILE")
-        .required(true)
-        .num_args(1..)
-        .action(ArgAction::Append);
-    let file = Arg::new(alloc, "FILE")
-        .required(true)
-        .action(ArgAction::Set);
-    let run = Command::new(alloc, "run").arg(files)?;
-    let replay = Command::new(alloc, "replay").arg(file)?;
+    let run = Command::new(alloc, "run").arg(files(alloc))?;
+    let replay = Command::new(alloc, "replay").arg(file(alloc))?;
     Command::new(alloc, "redodb")
         .no_binary_name(true)
         .subcommand_required(true)

@@ -1,27 +1,27 @@
-use Rattle.std.proofs.Common.{rules, ◌≡◌, ◌∙◌, sym, subst, true≢false, false, is_some, List, map, string_bytes}
+use Rattle.std.proofs.Common.{rules, ◌≡◌, ◌∙◌, refl, sym, subst, true≢false, false, is_some, List, map, string_bytes}
 use Rattle.clap.specs.Words.{Row, app_of}
-use Rattle.redo_words.specs.LiveWords.{Asks}
-use Rattle.redo_words.proofs.LogAsked.{by_words, no_fault}
+use Rattle.redo_words.specs.LiveWords.{Asks, redodb_live}
+use Rattle.redo_words.proofs.Matched.{by_words, no_fault}
 use Rattle.redo_words.proofs.live_words.conversation.Goals as goal
 
 pub returns-in-Ok-Some-clause-asked : goal.returns-in-Ok-Some-clause-asked
 returns-in-Ok-Some-clause-asked c =
-    let rows = by_words (app_of c.in-Ok.command) (map string_bytes c.args.words.now)
-    c.in-Ok-try_get_matches_from.matches c.in-Ok.ensures
+    let found = by_words redodb_live (app_of c.in-Ok.command) (map string_bytes c.args.words.now)
+    c.in-Ok-try_get_matches_from.matches refl c.in-Ok.ensures
     c.in-Ok-try_get_matches_from.ensures.matches in
-    subst (λ (rows : List Row). Asks rows c.in-Ok-Some.conversation) rows
+    subst (λ (rows : List Row). Asks rows c.in-Ok-Some.conversation) found.0
     (rw c.in-Ok-Some.field-0-is at c.in-Ok-Some.ensures.asked)
 
 pub returns-in-Ok-Some-clause-sound : goal.returns-in-Ok-Some-clause-sound
 returns-in-Ok-Some-clause-sound c =
-    no_fault (app_of c.in-Ok.command) (map string_bytes c.args.words.now) c.in-Ok.ensures
-    c.in-Ok-try_get_matches_from.ensures.kinds
+    no_fault redodb_live (app_of c.in-Ok.command) (map string_bytes c.args.words.now) refl
+    c.in-Ok.ensures c.in-Ok-try_get_matches_from.ensures.kinds
 
 pub returns-in-Ok-None-clause-only : goal.returns-in-Ok-None-clause-only
 returns-in-Ok-None-clause-only c conversation asks faultless =
-    let rows = by_words (app_of c.in-Ok.command) (map string_bytes c.args.words.now)
-    c.in-Ok-try_get_matches_from.matches c.in-Ok.ensures
+    let found = by_words redodb_live (app_of c.in-Ok.command) (map string_bytes c.args.words.now)
+    c.in-Ok-try_get_matches_from.matches refl c.in-Ok.ensures
     c.in-Ok-try_get_matches_from.ensures.matches in
-    let asked = subst (λ (rows : List Row). Asks rows conversation) (sym rows) asks in
+    let asked = subst (λ (rows : List Row). Asks rows conversation) (sym found.0) asks in
     let none : is_some c.in-Ok-None.field-0 ≡ false = search rules in
     absurd (true≢false (sym (c.in-Ok-None.ensures.only conversation asked) ∙ none))
