@@ -1,11 +1,88 @@
 //! What is restored from logs that were worked out by hand from the rules.
+use crate::talk::check_reply;
 use redo_log::{RestoreFault, restore};
-use std::alloc::Global;
-use std::test::Fail;
+use redo_talk::Replied;
+use std::alloc::{AllocError, Global};
 
 /// Two sessions: a target that is built, and a lock. The header has 13 bytes, and the lines have 140.
 const LOG: &str = "redodb-log 1\n1 file a.c 10 => ok\n1 lock a.o => granted 1\n1 start a.o => ok\n\
     2 lock b => granted 1\n1 ifchange a.o z.h a.c => stale z.h\n1 done a.o 20 => ok\n";
+
+/// A header and one line.
+const ONE_LINE: &str = "redodb-log 1\n1 file a.c 10 => ok\n";
+
+/// A line that isn't the database's answer behind `ONE_LINE`, and another log's header.
+const OTHER_LINE: Result<(usize, usize), RestoreFault> = Err(RestoreFault::Differs {
+    line: 3,
+    lines: 1,
+    bytes: 33,
+});
+
+const OTHER_HEADER: Result<(usize, usize), RestoreFault> = Err(RestoreFault::Differs {
+    line: 1,
+    lines: 0,
+    bytes: 0,
+});
+
+/// Logs in two parts, and how many lines and bytes of them are restored.
+const LOGS: &[(&str, &str, Result<(usize, usize), RestoreFault>)] = &[
+    // What stands behind the last LF is left out, and so is a header without its LF.
+    (LOG, "", Ok((6, 153))),
+    (LOG, "1", Ok((6, 153))),
+    (LOG, "1 unlock a.o => o", Ok((6, 153))),
+    (LOG, "1 unlock a.o => ok", Ok((6, 153))),
+    (LOG, "nothing", Ok((6, 153))),
+    ("redodb-log 1\n", "1 fi", Ok((0, 13))),
+    ("", "", Ok((0, 0))),
+    ("", "r", Ok((0, 0))),
+    ("", "redodb-log 1", Ok((0, 0))),
+    // A line that isn't the database's answer is refused, whatever follows.
+    (
+        ONE_LINE,
+        "1 lock a.c => granted 2\n1 gone a.c => ok\n",
+        OTHER_LINE,
+    ),
+    (
+        ONE_LINE,
+        "1 lock a.c => busy 1\n1 gone a.c => ok\n",
+        OTHER_LINE,
+    ),
+    (
+        ONE_LINE,
+        "1 unlock a.c => ok\n1 gone a.c => ok\n",
+        OTHER_LINE,
+    ),
+    (
+        ONE_LINE,
+        "1 stamp a.c => stamped\n1 gone a.c => ok\n",
+        OTHER_LINE,
+    ),
+    (ONE_LINE, "1 lock a.c\n1 gone a.c => ok\n", OTHER_LINE),
+    (ONE_LINE, "1 end => ok\n1 gone a.c => ok\n", OTHER_LINE),
+    (
+        ONE_LINE,
+        "65 lock a.c => granted 1\n1 gone a.c => ok\n",
+        OTHER_LINE,
+    ),
+    (
+        ONE_LINE,
+        "lock a.c => granted 1\n1 gone a.c => ok\n",
+        OTHER_LINE,
+    ),
+    (
+        ONE_LINE,
+        " 1 lock a.c => granted 1\n1 gone a.c => ok\n",
+        OTHER_LINE,
+    ),
+    (ONE_LINE, "hello\n1 gone a.c => ok\n", OTHER_LINE),
+    (ONE_LINE, "\n1 gone a.c => ok\n", OTHER_LINE),
+    // So is another header.
+    ("", "\n", OTHER_HEADER),
+    ("", "redodb-log 2\n", OTHER_HEADER),
+    ("", "redodb-log 1 \n", OTHER_HEADER),
+    ("", "redodb-log 10", OTHER_HEADER),
+    ("", "history 1\n", OTHER_HEADER),
+];
 
 /// How many lines and bytes are restored.
 fn counts(alloc: Global, log: &[u8]) -> Result<(usize, usize), RestoreFault> {
@@ -13,91 +90,27 @@ fn counts(alloc: Global, log: &[u8]) -> Result<(usize, usize), RestoreFault> {
     Ok((restored.lines, restored.bytes))
 }
 
+#[test]
+fn logs(rt: HostRuntime) -> Result<(), AllocError> {
+    for (front, rest, want) in LOGS {
+        let log = format!(in rt.alloc(); "{front}{rest}")?;
+        assert_eq!(rt; counts(rt.alloc(), log.as_bytes()), *want, "{log:?}");
+    }
+    Ok(())
+}
+
 /// All lines are done again, and the database goes on from there.
 #[test]
-fn whole(rt: HostRuntime) -> Result<(), Fail> {
-    let alloc = rt.alloc();
-    let mut restored = restore(alloc, LOG.as_bytes())?;
-    assert_eq!(rt; (restored.lines, restored.bytes), (6, 153));
-    let (mut said, mut logged) = (Vec::new(alloc), Vec::new(alloc));
-    for (session, text) in [
-        (2, "targets"),
-        (2, "lock b"),
-        (1, "unlock b"),
-        (2, "lock b"),
+fn whole(rt: HostRuntime) -> Result<(), RestoreFault> {
+    let mut live = restore(rt.alloc(), LOG.as_bytes())?.live;
+    for (line, want, to_log) in [
+        ("3 targets", "3 targets => targets a.o\n", 0),
+        ("3 lock b", "3 lock b => busy 1\n", 0),
+        ("2 unlock b", "2 unlock b => ok\n", 17),
+        ("3 lock b", "3 lock b => granted 2\n", 22),
     ] {
-        restored
-            .live
-            .answer(alloc, session, text.as_bytes(), &mut said, &mut logged)?;
-    }
-    let want =
-        b"3 targets => targets a.o\n3 lock b => busy 1\n2 unlock b => ok\n3 lock b => granted 2\n";
-    assert!(rt; said.as_slice() == want.as_slice());
-    Ok(())
-}
-
-/// What stands behind the last LF is left out, and so is a header without its LF.
-#[test]
-fn torn(rt: HostRuntime) -> Result<(), Fail> {
-    let alloc = rt.alloc();
-    for torn in ["1", "1 unlock a.o => o", "1 unlock a.o => ok", "nothing"] {
-        let log = format!(in alloc; "{LOG}{torn}")?;
-        assert_eq!(rt; counts(alloc, log.as_bytes()), Ok((6, 153)), "{torn}");
-    }
-    assert_eq!(rt; counts(alloc, b"redodb-log 1\n1 fi"), Ok((0, 13)));
-    for torn in ["", "r", "redodb-log 1"] {
-        assert_eq!(rt; counts(alloc, torn.as_bytes()), Ok((0, 0)), "{torn:?}");
-    }
-    Ok(())
-}
-
-/// A line that isn't the database's answer is refused, whatever follows.
-#[test]
-fn differs(rt: HostRuntime) -> Result<(), Fail> {
-    let alloc = rt.alloc();
-    for line in [
-        "1 lock a.c => granted 2",
-        "1 lock a.c => busy 1",
-        "1 unlock a.c => ok",
-        "1 stamp a.c => stamped",
-        "1 lock a.c",
-        "1 end => ok",
-        "65 lock a.c => granted 1",
-        "lock a.c => granted 1",
-        " 1 lock a.c => granted 1",
-        "hello",
-        "",
-    ] {
-        let log = format!(in alloc;
-            "redodb-log 1\n1 file a.c 10 => ok\n{line}\n1 gone a.c => ok\n"
-        )?;
-        let why = RestoreFault::Differs {
-            line: 3,
-            lines: 1,
-            bytes: 33,
-        };
-        assert_eq!(rt; counts(alloc, log.as_bytes()), Err(why), "{line}");
-    }
-    Ok(())
-}
-
-/// So is another header.
-#[test]
-fn bad_header(rt: HostRuntime) -> Result<(), Fail> {
-    let alloc = rt.alloc();
-    for log in [
-        "\n",
-        "redodb-log 2\n",
-        "redodb-log 1 \n",
-        "redodb-log 10",
-        "history 1\n",
-    ] {
-        let why = RestoreFault::Differs {
-            line: 1,
-            lines: 0,
-            bytes: 0,
-        };
-        assert_eq!(rt; counts(alloc, log.as_bytes()), Err(why), "{log:?}");
+        let want = (Ok(Replied::Done), want, to_log);
+        check_reply(&rt, rt.alloc(), &mut live, (line, 99), want);
     }
     Ok(())
 }

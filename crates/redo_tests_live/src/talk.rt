@@ -3,7 +3,51 @@ use redo_live::{Live, Withheld};
 use redo_talk::{Replied, converse, reply};
 use redo_whole::Watched;
 use std::alloc::{AllocError, Global};
-use std::test::Fail;
+use std::process::Abort;
+
+/// What is heard, what is said, and what is logged.
+type Talk = (&'static str, &'static str, &'static str);
+
+/// A session builds a target and ends while it holds it; another asks.
+const COMMON_PATH: Talk = (
+    "1 file a.c 10\n1 lock a.o\n2 lock a.o\n1 start a.o\n1 ifchange a.o a.c\n1 done a.o 20\n\
+    1 file a.c 11\n2 ood\n1 end\n2 lock a.o\n2 start a.o\n2 end\n",
+    "1 file a.c 10 => ok\n1 lock a.o => granted 1\n2 lock a.o => busy 1\n1 start a.o => ok\n\
+    1 ifchange a.o a.c => ok\n1 done a.o 20 => ok\n1 file a.c 11 => ok\n2 ood => ood a.o\n\
+    1 unlock a.o => ok\n1 end => ok\n2 lock a.o => granted 2\n2 start a.o => ok\n\
+    2 failed a.o => ok\n2 unlock a.o => ok\n2 end => ok\n",
+    "1 file a.c 10 => ok\n1 lock a.o => granted 1\n1 start a.o => ok\n1 ifchange a.o a.c => ok\n\
+    1 done a.o 20 => ok\n1 file a.c 11 => ok\n1 unlock a.o => ok\n2 lock a.o => granted 2\n\
+    2 start a.o => ok\n2 failed a.o => ok\n2 unlock a.o => ok\n",
+);
+
+/// Lines that are no commands are faults, the first that they have; a rest without LF is not heard.
+const FAULTS: Talk = (
+    "\n0 ood\n65 ood\nood\n1 end now\n1 \n3 lock\n3 lock -\n64 ? ood\n2 file a -\n1 ood",
+    "0 fault bad-session\n0 fault bad-session\n0 fault bad-session\n0 fault bad-session\n\
+    1 fault unknown-command\n1 fault unknown-command\n3 fault wrong-words\n3 fault bad-name\n\
+    64 fault unknown-command\n2 fault bad-stamp\n",
+    "",
+);
+
+/// Questions about names are answered and not logged; one that isn't known is idle.
+const QUESTIONS: Talk = (
+    "1 file util.h 1\n1 lock util.o\n1 start util.o\n1 ifchange util.o util.h\n1 done util.o 2\n\
+    1 lock app\n1 start app\n1 ifchange app util.o\n1 done app 3\n1 file util.h 4\n2 why app\n\
+    2 why util.h\n2 deps util.o\n2 state app\n2 state b\n2 deps b\n2 why b\n3 why\n3 deps a b\n\
+    3 state -\n",
+    "1 file util.h 1 => ok\n1 lock util.o => granted 1\n1 start util.o => ok\n\
+    1 ifchange util.o util.h => ok\n1 done util.o 2 => ok\n1 lock app => granted 1\n\
+    1 start app => ok\n1 ifchange app util.o => ok\n1 done app 3 => ok\n1 file util.h 4 => ok\n\
+    2 why app => changed util.h app util.o\n2 why util.h => clean\n\
+    2 deps util.o => change 1 util.h created 0 always 0\n\
+    2 state app => built lock 1 file 3\n2 state b => idle lock - file -\n\
+    2 deps b => change 0 created 0 always 0\n2 why b => clean\n3 fault wrong-words\n\
+    3 fault wrong-words\n3 fault bad-name\n",
+    "1 file util.h 1 => ok\n1 lock util.o => granted 1\n1 start util.o => ok\n\
+    1 ifchange util.o util.h => ok\n1 done util.o 2 => ok\n1 lock app => granted 1\n\
+    1 start app => ok\n1 ifchange app util.o => ok\n1 done app 3 => ok\n1 file util.h 4 => ok\n",
+);
 
 /// What is said and what is logged when these bytes are heard.
 fn heard(alloc: Global, bytes: &[u8]) -> Result<(Vec<u8>, Vec<u8>), AllocError> {
@@ -20,77 +64,41 @@ fn heard(alloc: Global, bytes: &[u8]) -> Result<(Vec<u8>, Vec<u8>), AllocError> 
     }
 }
 
-/// A session builds a target and ends while it holds it; another asks.
-#[test]
-fn common_path(rt: HostRuntime) -> Result<(), Fail> {
-    let (said, logged) = heard(
-        rt.alloc(),
-        b"1 file a.c 10\n1 lock a.o\n2 lock a.o\n1 start a.o\n1 ifchange a.o a.c\n\
-        1 done a.o 20\n1 file a.c 11\n2 ood\n1 end\n2 lock a.o\n2 start a.o\n2 end\n",
-    )?;
-    let want = "1 file a.c 10 => ok\n1 lock a.o => granted 1\n2 lock a.o => busy 1\n\
-        1 start a.o => ok\n1 ifchange a.o a.c => ok\n1 done a.o 20 => ok\n1 file a.c 11 => ok\n\
-        2 ood => ood a.o\n1 unlock a.o => ok\n1 end => ok\n2 lock a.o => granted 2\n\
-        2 start a.o => ok\n2 failed a.o => ok\n2 unlock a.o => ok\n2 end => ok\n";
-    assert!(rt; said.as_slice() == want.as_bytes());
-    let kept = "1 file a.c 10 => ok\n1 lock a.o => granted 1\n1 start a.o => ok\n\
-        1 ifchange a.o a.c => ok\n1 done a.o 20 => ok\n1 file a.c 11 => ok\n1 unlock a.o => ok\n\
-        2 lock a.o => granted 2\n2 start a.o => ok\n2 failed a.o => ok\n2 unlock a.o => ok\n";
-    assert!(rt; logged.as_slice() == kept.as_bytes());
+fn check_talk(
+    rt: &impl Abort,
+    alloc: Global,
+    bytes: &[u8],
+    want: (&str, &str),
+) -> Result<(), AllocError> {
+    let (said, logged) = heard(alloc, bytes)?;
+    assert!(rt; said.as_slice() == want.0.as_bytes(), "{}", want.0);
+    assert!(rt; logged.as_slice() == want.1.as_bytes(), "{}", want.1);
     Ok(())
 }
 
-/// Lines that are no commands are faults, the first that they have; a rest without LF is not heard.
-#[test]
-fn faults(rt: HostRuntime) -> Result<(), Fail> {
-    let (said, logged) = heard(
-        rt.alloc(),
-        b"\n0 ood\n65 ood\nood\n1 end now\n1 \n3 lock\n3 lock -\n64 ? ood\n2 file a -\n1 ood",
-    )?;
-    let want = "0 fault bad-session\n0 fault bad-session\n0 fault bad-session\n\
-        0 fault bad-session\n1 fault unknown-command\n1 fault unknown-command\n\
-        3 fault wrong-words\n3 fault bad-name\n64 fault unknown-command\n2 fault bad-stamp\n";
-    assert!(rt; said.as_slice() == want.as_bytes());
-    assert!(rt; logged.is_empty());
-    Ok(())
-}
-
-/// A line of any length is one line.
-#[test]
-fn long_lines(rt: HostRuntime) -> Result<(), Fail> {
-    let alloc = rt.alloc();
+/// Lines with so many bytes behind the session's number, and the space after it.
+fn lines_of(alloc: Global, lengths: &[usize]) -> Result<Vec<u8>, AllocError> {
     let mut bytes = Vec::new(alloc);
-    for length in [8192, 8193, 200_000] {
+    for length in lengths {
         bytes.extend_from_slice(b"64 gone ")?;
-        for _ in 5..length {
+        for _ in 5..*length {
             bytes.push(b'a')?;
         }
         bytes.push(b'\n')?;
     }
-    let (said, _) = heard(alloc, &bytes)?;
-    let want = "64 fault bad-name\n64 fault line-too-long\n64 fault line-too-long\n";
-    assert!(rt; said.as_slice() == want.as_bytes());
-    Ok(())
+    Ok(bytes)
 }
 
-/// Questions about names are answered and not logged; one that isn't known is idle.
+/// A line of any length is one line.
+const TOO_LONG: &str = "64 fault bad-name\n64 fault line-too-long\n64 fault line-too-long\n";
+
 #[test]
-fn questions(rt: HostRuntime) -> Result<(), Fail> {
-    let (said, logged) = heard(
-        rt.alloc(),
-        b"1 file util.h 1\n1 lock util.o\n1 start util.o\n1 ifchange util.o util.h\n\
-        1 done util.o 2\n1 lock app\n1 start app\n1 ifchange app util.o\n1 done app 3\n\
-        1 file util.h 4\n2 why app\n2 why util.h\n2 deps util.o\n2 state app\n2 state b\n\
-        2 deps b\n2 why b\n3 why\n3 deps a b\n3 state -\n",
-    )?;
-    let told = "2 why app => changed util.h app util.o\n2 why util.h => clean\n\
-        2 deps util.o => change 1 util.h created 0 always 0\n\
-        2 state app => built lock 1 file 3\n2 state b => idle lock - file -\n\
-        2 deps b => change 0 created 0 always 0\n2 why b => clean\n3 fault wrong-words\n\
-        3 fault wrong-words\n3 fault bad-name\n";
-    assert!(rt; said.ends_with(told.as_bytes()));
-    assert!(rt; said.len() == logged.len() + told.len() && said.starts_with(&logged));
-    Ok(())
+fn talks(rt: HostRuntime) -> Result<(), AllocError> {
+    for (bytes, said, logged) in [COMMON_PATH, FAULTS, QUESTIONS] {
+        check_talk(&rt, rt.alloc(), bytes.as_bytes(), (said, logged))?;
+    }
+    let long = lines_of(rt.alloc(), &[8192, 8193, 200_000])?;
+    check_talk(&rt, rt.alloc(), &long, (TOO_LONG, ""))
 }
 
 /// Lines, what is said to them, how they are answered, and how many bytes of what is said are logged.
@@ -110,25 +118,47 @@ const REPLIES: &[(&str, &str, Replied, usize)] = &[
     ),
 ];
 
+/// With room for so many bytes the line is answered so, and this is said, of which so many bytes are logged.
+pub(crate) fn check_reply(
+    rt: &impl Abort,
+    alloc: Global,
+    live: &mut Live,
+    line: (&str, usize),
+    want: (Result<Replied, Withheld>, &str, usize),
+) {
+    let (mut said, mut logged) = (Vec::new(alloc), Vec::new(alloc));
+    let answer = reply(
+        alloc,
+        live,
+        line.0.as_bytes(),
+        line.1,
+        &mut said,
+        &mut logged,
+    );
+    assert!(rt; answer == want.0, "{}", line.0);
+    assert!(rt; said.as_slice() == want.1.as_bytes(), "{}", line.0);
+    assert!(rt;
+        said.starts_with(&logged) && logged.len() == want.2,
+        "{}",
+        line.0
+    );
+}
+
 /// Each line is answered where there is room for the answer; with one byte less nothing is done.
 #[test]
-fn replies(rt: HostRuntime) -> Result<(), Fail> {
-    let alloc = rt.alloc();
-    let mut live = Live::new(alloc)?;
+fn replies(rt: HostRuntime) -> Result<(), AllocError> {
+    let mut live = Live::new(rt.alloc())?;
     for (line, want, replied, to_log) in REPLIES {
-        let (mut said, mut logged) = (Vec::new(alloc), Vec::new(alloc));
-        let (line, size) = (line.as_bytes(), want.len());
-        let most = size.saturating_sub(1);
-        let answer = reply(alloc, &mut live, line, most, &mut said, &mut logged);
-        assert!(rt; answer == Err(Withheld::TooLong(size)), "{want}");
-        assert!(rt; said.is_empty() && logged.is_empty(), "{want}");
-        let answer = reply(alloc, &mut live, line, size, &mut said, &mut logged);
-        assert!(rt; answer == Ok(*replied), "{want}");
-        assert!(rt; said.as_slice() == want.as_bytes(), "{want}");
-        assert!(rt;
-            said.starts_with(&logged) && logged.len() == *to_log,
-            "{want}"
-        );
+        let size = want.len();
+        for (most, want) in [
+            (
+                size.saturating_sub(1),
+                (Err(Withheld::TooLong(size)), "", 0),
+            ),
+            (size, (Ok(*replied), *want, *to_log)),
+        ] {
+            check_reply(&rt, rt.alloc(), &mut live, (*line, most), want);
+        }
     }
     Ok(())
 }
