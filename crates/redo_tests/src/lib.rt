@@ -1,8 +1,6 @@
-//! The tests of words, of names, of texts, and of runs whose readers and writers fail.
+//! The tests of names, of texts, and of runs whose readers and writers fail.
 #![tactic(auto)]
 
-#[cfg(test)]
-mod asked;
 #[cfg(test)]
 mod devices;
 #[cfg(test)]

@@ -1,135 +1,177 @@
 //! Readers and writers that fail once and then work: what is answered, what is noted, and that
 //! nothing is tried again.
 use crate::devices::{FailingReader, FailingWriter};
-use redo_command::{Watched, WholeFault, WriteFault, read_whole, write_whole};
+use redo_command::{Watched, WholeFault, read_whole, write_whole};
 use redo_replay::{ReplayFault, replay_text};
 use redo_session::{TextFault, run_texts};
-use std::test::Fail;
+use std::alloc::{AllocError, Global};
+use std::io::{Read, Write};
+use std::process::Abort;
+use std::sync::Wait;
+use std::thread::Threads;
 
+/// Whether a read of so many bytes at most gives these, or this fault.
+fn is_read<R: Read>(
+    alloc: Global,
+    reader: &mut Watched<R>,
+    most: usize,
+    want: Result<&[u8], WholeFault>,
+) -> bool {
+    match (read_whole(alloc, reader, most), want) {
+        (Ok(whole), Ok(bytes)) => whole.as_slice() == bytes,
+        (Err(WholeFault::TooLong), Err(WholeFault::TooLong)) => true,
+        (Err(WholeFault::Device), Err(WholeFault::Device)) => true,
+        _ => false,
+    }
+}
+
+/// Four bytes are read, and five are too long.
 #[test]
-fn whole_reads(rt: HostRuntime) -> Result<(), Fail> {
-    let alloc = rt.alloc();
-    let mut reader = Watched::new(b"abcd".as_slice());
-    let whole = read_whole(alloc, &mut reader, 4)?;
-    assert!(rt; whole.as_slice() == b"abcd".as_slice());
-    assert!(rt; !reader.faulted());
-    let mut reader = Watched::new(b"abcde".as_slice());
-    let read = read_whole(alloc, &mut reader, 4);
-    assert!(rt; matches!(read, Err(WholeFault::TooLong)));
-    assert!(rt; !reader.faulted());
-    Ok(())
+fn whole_reads(rt: HostRuntime) {
+    for (bytes, want) in [
+        (b"abcd".as_slice(), Ok(b"abcd".as_slice())),
+        (b"abcde".as_slice(), Err(WholeFault::TooLong)),
+    ] {
+        let mut reader = Watched::new(bytes);
+        assert!(rt; is_read(rt.alloc(), &mut reader, 4, want) && !reader.faulted());
+    }
 }
 
 /// The third read fails, and no fourth one is tried. What comes later is read, and the failure stays
 /// noted.
 #[test]
-fn failing_read(rt: HostRuntime) -> Result<(), Fail> {
-    let alloc = rt.alloc();
+fn failing_read(rt: HostRuntime) {
     let mut device = FailingReader::new(5, 2);
     let mut reader = Watched::new(&mut device);
-    let read = read_whole(alloc, &mut reader, 9);
-    assert!(rt; matches!(read, Err(WholeFault::Device)));
-    assert!(rt; reader.faulted());
-    let rest = read_whole(alloc, &mut reader, 9)?;
-    assert!(rt; rest.as_slice() == b"xxx".as_slice());
-    assert!(rt; reader.faulted());
+    for want in [Err(WholeFault::Device), Ok(b"xxx".as_slice())] {
+        assert!(rt; is_read(rt.alloc(), &mut reader, 9, want) && reader.faulted());
+    }
     // two bytes and the failure; three bytes and the end
     assert!(rt; device.reads == 7);
-    Ok(())
+}
+
+/// Of three writes the second fails.
+fn check_write(rt: &impl Abort, device: &mut FailingWriter) {
+    let mut out = Watched::new(device);
+    for (bytes, is_written, faulted) in [
+        (b"".as_slice(), true, false),
+        (b"abcd".as_slice(), false, true),
+        (b"ef".as_slice(), true, true),
+    ] {
+        assert!(rt; write_whole(&mut out, bytes).is_ok() == is_written);
+        assert!(rt; out.faulted() == faulted);
+    }
 }
 
 /// A write that fails or takes no byte is the last one. Later ones go out, and the failure stays
 /// noted.
 #[test]
-fn failing_write(rt: HostRuntime) -> Result<(), Fail> {
-    let alloc = rt.alloc();
+fn failing_write(rt: HostRuntime) {
     for (room, fails, writes, taken) in [
         (0, true, 2, b"ef".as_slice()),
         (0, false, 2, b"ef".as_slice()),
         (3, true, 3, b"abcef".as_slice()),
         (3, false, 3, b"abcef".as_slice()),
     ] {
-        let mut device = FailingWriter::new(alloc, room, fails);
-        let mut out = Watched::new(&mut device);
-        write_whole(&mut out, b"")?;
-        assert!(rt; !out.faulted());
-        assert!(rt; matches!(write_whole(&mut out, b"abcd"), Err(WriteFault::Write)));
-        assert!(rt; out.faulted());
-        write_whole(&mut out, b"ef")?;
-        assert!(rt; out.faulted());
+        let mut device = FailingWriter::new(rt.alloc(), room, fails);
+        check_write(&rt, &mut device);
         assert!(rt; device.writes == writes, "{room} {fails}");
         assert!(rt; device.taken.as_slice() == taken, "{room} {fails}");
     }
-    Ok(())
+}
+
+/// These bytes are written, and flushed twice; whether the flushes are done, and whether a failure is noted after each.
+fn flushed<W: Write>(out: &mut Watched<W>, bytes: &[u8]) -> [(bool, bool); 3] {
+    let written = (write_whole(out, bytes).is_ok(), out.faulted());
+    let first = (out.flush().is_ok(), out.faulted());
+    [written, first, (out.flush().is_ok(), out.faulted())]
 }
 
 /// A flush that fails is tried once. A later one works, and the failure stays noted.
 #[test]
-fn failing_flush(rt: HostRuntime) -> Result<(), Fail> {
-    let alloc = rt.alloc();
-    let mut bytes = Vec::new(alloc);
-    let mut out = Watched::new(&mut bytes);
-    write_whole(&mut out, b"c\n")?;
-    out.flush()?;
-    assert!(rt; !out.faulted());
+fn failing_flush(rt: HostRuntime) {
+    let mut bytes = Vec::new(rt.alloc());
+    let flushed_to_bytes = flushed(&mut Watched::new(&mut bytes), b"c\n");
+    assert!(rt; flushed_to_bytes == [(true, false); 3]);
     assert!(rt; bytes.as_slice() == b"c\n".as_slice());
 
-    let mut device = FailingWriter::new(alloc, 9, true);
-    let mut out = Watched::new(&mut device);
-    write_whole(&mut out, b"ab")?;
-    assert!(rt; !out.faulted());
-    assert!(rt; matches!(out.flush(), Err(WriteFault::Write)));
-    assert!(rt; out.faulted());
-    out.flush()?;
-    assert!(rt; out.faulted());
+    let mut device = FailingWriter::new(rt.alloc(), 9, true);
+    let flushed_to_device = flushed(&mut Watched::new(&mut device), b"ab");
+    assert!(rt; flushed_to_device == [(true, false), (false, true), (true, true)]);
     assert!(rt; device.flushes == 2 && device.writes == 1);
     assert!(rt; device.taken.as_slice() == b"ab".as_slice());
-    Ok(())
 }
 
-/// The front of two files' run text that there is room for is written, and nothing after the
-/// failure.
-#[test]
-fn runs_by_a_failing_writer(rt: HostRuntime) -> Result<(), Fail> {
-    let alloc = rt.alloc();
-    let text = b"history 1\n2 file a 1 => ok\nsession 1 0\nsession 2 1\nfile a 1 => ok\n";
-    for (room, fails, writes) in [
-        (0, true, 1),
-        (0, false, 1),
-        (10, false, 2),
-        (40, true, 2),
-        (65, false, 2),
-        (66, true, 1),
-    ] {
-        let mut device = FailingWriter::new(alloc, room, fails);
-        let mut out = Watched::new(&mut device);
-        let mut files = [
-            Watched::new(b"".as_slice()),
-            Watched::new(b"file a 1\n".as_slice()),
-        ];
-        let run = run_texts(&rt, alloc, &mut files, &mut out);
-        let is_full = matches!(run, Err(TextFault::Write));
-        assert!(rt; is_full == (room < text.len()), "{room}");
-        assert!(rt; out.faulted() == is_full, "{room}");
-        assert!(rt; device.writes == writes, "{room}");
-        assert!(rt; device.taken.as_slice() == &text[..room], "{room}");
+/// What a run is given: its files, and a writer that has room for so many bytes, and then fails or takes no byte.
+type Given = (&'static [&'static str], usize, bool);
+
+const TWO: &[&str] = &["", "file a 1\n"];
+
+/// What a run of these files writes.
+const TEXT: &str = "history 1\n2 file a 1 => ok\nsession 1 0\nsession 2 1\nfile a 1 => ok\n";
+
+/// What it writes of a text, in so many writes, and whether it fails.
+const RUNS: &[(Given, &str, usize, bool)] = &[
+    ((TWO, 0, true), TEXT, 1, true),
+    ((TWO, 0, false), TEXT, 1, true),
+    ((TWO, 10, false), TEXT, 2, true),
+    ((TWO, 40, true), TEXT, 2, true),
+    ((TWO, 65, false), TEXT, 2, true),
+    ((TWO, 66, true), TEXT, 1, false),
+    // What one empty file's run leaves where there is room for ten bytes: the history, and no session.
+    ((&[""], 10, true), "history 0\nsession 1 0\n", 2, true),
+    ((&[""], 10, false), "history 0\nsession 1 0\n", 2, true),
+];
+
+fn readers<'a>(alloc: Global, files: &[&'a str]) -> Result<Vec<Watched<&'a [u8]>>, AllocError> {
+    let mut readers = Vec::new(alloc);
+    for file in files {
+        readers.push(Watched::new(file.as_bytes()))?;
     }
-    Ok(())
+    Ok(readers)
 }
 
-/// What one empty file's run leaves where there is room for ten bytes: the history, and no session.
+fn run_fault<T: Threads + Wait + Sync, R: Read, W: Write>(
+    rt: &T,
+    alloc: Global,
+    files: &mut [Watched<R>],
+    out: &mut Watched<W>,
+) -> Option<TextFault> {
+    run_texts(rt, alloc, files, out).err()
+}
+
+/// Whether a run fails by its writer alone, or not at all.
+fn is_run<T: Threads + Wait + Sync>(
+    rt: &T,
+    alloc: Global,
+    files: &mut [Watched<&[u8]>],
+    device: &mut FailingWriter,
+    fails: bool,
+) -> bool {
+    let mut out = Watched::new(device);
+    let is_right = match run_fault(rt, alloc, files, &mut out) {
+        None => !fails,
+        Some(TextFault::Write) => fails,
+        Some(_) => false,
+    };
+    is_right && out.faulted() == fails && !files.iter().any(|file| file.faulted())
+}
+
+/// The front of a run text that there is room for is written, and nothing after the failure.
 #[test]
-fn run_of_nothing_by_a_failing_writer(rt: HostRuntime) -> Result<(), Fail> {
-    let alloc = rt.alloc();
-    for fails in [true, false] {
-        let mut device = FailingWriter::new(alloc, 10, fails);
-        let mut out = Watched::new(&mut device);
-        let mut files = [Watched::new(b"".as_slice())];
-        let run = run_texts(&rt, alloc, &mut files, &mut out);
-        assert!(rt; matches!(run, Err(TextFault::Write)));
-        assert!(rt; out.faulted() && !files[0].faulted());
-        assert!(rt; device.writes == 2);
-        assert!(rt; device.taken.as_slice() == b"history 0\n".as_slice());
+fn runs_by_a_failing_writer(rt: HostRuntime) -> Result<(), AllocError> {
+    for ((files, room, fails), text, writes, is_full) in RUNS {
+        let mut files = readers(rt.alloc(), files)?;
+        let mut device = FailingWriter::new(rt.alloc(), *room, *fails);
+        assert!(rt;
+            is_run(&rt, rt.alloc(), &mut files, &mut device, *is_full),
+            "{room}"
+        );
+        assert!(rt; device.writes == *writes, "{room}");
+        assert!(rt;
+            device.taken.len() == *room && text.as_bytes().starts_with(&device.taken),
+            "{room}"
+        );
     }
     Ok(())
 }
@@ -137,54 +179,56 @@ fn run_of_nothing_by_a_failing_writer(rt: HostRuntime) -> Result<(), Fail> {
 /// The second of three files fails at its second read. The file after it is not read, and nothing is
 /// written.
 #[test]
-fn runs_by_a_failing_reader(rt: HostRuntime) -> Result<(), Fail> {
-    let alloc = rt.alloc();
+fn runs_by_a_failing_reader(rt: HostRuntime) {
     let mut first = FailingReader::new(0, 9);
     let mut second = FailingReader::new(9, 1);
     let mut third = FailingReader::new(0, 9);
-    let mut device = FailingWriter::new(alloc, 99, true);
+    let mut device = FailingWriter::new(rt.alloc(), 99, true);
     let mut out = Watched::new(&mut device);
     let mut files = [
         Watched::new(&mut first),
         Watched::new(&mut second),
         Watched::new(&mut third),
     ];
-    let run = run_texts(&rt, alloc, &mut files, &mut out);
-    assert!(rt; matches!(run, Err(TextFault::Device { file: 1 })));
+    let fault = run_fault(&rt, rt.alloc(), &mut files, &mut out);
+    assert!(rt; matches!(fault, Some(TextFault::Device { file: 1 })));
     assert!(rt; !files[0].faulted() && files[1].faulted() && !files[2].faulted());
     assert!(rt; !out.faulted());
     assert!(rt; first.reads == 1 && second.reads == 2 && third.reads == 0);
     assert!(rt; device.writes == 0);
-    Ok(())
+}
+
+#[test]
+fn no_file(rt: HostRuntime) {
+    let mut bytes = Vec::new(rt.alloc());
+    let mut files: [Watched<&[u8]>; 0] = [];
+    let fault = run_fault(&rt, rt.alloc(), &mut files, &mut Watched::new(&mut bytes));
+    assert!(rt; matches!(fault, Some(TextFault::NoSession)));
+    assert!(rt; bytes.is_empty());
+}
+
+fn replay_fault<R: Read, W: Write>(
+    alloc: Global,
+    input: &mut Watched<R>,
+    out: &mut Watched<W>,
+) -> Option<ReplayFault> {
+    replay_text(alloc, input, out).err()
 }
 
 /// A replay reads no more after a failed read, and writes no more after a failed write.
 #[test]
-fn replays_by_failing_devices(rt: HostRuntime) -> Result<(), Fail> {
-    let alloc = rt.alloc();
+fn replays_by_failing_devices(rt: HostRuntime) {
     let mut source = FailingReader::new(9, 1);
-    let mut device = FailingWriter::new(alloc, 3, false);
+    let mut device = FailingWriter::new(rt.alloc(), 3, false);
     let mut input = Watched::new(&mut source);
     let mut out = Watched::new(&mut device);
-    let replay = replay_text(alloc, &mut input, &mut out);
-    assert!(rt; matches!(replay, Err(ReplayFault::Device)));
+    let fault = replay_fault(rt.alloc(), &mut input, &mut out);
+    assert!(rt; fault == Some(ReplayFault::Device));
     assert!(rt; input.faulted() && !out.faulted());
     let mut history = Watched::new(b"history 0\n".as_slice());
-    let replay = replay_text(alloc, &mut history, &mut out);
-    assert!(rt; matches!(replay, Err(ReplayFault::Write)));
+    let fault = replay_fault(rt.alloc(), &mut history, &mut out);
+    assert!(rt; fault == Some(ReplayFault::Write));
     assert!(rt; !history.faulted() && out.faulted());
     assert!(rt; source.reads == 2 && device.writes == 2);
     assert!(rt; device.taken.as_slice() == b"sam".as_slice());
-    Ok(())
-}
-
-#[test]
-fn no_file(rt: HostRuntime) -> Result<(), Fail> {
-    let alloc = rt.alloc();
-    let mut bytes = Vec::new(alloc);
-    let mut files: [Watched<&[u8]>; 0] = [];
-    let run = run_texts(&rt, alloc, &mut files, &mut Watched::new(&mut bytes));
-    assert!(rt; matches!(run, Err(TextFault::NoSession)));
-    assert!(rt; bytes.is_empty());
-    Ok(())
 }
