@@ -76,7 +76,7 @@ fn stamp_of(text: &[u8]) -> Option<Stamp> {
     Some(Stamp { bytes, length: text.len() })
 }
 
-// decimal digits, with no sign and no zero in front
+// decimal digits, with no sign and no leading zero
 fn number_of(text: &[u8]) -> Option<u32> {
     if text.first().is_some_and(|byte| *byte == b'+' || (*byte == b'0' && text.len() > 1)) {
         return None;

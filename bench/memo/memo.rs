@@ -42,7 +42,7 @@ impl Memo {
         }
     }
 
-    // answers how many names at the front of the region have a row on the seed, with the seed
+    // answers how many names, first in the region, have a row on the seed, with the seed
     fn meet_region(&mut self, graph: &Graph, seed: u32) -> usize {
         self.region.clear();
         self.meet(seed);
@@ -52,7 +52,7 @@ impl Memo {
         for row in graph.created.on(seed) {
             self.meet(row.target);
         }
-        let front = self.region.len();
+        let touching = self.region.len();
         let mut next = 1;
         while let Some(n) = self.region.get(next).copied() {
             for row in graph.changes.on(n) {
@@ -60,7 +60,7 @@ impl Memo {
             }
             next += 1;
         }
-        front
+        touching
     }
 
     fn was_out(&self, n: u32) -> bool {
@@ -76,12 +76,12 @@ impl Memo {
         }
     }
 
-    fn find_reasons(&mut self, graph: &Graph, front: usize) {
+    fn find_reasons(&mut self, graph: &Graph, touching: usize) {
         self.found.clear();
         self.spread = 0;
         for at in 0..self.region.len() {
             let t = self.region[at];
-            if at < front || self.was_out(t) {
+            if at < touching || self.was_out(t) {
                 self.look_at(graph, t);
             }
         }
@@ -99,8 +99,8 @@ impl Memo {
     // Searches the region of a name that has changed, and tells each target that came to be out of
     // date, or that no longer is.
     pub fn refresh(&mut self, graph: &Graph, seed: u32, mut tell: impl FnMut(u32, bool)) {
-        let front = self.meet_region(graph, seed);
-        self.find_reasons(graph, front);
+        let touching = self.meet_region(graph, seed);
+        self.find_reasons(graph, touching);
         for n in &self.region {
             let flags = &mut self.flags[*n as usize];
             let (is_out, was_out) = (*flags & OUT != 0, *flags & WAS != 0);

@@ -31,7 +31,7 @@ fn visible(text: &[u8]) -> &[u8] {
     &text[..end.unwrap_or(text.len())]
 }
 
-// a number above 0, with no zero in front
+// a number above 0, with no leading zero
 fn number_of(word: &[u8]) -> Option<u32> {
     if word.is_empty() || word[0] == b'0' {
         return None;

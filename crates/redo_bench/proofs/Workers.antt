@@ -58,11 +58,11 @@ work_set p b ws k w old h is e works = record {
   all = λ t l. has_set ws k w old t is e (h.all t l);
 }
 
-part_front : (xs ys : List Part) (t : ℕ) (own : List Line) → HasPart xs t own
+part_prefix : (xs ys : List Part) (t : ℕ) (own : List Line) → HasPart xs t own
     → HasPart (xs ++ ys) t own
-part_front [] ys t own h = absurd h
-part_front (x ∷ xs) ys t own (inl e) = inl e
-part_front (x ∷ xs) ys t own (inr h) = inr (part_front xs ys t own h)
+part_prefix [] ys t own h = absurd h
+part_prefix (x ∷ xs) ys t own (inl e) = inl e
+part_prefix (x ∷ xs) ys t own (inr h) = inr (part_prefix xs ys t own h)
 
 part_back : (xs ys : List Part) (t : ℕ) (own : List Line) → HasPart ys t own
     → HasPart (xs ++ ys) t own
@@ -107,7 +107,7 @@ next_left p b all ws w seat other met j h e leaves sits parts = record {
         → HasSession ws t ⊎ HasLines (parts_of other ++ parts_of seat) t
     ours t (inl a) = inl a
     ours t (inr s) = let one = left_of_one p b w other j t leaves s in
-        inr (one.0, part_front (parts_of other) (parts_of seat) t one.0 one.1)
+        inr (one.0, part_prefix (parts_of other) (parts_of seat) t one.0 one.1)
 
     step : (t : ℕ) → HasSession all t ⊎ HasLines (parts_of seat) t
         → HasSession ws t ⊎ HasLines (parts_of other ++ parts_of seat) t

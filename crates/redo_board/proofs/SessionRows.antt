@@ -74,17 +74,17 @@ module _ (script : List (Item ℕ)) where
       let rest = closing_rows lines are.1 past.1 in
       omega arith
 
-  rows_front : (own closing : List Line) → RowsAre script (own ++ closing)
+  rows_prefix : (own closing : List Line) → RowsAre script (own ++ closing)
       → RowsAre script own × RowsAre script closing
-  rows_front [] closing are = (tt, are)
-  rows_front (line ∷ own) closing are =
-      let rest = rows_front own closing are.1 in ((are.0, rest.0), rest.1)
+  rows_prefix [] closing are = (tt, are)
+  rows_prefix (line ∷ own) closing are =
+      let rest = rows_prefix own closing are.1 in ((are.0, rest.0), rest.1)
 
 module _ {naming : Naming ℕ} (law : IsNaming naming) (s : ℕ) (script : List (Item ℕ)) where
   rows_by_parts : (lines : List Line) → Parts naming s script [] lines
       → ClosingsOkay script lines → RowsAre script lines → placed.rows_in lines ≤ rows_in script
   rows_by_parts lines parts okay are =
-      let all = rows_front script parts.own parts.closing
+      let all = rows_prefix script parts.own parts.closing
       (subst (RowsAre script) parts.both are) in
       let own = own_rows script parts.own all.0 in
       let asked = asked_within s script one_row parts.own parts.lined in

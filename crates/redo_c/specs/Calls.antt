@@ -8,7 +8,7 @@ use Rattle.redo_log.specs.declared.restoring.Restored.{Restored}
 use Rattle.redo_talk.specs.Rounds.{Round}
 use Rattle.redo_talk.specs.Logs.{logged_of}
 use Rattle.redo_talk.specs.Inside.Hearing.{known_of}
-use Rattle.redo_talk.specs.Inside.Replies.{LogsFront, WouldTell}
+use Rattle.redo_talk.specs.Inside.Replies.{LogsPrefix, WouldTell}
 use Rattle.redo_talk.specs.Inside.Steps.{Known, IsStep}
 use Rattle.redo_c.specs.declared.answering.Told.{Told}
 use Rattle.redo_c.specs.declared.calls.Counts.{Counts}
@@ -24,7 +24,7 @@ pub record TellsInto (old new : Known) (heard room room_after : Text) (told : To
   pub size_is : told.size ≡ length round.said
   pub room_is : room_after ≡ round.said ++ drop told.size room
   pub logged_is : told.logged ≡ length (logged_of old.state round.lines)
-  pub front : LogsFront old.state round
+  pub prefix : LogsPrefix old.state round
 
 -- by the status: the line was answered; or the buffer is too small, or memory ran out, and then
 -- nothing was done

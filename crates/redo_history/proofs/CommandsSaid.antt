@@ -26,17 +26,18 @@ length-content_word word (b ∷ bs) is = elim is [
       ∙ sym (length-encode_with lower_digits (b ∷ bs))
 ]
 
-length-front : (front a b : Text) → length a ≡ length b → length (front ++ a) ≡ length (front ++ b)
-length-front front a b same = omega (arith, length-append front a, length-append front b, same)
+length-prefix : (prefix a b : Text) → length a ≡ length b → length (prefix ++ a)
+    ≡ length (prefix ++ b)
+length-prefix prefix a b same = omega (arith, length-append prefix a, length-append prefix b, same)
 
 length-spaced : (first t a b : Text) → length a ≡ length b → length (spaced first (t ∷ a ∷ []))
     ≡ length (spaced first (t ∷ b ∷ []))
 length-spaced first t a b same =
     let ends : length (after_space a ++ []) ≡ length (after_space b ++ []) =
     omega (arith, length-append (after_space a) [], length-append (after_space b) [], same) in
-    length-front first (after_space t ++ (after_space a ++ []))
+    length-prefix first (after_space t ++ (after_space a ++ []))
     (after_space t ++ (after_space b ++ []))
-    (length-front (after_space t) (after_space a ++ []) (after_space b ++ []) ends)
+    (length-prefix (after_space t) (after_space a ++ []) (after_space b ++ []) ends)
 
 -- a command's line is as long as its text
 length-spelled : (line : Text) (command : Command Text) → IsSpelled line command

@@ -22,7 +22,7 @@ log_of lines = flat_map line_text_of lines
 abbrev IsFreeOrCut : ℕ → Text → Type 0
 IsFreeOrCut b text =
     Without b text
-    ⊎ ((front : Text) × (rest : Text) × Without b front × (text ≡ front ++ b ∷ rest))
+    ⊎ ((prefix : Text) × (rest : Text) × Without b prefix × (text ≡ prefix ++ b ∷ rest))
 
 free_or_cut : (b : ℕ) (text : Text) → IsFreeOrCut b text
 free_or_cut b [] = inl tt
@@ -31,8 +31,8 @@ free_or_cut b (c ∷ text) = by (cases_eq c b) (free_or_cut b text)
     by : (c ≡ b) ⊎ (c ≡ b → ⊥) → IsFreeOrCut b text → IsFreeOrCut b (c ∷ text)
     by (inl same) rest = inr ([], text, tt, ap (λ (d : ℕ). d ∷ text) same)
     by (inr other) (inl free) = inl (other, free)
-    by (inr other) (inr (front, rest, free, parts)) =
-        inr (c ∷ front, rest, (other, free), ap (λ (t : Text). c ∷ t) parts)
+    by (inr other) (inr (prefix, rest, free, parts)) =
+        inr (c ∷ prefix, rest, (other, free), ap (λ (t : Text). c ∷ t) parts)
 
 -- a line's text has no line feed but its last byte
 text_is_one : (line : Line Text) → HasLineForm line → Without 10 (own_text_of line)
@@ -41,8 +41,8 @@ text_is_one line form = line_is_one (own_text_of line) line (line_reads_back lin
 -- the cut is a prefix of the lines, and then a rest without a line feed
 abbrev IsCutLog : List (Line Text) → Text → Type 0
 IsCutLog lines cut =
-    (front : List (Line Text)) × (back : List (Line Text)) × (torn : Text)
-    × (lines ≡ front ++ back) × (cut ≡ log_of front ++ torn) × ¬ (Contains torn 10)
+    (prefix : List (Line Text)) × (back : List (Line Text)) × (torn : Text)
+    × (lines ≡ prefix ++ back) × (cut ≡ log_of prefix ++ torn) × ¬ (Contains torn 10)
 
 -- one line more at the beginning
 cut_line : (line : Line Text) (lines : List (Line Text)) (cut rest : Text) → HasLineForm line
@@ -55,11 +55,11 @@ cut_line line lines cut rest form others e (inr (first, more, free, parts)) =
     let both = first_cut 10 own first (log_of lines) (more ++ rest) (text_is_one line form) free
     (sym (append_assoc own (10 ∷ []) (log_of lines)) ∙ e ∙ ap (λ (t : Text). t ++ rest) parts
     ∙ append_assoc first (10 ∷ more) rest) in
-    let (front, back, torn, whole, found, none) = others more both.1 in
-    let ends : own ++ 10 ∷ (log_of front ++ torn) ≡ log_of (line ∷ front) ++ torn =
-    sym (append_assoc (line_text_of line) (log_of front) torn
-    ∙ append_assoc own (10 ∷ []) (log_of front ++ torn)) in (
-      line ∷ front,
+    let (prefix, back, torn, whole, found, none) = others more both.1 in
+    let ends : own ++ 10 ∷ (log_of prefix ++ torn) ≡ log_of (line ∷ prefix) ++ torn =
+    sym (append_assoc (line_text_of line) (log_of prefix) torn
+    ∙ append_assoc own (10 ∷ []) (log_of prefix ++ torn)) in (
+      line ∷ prefix,
       back,
       torn,
       ap (λ (ls : List (Line Text)). line ∷ ls) whole,

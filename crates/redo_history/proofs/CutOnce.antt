@@ -43,44 +43,44 @@ first_cut b (c ∷ x) (d ∷ y) r s p q e =
     (λ i. first i ∷ both.0 i, both.1)
 
 -- any cut is the first one or a later one
-pub any_cut : (b : ℕ) (x front r s : Text) → Without b x → x ++ b ∷ r ≡ front ++ b ∷ s
-    → ((front ≡ x) × (r ≡ s)) ⊎ ((more : Text) × (front ≡ x ++ b ∷ more) × (r ≡ more ++ b ∷ s))
+pub any_cut : (b : ℕ) (x prefix r s : Text) → Without b x → x ++ b ∷ r ≡ prefix ++ b ∷ s
+    → ((prefix ≡ x) × (r ≡ s)) ⊎ ((more : Text) × (prefix ≡ x ++ b ∷ more) × (r ≡ more ++ b ∷ s))
 any_cut b [] [] r s p e = inl (refl, cc)
-any_cut b [] (c ∷ front) r s p e =
+any_cut b [] (c ∷ prefix) r s p e =
     let first : c ≡ b = cc in
-    let others : r ≡ front ++ b ∷ s = cc in
-    inr (front, λ i. first i ∷ front, others)
+    let others : r ≡ prefix ++ b ∷ s = cc in
+    inr (prefix, λ i. first i ∷ prefix, others)
 any_cut b (c ∷ x) [] r s p e =
     let same : c ≡ b = cc in
     absurd (p.0 same)
-any_cut b (c ∷ x) (d ∷ front) r s p e =
+any_cut b (c ∷ x) (d ∷ prefix) r s p e =
     let first : d ≡ c = cc in
-    let others : x ++ b ∷ r ≡ front ++ b ∷ s = cc in
-    elim (any_cut b x front r s p.1 others) [
+    let others : x ++ b ∷ r ≡ prefix ++ b ∷ s = cc in
+    elim (any_cut b x prefix r s p.1 others) [
       | inl h ↦ inl (λ i. first i ∷ h.0 i, h.1)
       | inr h ↦ inr (h.0, λ i. first i ∷ h.1 i, h.2)
     ]
 
 -- prefixes of one length
-pub same_front : {X : Type 0} (x y r s : List X) → length x ≡ length y → x ++ r ≡ y ++ s
+pub same_prefix : {X : Type 0} (x y r s : List X) → length x ≡ length y → x ++ r ≡ y ++ s
     → (x ≡ y) × (r ≡ s)
-same_front [] [] r s long e = (refl, e)
-same_front [] (c ∷ y) r s long e = absurd (omega arith)
-same_front (c ∷ x) [] r s long e = absurd (omega arith)
-same_front (c ∷ x) (d ∷ y) r s long e =
+same_prefix [] [] r s long e = (refl, e)
+same_prefix [] (c ∷ y) r s long e = absurd (omega arith)
+same_prefix (c ∷ x) [] r s long e = absurd (omega arith)
+same_prefix (c ∷ x) (d ∷ y) r s long e =
     let first : c ≡ d = cc in
     let others : x ++ r ≡ y ++ s = cc in
-    let both = same_front x y r s (omega arith) others in
+    let both = same_prefix x y r s (omega arith) others in
     (λ i. first i ∷ both.0 i, both.1)
 
 -- a cut at a space if a space is there
-pub one_cut_at_space : (line x rest front others : Text) → Without 32 x → line ≡ x ++ 32 ∷ rest
-    → IsCutAtSpace line front others → (front ≡ x) × (others ≡ rest)
-one_cut_at_space line x rest front others without parts is =
-    let free = without_from 32 front is.free in
+pub one_cut_at_space : (line x rest prefix others : Text) → Without 32 x → line ≡ x ++ 32 ∷ rest
+    → IsCutAtSpace line prefix others → (prefix ≡ x) × (others ≡ rest)
+one_cut_at_space line x rest prefix others without parts is =
+    let free = without_from 32 prefix is.free in
     elim is.parts [
-      | inl h ↦ first_cut 32 front x others rest free without (sym h ∙ parts)
-      | inr h ↦ absurd (contains_none 32 front free (subst (λ (t : Text). Contains t 32) (sym parts
+      | inl h ↦ first_cut 32 prefix x others rest free without (sym h ∙ parts)
+      | inr h ↦ absurd (contains_none 32 prefix free (subst (λ (t : Text). Contains t 32) (sym parts
           ∙ h.0) (has_it x)))
     ]
   where
@@ -107,20 +107,20 @@ no_arrow_yet w ws reply back free e =
     ) (ap (λ (t : Text). w ++ t) (sym tail.1) ∙ e)).0)
 
 -- after free words, the first arrow
-arrow_after : (w : Text) (ws : List Text) (reply front back : Text) → IsFreeWord w
+arrow_after : (w : Text) (ws : List Text) (reply prefix back : Text) → IsFreeWord w
     → AllByRecursion IsFreeWord ws
-    → w ++ (flat_map after_space ws ++ (arrow ++ reply)) ≡ front ++ (arrow ++ back)
-    → length w + length (flat_map after_space ws) ≤ length front
-arrow_after w [] reply front back free all e =
-    elim (any_cut 32 w front (codes "=> " ++ reply) (codes "=> " ++ back) free.0 e) [
+    → w ++ (flat_map after_space ws ++ (arrow ++ reply)) ≡ prefix ++ (arrow ++ back)
+    → length w + length (flat_map after_space ws) ≤ length prefix
+arrow_after w [] reply prefix back free all e =
+    elim (any_cut 32 w prefix (codes "=> " ++ reply) (codes "=> " ++ back) free.0 e) [
       | inl h ↦ omega (arith, ap length h.0)
       | inr h ↦ omega (arith, ap length h.1, length-append w (32 ∷ h.0))
     ]
-arrow_after w (v ∷ vs) reply front back free all e =
+arrow_after w (v ∷ vs) reply prefix back free all e =
     let split : (v ++ flat_map after_space vs) ++ (arrow ++ reply)
     ≡ v ++ (flat_map after_space vs ++ (arrow ++ reply)) =
     append_assoc v (flat_map after_space vs) (arrow ++ reply) in
-    elim (any_cut 32 w front ((v ++ flat_map after_space vs) ++ (arrow ++ reply))
+    elim (any_cut 32 w prefix ((v ++ flat_map after_space vs) ++ (arrow ++ reply))
     (codes "=> " ++ back) free.0 e) [
       | inl h ↦ absurd (no_arrow_yet v vs reply back all.0 (sym split ∙ h.1))
       | inr h ↦
@@ -139,11 +139,11 @@ pub cut_after : (w : Text) (ws : List Text) (reply : Text) → IsFreeWord w
     → IsCutAtArrow (spaced w ws ++ arrow ++ reply) (spaced w ws) reply
 cut_after w ws reply free all = record {
   parts = refl;
-  first = λ front back e.
+  first = λ prefix back e.
       let left = append_assoc (spaced w ws) arrow reply in
       let words = append_assoc w (flat_map after_space ws) (arrow ++ reply) in
-      let right = append_assoc front arrow back in
-      let long = arrow_after w ws reply front back free all (sym words ∙ sym left ∙ e ∙ right) in
+      let right = append_assoc prefix arrow back in
+      let long = arrow_after w ws reply prefix back free all (sym words ∙ sym left ∙ e ∙ right) in
       omega (arith, length-append w (flat_map after_space ws));
 }
 
@@ -154,6 +154,6 @@ one_cut_at_arrow rest a b c d p q =
     let up = p.first c d q.parts in
     let down = q.first a b p.parts in
     let long : length a ≡ length c = omega arith in
-    let both = same_front a c (arrow ++ b) (arrow ++ d) long (sym (append_assoc a arrow b)
+    let both = same_prefix a c (arrow ++ b) (arrow ++ d) long (sym (append_assoc a arrow b)
     ∙ sym p.parts ∙ q.parts ∙ append_assoc c arrow d) in
-    (both.0, (same_front arrow arrow b d refl both.1).1)
+    (both.0, (same_prefix arrow arrow b d refl both.1).1)

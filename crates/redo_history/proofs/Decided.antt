@@ -4,7 +4,7 @@ use Rattle.std.specs.Prelude.{Contains}
 use Rattle.std.proofs.lemmas.Bool.{cases_lt, cases_eq}
 use Rattle.redo_model.specs.Names.{Text}
 use Rattle.redo_history.specs.HistoryFaults.{IsCutAtSpace, IsCutAtArrow, HasNoArrow, IsSessionWord, arrow}
-use Rattle.redo_history.proofs.TextCuts.{not_placed, cut_at_place, cut_at_first, after_front}
+use Rattle.redo_history.proofs.TextCuts.{not_placed, cut_at_place, cut_at_first, after_prefix}
 
 -- the first number below the bound that has it, or none there has it
 abbrev pub First : (ℕ → Type 0) → ℕ → Type 0
@@ -28,21 +28,21 @@ first_below P decide (suc bound) = elim (first_below P decide bound) [
 ]
 
 -- the text begins with this, and goes on so, or it doesn't
-begins : (front text : Text)
-    → ((rest : Text) × (text ≡ front ++ rest)) ⊎ ((rest : Text) → text ≢ front ++ rest)
+begins : (prefix text : Text)
+    → ((rest : Text) × (text ≡ prefix ++ rest)) ⊎ ((rest : Text) → text ≢ prefix ++ rest)
 begins [] text = inl (text, refl)
-begins (x ∷ front) [] = inr (λ rest e. absurd (omega (arith, ap length e)))
-begins (x ∷ front) (y ∷ text) = elim (cases_eq y x) [
-  | inl same ↦ elim (begins front text) [
+begins (x ∷ prefix) [] = inr (λ rest e. absurd (omega (arith, ap length e)))
+begins (x ∷ prefix) (y ∷ text) = elim (cases_eq y x) [
+  | inl same ↦ elim (begins prefix text) [
     | inl h ↦ inl (h.0, λ i. same i ∷ h.1 i)
-    | inr not ↦ inr (λ rest e. let tail : text ≡ front ++ rest = cc in not rest tail)
+    | inr not ↦ inr (λ rest e. let tail : text ≡ prefix ++ rest = cc in not rest tail)
   ]
   | inr other ↦ inr (λ rest e. let head : y ≡ x = cc in other head)
 ]
 
-pub has_rest : (front text : Text)
-    → ((rest : Text) × (text ≡ front ++ rest)) ⊎ ¬ ((rest : Text) × (text ≡ front ++ rest))
-has_rest front text = elim (begins front text) [
+pub has_rest : (prefix text : Text)
+    → ((rest : Text) × (text ≡ prefix ++ rest)) ⊎ ¬ ((rest : Text) × (text ≡ prefix ++ rest))
+has_rest prefix text = elim (begins prefix text) [
   | inl h ↦ inl h
   | inr not ↦ inr (λ h. not h.0 h.1)
 ]
@@ -61,19 +61,20 @@ is_it (x ∷ text) (y ∷ other) = elim (cases_eq x y) [
 
 -- a text is cut at the first such byte, or has none
 pub cut_at_byte : (byte : ℕ) (text : Text)
-    → ((front : Text) × (rest : Text) × (text ≡ front ++ byte ∷ rest) × ¬ (Contains front byte))
+    → ((prefix : Text) × (rest : Text) × (text ≡ prefix ++ byte ∷ rest) × ¬ (Contains prefix byte))
     ⊎ ¬ (Contains text byte)
 cut_at_byte byte text = by (position (λ b. b == byte) text) refl
   where
     by : (place : Option ℕ) → position (λ b. b == byte) text ≡ place
-        → ((front : Text) × (rest : Text) × (text ≡ front ++ byte ∷ rest) × ¬ (Contains front byte))
+        → ((prefix : Text) × (rest : Text) × (text ≡ prefix ++ byte ∷ rest)
+        × ¬ (Contains prefix byte))
         ⊎ ¬ (Contains text byte)
     by None e = inr (not_placed text byte e)
     by (Some at) e =
         let cut = cut_at_place text byte at e in
         inl (take at text, take (length text - (at + 1)) (drop (at + 1) text), cut.0, cut.1)
 
-pub cut_at_space : (line : Text) → (front : Text) × (rest : Text) × IsCutAtSpace line front rest
+pub cut_at_space : (line : Text) → (prefix : Text) × (rest : Text) × IsCutAtSpace line prefix rest
 cut_at_space line = elim (cut_at_byte 32 line) [
   | inl h ↦ (h.0, h.1, record { free = h.3; parts = inl h.2 })
   | inr none ↦ (line, [], record { free = none; parts = inr (refl, refl) })
@@ -99,12 +100,12 @@ cut_at_arrow rest =
             cut_at_first rest h.2.0 h.0 (omega (arith, h.1)) (λ k back lt e.
                 h.3 k lt (back, e)) h.2.1,
           )
-      | inr none ↦ inr (λ front back e. none (length front) (omega (
+      | inr none ↦ inr (λ prefix back e. none (length prefix) (omega (
         arith,
         ap length e,
-        length-append (front ++ arrow) back,
-        length-append front arrow,
-      )) (back, after_front rest front back e))
+        length-append (prefix ++ arrow) back,
+        length-append prefix arrow,
+      )) (back, after_prefix rest prefix back e))
     ]
   where
     Here : ℕ → Type 0

@@ -19,15 +19,15 @@ either true c e = inl refl
 either false c e = inr e
 
 -- with one name more, which is known
-with_one : (names front : List Text) (t q : Text) → (IsKnown front q → IsKnown names q)
-    → IsKnown names t → IsKnown (with_name front t) q → IsKnown names q
-with_one names front t q among known = by (has front t)
+with_one : (names prefix : List Text) (t q : Text) → (IsKnown prefix q → IsKnown names q)
+    → IsKnown names t → IsKnown (with_name prefix t) q → IsKnown names q
+with_one names prefix t q among known = by (has prefix t)
   where
-    by : (b : Bool) → IsKnown (cond b front (front ++ t ∷ [])) q → IsKnown names q
+    by : (b : Bool) → IsKnown (cond b prefix (prefix ++ t ∷ [])) q → IsKnown names q
     by true h = among h
     by false h =
-        elim (either (has front q) (has (t ∷ []) q)
-        (sym (list_any-append (bytes_eq q) front (t ∷ [])) ∙ h)) [
+        elim (either (has prefix q) (has (t ∷ []) q)
+        (sym (list_any-append (bytes_eq q) prefix (t ∷ [])) ∙ h)) [
           | inl k ↦ among k
           | inr k ↦ elim (either (bytes_eq q t) false k) [
             | inl e ↦ subst (IsKnown names) (sym ((bytes_eq-Decides q t).0 e)) known
@@ -35,25 +35,25 @@ with_one names front t q among known = by (has front t)
           ]
         ]
 
-with_all : (names front ts : List Text) (q : Text) → (IsKnown front q → IsKnown names q)
-    → AreKnown names ts → IsKnown (with_names front ts) q → IsKnown names q
-with_all names front [] q among known h = among h
-with_all names front (t ∷ ts) q among known h =
-    with_all names (with_name front t) ts q (with_one names front t q among known.0) known.1 h
+with_all : (names prefix ts : List Text) (q : Text) → (IsKnown prefix q → IsKnown names q)
+    → AreKnown names ts → IsKnown (with_names prefix ts) q → IsKnown names q
+with_all names prefix [] q among known h = among h
+with_all names prefix (t ∷ ts) q among known h =
+    with_all names (with_name prefix t) ts q (with_one names prefix t q among known.0) known.1 h
 
-distinct_one : (front : List Text) (t : Text) → IsDistinct bytes_eq front
-    → IsDistinct bytes_eq (with_name front t)
-distinct_one front t distinct = by (has front t) refl
+distinct_one : (prefix : List Text) (t : Text) → IsDistinct bytes_eq prefix
+    → IsDistinct bytes_eq (with_name prefix t)
+distinct_one prefix t distinct = by (has prefix t) refl
   where
-    by : (b : Bool) → has front t ≡ b → IsDistinct bytes_eq (cond b front (front ++ t ∷ []))
+    by : (b : Bool) → has prefix t ≡ b → IsDistinct bytes_eq (cond b prefix (prefix ++ t ∷ []))
     by true e = distinct
-    by false e = IsDistinct-push nat_list_eq_equiv front t distinct e
+    by false e = IsDistinct-push nat_list_eq_equiv prefix t distinct e
 
-distinct_all : (front ts : List Text) → IsDistinct bytes_eq front
-    → IsDistinct bytes_eq (with_names front ts)
-distinct_all front [] distinct = distinct
-distinct_all front (t ∷ ts) distinct =
-    distinct_all (with_name front t) ts (distinct_one front t distinct)
+distinct_all : (prefix ts : List Text) → IsDistinct bytes_eq prefix
+    → IsDistinct bytes_eq (with_names prefix ts)
+distinct_all prefix [] distinct = distinct
+distinct_all prefix (t ∷ ts) distinct =
+    distinct_all (with_name prefix t) ts (distinct_one prefix t distinct)
 
 pub few_known : (names ts : List Text) → AreKnown names ts
     → length (with_names [] ts) ≤ length names

@@ -160,9 +160,9 @@ read_on input count (suc todo) texts lines names left few counted read parts =
     grown : (text after : Text) → left ≡ text ++ 10 ∷ after
         → input ≡ header_of count ++ flat_map ended (texts ++ text ∷ []) ++ after
     grown text after cut =
-        let front = header_of count ++ flat_map ended texts in
-        parts ∙ ap (λ (l : Text). front ++ l) (ended_cut left text after cut)
-        ∙ sym (append_assoc front (ended text) after)
+        let prefix = header_of count ++ flat_map ended texts in
+        parts ∙ ap (λ (l : Text). prefix ++ l) (ended_cut left text after cut)
+        ∙ sym (append_assoc prefix (ended text) after)
         ∙ ap (λ (l : Text). l ++ after)
         (append_assoc (header_of count) (flat_map ended texts) (ended text))
         ∙ ap (λ (l : Text). header_of count ++ l ++ after) (sym (flat_map_push ended texts text))

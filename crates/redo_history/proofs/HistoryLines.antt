@@ -13,7 +13,7 @@ use Rattle.redo_history.specs.Histories.{ended, header_of}
 use Rattle.redo_text.proofs.LineLaws.{one_command}
 use Rattle.redo_history.specs.HistoryTexts.{IsHistoryLine, AreHistoryLines}
 use Rattle.redo_history.specs.HistoryFaults.{IsCutAtArrow, arrow}
-use Rattle.redo_history.proofs.CutOnce.{Without, without_append, first_cut, same_front, cut_after, one_cut_at_arrow}
+use Rattle.redo_history.proofs.CutOnce.{Without, without_append, first_cut, same_prefix, cut_after, one_cut_at_arrow}
 use Rattle.redo_history.proofs.FreeWords.{without_unseen, decimal_is_visible, command_words, command_is_one_line, reply_is_one_line}
 use Rattle.redo_text.proofs.RepliesRead.{one_reply}
 
@@ -99,12 +99,12 @@ pub one_header : (n m : ℕ) (r s : Text) → n ≤ 1048576 → m ≤ 1048576
 one_header n m r s few other e =
     let end = one_end (codes "history " ++ decimal n) (codes "history " ++ decimal m) r s
     (header_is_one n few) (header_is_one m other) e in
-    let digits = (same_front (codes "history ") (codes "history ") (decimal n) (decimal m) refl
+    let digits = (same_prefix (codes "history ") (codes "history ") (decimal n) (decimal m) refl
     end.0).1 in
     (decimal_injective n m (omega arith) (omega arith) digits, end.1)
 
 -- the lines are a prefix of all, and this is left of the text
-pub record IsFront (lines all : List (Line Text)) (left rest : Text) : Type 0 where
+pub record IsPrefix (lines all : List (Line Text)) (left rest : Text) : Type 0 where
   pub texts : List Text
   pub others : List (Line Text)
   pub whole : all ≡ lines ++ others
@@ -112,32 +112,32 @@ pub record IsFront (lines all : List (Line Text)) (left rest : Text) : Type 0 wh
   pub parts : left ≡ flat_map ended texts ++ rest
 
 -- the first of some lines that are read from one text
-pub lines_front : (texts more : List Text) (lines all : List (Line Text)) (left rest : Text)
+pub lines_prefix : (texts more : List Text) (lines all : List (Line Text)) (left rest : Text)
     → AreHistoryLines texts lines → AreHistoryLines more all → length lines ≤ length all
-    → flat_map ended texts ++ left ≡ flat_map ended more ++ rest → IsFront lines all left rest
-lines_front [] more [] all left rest p q few e = record {
+    → flat_map ended texts ++ left ≡ flat_map ended more ++ rest → IsPrefix lines all left rest
+lines_prefix [] more [] all left rest p q few e = record {
   texts = more;
   others = all;
   whole = refl;
   each = q;
   parts = e;
 }
-lines_front [] more (line ∷ lines) all left rest p q few e = absurd p
-lines_front (text ∷ texts) more [] all left rest p q few e = absurd p
-lines_front (text ∷ texts) more (line ∷ lines) [] left rest p q few e = absurd (omega arith)
-lines_front (text ∷ texts) [] (line ∷ lines) (next ∷ all) left rest p q few e = absurd q
-lines_front (text ∷ texts) (other ∷ more) (line ∷ lines) (next ∷ all) left rest p q few e =
+lines_prefix [] more (line ∷ lines) all left rest p q few e = absurd p
+lines_prefix (text ∷ texts) more [] all left rest p q few e = absurd p
+lines_prefix (text ∷ texts) more (line ∷ lines) [] left rest p q few e = absurd (omega arith)
+lines_prefix (text ∷ texts) [] (line ∷ lines) (next ∷ all) left rest p q few e = absurd q
+lines_prefix (text ∷ texts) (other ∷ more) (line ∷ lines) (next ∷ all) left rest p q few e =
     let end = one_end text other (flat_map ended texts ++ left) (flat_map ended more ++ rest)
     (line_is_one text line p.0) (line_is_one other next q.0)
     (sym (append_assoc (ended text) (flat_map ended texts) left) ∙ e
     ∙ append_assoc (ended other) (flat_map ended more) rest) in
     let same : next ≡ line =
     one_line text next line (subst (λ (t : Text). IsHistoryLine t next) (sym end.0) q.0) p.0 in
-    let front = lines_front texts more lines all left rest p.1 q.1 (omega arith) end.1 in
+    let prefix = lines_prefix texts more lines all left rest p.1 q.1 (omega arith) end.1 in
     record {
-      texts = front.texts;
-      others = front.others;
-      whole = λ i. same i ∷ front.whole i;
-      each = front.each;
-      parts = front.parts;
+      texts = prefix.texts;
+      others = prefix.others;
+      whole = λ i. same i ∷ prefix.whole i;
+      each = prefix.each;
+      parts = prefix.parts;
     }

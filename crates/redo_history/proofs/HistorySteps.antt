@@ -90,17 +90,18 @@ one_read input count lines names left text after line new so_far cut below kept 
       each = each_more so_far.texts (map (line_at names) lines) text said so_far.read.each is;
       named = lines_named (map (line_at names) lines) said names new so_far.read.named adds;
     } in
-    let front = header_of count ++ flat_map ended so_far.texts in
+    let prefix = header_of count ++ flat_map ended so_far.texts in
     let whole : header_of count ++ flat_map ended (so_far.texts ++ text ∷ [])
-    ≡ front ++ ended text =
+    ≡ prefix ++ ended text =
     ap (λ (l : Text). header_of count ++ l) (flat_map_push ended so_far.texts text)
     ∙ sym (append_assoc (header_of count) (flat_map ended so_far.texts) (ended text)) in
     record {
       texts = so_far.texts ++ text ∷ [];
       read = subst (λ (l : List (histories.Line Text)). AreLinesOf (so_far.texts ++ text ∷ []) l
           new) (sym same) read;
-      parts = so_far.parts ∙ ap (λ (l : Text). front ++ l) (ended_cut left text after cut)
-          ∙ sym (append_assoc front (ended text) after) ∙ ap (λ (l : Text). l ++ after) (sym whole);
+      parts = so_far.parts ∙ ap (λ (l : Text). prefix ++ l) (ended_cut left text after cut)
+          ∙ sym (append_assoc prefix (ended text) after)
+          ∙ ap (λ (l : Text). l ++ after) (sym whole);
     }
 
 -- all lines are read

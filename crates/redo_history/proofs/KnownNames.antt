@@ -26,8 +26,8 @@ true_right : (b c : Bool) → c ≡ true → (b || c) ≡ true
 true_right true c e = refl
 true_right false c e = e
 
-known_in_front : (names more : List Text) (n : Text) → IsKnown names n → IsKnown (names ++ more) n
-known_in_front names more n known = list_any-append (bytes_eq n) names more
+known_in_prefix : (names more : List Text) (n : Text) → IsKnown names n → IsKnown (names ++ more) n
+known_in_prefix names more n known = list_any-append (bytes_eq n) names more
     ∙ true_left (has names n) (has more n) known
 
 known_last : (names : List Text) (n : Text) → IsKnown (names ++ n ∷ []) n
@@ -40,7 +40,7 @@ known-with_name names t n known = by (has names t)
   where
     by : (b : Bool) → IsKnown (cond b names (names ++ t ∷ [])) n
     by true = known
-    by false = known_in_front names (t ∷ []) n known
+    by false = known_in_prefix names (t ∷ []) n known
 
 itself-with_name : (names : List Text) (t : Text) → IsKnown (with_name names t) t
 itself-with_name names t = by (has names t) refl
@@ -69,7 +69,7 @@ pub with_names-known : (names ts : List Text) → AreKnown names ts → with_nam
 with_names-known names [] known = refl
 with_names-known names (t ∷ ts) known =
     let same : with_name names t ≡ names = ap (λ b. cond b names (names ++ t ∷ [])) known.0 in
-    ap (λ front. with_names front ts) same ∙ with_names-known names ts known.1
+    ap (λ prefix. with_names prefix ts) same ∙ with_names-known names ts known.1
 
 one_more_name : (names : List Text) (t : Text) → AreAllNames names → IsTrue (is_name t)
     → AreAllNames (names ++ t ∷ [])

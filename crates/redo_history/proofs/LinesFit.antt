@@ -66,7 +66,7 @@ reply_adds_none : (names own told others more : List Text) → AreKnown (with_na
     → with_names (with_names names own) others ≡ with_names (with_names names own) more
     → with_names names ((own ++ told) ++ others) ≡ with_names names (own ++ more)
 reply_adds_none names own told others more known same =
-    with_names-append names (own ++ told) others ∙ ap (λ front. with_names front others)
+    with_names-append names (own ++ told) others ∙ ap (λ prefix. with_names prefix others)
     (with_names-append names own told ∙ with_names-known (with_names names own) told known)
     ∙ same ∙ sym (with_names-append names own more)
 

@@ -19,7 +19,7 @@ use Rattle.redo_history.specs.declared.fault.HistoryFault.{HistoryFault}
 use Rattle.redo_history.specs.declared.fault.HistoryFault.TheVariants.{Memory, BadHeader, Cut, BadSession, BadLine, BadReply}
 use Rattle.redo_history.proofs.CutOnce.{without_from, one_cut_at_space, one_cut_at_arrow}
 use Rattle.redo_history.proofs.HistorySteps.{texts_count}
-use Rattle.redo_history.proofs.HistoryLines.{line_parts, session_is_without, line_is_one, command_cut, one_end, one_header, lines_front, IsFront}
+use Rattle.redo_history.proofs.HistoryLines.{line_parts, session_is_without, line_is_one, command_cut, one_end, one_header, lines_prefix, IsPrefix}
 
 -- what is left of a history begins with a line, whose names fit
 record IsNext (names : List Text) (left : Text) : Type 0 where
@@ -45,12 +45,12 @@ room_for before line after names is =
     subst (λ (l : List Text). length (with_names names (names_in_line line)) ≤ length l) (sym all)
     (with_names-longer (with_names names (names_in_line line)) (flat_map names_in_line after))
 
-next_of_front : (lines all : List (Line Text)) (left rest : Text) (names before : List Text)
+next_of_prefix : (lines all : List (Line Text)) (left rest : Text) (names before : List Text)
     → names ≡ with_names [] (flat_map names_in_line all) → length names ≤ 65536
     → before ≡ with_names [] (flat_map names_in_line lines) → length before ≤ 65536
-    → length lines < length all → IsFront lines all left rest → IsNext before left
-next_of_front lines all left rest names before named room early few short front =
-    by front.texts front.others front.whole front.each front.parts
+    → length lines < length all → IsPrefix lines all left rest → IsNext before left
+next_of_prefix lines all left rest names before named room early few short prefix =
+    by prefix.texts prefix.others prefix.whole prefix.each prefix.parts
   where
     by : (texts : List Text) (others : List (Line Text)) → all ≡ lines ++ others
         → AreHistoryLines texts others → left ≡ flat_map ended texts ++ rest → IsNext before left
@@ -86,10 +86,11 @@ next_line input names lines number before left is up =
     let counted : length lines ≡ up.count = header.0 in
     let long : length up.texts ≡ length up.lines = texts_count up.texts up.lines up.read.each in
     let short : length up.lines < length lines = omega (arith, up.within, up.counted) in
-    let front = lines_front up.texts is.texts up.lines lines left is.rest up.read.each is.read.each
+    let prefix = lines_prefix up.texts is.texts up.lines lines left is.rest up.read.each
+    is.read.each
     (omega arith) (sym header.1) in
-    next_of_front up.lines lines left is.rest names before is.read.named.0 is.read.named.1
-    up.read.named.0 up.read.named.1 short front
+    next_of_prefix up.lines lines left is.rest names before is.read.named.0 is.read.named.1
+    up.read.named.0 up.read.named.1 short prefix
 
 -- the next line's text
 record IsGood (names : List Text) (text : Text) : Type 0 where

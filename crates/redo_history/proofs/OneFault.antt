@@ -16,7 +16,7 @@ use Rattle.redo_history.specs.Inside.HistoryFaults.{IsLineCause}
 use Rattle.redo_history.specs.declared.fault.HistoryFault.{HistoryFault}
 use Rattle.redo_history.specs.declared.fault.HistoryFault.TheVariants.{Memory, BadHeader, Cut, BadSession, BadLine, BadReply}
 use Rattle.redo_history.proofs.CutOnce.{without_from, one_cut_at_space, one_cut_at_arrow}
-use Rattle.redo_history.proofs.HistoryLines.{one_end, one_header, lines_front}
+use Rattle.redo_history.proofs.HistoryLines.{one_end, one_header, lines_prefix}
 use Rattle.redo_history.proofs.HistorySteps.{texts_count, line_fails}
 use Rattle.redo_history.proofs.NoFault.{no_fault, has_end}
 use Rattle.redo_history.proofs.OneHistory.{same_lines, same_names}
@@ -194,7 +194,7 @@ not_earlier input a p m others rest real q before =
       parts = refl;
       read = q.read;
     } in
-    let front : IsReadUpTo whole p.number p.names p.left = record {
+    let prefix : IsReadUpTo whole p.number p.names p.left = record {
       count = length q.lines;
       few = omega (arith, q.few, q.within, q.counted, long);
       within = omega (arith, q.counted, before, long);
@@ -207,7 +207,7 @@ not_earlier input a p m others rest real q before =
           ∙ sym (append_assoc (header_of (length q.lines)) (flat_map ended up.texts) p.left);
     } in
     real (no_fault whole others q.lines a history
-    (fails whole a p.number p.names p.left front p.at))
+    (fails whole a p.number p.names p.left prefix p.at))
 
 -- if both stop at one line, the names and the rest are the same
 same_place : (input : Text) (n : ℕ) (names others : List Text) (left rest : Text)
@@ -219,13 +219,13 @@ same_place input n names others left rest p q =
     let second = texts_count q.texts q.lines q.read.each in
     let long : length p.lines ≡ length q.lines =
     omega (arith, p.counted, q.counted, first, second) in
-    let front = lines_front p.texts q.texts p.lines q.lines left rest p.read.each q.read.each
+    let prefix = lines_prefix p.texts q.texts p.lines q.lines left rest p.read.each q.read.each
     (omega (arith, long)) header.1 in
-    let lines = same_lines p.lines q.lines front.others long front.whole in
-    let none : length front.others ≡ 0 =
-    omega (arith, ap length front.whole, length-append p.lines front.others) in (
+    let lines = same_lines p.lines q.lines prefix.others long prefix.whole in
+    let none : length prefix.others ≡ 0 =
+    omega (arith, ap length prefix.whole, length-append p.lines prefix.others) in (
       same_names names others p.lines q.lines lines p.read.named q.read.named,
-      front.parts ∙ ends front.texts front.others front.each none,
+      prefix.parts ∙ ends prefix.texts prefix.others prefix.each none,
     )
   where
     ends : (texts : List Text) (lines : List (Line Text)) → AreHistoryLines texts lines

@@ -7,7 +7,7 @@ use Rattle.redo_model.specs.History.{Line}
 use Rattle.redo_text.specs.Grammar.{with_names}
 use Rattle.redo_history.specs.Histories.{ended, header_of}
 use Rattle.redo_history.specs.HistoryTexts.{IsHistory, AreNamesOf, names_in_line}
-use Rattle.redo_history.proofs.HistoryLines.{one_header, lines_front}
+use Rattle.redo_history.proofs.HistoryLines.{one_header, lines_prefix}
 
 pub same_lines : (a b others : List (Line Text)) → length a ≡ length b → b ≡ a ++ others → a ≡ b
 same_lines a b others long whole =
@@ -28,7 +28,8 @@ one_history input n m a b p q =
     (sym (append_assoc (header_of (length a)) (flat_map ended p.texts) p.rest) ∙ sym p.parts
     ∙ q.parts ∙ append_assoc (header_of (length b)) (flat_map ended q.texts) q.rest) in
     let long : length a ≡ length b = header.0 in
-    let front = lines_front p.texts q.texts a b p.rest q.rest p.read.each q.read.each (omega arith)
+    let prefix = lines_prefix p.texts q.texts a b p.rest q.rest p.read.each q.read.each
+    (omega arith)
     header.1 in
-    let lines = same_lines a b front.others long front.whole in
+    let lines = same_lines a b prefix.others long prefix.whole in
     (same_names n m a b lines p.read.named q.read.named, lines)

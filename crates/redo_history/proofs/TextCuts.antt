@@ -189,19 +189,19 @@ no_arrow_past rest at none here k back lt e =
     let other = λ (b : Text) (is : drop (at - 1) rest ≡ arrow ++ b). here b (omega arith) is in
     no_arrow_more rest (at - 1) none other k back (omega arith) e
 
-pub after_front : (rest front back : Text) → rest ≡ front ++ arrow ++ back
-    → drop (length front) rest ≡ arrow ++ back
-after_front rest front back e = ap (drop (length front)) (e ∙ append_assoc front arrow back)
-    ∙ drop-append_seam front (arrow ++ back)
+pub after_prefix : (rest prefix back : Text) → rest ≡ prefix ++ arrow ++ back
+    → drop (length prefix) rest ≡ arrow ++ back
+after_prefix rest prefix back e = ap (drop (length prefix)) (e ∙ append_assoc prefix arrow back)
+    ∙ drop-append_seam prefix (arrow ++ back)
 
 pub no_arrow : (rest : Text) → NoArrowBelow rest (length rest - 1) → HasNoArrow rest
-no_arrow rest none front back e =
-    none (length front) back (omega (
+no_arrow rest none prefix back e =
+    none (length prefix) back (omega (
       arith,
       ap length e,
-      length-append (front ++ arrow) back,
-      length-append front arrow,
-    )) (after_front rest front back e)
+      length-append (prefix ++ arrow) back,
+      length-append prefix arrow,
+    )) (after_prefix rest prefix back e)
 
 -- if no equals sign is left, there is no arrow
 pub no_arrow_left : (rest : Text) (seen : ℕ) → NoArrowBelow rest (seen - 1)
@@ -217,13 +217,13 @@ pub cut_at_first : (rest reply : Text) (n : ℕ) → n ≤ length rest → NoArr
 cut_at_first rest reply n within none here = record {
   parts = sym (take-append-drop n rest) ∙ ap (λ (l : Text). take n rest ++ l) here
       ∙ sym (append_assoc (take n rest) arrow reply);
-  first = λ front back e. not_before front back e;
+  first = λ prefix back e. not_before prefix back e;
 }
   where
-    not_before : (front back : Text) → rest ≡ front ++ arrow ++ back
-        → length (take n rest) ≤ length front
-    not_before front back e =
-        elim (cases_lt (length front) n) [
-          | inl before ↦ absurd (none (length front) back before (after_front rest front back e))
+    not_before : (prefix back : Text) → rest ≡ prefix ++ arrow ++ back
+        → length (take n rest) ≤ length prefix
+    not_before prefix back e =
+        elim (cases_lt (length prefix) n) [
+          | inl before ↦ absurd (none (length prefix) back before (after_prefix rest prefix back e))
           | inr le ↦ omega (arith, length-take-le n rest within)
         ]

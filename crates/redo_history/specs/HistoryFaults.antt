@@ -15,9 +15,9 @@ use Rattle.redo_history.specs.declared.fault.HistoryFault.{HistoryFault}
 use Rattle.redo_history.specs.declared.fault.HistoryFault.TheVariants.{Memory, BadHeader, Cut, BadSession, BadLine, BadReply}
 
 -- the part before the first space, or all if there is none; and the part after that space
-pub record IsCutAtSpace (line front rest : Text) : Type 0 where
-  pub free : ¬ (Contains front 32)
-  pub parts : (line ≡ front ++ 32 ∷ rest) ⊎ ((line ≡ front) × (rest ≡ []))
+pub record IsCutAtSpace (line prefix rest : Text) : Type 0 where
+  pub free : ¬ (Contains prefix 32)
+  pub parts : (line ≡ prefix ++ 32 ∷ rest) ⊎ ((line ≡ prefix) × (rest ≡ []))
 
 abbrev pub arrow : Text
 arrow = codes " => "
@@ -25,10 +25,10 @@ arrow = codes " => "
 -- the part before the first arrow, and the part after it
 pub record IsCutAtArrow (rest command reply : Text) : Type 0 where
   pub parts : rest ≡ command ++ arrow ++ reply
-  pub first : (front back : Text) → rest ≡ front ++ arrow ++ back → length command ≤ length front
+  pub first : (prefix back : Text) → rest ≡ prefix ++ arrow ++ back → length command ≤ length prefix
 
 abbrev pub HasNoArrow : Text → Type 0
-HasNoArrow rest = (front back : Text) → rest ≢ front ++ arrow ++ back
+HasNoArrow rest = (prefix back : Text) → rest ≢ prefix ++ arrow ++ back
 
 abbrev pub IsSessionWord : Text → ℕ → Type 0
 IsSessionWord word session = (session < 64) × (word ≡ decimal (session + 1))
@@ -36,13 +36,13 @@ IsSessionWord word session = (session < 64) × (word ≡ decimal (session + 1))
 -- the line's first word is no session's number
 abbrev pub HasBadSession : Text → Type 0
 HasBadSession line =
-    (front : Text) × (rest : Text) × IsCutAtSpace line front rest
-    × ((session : ℕ) → ¬ (IsSessionWord front session))
+    (prefix : Text) × (rest : Text) × IsCutAtSpace line prefix rest
+    × ((session : ℕ) → ¬ (IsSessionWord prefix session))
 
 -- the line begins with a session's number, and this is the rest
 abbrev pub HasSession : Text → Text → Type 0
 HasSession line rest =
-    (front : Text) × (session : ℕ) × IsCutAtSpace line front rest × IsSessionWord front session
+    (prefix : Text) × (session : ℕ) × IsCutAtSpace line prefix rest × IsSessionWord prefix session
 
 -- the text is no reply's, or its names don't fit
 abbrev pub IsNoReply : List Text → Text → Type 0

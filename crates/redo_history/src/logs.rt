@@ -11,8 +11,8 @@ ghost use Rattle.redo_history.specs.Inside.HistoryTexts.{HasLineForm};
 pub fn cut_lines()
     ensures { (lines : List (Line Text)) (cut rest : Text) → AllByRecursion HasLineForm lines
         → flat_map line_text_of lines ≡ cut ++ rest
-        → (front : List (Line Text)) × (back : List (Line Text)) × (torn : Text)
-        × (lines ≡ front ++ back) × (cut ≡ flat_map line_text_of front ++ torn)
+        → (prefix : List (Line Text)) × (back : List (Line Text)) × (torn : Text)
+        × (lines ≡ prefix ++ back) × (cut ≡ flat_map line_text_of prefix ++ torn)
         × ¬ (Contains torn 10) }
 {}
 

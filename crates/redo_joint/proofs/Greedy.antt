@@ -82,10 +82,10 @@ module _ {L K : Type 0} (t : Tickets L K) where
     come = h.come.1;
   }
 
-  pub front_joint : (counts : K → ℕ) (lists left : ℕ → List L) (line : L) (lines : List L)
+  pub prefix_joint : (counts : K → ℕ) (lists left : ℕ → List L) (line : L) (lines : List L)
       → IsJoint (after t counts line) left lines → Takes lists line left → Comes t counts line
       → IsJoint counts lists (line ∷ lines)
-  front_joint counts lists left line lines h k comes = record {
+  prefix_joint counts lists left line lines h k comes = record {
     parts = λ u. dite (ℕ_discrete u (t.session line))
         (λ q. part-own t u line lines (sym q) ∙ ap (λ r. line ∷ r) (h.parts u)
         ∙ subst (λ w. line ∷ left w ≡ lists w) (sym q) (sym k.here))
@@ -127,7 +127,7 @@ module _ {L K : Type 0} (t : Tickets L K) where
       → Greedy counts lists lines → IsJoint counts lists lines
   greedy_joint counts lists [] g = record { parts = λ s. sym (g s); come = tt }
   greedy_joint counts lists (line ∷ lines) (left, takes, may, least, g) =
-      front_joint counts lists left line lines (greedy_joint (after t counts line) left lines g)
+      prefix_joint counts lists left line lines (greedy_joint (after t counts line) left lines g)
       takes
       may.comes
 

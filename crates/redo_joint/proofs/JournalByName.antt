@@ -133,16 +133,16 @@ module _ {M : Type 0} {to : Renaming M} (law : IsRenaming to) {naming : Naming M
       → IsJournalAfter (numbers order) s script before lines
       → IsJournalAfter naming s (map (named_item to.name) script)
       (map (named_placed_line to.name) before) (map (named_placed_line to.name) lines)
-  journal_named s script before [] front below h = tt
-  journal_named s script before (line ∷ lines) front below h = (
+  journal_named s script before [] earlier below h = tt
+  journal_named s script before (line ∷ lines) earlier below h = (
     h.0,
-    next_named script before front ∙ ap (option_map (named_next to.name)) h.1,
+    next_named script before earlier ∙ ap (option_map (named_next to.name)) h.1,
     subst
         (λ (xs : List (PlacedLine M)). IsJournalAfter naming s (map (named_item to.name) script) xs
         (map (named_placed_line to.name) lines))
         (map_push (named_placed_line to.name) before line)
         (journal_named s script (before ++ line ∷ []) lines
-        (ask_more to.count before line front below.0) below.1 h.2),
+        (ask_more to.count before line earlier below.0) below.1 h.2),
   )
 
   pub journal_by_name : (s : ℕ) (script : List (Item ℕ)) (lines : List (PlacedLine ℕ))

@@ -119,15 +119,15 @@ module _ {N : Type 0} {naming : Naming N} (law : IsNaming naming) where
       )
 
   -- a line that may come next, moved to the beginning of valid lines, leaves them valid
-  pub moved_to_front : (counts : Option N → ℕ) (records : Records N) (before : List (PlacedLine N))
+  pub moved_first : (counts : Option N → ℕ) (records : Records N) (before : List (PlacedLine N))
       (next : PlacedLine N) (rest lines : List (PlacedLine N))
       → AllCome tickets counts lines → part_of next.session lines ≡ next ∷ rest
       → Comes tickets counts next
       → Free tickets (λ u. part_of u lines) next
       → StandAfter naming records before lines
       → StandAfter naming records before (next ∷ without tickets next.session lines)
-  moved_to_front counts records before next rest [] p h ce free all = absurd (cc)
-  moved_to_front counts records before next rest (line ∷ lines) p h ce free all =
+  moved_first counts records before next rest [] p h ce free all = absurd (cc)
+  moved_first counts records before next rest (line ∷ lines) p h ce free all =
       dite (ℕ_discrete line.session next.session)
       (λ q. let a = part-own tickets next.session line lines q in let same : line ≡ next = cc in
       subst (λ (others : List (PlacedLine N)). StandAfter naming records before (next ∷ others))
@@ -143,7 +143,7 @@ module _ {N : Type 0} {naming : Naming N} (law : IsNaming naming) where
       let rest_of = without tickets next.session lines in
       let records_line = records_by naming line.place records own_line line.session line.command in
       let ih =
-      moved_to_front (after tickets counts line) records_line (before ++ line ∷ []) next rest lines
+      moved_first (after tickets counts line) records_line (before ++ line ∷ []) next rest lines
       p.1
       (sym (part-other tickets next.session line lines n) ∙ h) (omega arith)
       (free_rest tickets next line lines free) all.1 in
@@ -155,7 +155,7 @@ module _ {N : Type 0} {naming : Naming N} (law : IsNaming naming) where
       (records_by naming next.place records_line own next.session next.command)
       ((before ++ line ∷ []) ++ next ∷ []) rest_of)
       (push_other next.session before line n) ih in
-      let front : Stands naming next.place records own_next next.session next.command next.reply =
+      let first : Stands naming next.place records own_next next.session next.command next.reply =
       subst (λ (T : Type 0). T)
       (still line.place next.place records own_line own_next line.session next.session
       line.command
@@ -192,7 +192,7 @@ module _ {N : Type 0} {naming : Naming N} (law : IsNaming naming) where
       ((before ++ next ∷ []) ++ line ∷ []) rest_of)
       (sym (push_other line.session before next (λ q. n (sym q)))) (back, tail) in
       subst (λ (others : List (PlacedLine N)). StandAfter naming records before (next ∷ others))
-      (sym (cond_other line.session next.session lines (line ∷ rest_of) n)) (front, both))
+      (sym (cond_other line.session next.session lines (line ∷ rest_of) n)) (first, both))
 
   -- if the lines of one joint order are valid, those of each are
   pub one_for_all : (counts : Option N → ℕ) (records : Records N) (before : List (PlacedLine N))
@@ -205,7 +205,7 @@ module _ {N : Type 0} {naming : Naming N} (law : IsNaming naming) where
       let may = first_may tickets counts lists other others y in
       let k = takes_first tickets counts lists other others y in
       let all =
-      moved_to_front counts records before other (part_of other.session others) lines x.come
+      moved_first counts records before other (part_of other.session others) lines x.come
       (x.parts other.session ∙ k.here)
       may.comes (λ u e i. may.free u e (subst (In e) (x.parts u) i)) h in (
         all.0,

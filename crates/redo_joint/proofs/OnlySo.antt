@@ -7,7 +7,7 @@ use Rattle.redo_model.specs.State.{empty}
 use Rattle.redo_model.specs.History.{left_by, Legal}
 use Rattle.redo_model.specs.Placed.{Granted, Busy, PlacedLine, line_of, Fits, Follows, part_of, grants_in, releases_in, IsPlaced}
 use Rattle.redo_model.specs.Inside.Words.{claim_word_of}
-use Rattle.redo_model.proofs.OneMore.{legal_front}
+use Rattle.redo_model.proofs.OneMore.{legal_prefix}
 use Rattle.redo_joint.specs.ByRows.{Stands, records_left}
 use Rattle.redo_joint.specs.Events.{GoesOnBy}
 use Rattle.redo_joint.proofs.Answered.{from_answers}
@@ -16,9 +16,9 @@ use Rattle.redo_joint.proofs.EndMore.{tied_by, word_is}
 use Rattle.redo_joint.proofs.Orders.{placed_less}
 
 module _ {N : Type 0} {naming : Naming N} (law : IsNaming naming) where
-  pub front_placed : (lines : List (PlacedLine N)) (line : PlacedLine N)
+  pub prefix_placed : (lines : List (PlacedLine N)) (line : PlacedLine N)
       → GoesOnBy naming lines line → IsPlaced naming lines
-  front_placed lines line h = (placed_less naming [] lines line h.0).0
+  prefix_placed lines line h = (placed_less naming [] lines line h.0).0
 
   pub only_so : (lines : List (PlacedLine N)) (line : PlacedLine N) → GoesOnBy naming lines line
       → Fits line.place line.command line.reply × Follows naming lines line.place
@@ -27,7 +27,7 @@ module _ {N : Type 0} {naming : Naming N} (law : IsNaming naming) where
   only_so lines line h =
       let placed = placed_less naming [] lines line h.0 in
       let legal =
-      legal_front naming empty (map line_of lines) (line_of line)
+      legal_prefix naming empty (map line_of lines) (line_of line)
       (subst (Legal naming) (map_push line_of lines line) h.1) in
       let tied = tied_by law lines placed.0 legal.0 in
       let stands =

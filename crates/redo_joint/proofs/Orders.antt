@@ -56,11 +56,11 @@ placed_less naming before (first ∷ lines) line h =
     )
 
 -- a prefix of placed lines is placed
-pub front_placed : {N : Type 0} (naming : Naming N) (before front rest : List (PlacedLine N))
-    → IsPlacedAfter naming before (front ++ rest) → IsPlacedAfter naming before front
-front_placed naming before [] rest h = tt
-front_placed naming before (line ∷ front) rest h =
-    (h.0, h.1, front_placed naming (before ++ line ∷ []) front rest h.2)
+pub prefix_placed : {N : Type 0} (naming : Naming N) (before prefix rest : List (PlacedLine N))
+    → IsPlacedAfter naming before (prefix ++ rest) → IsPlacedAfter naming before prefix
+prefix_placed naming before [] rest h = tt
+prefix_placed naming before (line ∷ prefix) rest h =
+    (h.0, h.1, prefix_placed naming (before ++ line ∷ []) prefix rest h.2)
 
 pub joint_of_plan : {N : Type 0} (naming : Naming N) (plan : ℕ → List (Item N))
     (journals : ℕ → List (PlacedLine N)) (lines : List (PlacedLine N))

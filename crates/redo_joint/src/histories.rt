@@ -20,9 +20,9 @@ pub fn placed_by_one_more()
 {}
 
 /// A prefix of a placed history is placed.
-pub fn placed_front()
-    ensures { (front rest : List (PlacedLine Text)) →
-        IsPlaced texts (front ++ rest) → IsPlaced texts front }
+pub fn placed_prefix()
+    ensures { (prefix rest : List (PlacedLine Text)) →
+        IsPlaced texts (prefix ++ rest) → IsPlaced texts prefix }
 {}
 
 /// A placed history is legal exactly if each row has the database's reply after the rows before it,

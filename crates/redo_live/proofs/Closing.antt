@@ -123,7 +123,7 @@ module _ (names : List Text) (are : AreNames names) (st : State ℕ) (s : ℕ) w
       ≡ is_building (target_state st.records t) =
       ap is_building (state_at_name (renaming names are) st.records t below.0) in
       map-append (named_line name) (letting_lines s st t) (closing_lines_of s st ts)
-      ∙ ap (λ (front : List (Line Text)). front
+      ∙ ap (λ (prefix : List (Line Text)). prefix
       ++ map (named_line name) (closing_lines_of s st ts))
       (named_letting name s (is_building (target_state st.records t)) t
       ∙ ap (λ (b : Bool). cond b (okay_line s (Failed (name t)) ∷ []) []

@@ -69,6 +69,6 @@ module _ {N : Type 0} (naming : Naming N) where
           ≡ after naming (left_by naming st (map f (take i xs))) (f (get_or xs i d)).session
           (f (get_or xs i d)).command
       left_more =
-          ap (λ (front : List X). left_by naming st (map f front)) (take_more xs i d within)
+          ap (λ (prefix : List X). left_by naming st (map f prefix)) (take_more xs i d within)
           ∙ ap (left_by naming st) (map-append f (take i xs) (get_or xs i d ∷ []))
           ∙ left_by-append naming st (map f (take i xs)) (f (get_or xs i d) ∷ [])

@@ -20,7 +20,7 @@ use Rattle.redo_text.specs.declared.inquiries.Inquiry.TheVariants as inquiries
 use Rattle.redo_text.proofs.Numerals.{printed_digits}
 use Rattle.redo_text.proofs.ReplyWords.{grant_is_visible}
 use Rattle.redo_text.proofs.Spaced.{IsVisible, name_is_visible, stamp_is_visible, stamp_is_no_dash, words_of-spaced}
-use Rattle.redo_history.proofs.CutOnce.{same_front}
+use Rattle.redo_history.proofs.CutOnce.{same_prefix}
 use Rattle.redo_live.specs.Answers.{Answer, Cause, Rows, Standing, inquiry_of, answer_words, answer_line, reason_word, reason_name, why_words, counted, flag_word, deps_words, stage_words, holder_word}
 use Rattle.redo_live.specs.Inside.AnswerForms.{HasReasonForm, AreCountedNames, HasStateForm, HasAnswerForm}
 
@@ -87,7 +87,7 @@ same_counted : (names others rest more : List Text) → length names ≤ 4294967
     → length others ≤ 4294967295 → counted names ++ rest ≡ counted others ++ more
     → (names ≡ others) × (rest ≡ more)
 same_counted names others rest more le le' e =
-    same_front names others rest more
+    same_prefix names others rest more
     (same_number (length names) (length others) le le' (ap first_of e)) (ap (drop 1) e)
 
 same_flag : (a b : Bool) → flag_word a ≡ flag_word b → a ≡ b

@@ -21,24 +21,24 @@ pub line_said : (command : Command Text) → IsSaid command
 line_said command is = (is.0, is.1, text_is_spelled command is.0)
 
 -- a prefix without the byte ends before the first one
-free_front : (b : ℕ) (front text rest more : Text) → Without b front → Without b text
-    → text ++ b ∷ more ≡ front ++ rest → (end : Text) × (text ≡ front ++ end)
-free_front b [] text rest more p q e = (text, refl)
-free_front b (c ∷ front) [] rest more p q e =
+free_prefix : (b : ℕ) (prefix text rest more : Text) → Without b prefix → Without b text
+    → text ++ b ∷ more ≡ prefix ++ rest → (end : Text) × (text ≡ prefix ++ end)
+free_prefix b [] text rest more p q e = (text, refl)
+free_prefix b (c ∷ prefix) [] rest more p q e =
     let same : c ≡ b = cc in
     absurd (p.0 same)
-free_front b (c ∷ front) (d ∷ text) rest more p q e =
+free_prefix b (c ∷ prefix) (d ∷ text) rest more p q e =
     let first : d ≡ c = cc in
-    let others : text ++ b ∷ more ≡ front ++ rest = cc in
-    let end = free_front b front text rest more p.1 q.1 others in
+    let others : text ++ b ∷ more ≡ prefix ++ rest = cc in
+    let end = free_prefix b prefix text rest more p.1 q.1 others in
     (end.0, λ i. first i ∷ end.1 i)
 
 -- a line's text up to its arrow
-abbrev front_of : Line Text → Text
-front_of line = decimal (line.session + 1) ++ 32 ∷ (command_text_of line.command ++ arrow)
+abbrev prefix_of : Line Text → Text
+prefix_of line = decimal (line.session + 1) ++ 32 ∷ (command_text_of line.command ++ arrow)
 
-front_is_one : (line : Line Text) → IsLineSaid line → Without 10 (front_of line)
-front_is_one line is =
+prefix_is_one : (line : Line Text) → IsLineSaid line → Without 10 (prefix_of line)
+prefix_is_one line is =
     let command = command_is_one_line (command_text_of line.command) line.command
     (line_said line.command is.said) in
     without_append 10 (decimal (line.session + 1)) (32 ∷ (command_text_of line.command ++ arrow))
@@ -62,7 +62,7 @@ asks_for text more rest line is free e =
     let d = decimal (line.session + 1) in
     let c = command_text_of line.command in
     let r = reply_text_of line.reply in
-    let end = free_front 10 (front_of line) text (r ++ 10 ∷ rest) more (front_is_one line is)
+    let end = free_prefix 10 (prefix_of line) text (r ++ 10 ∷ rest) more (prefix_is_one line is)
     (without_from 10 text free) (e ∙ regroup d c r rest) in
     (end.0, end.1 ∙ append_assoc d (32 ∷ (c ++ arrow)) end.0)
 

@@ -10,7 +10,7 @@ use Rattle.redo_history.proofs.CutLogs as cuts
 use Rattle.redo_history.proofs.LinesFit.{legal_lines_fit}
 use Rattle.redo_live.specs.Lines.{lines_text_of}
 use Rattle.redo_log.specs.Logs.{header_words, log_header, AreLogged, IsLogOf, IsTornHeader}
-use Rattle.redo_log.proofs.Grown.{logged_front}
+use Rattle.redo_log.proofs.Grown.{logged_prefix}
 
 forms_of : (lines : List (Line Text)) → AreLogged lines → length lines < 2 ^ 32
     → AllByRecursion HasLineForm lines
@@ -32,22 +32,22 @@ first_of (x ∷ a) b (y ∷ c) d e =
 -- it is a log of a prefix of the lines
 abbrev IsCutLog : Text → List (Line Text) → Type 0
 IsCutLog cut lines =
-    (front : List (Line Text)) × (back : List (Line Text)) × (torn : Text)
-    × (lines ≡ front ++ back) × IsLogOf cut front torn
+    (prefix : List (Line Text)) × (back : List (Line Text)) × (torn : Text)
+    × (lines ≡ prefix ++ back) × IsLogOf cut prefix torn
 
 -- if the header is whole
 cut_behind : (cut more rest : Text) (lines : List (Line Text)) → AreLogged lines
     → length lines < 2 ^ 32 → cut ≡ header_words ++ 10 ∷ more
     → lines_text_of lines ≡ more ++ rest → IsCutLog cut lines
 cut_behind cut more rest lines is few whole e =
-    let (front, back, torn, parts, found, free) =
+    let (prefix, back, torn, parts, found, free) =
     cuts.cut_lines lines more rest (forms_of lines is few) e in (
-      front,
+      prefix,
       back,
       torn,
       parts,
       record {
-        logged = logged_front front back (subst AreLogged parts is);
+        logged = logged_prefix prefix back (subst AreLogged parts is);
         parts = whole ∙ ap (λ (t : Text). header_words ++ 10 ∷ t) found;
         free = free;
       },

@@ -46,8 +46,8 @@ legal_parts st (line ∷ lines) more h =
     let rest = legal_parts (after texts st line.session line.command) lines more h.1 in
     ((h.0, rest.0), rest.1)
 
-pub logged_front : (lines more : List (Line Text)) → AreLogged (lines ++ more) → AreLogged lines
-logged_front lines more is = record {
+pub logged_prefix : (lines more : List (Line Text)) → AreLogged (lines ++ more) → AreLogged lines
+logged_prefix lines more is = record {
   legal = (legal_parts empty lines more is.legal).0;
   said = (all_parts IsLineSaid lines more is.said).0;
   few_names = let fewer = fewer_names lines more in

@@ -63,15 +63,15 @@ go_on log lines all old new left rest torn by next is [] whole e =
     (text_has_lf next.line rest)))
 go_on log lines all old new left rest torn by next is (first ∷ more) whole e =
     let behind = lines_text_of more ++ torn in
-    let front : left ≡ line_text_of first ++ behind =
+    let begins : left ≡ line_text_of first ++ behind =
     e ∙ append_assoc (line_text_of first) (lines_text_of more) torn in
     let same : first ≡ next.line =
     next.only first behind
-    (can_follow lines more first old by (subst AreLogged whole is.logged)) front in (
+    (can_follow lines more first old by (subst AreLogged whole is.logged)) begins in (
       more,
       whole ∙ ap (λ (l : Line Text). lines ++ l ∷ more) same
           ∙ sym (append_assoc lines (next.line ∷ []) more),
-      append_cancel_left (line_text_of next.line) rest behind (sym next.parts ∙ front
+      append_cancel_left (line_text_of next.line) rest behind (sym next.parts ∙ begins
           ∙ ap (λ (l : Line Text). line_text_of l ++ behind) same),
     )
 

@@ -9,8 +9,8 @@ ghost use Rattle.redo_log.specs.Logs.{IsLogOf, IsTornHeader};
 pub fn cut_log()
     ensures { (whole cut rest : Text) (lines : List (Line Text)) → IsLogOf whole lines []
         → length lines < 2 ^ 32 → whole ≡ cut ++ rest → IsTornHeader cut
-        ⊎ ((front : List (Line Text)) × (back : List (Line Text)) × (torn : Text)
-        × (lines ≡ front ++ back) × IsLogOf cut front torn) }
+        ⊎ ((prefix : List (Line Text)) × (back : List (Line Text)) × (torn : Text)
+        × (lines ≡ prefix ++ back) × IsLogOf cut prefix torn) }
 {}
 
 /// Bytes are a log of at most one list of lines.

@@ -54,9 +54,9 @@ pub busy_one-le : (t g : ℕ) (place : Place) → busy_one t g place ≤ 1
 busy_one-le t g place = one_at_most (is_busy t g place)
 
 -- the busy replies of the entries up to a place are among all of them
-pub busy_in-front : (t g : ℕ) (xs : List Entry) (k : ℕ) (x : Entry) → k < length xs
+pub busy_in-prefix : (t g : ℕ) (xs : List Entry) (k : ℕ) (x : Entry) → k < length xs
     → x ≡ get_or xs k x → busy_in t g (take k xs) + busy_one t g x.place ≤ busy_in t g xs
-busy_in-front t g xs k x within is =
+busy_in-prefix t g xs k x within is =
     let split = sum_by-take-drop (λ (e : Entry). one_if (is_busy t g e.place)) xs k in
     let here = sum_by-drop_more (λ (e : Entry). one_if (is_busy t g e.place)) xs k x within in
     let same = ap (λ (e : Entry). busy_one t g e.place) is in

@@ -26,10 +26,10 @@ module _ {N : Type 0} (naming : Naming N) where
   legal_both st (line ∷ lines) more h g =
       (h.0, legal_both (after naming st line.session line.command) lines more h.1 g)
 
-  pub legal_front : (st : State N) (lines : List (Line N)) (line : Line N)
+  pub legal_prefix : (st : State N) (lines : List (Line N)) (line : Line N)
       → LegalFrom naming st (lines ++ line ∷ []) → LegalFrom naming st lines
       × Answers naming (left_by naming st lines) line.session line.command line.reply
-  legal_front st [] line h = (tt, h.0)
-  legal_front st (first ∷ lines) line h =
-      let rest = legal_front (after naming st first.session first.command) lines line h.1 in
+  legal_prefix st [] line h = (tt, h.0)
+  legal_prefix st (first ∷ lines) line h =
+      let rest = legal_prefix (after naming st first.session first.command) lines line h.1 in
       ((h.0, rest.0), rest.1)

@@ -18,7 +18,7 @@ use Rattle.redo_ood.specs.KeptMemo.{IsCleared}
 use Rattle.redo_ood.specs.Memo.{is_out, IsRight, WasRight, HasCount}
 use Rattle.redo_ood.specs.Inside.Regions.{Spreads, IsDue, IsClosed, IsSound, EntersDue}
 use Rattle.redo_ood.proofs.Listing.{listed_or_not}
-use Rattle.redo_ood.proofs.Marking.{front_of, grows_then, one_more, marked_or_not}
+use Rattle.redo_ood.proofs.Marking.{prefix_of, grows_then, one_more, marked_or_not}
 use Rattle.redo_ood.proofs.Spreading.{reaches_queued, reaches_out_of_date}
 
 due_then : (r : Records ℕ) {a b : Marked} → Grows a b → (t : ℕ) → IsDue r a t → IsDue r b t
@@ -84,7 +84,7 @@ module _ (r : Records ℕ) (t : ℕ) {a b c : Marked} (due : IsDue r a t)
 pub closed_then : (r : Records ℕ) {a b : Marked} (from : ℕ) → from ≡ length a.queue → Grows a b
     → IsClosed r a.queue a → IsClosed r (take from b.queue) b
 closed_then r from at g closed t n c step =
-    let before = subst (λ (xs : List ℕ). Contains xs n) (front_of g from at) c in
+    let before = subst (λ (xs : List ℕ). Contains xs n) (prefix_of g from at) c in
     g.keeps t (closed t n before step)
 
 -- one more name of a list enters if it is due
@@ -152,14 +152,14 @@ module _ (r : Records ℕ) (seeds ns : List ℕ) (memo : List Bool) {out cleared
     ]
 
     -- what is due in the region touches a seed, or was out of date
-    module _ (front : ℕ)
-        (touched : (t : ℕ) → TouchesSeed r seeds t → Contains (take front ns) t)
+    module _ (touching : ℕ)
+        (touched : (t : ℕ) → TouchesSeed r seeds t → Contains (take touching ns) t)
         {outdated : Marked}
-        (held : HoldsOnly (λ t. IsMarked out t × Contains (drop front ns) t) outdated)
+        (held : HoldsOnly (λ t. IsMarked out t × Contains (drop touching ns) t) outdated)
       where
         due_of_these : (t : ℕ) → InRegion r seeds t → IsDue r cleared t
-            → Contains (take front ns) t ⊎ IsQueued outdated t
-        due_of_these t inside due = elim (listed_or_not (take front ns) t) [
+            → Contains (take touching ns) t ⊎ IsQueued outdated t
+        due_of_these t inside due = elim (listed_or_not (take touching ns) t) [
           | inl here ↦ inl here
           | inr not ↦
               let before : OutOfDate was.0 t =
@@ -168,17 +168,17 @@ module _ (r : Records ℕ) (seeds ns : List ℕ) (memo : List Bool) {out cleared
                 | inr w ↦ inr (w.0, w.1, outside w.0 w.2, marked_out_of_date w.0 w.2)
               ]) in
               let whole = subst (λ (us : List ℕ). Contains us t)
-              (sym (take-append-drop front ns)) ((listed t).1 inside) in
+              (sym (take-append-drop touching ns)) ((listed t).1 inside) in
               inr ((held.queued t).1 (
                 (right_before t).1 before,
-                elim (Contains-append_cases (take front ns) (drop front ns) t whole) [
+                elim (Contains-append_cases (take touching ns) (drop touching ns) t whole) [
                   | inl here ↦ absurd (not here)
                   | inr rest ↦ rest
                 ],
               ))
         ]
 
-        module _ {some all : Marked} (first : EntersDue r (take front ns) cleared some)
+        module _ {some all : Marked} (first : EntersDue r (take touching ns) cleared some)
             (second : EntersDue r outdated.queue some all)
           where
             due_marked : (t : ℕ) → InRegion r seeds t → IsDue r cleared t → IsMarked all t

@@ -85,9 +85,9 @@ grows_longer {a = a} {b = b} f =
     omega (arith, ap length f.behind.1, length-append a.queue f.behind.0)
 
 -- the old queue is a prefix of the new one
-pub front_of : {a b : Marked} → Grows a b → (k : ℕ) → k ≡ length a.queue
+pub prefix_of : {a b : Marked} → Grows a b → (k : ℕ) → k ≡ length a.queue
     → take k b.queue ≡ a.queue
-front_of {a = a} {b = b} f k at =
+prefix_of {a = a} {b = b} f k at =
     let inside : k ≤ length a.queue = omega (arith, at) in
     let whole : length a.queue ≤ k = omega (arith, at) in
     ap (take k) f.behind.1 ∙ take-append-le k a.queue f.behind.0 inside
@@ -172,16 +172,16 @@ enters_then R both f g = record {
 pub one_more : (ts : List ℕ) (k d u : ℕ) → k < length ts
     → Contains (take (k + 1) ts) u ↔ (Contains (take k ts) u ⊎ (u ≡ get_or ts k d))
 one_more ts k d u in' =
-    let front = take k ts in
+    let prefix = take k ts in
     let t = get_or ts k d in
-    let e : take (k + 1) ts ≡ front ++ t ∷ [] = take_more ts k d in' in (
-      λ h. elim (Contains-push_cases front t u (subst (λ (xs : List ℕ). Contains xs u) e h)) [
+    let e : take (k + 1) ts ≡ prefix ++ t ∷ [] = take_more ts k d in' in (
+      λ h. elim (Contains-push_cases prefix t u (subst (λ (xs : List ℕ). Contains xs u) e h)) [
         | inl old ↦ inl old
         | inr here ↦ inr (sym here)
       ],
       λ s. subst (λ (xs : List ℕ). Contains xs u) (sym e) (elim s [
-        | inl old ↦ Contains-append_left front (t ∷ []) u old
-        | inr here ↦ subst (Contains (front ++ t ∷ [])) (sym here) (Contains-push front t)
+        | inl old ↦ Contains-append_left prefix (t ∷ []) u old
+        | inr here ↦ subst (Contains (prefix ++ t ∷ [])) (sym here) (Contains-push prefix t)
       ]),
     )
 

@@ -9,7 +9,7 @@ use Rattle.redo_model.proofs.Region.{out_of_date_by_step}
 use Rattle.redo_ood.specs.NameSet.{Marked, IsMarked, IsQueued, Enters}
 use Rattle.redo_ood.specs.Inside.NameSet.{HoldsOnly}
 use Rattle.redo_ood.specs.Inside.Regions.{Reaches, Spreads}
-use Rattle.redo_ood.proofs.Marking.{grows_then, front_of, enters_then, one_more}
+use Rattle.redo_ood.proofs.Marking.{grows_then, prefix_of, enters_then, one_more}
 
 module _ (r : Records ℕ) where
   reaches_weaker : {P Q : ℕ → Type 0} → ((t : ℕ) → P t → Q t) → (ns : List ℕ) (t : ℕ)
@@ -116,12 +116,13 @@ module _ (r : Records ℕ) where
       ]
 
       -- what touches a seed is in the queue's prefix
-      pub touched_first : (front : ℕ) → front ≡ length m.queue → (t : ℕ) → TouchesSeed r seeds t
-          → Contains (take front new.queue) t
-      touched_first front at t touches =
+      pub touched_first : (touching : ℕ) → touching ≡ length m.queue → (t : ℕ)
+          → TouchesSeed r seeds t
+          → Contains (take touching new.queue) t
+      touched_first touching at t touches =
           let on : IsMarked m t = (touched.each t).1 (inr touches) in
           let queued : IsQueued m t = (touched.grown.queued t).1 (inr (on, unmarked t)) in
-          subst (λ (xs : List ℕ). Contains xs t) (sym (front_of s.grown front at)) queued
+          subst (λ (xs : List ℕ). Contains xs t) (sym (prefix_of s.grown touching at)) queued
 
       pub region_found : ((t : ℕ) → IsQueued none t → ⊥) → HoldsOnly (InRegion r seeds) new
       region_found empty = record {

@@ -95,9 +95,9 @@ impl Ood {
         ensures count { memo_count self.new ≡ memo_count self.old }
         ensures region { HasCount (InRegion (with_rows records.now rows.now) seeds.now) result }
     {
-        let front = find_region(records, rows, seeds, &mut self.region);
+        let touching = find_region(records, rows, seeds, &mut self.region);
         let region = self.region.queue();
-        let (touched, others) = region.split_at(front);
+        let (touched, others) = region.split_at(touching);
         enter_marked(&self.out, others, &mut self.outdated);
         self.out.unmark(region);
         // the others can be out of date by their own rows only if they were before

@@ -113,7 +113,7 @@ pub(crate) fn find_region(
     requires unmarked { (t : ℕ) → IsMarked marks.old t → ⊥ }
     requires empty { (t : ℕ) → IsQueued marks.old t → ⊥ }
     ensures region { HoldsOnly (InRegion (with_rows records.now rows.now) seeds.now) marks.new }
-    ensures front { result ≤ length marks.new.queue }
+    ensures few { result ≤ length marks.new.queue }
     ensures touched { (t : ℕ) → TouchesSeed (with_rows records.now rows.now) seeds.now t →
         Contains (take result marks.new.queue) t }
     ensures sized { size_of marks.new ≡ size_of marks.old }

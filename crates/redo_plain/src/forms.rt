@@ -124,7 +124,7 @@ pub(crate) fn number_of(text: &[u8], most: u64) -> Option<u64> {
 /// The names in the words of a reply; none where they are no reply.
 pub(crate) fn names_of_reply<'a, 'b>(words: &'b [&'a [u8]]) -> Option<&'b [&'a [u8]]> {
     let (head, rest) = words.split_first()?;
-    let (last, front) = words.split_last()?;
+    let (last, prefix) = words.split_last()?;
     let no_name = &words[words.len()..];
     match *head {
         b"ok" if rest.is_empty() => Some(no_name),
@@ -137,7 +137,7 @@ pub(crate) fn names_of_reply<'a, 'b>(words: &'b [&'a [u8]]) -> Option<&'b [&'a [
             Some(rest)
         }
         b"refused" if rest.len() == 1 && is_refusal(last) => Some(no_name),
-        b"refused" if front == [b"refused".as_slice(), b"exists".as_slice()].as_slice() => {
+        b"refused" if prefix == [b"refused".as_slice(), b"exists".as_slice()].as_slice() => {
             if is_name(last) {
                 Some(&words[2..])
             } else {

@@ -1,4 +1,4 @@
-//! The database once more, in the plainest way: one thread, lists that are searched from the front, everything
+//! The database once more, in the plainest way: one thread, lists that are searched from the beginning, everything
 //! derived again at each call. And the readers of session files and histories once more, with what comes of a text. It is
 //! for tests to compare the real ones with.
 //!

@@ -17,7 +17,7 @@ use Rattle.redo_model.specs.Renaming.{IsBelow, IsReplyBelow, IsLineBelow, named_
 use Rattle.redo_model.specs.Inside.Renaming.{OrdersAlike, numbering}
 use Rattle.redo_model.proofs.Texts.{texts_are_names}
 use Rattle.redo_model.proofs.Naming.{numbering_is_renaming}
-use Rattle.redo_model.proofs.OneMore.{left_by-append, legal_more, legal_front}
+use Rattle.redo_model.proofs.OneMore.{left_by-append, legal_more, legal_prefix}
 use Rattle.redo_model.proofs.HistoriesByName.{legal_by_name}
 use Rattle.redo_model.proofs.RepliesByName.{same_reply}
 use Rattle.redo_terms.specs.Meaning.{command_of, reply_of, line_of, line_at, reply_at}
@@ -41,10 +41,10 @@ replied line reply = record {
   reply = reply_of reply;
 }
 
-all_front : {X : Type 0} (P : X → Type 0) (xs : List X) (y : X) (ys : List X)
+all_prefix : {X : Type 0} (P : X → Type 0) (xs : List X) (y : X) (ys : List X)
     → AllByRecursion P (xs ++ y ∷ ys) → AllByRecursion P xs × P y
-all_front P [] y ys h = (tt, h.0)
-all_front P (x ∷ xs) y ys h = let rest = all_front P xs y ys h.1 in ((h.0, rest.0), rest.1)
+all_prefix P [] y ys h = (tt, h.0)
+all_prefix P (x ∷ xs) y ys h = let rest = all_prefix P xs y ys h.1 in ((h.0, rest.0), rest.1)
 
 -- one line more has the database's reply
 replayed_more : (order : ℕ → ℕ → Ordering) (state next : State ℕ) (lines : List Line) (line : Line)
@@ -120,9 +120,9 @@ module _ (names : List Text) (distinct : IsDistinct bytes_eq names) (order : ℕ
       let parts : map (named_line (text_at names)) numbered ≡ map (line_at names) before
       ++ named_line (text_at names) last ∷ [] =
       map-append (named_line (text_at names)) (map line_of before) (last ∷ [])
-      ∙ ap (λ front. front ++ named_line (text_at names) last ∷ [])
+      ∙ ap (λ prefix. prefix ++ named_line (text_at names) last ∷ [])
       (map-map (named_line (text_at names)) line_of before) in
-      legal_front texts empty (map (line_at names) before) (named_line (text_at names) last)
+      legal_prefix texts empty (map (line_at names) before) (named_line (text_at names) last)
       (subst (Legal texts) parts named)
 
   -- after legal lines a line with another reply is the first wrong one
@@ -136,7 +136,7 @@ module _ (names : List Text) (distinct : IsDistinct bytes_eq names) (order : ℕ
       (reply_at names reply)
   wrong_after state before wrong rest reply below reply_below replayed answers differs =
       let (before_below, wrong_below) =
-      all_front (λ (line : Line). IsLineBelow (length names) (line_of line)) before wrong rest
+      all_prefix (λ (line : Line). IsLineBelow (length names) (line_of line)) before wrong rest
       below in
       let both = answers_after state before wrong reply before_below wrong_below.0 reply_below
       replayed answers in

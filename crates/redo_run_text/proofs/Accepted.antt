@@ -93,7 +93,7 @@ files_then : (files : List (Option Text)) (scripts : List (List Item)) (old new 
     → AreAccepted [] (files ++ file ∷ []) (scripts_at new (scripts ++ script ∷ [])) new
 files_then files scripts old new file script x below are is =
     let said = scripts_at-append new scripts script
-    ∙ ap (λ (front : List (List (commands.Item Text))). front ++ map (item_at new) script
+    ∙ ap (λ (prefix : List (List (commands.Item Text))). prefix ++ map (item_at new) script
     ∷ []) (scripts_at-Extends old new scripts x below) in
     subst (λ (all : List (List (commands.Item Text))). AreAccepted [] (files ++ file ∷ []) all
     new) (sym said)

@@ -19,9 +19,9 @@ pub record AreAsked (names : List Text) (script : List (Item Text)) : Type 0 whe
   pub each : AllByRecursion (IsAsked names) (commands_in script)
   pub few : length script ≤ 4096
 
-known_front : (names ts us : List Text) → AreKnown names (ts ++ us) → AreKnown names ts
-known_front names [] us known = tt
-known_front names (t ∷ ts) us known = (known.0, known_front names ts us known.1)
+known_prefix : (names ts us : List Text) → AreKnown names (ts ++ us) → AreKnown names ts
+known_prefix names [] us known = tt
+known_prefix names (t ∷ ts) us known = (known.0, known_prefix names ts us known.1)
 
 known_back : (names ts us : List Text) → AreKnown names (ts ++ us) → AreKnown names us
 known_back names [] us known = known
@@ -38,7 +38,7 @@ each_asked : (names : List Text) (script : List (Command Text)) → AllByRecursi
 each_asked names [] said known = tt
 each_asked names (command ∷ script) said known =
     let rest : List Text = flat_map names_in script in (
-      record { said = said.0; known = known_front names (names_in command) rest known },
+      record { said = said.0; known = known_prefix names (names_in command) rest known },
       each_asked names script said.1 (known_back names (names_in command) rest known),
     )
 

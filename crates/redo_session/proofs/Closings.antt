@@ -62,15 +62,15 @@ module _ {N : Type 0} where
       (λ n. subst (AllByRecursion (λ (l : Line N). l.session ≡ s))
       (sym (other_first s line lines n)) (of_session s lines))
 
-  pub back_of : (P : Line N → Type 0) (front back : List (Line N))
-      → AllByRecursion P (front ++ back) → AllByRecursion P back
+  pub back_of : (P : Line N → Type 0) (prefix back : List (Line N))
+      → AllByRecursion P (prefix ++ back) → AllByRecursion P back
   back_of P [] back all = all
-  back_of P (line ∷ front) back all = back_of P front back all.1
+  back_of P (line ∷ prefix) back all = back_of P prefix back all.1
 
-  pub front_of : (P : Line N → Type 0) (front back : List (Line N))
-      → AllByRecursion P (front ++ back) → AllByRecursion P front
-  front_of P [] back all = tt
-  front_of P (line ∷ front) back all = (all.0, front_of P front back all.1)
+  pub prefix_of : (P : Line N → Type 0) (prefix back : List (Line N))
+      → AllByRecursion P (prefix ++ back) → AllByRecursion P prefix
+  prefix_of P [] back all = tt
+  prefix_of P (line ∷ prefix) back all = (all.0, prefix_of P prefix back all.1)
 
   abbrev pub AreOkay : List (Line N) → Type 0
   AreOkay lines = AllByRecursion (λ line. line.reply ≡ Okay) lines

@@ -26,24 +26,25 @@ no_read : (names : List Text) (texts : List Text) (scripts : List (List (Item Te
     (middle : List Text) → AreAccepted names (take k (map Some texts)) before middle
     → (text : Text) × (get_or (map Some texts) k None ≡ Some text) × (length text ≤ 67108864)
     × ((line : ℕ) (fault : LineFault) → IsFirstFault middle text line fault → ⊥)
-no_read names [] scripts after are k less before middle front = absurd (omega (arith, less))
-no_read names (t ∷ ts) [] after are k less before middle front = absurd are
-no_read names (t ∷ ts) (s ∷ scripts) after (m, is, are) zero less [] middle front = (
+no_read names [] scripts after are k less before middle prefix = absurd (omega (arith, less))
+no_read names (t ∷ ts) [] after are k less before middle prefix = absurd are
+no_read names (t ∷ ts) (s ∷ scripts) after (m, is, are) zero less [] middle prefix = (
   t,
   refl,
   is.0,
   λ line fault first.
       no_first_fault names t s m line fault is.1
-      (subst (λ (ns : List Text). IsFirstFault ns t line fault) front first),
+      (subst (λ (ns : List Text). IsFirstFault ns t line fault) prefix first),
 )
-no_read names (t ∷ ts) (s ∷ scripts) after (m, is, are) zero less (b ∷ before) middle front =
-    absurd front
-no_read names (t ∷ ts) (s ∷ scripts) after (m, is, are) (suc k) less [] middle front = absurd front
+no_read names (t ∷ ts) (s ∷ scripts) after (m, is, are) zero less (b ∷ before) middle prefix =
+    absurd prefix
+no_read names (t ∷ ts) (s ∷ scripts) after (m, is, are) (suc k) less [] middle prefix = absurd
+    prefix
 no_read names (t ∷ ts) (s ∷ scripts) after (m, is, are) (suc k) less (b ∷ before) middle
-    (n, other, front) =
+    (n, other, prefix) =
     no_read m ts scripts after are k (omega (arith, less)) before middle
     (subst (λ (ns : List Text). AreAccepted ns (take k (map Some ts)) before middle)
-    (one_after names t b s n m other.1 is.1) front)
+    (one_after names t b s n m other.1 is.1) prefix)
 
 module _ (texts : List Text) (scripts : List (List (Item Text))) (names : List Text)
     (some : 1 ≤ length (map Some texts)) (few : length (map Some texts) ≤ 64)
@@ -51,8 +52,8 @@ module _ (texts : List Text) (scripts : List (List (Item Text))) (names : List T
   only_for : (failed : ℕ → Bool) (out : Bool) (fault : TextFault)
       → IsCause (map Some texts) failed out fault → (fault ≡ Memory) ⊎ IsDeviceFault fault
   only_for failed out Memory cause = inl refl
-  only_for failed out (Read file line fault) (middle, (less, (before, front)), cause) =
-      let no = no_read [] texts scripts names are file less before middle front in
+  only_for failed out (Read file line fault) (middle, (less, (before, prefix)), cause) =
+      let no = no_read [] texts scripts names are file less before middle prefix in
       let first =
       subst
       (λ (o : Option Text). IfSome o (λ bytes. (length bytes ≤ 67108864)
@@ -62,8 +63,8 @@ module _ (texts : List Text) (scripts : List (List (Item Text))) (names : List T
   only_for failed out NoSession cause = let none = ap length cause in absurd (omega arith)
   only_for failed out Write cause = inr tt
   only_for failed out (Device file) cause = inr tt
-  only_for failed out (TooLong file) (middle, (less, (before, front)), cause) =
-      let no = no_read [] texts scripts names are file less before middle front in
+  only_for failed out (TooLong file) (middle, (less, (before, prefix)), cause) =
+      let no = no_read [] texts scripts names are file less before middle prefix in
       let long =
       subst (λ (o : Option Text). IfSome o (λ bytes. 67108864 < length bytes)) no.1 cause in
       let short = no.2 in

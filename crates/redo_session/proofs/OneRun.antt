@@ -17,7 +17,7 @@ use Rattle.redo_run_text.specs.RunTexts.{run_text_of, sessions_below}
 use Rattle.redo_text.proofs.ScriptLaws.{one_script}
 use Rattle.redo_session.specs.Runs.{IsRun, RunsAs}
 use Rattle.redo_run_text.specs.Files.{AreAccepted}
-use Rattle.redo_session.proofs.Closings.{front_of, back_of}
+use Rattle.redo_session.proofs.Closings.{prefix_of, back_of}
 use Rattle.redo_run_text.proofs.Parts.{whole_part}
 
 -- below 1 there is session 0 alone
@@ -141,8 +141,8 @@ module _ {N : Type 0} {naming : Naming N} (law : IsNaming naming) where
       let p_both = legal_parts empty one.own one.closing (subst (Legal naming) one.both p) in
       let q_both = legal_parts empty other.own other.closing (subst (Legal naming) other.both q) in
       let own : one.own ≡ other.own =
-      one_history empty true script one.own other.own (front_of IsFirst one.own one.closing s_both)
-      (front_of IsFirst other.own other.closing t_both) one.done other.done p_both.0 q_both.0 in
+      one_history empty true script one.own other.own (prefix_of IsFirst one.own one.closing s_both)
+      (prefix_of IsFirst other.own other.closing t_both) one.done other.done p_both.0 q_both.0 in
       let closing : one.closing ≡ other.closing =
       one_closing (left_by naming empty one.own) one.own one.closing other.closing
       (back_of IsFirst one.own one.closing s_both) (back_of IsFirst other.own other.closing t_both)

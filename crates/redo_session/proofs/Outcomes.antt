@@ -27,7 +27,7 @@ use Rattle.redo_terms.specs.declared.reply.Line.{Line}
 use Rattle.redo_joint.specs.Named.{named_placed_line, named_journals, IsPlaceBelow, IsPlacedBelow, IsToldBelow}
 use Rattle.redo_joint.proofs.Exchange.{In}
 use Rattle.redo_joint.proofs.Own.{all_by_parts, all_of_part}
-use Rattle.redo_joint.proofs.Orders.{legal_in_every_order, front_placed}
+use Rattle.redo_joint.proofs.Orders.{legal_in_every_order, prefix_placed}
 use Rattle.redo_joint.proofs.ByName.{joint_by_name, kept_map}
 use Rattle.redo_joint.proofs.JournalByName.{whole_by_name}
 use Rattle.redo_joint.proofs.Standing.{seen_stands}
@@ -219,4 +219,4 @@ module _ (p : PlanOf) (js : List Journal) (plan : IsPlan p) (whole : AreWhole p 
 pub seen_before : (p : PlanOf) (js : List Journal) → SeenStands p js
 seen_before p js before later line place joint seen =
     seen_stands (by_text_is_naming p.names) line.session before place
-    (front_placed by_number [] before (line ∷ later) joint.1) seen
+    (prefix_placed by_number [] before (line ∷ later) joint.1) seen

@@ -22,8 +22,8 @@ use Rattle.redo_store.proofs.Sorting.{AllPairs-map}
 
 -- the first k numbers of the list have their ranks
 abbrev pub HaveRanks : List ℕ → List ℕ → List ℕ → ℕ → Type 0
-HaveRanks front sorted ranks k =
-    (n : ℕ) → Contains front n → (get_or ranks n 0 < k) × (get_or sorted (get_or ranks n 0) 0 ≡ n)
+HaveRanks prefix sorted ranks k =
+    (n : ℕ) → Contains prefix n → (get_or ranks n 0 < k) × (get_or sorted (get_or ranks n 0) 0 ≡ n)
 
 -- the next number gets its rank
 pub ranked_more : (sorted ranks : List ℕ) (k : ℕ) → k < length sorted

@@ -14,7 +14,7 @@ use Rattle.redo_talk.specs.Inside.LeftBy.{IsLeftBy}
 use Rattle.redo_talk.specs.Inside.Steps.{LeadsTo}
 use Rattle.redo_talk.specs.Inside.Moments.{Moment, Waiting, IsTalk, IsBrokenOff}
 use Rattle.redo_talk.specs.Inside.Hearing.{TalksAt, known_of}
-use Rattle.redo_talk.proofs.Fronts.{front_of_none}
+use Rattle.redo_talk.proofs.Prefixes.{prefix_of_none}
 use Rattle.redo_talk.proofs.Led.{steps_are_rounds, steps_lead}
 use Rattle.redo_talk.proofs.Responding.{place, same_waiting}
 use Rattle.redo_talk.proofs.RoundByRound.{heard_more}
@@ -59,13 +59,13 @@ module _ (before : List (Line Text)) (first now : Moment) (led : LeadsTo before 
         broken.steps;
     more = broken.more;
     heard = broken.heard;
-    log_front = broken.log_front;
+    log_prefix = broken.log_prefix;
     log_rest = broken.log_rest;
     to_log = sym (logged_after (lines_in (broken.sent ++ broken.kept))) ∙ broken.to_log
-        ∙ ap (λ t. t ++ broken.log_front ++ broken.log_rest) (logged_after (lines_in broken.sent));
-    logged = subst (λ t. Appends first.log now.log (t ++ broken.log_front))
+        ∙ ap (λ t. t ++ broken.log_prefix ++ broken.log_rest) (logged_after (lines_in broken.sent));
+    logged = subst (λ t. Appends first.log now.log (t ++ broken.log_prefix))
         (logged_after (lines_in broken.sent)) broken.logged;
-    said_front = broken.said_front;
+    said_prefix = broken.said_prefix;
     said_rest = broken.said_rest;
     to_say = broken.to_say;
     said = broken.said;
@@ -95,7 +95,7 @@ none_heard left log out = (
   record {
     legal = tt;
     are_rounds = tt;
-    unended = (front_of_none [] refl).unended;
+    unended = (prefix_of_none [] refl).unended;
     heard = Consumes-nil left;
     logged = Appends-nil log;
     said = Appends-nil out;
@@ -113,7 +113,7 @@ nothing_heard live left log out before is = (
   record {
     legal = subst (Legal texts) (sym (append-nil before)) is.legal;
     are_rounds = tt;
-    unended = (front_of_none [] refl).unended;
+    unended = (prefix_of_none [] refl).unended;
     heard = Consumes-nil left;
     logged = Appends-nil log;
     said = Appends-nil out;

@@ -1,10 +1,10 @@
 pub mod Led
 pub mod RoundByRound
 pub mod LongLines
-pub mod Fronts
+pub mod Prefixes
 pub mod Responding
 pub mod RoundTold
-pub mod Fronted
+pub mod LoggedPrefixes
 pub mod Conversations
 pub mod Asking
 pub mod Steps

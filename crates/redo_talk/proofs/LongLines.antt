@@ -12,11 +12,11 @@ use Rattle.redo_talk.specs.Rounds.{Round, Asks, HasNoSession, IsFaultWord, end_w
 use Rattle.redo_talk.specs.Inside.Steps.{Known, Refusing, IsStep}
 use Rattle.redo_talk.specs.Inside.KeptLines.{kept_of, IsHeardOf}
 
-abbrev front_of : ℕ → Text
-front_of s = decimal (s + 1) ++ codes " "
+abbrev prefix_of : ℕ → Text
+prefix_of s = decimal (s + 1) ++ codes " "
 
-front_is_short : (s : ℕ) → s < 64 → length (front_of s) ≤ 3
-front_is_short s few =
+prefix_is_short : (s : ℕ) → s < 64 → length (prefix_of s) ≤ 3
+prefix_is_short s few =
     omega (
       arith,
       length-append (decimal (s + 1)) (codes " "),
@@ -24,11 +24,11 @@ front_is_short s few =
     )
 
 -- what is kept of a line has the line's session, with a prefix of its text
-asks_in_front : (whole : Text) (s : ℕ) (text : Text) → Asks whole s text
-    → Asks (kept_of whole) s (take (8196 - length (front_of s)) text)
-asks_in_front whole s text (few, parts) =
-    let d = front_of s in
-    let split : 8196 ≡ length d + (8196 - length d) = omega (arith, front_is_short s few) in (
+asks_in_prefix : (whole : Text) (s : ℕ) (text : Text) → Asks whole s text
+    → Asks (kept_of whole) s (take (8196 - length (prefix_of s)) text)
+asks_in_prefix whole s text (few, parts) =
+    let d = prefix_of s in
+    let split : 8196 ≡ length d + (8196 - length d) = omega (arith, prefix_is_short s few) in (
       few,
       ap (take 8196) parts ∙ ap (λ n. take n (d ++ text)) split
           ∙ take-append-add d text (8196 - length d),
@@ -41,13 +41,13 @@ asks_with_more whole s text (few, parts) =
     let rest = drop 8196 whole in (
       few,
       sym (take-append-drop 8196 whole) ∙ ap (λ t. t ++ rest) parts
-          ∙ append_assoc (front_of s) text rest,
+          ∙ append_assoc (prefix_of s) text rest,
     )
 
 asked_length : (heard : Text) (s : ℕ) (text : Text) → Asks heard s text
     → length heard ≤ 3 + length text
 asked_length heard s text (few, parts) =
-    omega (arith, ap length parts, length-append (front_of s) text, front_is_short s few)
+    omega (arith, ap length parts, length-append (prefix_of s) text, prefix_is_short s few)
 
 fault_of_more : (names : List Text) (text more word : Text) → 8192 < length text
     → IsFaultWord names text word → IsFaultWord names (text ++ more) word
@@ -84,9 +84,9 @@ module _ (old new : Known) (round : Round) (whole : Text) (heard : round.heard �
               × (round.said ≡ fault_text_of (decimal (s + 1)) word))
           cause (inl (none, said)) =
               inl (
-                (λ s text asks. none s (take (8196 - length (front_of s)) text)
-                    (subst (λ h. Asks h s (take (8196 - length (front_of s)) text)) (sym heard)
-                    (asks_in_front whole s text asks))),
+                (λ s text asks. none s (take (8196 - length (prefix_of s)) text)
+                    (subst (λ h. Asks h s (take (8196 - length (prefix_of s)) text)) (sym heard)
+                    (asks_in_prefix whole s text asks))),
                 said,
               )
           cause (inr (s, text, word, asks, is, said)) =

@@ -8,7 +8,7 @@ use Rattle.redo_talk.specs.Rounds.{Round}
 use Rattle.redo_talk.specs.Logs.{logged_of}
 use Rattle.redo_talk.specs.Inside.Steps.{Known, Refusing, IsStep}
 use Rattle.redo_talk.specs.Inside.Moments.{Moment, Waiting, IsTalk}
-use Rattle.redo_talk.specs.Inside.Sending.{SendsFronts, IsKeptBack, IsSent}
+use Rattle.redo_talk.specs.Inside.Sending.{SendsPrefixes, IsKeptBack, IsSent}
 use Rattle.redo_talk.specs.Inside.KeptLines.{IsHeardOf}
 use Rattle.redo_talk.specs.Inside.Hearing.{Place, GoesOn, BreaksOff, TalksAt, moment_at}
 use Rattle.redo_talk.proofs.LongLines.{step_of_whole}
@@ -98,14 +98,15 @@ module _ (old new : Known) (log out : Option Text) (logged said : Text) (round :
         told_goes_on (inr is) = sent_goes_on is
 
         -- a fault that could not be written
-        pub untold_breaks_off : SendsFronts log log' out out' logged (said ++ round.said)
+        pub untold_breaks_off : SendsPrefixes log log' out out' logged (said ++ round.said)
             → BreaksOff (place old log out logged said) (place new log' out' logged' said')
             (ended whole ++ more)
-        untold_breaks_off fronts first left talk =
+        untold_breaks_off prefixes first left talk =
             broken_off first (moment_at (place new log out logged (said ++ round.said)) left)
             (record { said = said ++ round.said; logged = logged }) log' out' more
-            fronts.log_front fronts.log_rest fronts.said_front fronts.said_rest
-            fronts.log_parts fronts.said_parts fronts.to_log fronts.to_out fronts.log_first
+            prefixes.log_prefix prefixes.log_rest prefixes.said_prefix prefixes.said_rest
+            prefixes.log_parts prefixes.said_parts prefixes.to_log prefixes.to_out
+            prefixes.log_first
             (refused_waits first left talk)
 
 module _ (known : Known) (log log' out out' : Option Text) (logged logged' said said' : Text)
@@ -120,10 +121,11 @@ module _ (known : Known) (log log' out out' : Option Text) (logged logged' said 
         (all_sent first (moment_at (place known log out logged said) left)
         (record { said = said; logged = logged }) log' out' more to_log to_out talk)
 
-    pub sending_breaks_off : SendsFronts log log' out out' logged said
+    pub sending_breaks_off : SendsPrefixes log log' out out' logged said
         → BreaksOff (place known log out logged said) (place known log' out' logged' said') more
-    sending_breaks_off fronts first left talk =
+    sending_breaks_off prefixes first left talk =
         broken_off first (moment_at (place known log out logged said) left)
         (record { said = said; logged = logged }) log' out' more
-        fronts.log_front fronts.log_rest fronts.said_front fronts.said_rest
-        fronts.log_parts fronts.said_parts fronts.to_log fronts.to_out fronts.log_first talk
+        prefixes.log_prefix prefixes.log_rest prefixes.said_prefix prefixes.said_rest
+        prefixes.log_parts prefixes.said_parts prefixes.to_log prefixes.to_out prefixes.log_first
+        talk

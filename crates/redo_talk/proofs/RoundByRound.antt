@@ -154,12 +154,13 @@ module _ (first now : Moment) (waiting : Waiting) where
   }
 
   -- a prefix of what waited was sent
-  pub broken_off : (log out : Option Text) (more log_front log_rest said_front said_rest : Text)
-      → waiting.logged ≡ log_front ++ log_rest → waiting.said ≡ said_front ++ said_rest
-      → Appends now.log log log_front → Appends now.out out said_front
-      → (log_rest ≡ []) ⊎ (said_front ≡ []) → IsTalk first now waiting more
+  pub broken_off : (log out : Option Text) (more log_prefix log_rest said_prefix said_rest : Text)
+      → waiting.logged ≡ log_prefix ++ log_rest → waiting.said ≡ said_prefix ++ said_rest
+      → Appends now.log log log_prefix → Appends now.out out said_prefix
+      → (log_rest ≡ []) ⊎ (said_prefix ≡ []) → IsTalk first now waiting more
       → IsBrokenOff first (record now { log = log; out = out })
-  broken_off log out more log_front log_rest said_front said_rest log_is said_is to_log to_out order
+  broken_off log out more log_prefix log_rest said_prefix said_rest log_is said_is to_log to_out
+      order
       talk = record {
         known = now.known;
         sent = talk.sent;
@@ -167,17 +168,18 @@ module _ (first now : Moment) (waiting : Waiting) where
         more = more;
         steps = talk.steps;
         heard = talk.heard;
-        log_front = log_front;
+        log_prefix = log_prefix;
         log_rest = log_rest;
         to_log = talk.to_log
             ∙ ap (λ t. logged_of first.known.state (lines_in talk.sent) ++ t) log_is
-            ∙ sym (append_assoc (logged_of first.known.state (lines_in talk.sent)) log_front log_rest);
+            ∙ sym (append_assoc (logged_of first.known.state (lines_in talk.sent)) log_prefix
+            log_rest);
         logged = Appends-trans first.log now.log log
-            (logged_of first.known.state (lines_in talk.sent)) log_front talk.logged to_log;
-        said_front = said_front;
+            (logged_of first.known.state (lines_in talk.sent)) log_prefix talk.logged to_log;
+        said_prefix = said_prefix;
         said_rest = said_rest;
         to_say = talk.to_say ∙ said_is;
-        said = Appends-trans first.out now.out out (said_in talk.sent) said_front talk.said to_out;
+        said = Appends-trans first.out now.out out (said_in talk.sent) said_prefix talk.said to_out;
         log_first = order;
       }
 

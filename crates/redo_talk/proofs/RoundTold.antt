@@ -25,7 +25,7 @@ use Rattle.redo_talk.specs.Inside.Sending.{IsRefusedFor, refusal_word_of}
 use Rattle.redo_talk.specs.Inside.Steps.{IsStep}
 use Rattle.redo_talk.specs.Inside.Hearing.{known_of}
 use Rattle.redo_talk.specs.Inside.Replies.{TellsRound, WouldTell, IsPutOffFor, IsUndoneFor, IsUnheededFor, IsUnsaidFor, IsUntoldFor}
-use Rattle.redo_talk.proofs.Fronted.{logs_front}
+use Rattle.redo_talk.proofs.LoggedPrefixes.{logs_prefix}
 use Rattle.redo_talk.proofs.Steps.{answering_step, ending_step, telling_step, held_are_known}
 
 -- why a command is refused
@@ -49,7 +49,7 @@ module _ (old : LiveState) (heard : Text) (session : ℕ) where
         step = step;
         says = says;
         logs = logs;
-        front = logs_front (known_of old) (known_of new) round step;
+        prefix = logs_prefix (known_of old) (known_of new) round step;
       }
 
   pub ended_round : (new : LiveState) (said said' logged logged' : Text)
@@ -64,7 +64,7 @@ module _ (old : LiveState) (heard : Text) (session : ℕ) where
         step = step;
         says = says;
         logs = logs;
-        front = logs_front (known_of old) (known_of new) round step;
+        prefix = logs_prefix (known_of old) (known_of new) round step;
       }
 
   pub told_round : (new : LiveState) → IsAsKnown old new
@@ -82,7 +82,7 @@ module _ (old : LiveState) (heard : Text) (session : ℕ) where
         step = step;
         says = says;
         logs = logs;
-        front = logs_front (known_of old) (known_of new) round step;
+        prefix = logs_prefix (known_of old) (known_of new) round step;
       }
 
   -- and what the answer would be
@@ -192,7 +192,7 @@ module _ (old new : LiveState) (same : IsAsKnown old new) (heard line : Text)
       step = refusing;
       says = says;
       logs = logs ∙ sym (append-nil logged);
-      front = (line, refl);
+      prefix = (line, refl);
     }
 
     would_refuse : (size : ℕ) → size ≡ length line → WouldTell (known_of old) heard size

@@ -26,14 +26,14 @@ pub record IsCutShort (before : List (Line Text)) (sent kept : List Round)
   pub are_rounds : AreRounds before (sent ++ kept)
   pub more : Text
   pub heard : Consumes input input_after (heard_in (sent ++ kept) ++ more)
-  pub log_front : Text
+  pub log_prefix : Text
   pub log_rest : Text
   pub to_log : logged_of (left_by texts empty before) (lines_in (sent ++ kept))
-      ≡ logged_of (left_by texts empty before) (lines_in sent) ++ log_front ++ log_rest
+      ≡ logged_of (left_by texts empty before) (lines_in sent) ++ log_prefix ++ log_rest
   pub logged : Appends log log_after
-      (logged_of (left_by texts empty before) (lines_in sent) ++ log_front)
-  pub said_front : Text
+      (logged_of (left_by texts empty before) (lines_in sent) ++ log_prefix)
+  pub said_prefix : Text
   pub said_rest : Text
-  pub to_say : said_in kept ≡ said_front ++ said_rest
-  pub said : Appends out out_after (said_in sent ++ said_front)
-  pub log_first : (log_rest ≡ []) ⊎ (said_front ≡ [])
+  pub to_say : said_in kept ≡ said_prefix ++ said_rest
+  pub said : Appends out out_after (said_in sent ++ said_prefix)
+  pub log_first : (log_rest ≡ []) ⊎ (said_prefix ≡ [])

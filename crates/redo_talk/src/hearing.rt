@@ -5,7 +5,7 @@ ghost use Rattle.redo_history.specs.Histories.{ended};
 ghost use Rattle.redo_talk.specs.Rounds.{Round, fault_text_of};
 ghost use Rattle.redo_talk.specs.Logs.{logged_of};
 ghost use Rattle.redo_talk.specs.Inside.Steps.{IsStep, Refusing};
-ghost use Rattle.redo_talk.specs.Inside.KeptLines.{IsHeardOf, IsFrontOf, kept_of};
+ghost use Rattle.redo_talk.specs.Inside.KeptLines.{IsHeardOf, IsPrefixOf, kept_of};
 ghost use Rattle.redo_talk.specs.Inside.Hearing.{GoesOn, GoesOnInLine, BreaksOff, known_of, as_place};
 
 use crate::asked::asked;
@@ -33,15 +33,15 @@ fn first(bytes: &[u8], most: usize) -> &[u8]
 }
 
 /// Appends bytes to what is kept of a line. Allocates nothing.
-fn keep(front: &mut Vec<u8>, bytes: &[u8])
-    requires room { MOST_KEPT ≤ vec_capacity front.old }
-    requires few { length front.old.items ≤ MOST_KEPT }
-    ensures kept { front.new.items ≡ kept_of (front.old.items ++ bytes.now) }
-    ensures room { MOST_KEPT ≤ vec_capacity front.new }
-    ensures few { length front.new.items ≤ MOST_KEPT }
+fn keep(prefix: &mut Vec<u8>, bytes: &[u8])
+    requires room { MOST_KEPT ≤ vec_capacity prefix.old }
+    requires few { length prefix.old.items ≤ MOST_KEPT }
+    ensures kept { prefix.new.items ≡ kept_of (prefix.old.items ++ bytes.now) }
+    ensures room { MOST_KEPT ≤ vec_capacity prefix.new }
+    ensures few { length prefix.new.items ≤ MOST_KEPT }
 {
-    let room = MOST_KEPT - front.len();
-    let _ = front.extend_from_slice(first(bytes, room));
+    let room = MOST_KEPT - prefix.len();
+    let _ = prefix.extend_from_slice(first(bytes, room));
 }
 
 /// Answers a line: appends its answer and its log lines to what waits.
@@ -108,31 +108,32 @@ fn respond<L: Write, W: Write>(
 fn respond_to_piece<L: Write, W: Write>(
     alloc: Global,
     live: &mut Live,
-    front: &mut Vec<u8>,
+    prefix: &mut Vec<u8>,
     piece: &[u8],
     unsent: &mut Unsent,
     log: &mut Watched<L>,
     out: &mut Watched<W>,
 ) -> Result<(), WriteFault>
-    requires room { MOST_KEPT ≤ vec_capacity front.old }
-    requires few { length front.old.items ≤ MOST_KEPT }
-    ensures talk { OnOk result ((begun more : Text) → IsFrontOf begun front.old.items → GoesOn
+    requires room { MOST_KEPT ≤ vec_capacity prefix.old }
+    requires few { length prefix.old.items ≤ MOST_KEPT }
+    ensures talk { OnOk result ((begun more : Text) → IsPrefixOf begun prefix.old.items → GoesOn
         (as_place live.old (known_in L.contents log.old) (known_in W.contents out.old) unsent.old)
         (as_place live.new (known_in L.contents log.new) (known_in W.contents out.new) unsent.new)
         (ended (begun ++ piece.now) ++ more) more) }
-    ensures broken { OnErr result ((begun more : Text) → IsFrontOf begun front.old.items → BreaksOff
+    ensures broken { OnErr result ((begun more : Text) → IsPrefixOf begun prefix.old.items
+        → BreaksOff
         (as_place live.old (known_in L.contents log.old) (known_in W.contents out.old) unsent.old)
         (as_place live.new (known_in L.contents log.new) (known_in W.contents out.new) unsent.new)
         (ended (begun ++ piece.now) ++ more)) }
-    ensures room { MOST_KEPT ≤ vec_capacity front.new }
-    ensures none { OnOk result (front.new.items ≡ []) }
+    ensures room { MOST_KEPT ≤ vec_capacity prefix.new }
+    ensures none { OnOk result (prefix.new.items ≡ []) }
 {
-    if front.is_empty() {
+    if prefix.is_empty() {
         return respond(alloc, live, piece, unsent, log, out);
     }
-    keep(front, piece);
-    respond(alloc, live, front, unsent, log, out)?;
-    front.clear();
+    keep(prefix, piece);
+    respond(alloc, live, prefix, unsent, log, out)?;
+    prefix.clear();
     Ok(())
 }
 
@@ -162,33 +163,33 @@ fn send_much<L: Write, W: Write>(
 pub(crate) fn hear<L: Write, W: Write>(
     alloc: Global,
     live: &mut Live,
-    front: &mut Vec<u8>,
+    prefix: &mut Vec<u8>,
     bytes: &[u8],
     unsent: &mut Unsent,
     log: &mut Watched<L>,
     out: &mut Watched<W>,
 ) -> Result<(), WriteFault>
-    requires room { MOST_KEPT ≤ vec_capacity front.old }
-    requires few { length front.old.items ≤ MOST_KEPT }
-    ensures talk { OnOk result ((begun : Text) → IsFrontOf begun front.old.items → GoesOnInLine
+    requires room { MOST_KEPT ≤ vec_capacity prefix.old }
+    requires few { length prefix.old.items ≤ MOST_KEPT }
+    ensures talk { OnOk result ((begun : Text) → IsPrefixOf begun prefix.old.items → GoesOnInLine
         (as_place live.old (known_in L.contents log.old) (known_in W.contents out.old) unsent.old)
         (as_place live.new (known_in L.contents log.new) (known_in W.contents out.new) unsent.new)
-        (begun ++ bytes.now) front.new.items []) }
-    ensures broken { OnErr result ((begun : Text) → IsFrontOf begun front.old.items → BreaksOff
+        (begun ++ bytes.now) prefix.new.items []) }
+    ensures broken { OnErr result ((begun : Text) → IsPrefixOf begun prefix.old.items → BreaksOff
         (as_place live.old (known_in L.contents log.old) (known_in W.contents out.old) unsent.old)
         (as_place live.new (known_in L.contents log.new) (known_in W.contents out.new) unsent.new)
         (begun ++ bytes.now)) }
-    ensures room { MOST_KEPT ≤ vec_capacity front.new }
-    ensures few { OnOk result (length front.new.items ≤ MOST_KEPT) }
+    ensures room { MOST_KEPT ≤ vec_capacity prefix.new }
+    ensures few { OnOk result (length prefix.new.items ≤ MOST_KEPT) }
     ensures none_said { OnOk result (unsent.new.said.items ≡ []) }
     ensures none_logged { OnOk result (unsent.new.logged.items ≡ []) }
 {
     let mut rest = bytes;
     'lines: while let Some((piece, after)) = cut_at(rest, b'\n') {
-        respond_to_piece(alloc, live, front, piece, unsent, log, out)?;
+        respond_to_piece(alloc, live, prefix, piece, unsent, log, out)?;
         send_much(live, unsent, log, out)?;
         rest = after;
     }
-    keep(front, rest);
+    keep(prefix, rest);
     send(unsent, log, out)
 }

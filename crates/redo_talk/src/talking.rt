@@ -55,7 +55,7 @@ pub fn talk<R: Read, L: Write, W: Write>(
         (known_in L.contents log.old) (known_in L.contents log.new)
         (known_in W.contents out.old) (known_in W.contents out.new) }
 {
-    let mut front = Vec::with_capacity(alloc, MOST_KEPT)?;
+    let mut prefix = Vec::with_capacity(alloc, MOST_KEPT)?;
     let mut chunk = vec![in alloc; 0; READ_BYTES]?;
     let mut unsent = Unsent::new(alloc);
     'reads: for _ in 0..u64::MAX {
@@ -68,7 +68,7 @@ pub fn talk<R: Read, L: Write, W: Write>(
         hear(
             alloc,
             live,
-            &mut front,
+            &mut prefix,
             &chunk[..count],
             &mut unsent,
             log,

@@ -1,8 +1,8 @@
 ghost use Rattle.std.specs.Prelude.{◌≡◌, ◌⊎◌, ◌+◌, ◌≤◌, ◌++◌, [], OnOk, OnErr, decimal, length};
 ghost use Rattle.redo_whole.specs.Devices.{known_in, Writes};
-ghost use Rattle.redo_whole.specs.Inside.Watched.{AppendsFront};
+ghost use Rattle.redo_whole.specs.Inside.Watched.{AppendsPrefix};
 ghost use Rattle.redo_talk.specs.Rounds.{fault_text_of};
-ghost use Rattle.redo_talk.specs.Inside.Sending.{SendsFronts, IsKeptBack, IsSent};
+ghost use Rattle.redo_talk.specs.Inside.Sending.{SendsPrefixes, IsKeptBack, IsSent};
 
 use crate::fault::Refusal;
 use arrayvec::ArrayVec;
@@ -52,8 +52,8 @@ impl Unsent {
 /// Writes the bytes, if there are any, and flushes them.
 fn put<D: Write>(device: &mut Watched<D>, bytes: &[u8]) -> Result<(), WriteFault>
     ensures whole { OnOk result (Writes D.contents device.old device.new bytes.now) }
-    ensures front { OnErr result
-        (AppendsFront (known_in D.contents device.old) (known_in D.contents device.new) bytes.now) }
+    ensures prefix { OnErr result (AppendsPrefix
+        (known_in D.contents device.old) (known_in D.contents device.new) bytes.now) }
 {
     if bytes.is_empty() {
         return Ok(());
@@ -72,7 +72,7 @@ pub(crate) fn send<L: Write, W: Write>(
     ensures said { OnOk result (Writes W.contents out.old out.new unsent.old.said.items) }
     ensures none_said { OnOk result (unsent.new.said.items ≡ []) }
     ensures none_logged { OnOk result (unsent.new.logged.items ≡ []) }
-    ensures err { OnErr result (SendsFronts
+    ensures err { OnErr result (SendsPrefixes
         (known_in L.contents log.old) (known_in L.contents log.new)
         (known_in W.contents out.old) (known_in W.contents out.new)
         unsent.old.logged.items unsent.old.said.items) }
@@ -125,7 +125,7 @@ pub(crate) fn tell_fault<L: Write, W: Write>(
         unsent.old.logged.items unsent.new.logged.items
         unsent.old.said.items unsent.new.said.items
         (fault_text_of (decimal fault.number) fault.word.now)) }
-    ensures err { OnErr result (SendsFronts
+    ensures err { OnErr result (SendsPrefixes
         (known_in L.contents log.old) (known_in L.contents log.new)
         (known_in W.contents out.old) (known_in W.contents out.new)
         unsent.old.logged.items

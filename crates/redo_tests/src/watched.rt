@@ -157,7 +157,7 @@ fn is_run<T: Threads + Wait + Sync>(
     is_right && out.faulted() == fails && !files.iter().any(|file| file.faulted())
 }
 
-/// The front of a run text that there is room for is written, and nothing after the failure.
+/// The prefix of a run text that there is room for is written, and nothing after the failure.
 #[test]
 fn runs_by_a_failing_writer(rt: HostRuntime) -> Result<(), AllocError> {
     for ((files, room, fails), text, writes, is_full) in RUNS {

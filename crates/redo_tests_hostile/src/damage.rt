@@ -74,9 +74,9 @@ fn is_gap(byte: u8, is_line: bool) -> bool {
 fn piece_at(text: &[u8], at: usize, is_line: bool) -> (usize, usize) {
     let before = part(text, 0, at).iter().rev();
     let after = part(text, at, text.len()).iter();
-    let front = before.take_while(|byte| !is_gap(**byte, is_line)).count();
+    let prefix = before.take_while(|byte| !is_gap(**byte, is_line)).count();
     let back = after.take_while(|byte| !is_gap(**byte, is_line)).count();
-    (at.saturating_sub(front), at.saturating_add(back))
+    (at.saturating_sub(prefix), at.saturating_add(back))
 }
 
 /// The text so many times.
@@ -114,7 +114,7 @@ pub(crate) fn damaged(
     let at = random.below(text.len().saturating_add(1));
     let other = random.below(text.len().saturating_add(1));
     let (from, to) = piece_at(text, at, random.below(2) == 0);
-    // the line or the word, with the gap in front of it
+    // the line or the word, with the gap before it
     let all = part(text, from.saturating_sub(1), to);
     let new = piece(alloc, random)?;
     match random.below(12) {
@@ -168,7 +168,7 @@ pub(crate) fn badly_damaged(
     Ok(out)
 }
 
-/// The text with a guard in front of some of its lines.
+/// The text with a guard before some of its lines.
 pub(crate) fn with_guards(
     alloc: Global,
     random: &mut Random,

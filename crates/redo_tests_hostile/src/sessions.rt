@@ -34,9 +34,9 @@ fn damaged_long_session_files(rt: HostRuntime) -> Result<(), Fail> {
     let alloc = rt.alloc();
     let mut random = Random::new(2);
     let mut tally = Tally::new(alloc)?;
-    let front = long_file(alloc, 4092)?;
+    let prefix = long_file(alloc, 4092)?;
     for _ in 0..800 {
-        let mut file = Vec::from_slice(alloc, &front)?;
+        let mut file = Vec::from_slice(alloc, &prefix)?;
         file.extend_from_slice(&badly_damaged(alloc, &mut random, LAST)?)?;
         judge_file(&rt, &file, &mut tally)?;
     }

@@ -92,8 +92,8 @@ fn counts(alloc: Global, log: &[u8]) -> Result<(usize, usize), RestoreFault> {
 
 #[test]
 fn logs(rt: HostRuntime) -> Result<(), AllocError> {
-    for (front, rest, want) in LOGS {
-        let log = format!(in rt.alloc(); "{front}{rest}")?;
+    for (prefix, rest, want) in LOGS {
+        let log = format!(in rt.alloc(); "{prefix}{rest}")?;
         assert_eq!(rt; counts(rt.alloc(), log.as_bytes()), *want, "{log:?}");
     }
     Ok(())

@@ -108,12 +108,12 @@ fn replay_read(rt: &impl Abort, alloc: Global, most: usize, reads: usize, fault:
 /// A replay that writes at most so many bytes at once, and makes so many writes.
 fn replay_written(rt: &impl Abort, alloc: Global, most: usize, writes: usize, fault: Fault) {
     let done = replay_with(alloc, reader(HISTORY, 1, NEVER), writer(alloc, most, fault));
-    let want = front(VERDICT, fault.at, most);
+    let want = prefix(VERDICT, fault.at, most);
     assert!(rt; is_replay_written(&done, fault.at < writes, want));
 }
 
 /// What so many writes of so many bytes take of a text.
-fn front(text: &[u8], writes: usize, most: usize) -> &[u8] {
+fn prefix(text: &[u8], writes: usize, most: usize) -> &[u8] {
     let count = writes.min(text.len()).saturating_mul(most).min(text.len());
     &text[..count]
 }
@@ -284,7 +284,7 @@ fn run_writes<R: Threads + Wait + Abort + Sync>(rt: &R, alloc: Global, most: usi
         let first = reader(FILE, 1, NEVER);
         let second = reader(b"", 1, NEVER);
         let done = run_with(rt, alloc, first, second, writer(alloc, most, fault));
-        let want = front(FIRST_TEXT, fault.at, most);
+        let want = prefix(FIRST_TEXT, fault.at, most);
         assert!(rt; is_run_written(&done, fault.at < writes, want));
     }
 }

@@ -132,7 +132,7 @@ pub(crate) fn with_change(
 }
 
 /// A copy in which each journal is cut short anywhere.
-pub(crate) fn with_fronts(
+pub(crate) fn with_prefixes(
     alloc: Global,
     random: &mut Random,
     told: &[Vec<Told>],

@@ -2,7 +2,7 @@
 ghost use Rattle.std.specs.Prelude.{◌<◌, length};
 
 use crate::cases::{Tally, check};
-use crate::changed::{exchange, with_change, with_fronts};
+use crate::changed::{exchange, with_change, with_prefixes};
 use crate::drawn::{Drawn, draw};
 use crate::rules::{Standing, is_placed};
 use crate::told::{copied, count_of};
@@ -195,20 +195,20 @@ fn first_order(rt: HostRuntime) -> Result<(), AllocError> {
 }
 
 /// A history's journals, cut short in a way that is drawn.
-fn check_front(
+fn check_prefix(
     rt: &impl Abort,
     alloc: Global,
     random: &mut Random,
     drawn: &Drawn,
     tally: &mut Tally,
 ) -> Result<(), AllocError> {
-    let told = with_fronts(alloc, random, &drawn.told)?;
+    let told = with_prefixes(alloc, random, &drawn.told)?;
     check(rt, alloc, &drawn.plan, &told, tally)?;
     Ok(())
 }
 
 /// The journals of a history that is drawn, cut short in three ways.
-fn check_fronts(
+fn check_prefixes(
     rt: &impl Abort,
     alloc: Global,
     random: &mut Random,
@@ -216,7 +216,7 @@ fn check_fronts(
 ) -> Result<(), AllocError> {
     let drawn = draw(rt, alloc, random)?;
     for _ in 0..3 {
-        check_front(rt, alloc, random, &drawn, tally)?;
+        check_prefix(rt, alloc, random, &drawn, tally)?;
     }
     Ok(())
 }
@@ -227,7 +227,7 @@ fn whole_journals(rt: HostRuntime) -> Result<(), AllocError> {
     let mut random = Random::new(42);
     let mut tally = Tally::new();
     for _ in 0..HISTORIES {
-        check_fronts(&rt, rt.alloc(), &mut random, &mut tally)?;
+        check_prefixes(&rt, rt.alloc(), &mut random, &mut tally)?;
     }
     assert!(rt; tally.some >= 500 && tally.none >= 500);
     Ok(())

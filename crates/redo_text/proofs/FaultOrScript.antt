@@ -40,15 +40,15 @@ read_on names lines [] before items mid parts read =
     )
 read_on names lines (line ∷ rest) before items mid parts read =
     by (script_line_in (length items) mid line) refl
-    (λ front cs after e is. read_on names lines rest front cs after e is)
+    (λ prefix cs after e is. read_on names lines rest prefix cs after e is)
   where
     few : length mid ≤ 65536
     few = read.named.1
 
     by : (given : Result (Option (Item Text) × List Text) LineFault)
         → script_line_in (length items) mid line ≡ given
-        → ((front : List Text) (cs : List (Item Text)) (after : List Text)
-        → lines ≡ front ++ rest → AreScriptLines names front cs after
+        → ((prefix : List Text) (cs : List (Item Text)) (after : List Text)
+        → lines ≡ prefix ++ rest → AreScriptLines names prefix cs after
         → AllRead names lines ⊎ OneFails names lines)
         → AllRead names lines ⊎ OneFails names lines
     by (Err fault) is later = inr (record {
@@ -110,7 +110,7 @@ stand_later first before line others other stand = elim stand [
   | inl same ↦ inl (ap (λ (l : List Text). first ∷ l) same.0, same.1)
   | inr apart ↦ elim apart [
     | inl after ↦ inr (inl (after.0, ap (λ (l : List Text). first ∷ l) after.1))
-    | inr front ↦ inr (inr (front.0, ap (λ (l : List Text). first ∷ l) front.1))
+    | inr prefix ↦ inr (inr (prefix.0, ap (λ (l : List Text). first ∷ l) prefix.1))
   ]
 ]
 
@@ -160,8 +160,8 @@ one_first_fault names text n m a b one two =
         | inl after ↦
             absurd (not_before names one.before one.line two.before two.line after.0 a b after.1
             one.fails two.fails)
-        | inr front ↦
-            absurd (not_before names two.before two.line one.before one.line front.0 b a front.1
+        | inr prefix ↦
+            absurd (not_before names two.before two.line one.before one.line prefix.0 b a prefix.1
             two.fails one.fails)
       ]
     ]

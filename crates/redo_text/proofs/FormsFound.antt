@@ -14,7 +14,7 @@ use Rattle.redo_text.specs.Texts.{spaced, stamp_word, word_of}
 use Rattle.redo_text.specs.Grammar.{HasForm, IsNameList, IsSpelled, with_names, AddsNames}
 use Rattle.redo_text.specs.Questions.{kind_named}
 use Rattle.redo_text.specs.Inside.Reading.{◌>>=◌, name_in, file_stamp_in, file_stamp_or_none_in, content_in, added, one_name_in, target_and_names_in, all_added, names_form_in, file_in, stamp_in, done_in, no_words_in, form_in, words_in}
-use Rattle.redo_text.proofs.Fronts.{word_is}
+use Rattle.redo_text.proofs.FirstWords.{word_is}
 use Rattle.redo_text.proofs.Steps.{bind_ok, guard_ok, read, same_given}
 use Rattle.redo_text.proofs.Added.{one_added}
 use Rattle.redo_text.proofs.Contents.{content_says}

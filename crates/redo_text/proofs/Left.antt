@@ -17,8 +17,8 @@ use Rattle.redo_text.specs.declared.fault.ReadFault.TheVariants as faults
 use Rattle.redo_text.specs.Texts.{word_of}
 use Rattle.redo_text.specs.Grammar.{with_names}
 use Rattle.redo_text.specs.Questions.{words_of, has_bad_byte}
-use Rattle.redo_text.specs.Inside.Faults.{AddsFront, LeavesNames}
-use Rattle.redo_text.specs.Inside.Reading.{Reads, added, target_and_names_in, LeavesFront, LeavesSome, LeavesWords}
+use Rattle.redo_text.specs.Inside.Faults.{AddsPrefix, LeavesNames}
+use Rattle.redo_text.specs.Inside.Reading.{Reads, added, target_and_names_in, LeavesPrefix, LeavesSome, LeavesWords}
 use Rattle.redo_text.proofs.Added.{added_is}
 use Rattle.redo_text.proofs.NameLists.{target_and_names_found, all_names, each_name, names_are_visible}
 use Rattle.redo_text.proofs.ScriptParts.{with_names-append}
@@ -37,56 +37,56 @@ full_at names t fault e = by (has names t) (eqb (length names) 65536) refl e
     by false false full h = absurd cc
 
 -- the names with the first words, and with one more
-pub front_more : (start names after ws : List Text) (i : ℕ) (w : Text) → length names ≤ 65536
+pub prefix_more : (start names after ws : List Text) (i : ℕ) (w : Text) → length names ≤ 65536
     → i < length ws → get_or ws i [] ≡ w → added names w ≡ Ok after
     → names ≡ with_names start (take i ws) → after ≡ with_names start (take (i + 1) ws)
-front_more start names after ws i w few lt at e front =
+prefix_more start names after ws i w few lt at e prefix =
     (added_is names w after few e).0
-    ∙ ap (λ (l : List Text). with_name l w) front
+    ∙ ap (λ (l : List Text). with_name l w) prefix
     ∙ sym (with_names-append start (take i ws) (w ∷ []))
     ∙ ap (with_names start) (ap (λ (t : Text). take i ws ++ t ∷ []) (sym at)
     ∙ sym (take_more ws i [] lt))
 
-front_at : (start after ws : List Text) (i : ℕ) → after ≡ with_names start (take i ws)
-    → AddsFront start ws after
-front_at start after ws i front = record {
+prefix_at : (start after ws : List Text) (i : ℕ) → after ≡ with_names start (take i ws)
+    → AddsPrefix start ws after
+prefix_at start after ws i prefix = record {
   own = take i ws;
   rest = drop i ws;
   words_are = sym (take-append-drop i ws);
-  adds = front;
+  adds = prefix;
 }
 
 -- one word is not added: those before it are
-pub front_left : (start names after ws : List Text) (i : ℕ) (w : Text) (why : Unread)
+pub prefix_left : (start names after ws : List Text) (i : ℕ) (w : Text) (why : Unread)
     → names ≡ with_names start (take i ws) → after ≡ names
     → Reads {X = ℕ} {Y = List Text} (λ n. after) (Err why) (added names w)
-    → LeavesFront start ws after why
-front_left start names after ws i w unread.Memory front same reads =
-    (front_at start after ws i (same ∙ front), tt)
-front_left start names after ws i w (unread.Fault fault) front same reads =
+    → LeavesPrefix start ws after why
+prefix_left start names after ws i w unread.Memory prefix same reads =
+    (prefix_at start after ws i (same ∙ prefix), tt)
+prefix_left start names after ws i w (unread.Fault fault) prefix same reads =
     let full = full_at names w fault reads in
-    (front_at start after ws i (same ∙ front), (full.0, ap length same ∙ full.1))
+    (prefix_at start after ws i (same ∙ prefix), (full.0, ap length same ∙ full.1))
 
 -- the words before it, and it, are added, and then memory runs out
-pub front_kept : (start after ws : List Text) (i : ℕ) → after ≡ with_names start (take i ws)
-    → LeavesFront start ws after unread.Memory
-front_kept start after ws i front = (front_at start after ws i front, tt)
+pub prefix_kept : (start after ws : List Text) (i : ℕ) → after ≡ with_names start (take i ws)
+    → LeavesPrefix start ws after unread.Memory
+prefix_kept start after ws i prefix = (prefix_at start after ws i prefix, tt)
 
 -- after a target, some of the names are added
 pub some_left : (names mid after args : List Text) (t : Text) (ns : List Text) (why : Unread)
     → length names ≤ 65536 → target_and_names_in args ≡ Ok (t, ns) → added names t ≡ Ok mid
-    → LeavesFront mid ns after why → LeavesSome names args after why
+    → LeavesPrefix mid ns after why → LeavesSome names args after why
 some_left names mid after args t ns why few words e left =
     let found = target_and_names_found args t ns words in
     let is : mid ≡ with_name names t = (added_is names t mid few e).0 in
-    let front = left.0 in
+    let prefix = left.0 in
     let each : list_all is_name args ≡ true =
     ap (list_all is_name) found.words ∙ all_names (t ∷ ns) (found.target, found.list.each) in
-    let longer : AddsFront names args after = record {
-      own = t ∷ front.own;
-      rest = front.rest;
-      words_are = found.words ∙ ap (λ (l : List Text). t ∷ l) front.words_are;
-      adds = front.adds ∙ ap (λ (l : List Text). with_names l front.own) is;
+    let longer : AddsPrefix names args after = record {
+      own = t ∷ prefix.own;
+      rest = prefix.rest;
+      words_are = found.words ∙ ap (λ (l : List Text). t ∷ l) prefix.words_are;
+      adds = prefix.adds ∙ ap (λ (l : List Text). with_names l prefix.own) is;
     } in
     inr (each, (longer, left.1))
 
@@ -115,7 +115,7 @@ words_left names text kind args after why words left =
       | inl same ↦ inl same
       | inr some ↦ inr (
         good some.0,
-        subst (λ (l : List Text). LeavesFront names l after why)
+        subst (λ (l : List Text). LeavesPrefix names l after why)
             (sym (ap (drop 1) words)) some.1,
       )
     ]
@@ -137,7 +137,7 @@ pub same_left_on : {X : Type 0} (result : Result X Unread) (names : List Text) (
 same_left_on (Ok x) names text after same = tt
 same_left_on (Err why) names text after same = inl same
 
-none_added : (names words : List Text) → AddsFront names words names
+none_added : (names words : List Text) → AddsPrefix names words names
 none_added names words = record { own = []; rest = words; words_are = refl; adds = refl }
 
 -- the names after the error of a line that is read alone
@@ -151,7 +151,7 @@ names_left names line after unread.Memory result left memory of_line =
   where
     by : LeavesWords names line after unread.Memory → LeavesNames names line after faults.Memory
     by (inl same) =
-        subst (λ (l : List Text). AddsFront names (drop 1 (words_of line)) l) (sym same)
+        subst (λ (l : List Text). AddsPrefix names (drop 1 (words_of line)) l) (sym same)
         (none_added names (drop 1 (words_of line)))
     by (inr some) = some.1.0
 names_left names line after (unread.Fault fault) result left memory of_line =

@@ -5,7 +5,7 @@ pub mod FaultOrCommand
 pub mod FaultOrScript
 pub mod FormsFound
 pub mod FormsRead
-pub mod Fronts
+pub mod FirstWords
 pub mod Guards
 pub mod ItemTexts
 pub mod LineLaws

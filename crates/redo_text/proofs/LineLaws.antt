@@ -15,7 +15,7 @@ use Rattle.redo_text.proofs.Steps.{unless_ok, same_given}
 use Rattle.redo_text.proofs.Spaced.{line_is_spaced, words_of-spaced, spaced_is_text}
 use Rattle.redo_text.proofs.Contents.{content_word_says}
 use Rattle.redo_text.proofs.FormsFound.{words_say}
-use Rattle.redo_text.proofs.Fronts.{some_word}
+use Rattle.redo_text.proofs.FirstWords.{some_word}
 use Rattle.redo_text.proofs.FormsRead.{read_from_words, few_names}
 
 abbrev is_bad : ℕ → Bool

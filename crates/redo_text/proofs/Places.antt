@@ -30,8 +30,8 @@ pub none_then_block : (p : ℕ → Bool) (xs : List ℕ) (at before : ℕ)
     → ((k : ℕ) → k < at → p (get_or xs k 0) ≡ false)
     → ((k : ℕ) → at ≤ k → k < at + before → p (get_or xs k 0) ≡ false)
     → (k : ℕ) → k < at + before → p (get_or xs k 0) ≡ false
-none_then_block p xs at before front block k lt =
-    elim (cases_lt k at) [ inl below ↦ front k below | inr from ↦ block k from lt ]
+none_then_block p xs at before prefix block k lt =
+    elim (cases_lt k at) [ inl below ↦ prefix k below | inr from ↦ block k from lt ]
 
 -- if there is no first place, none passes
 pub none_passes : (p : ℕ → Bool) (xs : List ℕ) → position p xs ≡ None → (k : ℕ) → k < length xs

@@ -17,7 +17,7 @@ use Rattle.redo_text.specs.Inside.Reading.{◌>>=◌, name_in, all_added}
 use Rattle.redo_text.specs.Replies.{IsGrant, IsDigest, AreAllNames, HasRefusalForm, HasReplyForm, IsReplyText, AddsReplyNames, names_in_reply}
 use Rattle.redo_text.specs.Inside.ReplyReading.{one_word_in, grant_in, digest_in, names_in_words, some_names_in_words, plain_refusal_in, refusal_in_words, okay_in, reply_word, reply_kind_named, reply_args_in, reply_words_in, reply_in}
 use Rattle.redo_text.proofs.Steps.{bind_ok, guard_ok, unless_ok}
-use Rattle.redo_text.proofs.Fronts.{reply_word_is}
+use Rattle.redo_text.proofs.FirstWords.{reply_word_is}
 use Rattle.redo_text.proofs.NameLists.{not_false, each_name, all_added-is}
 use Rattle.redo_text.proofs.ReplyWords.{grant_says, digest_says}
 use Rattle.redo_text.proofs.Spaced.{line_is_spaced}

@@ -18,7 +18,7 @@ use Rattle.redo_text.specs.Replies.{IsGrant, IsDigest}
 use Rattle.redo_text.specs.Questions.{words_of}
 use Rattle.redo_text.specs.Inside.ReplyReading.{one_word_in, grant_in, digest_in, printed_digest}
 use Rattle.redo_text.proofs.Contents.{bytes_by_place, bytes_one_by_one, digits_are_visible}
-use Rattle.redo_text.proofs.Fronts.{not_none}
+use Rattle.redo_text.proofs.FirstWords.{not_none}
 use Rattle.redo_text.proofs.Numerals.{printed_digits, printed_value, printed_first, printed_back}
 use Rattle.redo_text.proofs.Spaced.{IsVisible, line_is_spaced, words_of-spaced}
 use Rattle.redo_text.proofs.Steps.{both, guard_ok}

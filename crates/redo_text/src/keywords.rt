@@ -37,7 +37,7 @@ fn kind_of_word(word: &[u8]) -> Option<Kind>
 }
 
 /// The kind of command with the first word of a text, and the text after its space, if it has one.
-#[tactic(auto, using(crate::proofs::Fronts::words_by_kind, crate::proofs::Fronts::no_kind, crate::proofs::Fronts::word_is))]
+#[tactic(auto, using(crate::proofs::FirstWords::words_by_kind, crate::proofs::FirstWords::no_kind, crate::proofs::FirstWords::word_is))]
 pub(crate) fn cut_kind(text: &[u8]) -> Option<(Kind, Option<&[u8]>)>
     ensures reads { (names : List Text)
         → MatchOption result (words_in names (words_of text.now) ≡ Err UnknownCommand)

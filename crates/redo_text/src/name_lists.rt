@@ -5,7 +5,7 @@ ghost use Rattle.redo_names.specs.Inside.Names.{Extends};
 ghost use Rattle.redo_model.specs.Names.{Text};
 ghost use Rattle.redo_model.specs.Command as commands;
 ghost use Rattle.redo_model.specs.Renaming.{AllBelow};
-ghost use Rattle.redo_text.specs.Inside.Reading.{Reads, LeavesFront, LeavesSome, target_and_names_in, all_added, names_form_in, words_after};
+ghost use Rattle.redo_text.specs.Inside.Reading.{Reads, LeavesPrefix, LeavesSome, target_and_names_in, all_added, names_form_in, words_after};
 
 use crate::args::words;
 use crate::fault::{LineFault, Unread};
@@ -66,7 +66,7 @@ pub(crate) fn numbers_of(
         (λ numbers. map (text_at names.new) numbers.items ≡ map (λ w. w.now) words.now) }
     ensures within { IfOk result (λ numbers. AllBelow (length names.new) numbers.items) }
     ensures left { IfErr result
-        (LeavesFront names.old (map (λ w. w.now) words.now) names.new) }
+        (LeavesPrefix names.old (map (λ w. w.now) words.now) names.new) }
     ensures kept { Extends names.old names.new }
 {
     let mut numbers = Vec::new(alloc);

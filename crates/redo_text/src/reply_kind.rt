@@ -65,7 +65,7 @@ fn reply_kind_of(word: &[u8]) -> Option<ReplyKind>
 
 /// The kind of reply that begins with the first word of a text, and the text after its space, if it
 /// has one.
-#[tactic(auto, using(crate::proofs::Fronts::reply_by_kind, crate::proofs::Fronts::no_reply_kind))]
+#[tactic(auto, using(crate::proofs::FirstWords::reply_by_kind, crate::proofs::FirstWords::no_reply_kind))]
 pub(crate) fn cut_reply_kind(text: &[u8]) -> Option<(ReplyKind, Option<&[u8]>)>
     ensures { MatchOption result (reply_words_in (words_of text.now) ≡ Err WrongWords)
         (λ k. reply_words_in (words_of text.now) ≡ reply_args_in (Some k.0) (words_after k.1)) }

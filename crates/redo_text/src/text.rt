@@ -71,8 +71,9 @@ fn put_form(
     names: &Names,
 ) -> Result<(), AllocError>
     requires { IsBelow (length names.now) (command_of command.now) }
-    ensures { (front : List ℕ) → out.old.items ≡ front ++ word_of (kind_of command.now)
-        → OnOk result (out.new.items ≡ front ++ command_text_of (command_at names.now command.now)) }
+    ensures { (prefix : List ℕ) → out.old.items ≡ prefix ++ word_of (kind_of command.now)
+        → OnOk result (out.new.items
+        ≡ prefix ++ command_text_of (command_at names.now command.now)) }
 {
     match command {
         Command::File(n, stamp) => {

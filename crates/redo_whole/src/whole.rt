@@ -1,7 +1,7 @@
 ghost use Rattle.std.specs.Prelude.{◌≡◌, ◌||◌, ◌↔◌, ◌≤◌, ◌<◌, false, true, length, is_err, IfOk, IfSome, OnOk, OnErr, IsErrOf};
 ghost use Rattle.std.specs.Io.KnownBytes.{Appends, IsAtEnd};
 ghost use Rattle.redo_whole.specs.Watched.{failures_of, has_failed, inner_of};
-ghost use Rattle.redo_whole.specs.Inside.Watched.{AppendsFront, ConsumesSome};
+ghost use Rattle.redo_whole.specs.Inside.Watched.{AppendsPrefix, ConsumesSome};
 ghost use Rattle.redo_whole.specs.Inside.Counts.{counted, is_faulted};
 ghost use Rattle.redo_whole.specs.declared.whole.WholeFault.TheVariants.{Memory};
 
@@ -89,7 +89,7 @@ pub fn read_whole<R: Read>(
 pub fn write_whole<W: Write>(writer: &mut Watched<W>, bytes: &[u8]) -> Result<(), WriteFault>
     ensures whole { OnOk result
         (Appends (W.contents (inner_of writer.old)) (W.contents (inner_of writer.new)) bytes.now) }
-    ensures front { OnErr result (AppendsFront (W.contents (inner_of writer.old))
+    ensures prefix { OnErr result (AppendsPrefix (W.contents (inner_of writer.old))
         (W.contents (inner_of writer.new)) bytes.now) }
 
     // The fault of a device comes exactly if a write of this call failed.

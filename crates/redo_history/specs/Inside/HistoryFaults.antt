@@ -7,7 +7,7 @@ use Rattle.redo_history.specs.HistoryFaults.{HasBadSession, HasBadReply, HasBadC
 
 -- the part before the first such byte, and the part after it
 abbrev pub IsCutAt : ℕ → Text → Text → Text → Type 0
-IsCutAt byte text front rest = (text ≡ front ++ byte ∷ rest) × ¬ (Contains front byte)
+IsCutAt byte text prefix rest = (text ≡ prefix ++ byte ∷ rest) × ¬ (Contains prefix byte)
 
 -- the cause of the fault of the line of this number, if the lines before have these names
 abbrev pub IsLineCause : List Text → ℕ → Text → HistoryFault → Type 0

@@ -2,7 +2,7 @@
 use Rattle.std.specs.Prelude.{Option, ◌++◌}
 use Rattle.redo_model.specs.Names.{Text}
 use Rattle.redo_live.specs.Inside.LiveState.{LiveState, state_in}
-use Rattle.redo_talk.specs.Inside.KeptLines.{IsFrontOf}
+use Rattle.redo_talk.specs.Inside.KeptLines.{IsPrefixOf}
 use Rattle.redo_talk.specs.Inside.Steps.{Known}
 use Rattle.redo_talk.specs.Inside.Moments.{Moment, Waiting, IsTalk, IsBrokenOff}
 use Rattle.redo_talk.specs.declared.unsent.Unsent.{Unsent}
@@ -49,6 +49,6 @@ BreaksOff old new before =
 
 -- it goes on, and a prefix is kept of a line that has not ended before the rest
 abbrev pub GoesOnInLine : Place → Place → Text → Text → Text → Type 0
-GoesOnInLine old new before front rest =
+GoesOnInLine old new before prefix rest =
     (first : Moment) (left : Option Text) → TalksAt first left old before
-    → (begun : Text) × IsFrontOf begun front × TalksAt first left new (begun ++ rest)
+    → (begun : Text) × IsPrefixOf begun prefix × TalksAt first left new (begun ++ rest)

@@ -12,6 +12,6 @@ abbrev pub IsHeardOf : Text → Text → Type 0
 IsHeardOf whole line = (line ≡ whole) ⊎ (line ≡ kept_of whole)
 
 -- what is kept of a line that has not ended
-pub record IsFrontOf (whole front : Text) : Type 0 where
+pub record IsPrefixOf (whole prefix : Text) : Type 0 where
   pub unended : HasNoEnd whole
-  pub kept : front ≡ kept_of whole
+  pub kept : prefix ≡ kept_of whole

@@ -39,13 +39,13 @@ pub record IsBrokenOff (first now : Moment) : Type 0 where
   pub more : Text
   pub steps : AreSteps first.known known (sent ++ kept)
   pub heard : Consumes first.left now.left (heard_in (sent ++ kept) ++ more)
-  pub log_front : Text
+  pub log_prefix : Text
   pub log_rest : Text
   pub to_log : logged_of first.known.state (lines_in (sent ++ kept))
-      ≡ logged_of first.known.state (lines_in sent) ++ log_front ++ log_rest
-  pub logged : Appends first.log now.log (logged_of first.known.state (lines_in sent) ++ log_front)
-  pub said_front : Text
+      ≡ logged_of first.known.state (lines_in sent) ++ log_prefix ++ log_rest
+  pub logged : Appends first.log now.log (logged_of first.known.state (lines_in sent) ++ log_prefix)
+  pub said_prefix : Text
   pub said_rest : Text
-  pub to_say : said_in kept ≡ said_front ++ said_rest
-  pub said : Appends first.out now.out (said_in sent ++ said_front)
-  pub log_first : (log_rest ≡ []) ⊎ (said_front ≡ [])
+  pub to_say : said_in kept ≡ said_prefix ++ said_rest
+  pub said : Appends first.out now.out (said_in sent ++ said_prefix)
+  pub log_first : (log_rest ≡ []) ⊎ (said_prefix ≡ [])

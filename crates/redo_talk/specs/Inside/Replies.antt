@@ -15,8 +15,8 @@ use Rattle.redo_talk.specs.Inside.Sending.{IsRefusedFor, refusal_word_of}
 use Rattle.redo_talk.specs.Inside.Steps.{Known, IsStep}
 
 -- what the round logs is a prefix of its answer
-abbrev pub LogsFront : State Text → Round → Type 0
-LogsFront st round = (rest : Text) × (round.said ≡ logged_of st round.lines ++ rest)
+abbrev pub LogsPrefix : State Text → Round → Type 0
+LogsPrefix st round = (rest : Text) × (round.said ≡ logged_of st round.lines ++ rest)
 
 -- the line was read, and its round appended to `said` and `logged`
 pub record TellsRound (old new : Known) (heard said said_after logged logged_after : Text) : Type 0
@@ -26,7 +26,7 @@ pub record TellsRound (old new : Known) (heard said said_after logged logged_aft
     pub step : IsStep old new round
     pub says : said_after ≡ said ++ round.said
     pub logs : logged_after ≡ logged ++ logged_of old.state round.lines
-    pub front : LogsFront old.state round
+    pub prefix : LogsPrefix old.state round
 
 -- the answer to the line would have so many bytes
 pub record WouldTell (old : Known) (heard : Text) (size : ℕ) : Type 0 where

@@ -21,17 +21,17 @@ IsRefusedFor names text (Fault fault) = asked_fault names text ≡ Some fault
 
 -- a prefix of `logged` was written to the log and, if that was whole, a prefix of `said` to the
 -- output
-pub record SendsFronts (log log_after out out_after : Option Text) (logged said : Text)
+pub record SendsPrefixes (log log_after out out_after : Option Text) (logged said : Text)
     : Type 0 where
-  pub log_front : Text
+  pub log_prefix : Text
   pub log_rest : Text
-  pub log_parts : logged ≡ log_front ++ log_rest
-  pub to_log : Appends log log_after log_front
-  pub said_front : Text
+  pub log_parts : logged ≡ log_prefix ++ log_rest
+  pub to_log : Appends log log_after log_prefix
+  pub said_prefix : Text
   pub said_rest : Text
-  pub said_parts : said ≡ said_front ++ said_rest
-  pub to_out : Appends out out_after said_front
-  pub log_first : (log_rest ≡ []) ⊎ (said_front ≡ [])
+  pub said_parts : said ≡ said_prefix ++ said_rest
+  pub to_out : Appends out out_after said_prefix
+  pub log_first : (log_rest ≡ []) ⊎ (said_prefix ≡ [])
 
 -- the text waits after what waited
 pub record IsKeptBack (log log_after out out_after : Option Text)

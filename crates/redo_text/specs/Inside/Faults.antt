@@ -20,7 +20,7 @@ IsReadFault names text faults.Memory = ⊤
 IsReadFault names text (faults.Line number fault) = IsFirstFault names text number fault
 
 -- after are the names, and after them the new ones of the first of these words
-pub record AddsFront (names words after : List Text) : Type 0 where
+pub record AddsPrefix (names words after : List Text) : Type 0 where
   pub own : List Text
   pub rest : List Text
   pub words_are : words ≡ own ++ rest
@@ -29,7 +29,7 @@ pub record AddsFront (names words after : List Text) : Type 0 where
 -- the names after an error of a line: the names before it; if its own are too many, these, or as
 -- many of its names added as fit; after `Memory` some of its names may be added
 abbrev pub LeavesNames : List Text → Text → List Text → ReadFault → Type 0
-LeavesNames names line after faults.Memory = AddsFront names (drop 1 (words_of line)) after
+LeavesNames names line after faults.Memory = AddsPrefix names (drop 1 (words_of line)) after
 LeavesNames names line after (faults.Line number TooManyNames) =
-    (after ≡ names) ⊎ (AddsFront names (drop 1 (words_of line)) after × (length after ≡ 65536))
+    (after ≡ names) ⊎ (AddsPrefix names (drop 1 (words_of line)) after × (length after ≡ 65536))
 LeavesNames names line after (faults.Line number fault) = after ≡ names

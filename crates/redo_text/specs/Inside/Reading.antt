@@ -17,7 +17,7 @@ use Rattle.redo_text.specs.declared.fault.LineFault.{LineFault}
 use Rattle.redo_text.specs.declared.fault.LineFault.TheVariants.{LineTooLong, BadByte, UnknownCommand, WrongWords, BadName, BadStamp, BadHex, TooManyLines, TooManyNames}
 use Rattle.redo_text.specs.declared.fault.Unread.{Unread}
 use Rattle.redo_text.specs.declared.fault.Unread.TheVariants as unread
-use Rattle.redo_text.specs.Inside.Faults.{AddsFront}
+use Rattle.redo_text.specs.Inside.Faults.{AddsPrefix}
 
 infixl 10 ◌>>=◌
 abbrev pub ◌>>=◌ : {A B : Type 0} → Result A LineFault → (A → Result B LineFault)
@@ -187,16 +187,16 @@ IsFull after unread.Memory = ⊤
 IsFull after (unread.Fault fault) = (fault ≡ TooManyNames) × (length after ≡ 65536)
 
 -- an error leaves the names with some of these words, which are names
-abbrev pub LeavesFront : List Text → List Text → List Text → Unread → Type 0
-LeavesFront names words after why = AddsFront names words after × IsFull after why
+abbrev pub LeavesPrefix : List Text → List Text → List Text → Unread → Type 0
+LeavesPrefix names words after why = AddsPrefix names words after × IsFull after why
 
 -- an error leaves the names, or all the words are names and some of them are added
 abbrev pub LeavesSome : List Text → List Text → List Text → Unread → Type 0
 LeavesSome names words after why =
-    (after ≡ names) ⊎ ((list_all is_name words ≡ true) × LeavesFront names words after why)
+    (after ≡ names) ⊎ ((list_all is_name words ≡ true) × LeavesPrefix names words after why)
 
 -- an error leaves the names, or the text has no bad byte and some of its words are added
 abbrev pub LeavesWords : List Text → Text → List Text → Unread → Type 0
 LeavesWords names text after why =
     (after ≡ names)
-    ⊎ ((has_bad_byte text ≡ false) × LeavesFront names (drop 1 (words_of text)) after why)
+    ⊎ ((has_bad_byte text ≡ false) × LeavesPrefix names (drop 1 (words_of text)) after why)

@@ -1,7 +1,7 @@
 use Rattle.redo_model.proofs.Texts.{texts_are_names}
 use Rattle.redo_model.specs.Placed.{Row, Granted, Busy, Released}
 use Rattle.redo_joint.proofs.EndMore.{line_at}
-use Rattle.redo_joint.proofs.OnlySo.{front_placed, only_so, word_at_grant, word_at_busy}
+use Rattle.redo_joint.proofs.OnlySo.{prefix_placed, only_so, word_at_grant, word_at_busy}
 use Rattle.std.proofs.Common.{sym}
 use Rattle.redo_joint.proofs.events.goes_on_only_so.Goals as goal
 
@@ -14,7 +14,7 @@ pub returns-clause-grant : goal.returns-clause-grant
 returns-clause-grant c lines s number g t command reply on =
     let line = line_at s number command reply (Granted t g) in
     let h = only_so texts_are_names lines line on in
-    let placed = front_placed texts_are_names lines line on in
+    let placed = prefix_placed texts_are_names lines line on in
     let w = word_at_grant texts_are_names lines t g placed h.1 in
     (h.0.0, h.0.1, w.0, w.1)
 
@@ -22,7 +22,7 @@ pub returns-clause-busy : goal.returns-clause-busy
 returns-clause-busy c lines s number g t command reply on =
     let line = line_at s number command reply (Busy t g) in
     let h = only_so texts_are_names lines line on in
-    let placed = front_placed texts_are_names lines line on in
+    let placed = prefix_placed texts_are_names lines line on in
     let w = word_at_busy texts_are_names lines t g placed h.1 in
     (h.0.0, h.0.1, w.0, w.1)
 
@@ -30,6 +30,6 @@ pub returns-clause-release : goal.returns-clause-release
 returns-clause-release c lines s number g t command reply on =
     let line = line_at s number command reply (Released t g) in
     let h = only_so texts_are_names lines line on in
-    let placed = front_placed texts_are_names lines line on in
+    let placed = prefix_placed texts_are_names lines line on in
     let w = word_at_busy texts_are_names lines t g placed h.1 in
     (h.0.0, h.0.1, w.1, h.2.0, h.2.1)

@@ -12,7 +12,7 @@ returns-in_err-verdict-clause-only g c lines known =
 
 pub returns-in-Err-Write-clause-part_written : goal.returns-in-Err-Write-clause-part_written
 returns-in-Err-Write-clause-part_written g c failed =
-    let (sent, rest, parts, sends) = c.in-Err-Write.ensures.front in
+    let (sent, rest, parts, sends) = c.in-Err-Write.ensures.prefix in
     let known = known_in g.R.Read.remaining c.args.input.now in
     let verdict = c.in_ok-verdict.verdict in
     let whole = sym c.deref.ensures.value ∙ parts in

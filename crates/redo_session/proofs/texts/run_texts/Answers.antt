@@ -30,12 +30,12 @@ returns-in-Ok-clause-device g c = (
 pub returns-clause-part_written : goal.returns-clause-part_written
 returns-clause-part_written g c same =
     let files = bytes_of_files g.R.Read.remaining c.args.files.now in
-    let front = c.in-Err-Write.ensures.front in (
-      front.0,
-      front.1,
-      subst (λ (text : Text). RunsAs files text) (sym c.deref.ensures.value ∙ front.2)
+    let prefix = c.in-Err-Write.ensures.prefix in (
+      prefix.0,
+      prefix.1,
+      subst (λ (text : Text). RunsAs files text) (sym c.deref.ensures.value ∙ prefix.2)
           c.in_ok-text.ensures.text,
-      front.3,
+      prefix.3,
     )
 
 pub returns-in_err-text-clause-only : goal.returns-in_err-text-clause-only

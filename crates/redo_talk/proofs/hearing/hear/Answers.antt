@@ -1,8 +1,8 @@
 use Rattle.std.proofs.Common.{◌≤◌, [], ◌∷◌, ◌++◌, sym, ap, subst, length, length-append, append-nil, arith}
 use Rattle.redo_whole.specs.Watched.{inner_of}
-use Rattle.redo_talk.specs.Inside.KeptLines.{IsFrontOf}
+use Rattle.redo_talk.specs.Inside.KeptLines.{IsPrefixOf}
 use Rattle.redo_talk.specs.Inside.Hearing.{TalksAt, known_of, as_place}
-use Rattle.redo_talk.proofs.Fronts.{front_more, front_of_none, next_line}
+use Rattle.redo_talk.proofs.Prefixes.{prefix_more, prefix_of_none, next_line}
 use Rattle.redo_talk.proofs.Outcomes.{on_err, ok_by_four, err_then}
 use Rattle.redo_talk.proofs.Responding.{sending_goes_on, sending_breaks_off}
 use Rattle.redo_talk.proofs.hearing.hear.Goals as goal
@@ -24,10 +24,10 @@ pub returns-in_err-respond_to_piece-clause-broken :
     goal.returns-in_err-respond_to_piece-clause-broken
 returns-in_err-respond_to_piece-clause-broken g c =
     on_err c.from_residual.result _ (λ begun is first left talk.
-    let (line, front, at) = c.lines.invariant.talk begun is first left talk in
+    let (line, prefix, at) = c.lines.invariant.talk begun is first left talk in
     let place = as_place c.lines.live (g.L.Write.contents (inner_of c.lines.log))
     (g.W.Write.contents (inner_of c.lines.out)) c.lines.unsent in
-    c.in_err-respond_to_piece.ensures.broken line c.in-Some.after.now front first left
+    c.in_err-respond_to_piece.ensures.broken line c.in-Some.after.now prefix first left
     (subst (TalksAt first left place)
     (next_line line c.lines.rest.now c.in-Some.piece.now c.in-Some.after.now c.in-Some.ensures.0)
     at))
@@ -35,11 +35,11 @@ returns-in_err-respond_to_piece-clause-broken g c =
 pub returns-in_err-send_much-clause-broken : goal.returns-in_err-send_much-clause-broken
 returns-in_err-send_much-clause-broken g c =
     on_err c.from_residual-in_err-send_much.result _ (λ begun is first left talk.
-    let (line, front, at) = c.lines.invariant.talk begun is first left talk in
+    let (line, prefix, at) = c.lines.invariant.talk begun is first left talk in
     let place = as_place c.lines.live (g.L.Write.contents (inner_of c.lines.log))
     (g.W.Write.contents (inner_of c.lines.out)) c.lines.unsent in
     c.in_err-send_much.ensures.broken c.in-Some.after.now first left
-    (c.in_ok-respond_to_piece.ensures.talk line c.in-Some.after.now front first left
+    (c.in_ok-respond_to_piece.ensures.talk line c.in-Some.after.now prefix first left
     (subst (TalksAt first left place)
     (next_line line c.lines.rest.now c.in-Some.piece.now c.in-Some.after.now c.in-Some.ensures.0)
     at)))
@@ -57,13 +57,13 @@ lines-preserved g c = record {
   room = c.respond_to_piece.ensures.room;
   few = subst (λ t. length t ≤ 8196) (sym c.in_ok-respond_to_piece.ensures.none) (omega arith);
   talk = λ begun is first left talk.
-      let (line, front, at) = c.lines.invariant.talk begun is first left talk in
+      let (line, prefix, at) = c.lines.invariant.talk begun is first left talk in
       let place = as_place c.lines.live (g.L.Write.contents (inner_of c.lines.log))
       (g.W.Write.contents (inner_of c.lines.out)) c.lines.unsent in (
         [],
-        front_of_none c.respond_to_piece.new.front.items c.in_ok-respond_to_piece.ensures.none,
+        prefix_of_none c.respond_to_piece.new.prefix.items c.in_ok-respond_to_piece.ensures.none,
         c.in_ok-send_much.ensures.talk c.in-Some.after.now first left
-            (c.in_ok-respond_to_piece.ensures.talk line c.in-Some.after.now front first left
+            (c.in_ok-respond_to_piece.ensures.talk line c.in-Some.after.now prefix first left
             (subst (TalksAt first left place)
             (next_line line c.lines.rest.now c.in-Some.piece.now c.in-Some.after.now
             c.in-Some.ensures.0) at)),
@@ -81,11 +81,11 @@ returns-clause-talk g c =
     ok_by_four c.send.result _ _ _ _ _ c.send.ensures.logged c.send.ensures.said
     c.send.ensures.none_logged c.send.ensures.none_said
     (λ logged said none_logged none_said begun is first left talk.
-    let (line, front, at) = c.lines.invariant.talk begun is first left talk in
+    let (line, prefix, at) = c.lines.invariant.talk begun is first left talk in
     let rest = c.lines.rest.now in (
       line ++ rest,
-      subst (IsFrontOf (line ++ rest)) (sym c.keep.ensures.kept)
-          (front_more line rest c.lines.front.items c.in_default.ensures front),
+      subst (IsPrefixOf (line ++ rest)) (sym c.keep.ensures.kept)
+          (prefix_more line rest c.lines.prefix.items c.in_default.ensures prefix),
       subst (TalksAt first left (as_place c.lines.live
           (g.L.Write.contents (inner_of c.send.new.log))
           (g.W.Write.contents (inner_of c.send.new.out)) c.send.new.unsent))
@@ -100,11 +100,11 @@ returns-clause-talk g c =
 
 pub returns-clause-broken : goal.returns-clause-broken
 returns-clause-broken g c =
-    err_then c.send.result _ _ c.send.ensures.err (λ fronts begun is first left talk.
-    let (line, front, at) = c.lines.invariant.talk begun is first left talk in
+    err_then c.send.result _ _ c.send.ensures.err (λ prefixes begun is first left talk.
+    let (line, prefix, at) = c.lines.invariant.talk begun is first left talk in
     sending_breaks_off (known_of c.lines.live)
     (g.L.Write.contents (inner_of c.lines.log)) (g.L.Write.contents (inner_of c.send.new.log))
     (g.W.Write.contents (inner_of c.lines.out)) (g.W.Write.contents (inner_of c.send.new.out))
     c.lines.unsent.logged.items c.send.new.unsent.logged.items
     c.lines.unsent.said.items c.send.new.unsent.said.items (line ++ c.lines.rest.now)
-    fronts first left at)
+    prefixes first left at)

@@ -1,11 +1,11 @@
 use Rattle.std.proofs.Common.{◌≡◌, ◌-◌, ◌++◌, ◌∙◌, length, take, arith}
 use Rattle.std.proofs.lemmas.Grind.{common_steps}
-use Rattle.redo_talk.proofs.Fronts.{kept_behind}
+use Rattle.redo_talk.proofs.Prefixes.{kept_behind}
 use Rattle.redo_talk.proofs.hearing.keep.Goals as goal
 
 pub returns-clause-kept : goal.returns-clause-kept
 returns-clause-kept c =
-    let front = c.args.front.now.items in
-    let more = take (8196 - length front) c.args.bytes.now in
-    let is : c.extend_from_slice.new.self.items ≡ front ++ more = grind (arith, common_steps) in
-    is ∙ kept_behind front c.args.bytes.now c.requires.few
+    let prefix = c.args.prefix.now.items in
+    let more = take (8196 - length prefix) c.args.bytes.now in
+    let is : c.extend_from_slice.new.self.items ≡ prefix ++ more = grind (arith, common_steps) in
+    is ∙ kept_behind prefix c.args.bytes.now c.requires.few

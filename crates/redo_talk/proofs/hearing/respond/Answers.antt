@@ -46,12 +46,12 @@ returns-in-Err-clause-broken g c =
       said = fault_text_of (decimal c.in-Err.fault.number) c.in-Err.fault.word.now;
     } in
     err_then c.tell_fault.result _ _ c.tell_fault.ensures.err
-    (λ fronts whole more is first left talk.
+    (λ prefixes whole more is first left talk.
     untold_breaks_off (known_of c.args.live.now) (known_of c.answer.new.live) log out
     c.answer.new.unsent.logged.items c.answer.new.unsent.said.items round whole more is
     c.in-Err.ensures.refused (g.L.Write.contents (inner_of c.tell_fault.new.log))
     (g.W.Write.contents (inner_of c.tell_fault.new.out)) c.tell_fault.new.unsent.logged.items
-    c.tell_fault.new.unsent.said.items fronts first left
+    c.tell_fault.new.unsent.said.items prefixes first left
     (same_waiting first left (known_of c.args.live.now) log out c.args.unsent.now.logged.items
     c.args.unsent.now.said.items c.answer.new.unsent.logged.items c.answer.new.unsent.said.items
     (ended whole ++ more) c.in-Err.ensures.logged c.in-Err.ensures.said talk))

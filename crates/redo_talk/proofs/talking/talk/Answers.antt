@@ -5,14 +5,14 @@ use Rattle.std.proofs.lemmas.Result.{err_from_is_err_and}
 use Rattle.redo_whole.specs.Watched.{inner_of}
 use Rattle.redo_talk.specs.Inside.Hearing.{TalksAt, known_of, moment_at, as_place}
 use Rattle.redo_talk.proofs.Conversations.{nothing_heard, all_heard, kept_left, read_more, cut_short}
-use Rattle.redo_talk.proofs.Fronts.{front_of_none}
+use Rattle.redo_talk.proofs.Prefixes.{prefix_of_none}
 use Rattle.redo_talk.proofs.Outcomes.{any_err}
 use Rattle.redo_talk.proofs.Responding.{same_waiting}
 use Rattle.redo_talk.proofs.RoundByRound.{talk_begins}
 use Rattle.redo_talk.proofs.talking.talk.Goals as goal
 
-pub returns-in_err-front-clause-read : goal.returns-in_err-front-clause-read
-returns-in_err-front-clause-read g c =
+pub returns-in_err-prefix-clause-read : goal.returns-in_err-prefix-clause-read
+returns-in_err-prefix-clause-read g c =
     any_err c.from_residual.result _ (λ fault other before is.
     nothing_heard c.args.live.now (g.R.Read.remaining (inner_of c.args.input.now))
     (g.L.Write.contents (inner_of c.args.log.now)) (g.W.Write.contents (inner_of c.args.out.now))
@@ -30,16 +30,16 @@ reads-init g c =
     let left = g.R.Read.remaining (inner_of c.args.input.now) in
     let log = g.L.Write.contents (inner_of c.args.log.now) in
     let out = g.W.Write.contents (inner_of c.args.out.now) in
-    let none : c.in_ok-front.front.items ≡ [] = c.in_ok-front.ensures.items in
+    let none : c.in_ok-prefix.prefix.items ≡ [] = c.in_ok-prefix.ensures.items in
     record {
-      room = omega (arith, c.in_ok-front.ensures.exact);
+      room = omega (arith, c.in_ok-prefix.ensures.exact);
       few = subst (λ t. length t ≤ 8196) (sym none) (omega arith);
       chunk = grind (arith, common_steps);
       none_said = c.new-unsent.ensures.said;
       none_logged = c.new-unsent.ensures.logged;
       talk = (
         [],
-        front_of_none c.in_ok-front.front.items none,
+        prefix_of_none c.in_ok-prefix.prefix.items none,
         same_waiting
             (record { known = known_of c.args.live.now; left = left; log = log; out = out }) left
             (known_of c.args.live.now) log out [] [] c.new-unsent.result.logged.items
@@ -52,7 +52,7 @@ reads-init g c =
 
 pub returns-in_default-clause-read : goal.returns-in_default-clause-read
 returns-in_default-clause-read g c = λ other before is.
-    let (begun, front, at) = c.reads.invariant.talk in
+    let (begun, prefix, at) = c.reads.invariant.talk in
     let left' = g.R.Read.remaining (inner_of c.read.new.self) in
     let left0 = g.R.Read.remaining (inner_of c.args.input.now) in
     let log0 = g.L.Write.contents (inner_of c.args.log.now) in
@@ -65,11 +65,11 @@ returns-in_default-clause-read g c = λ other before is.
     (kept_left c.args.live.now c.reads.live left0
     (g.R.Read.remaining (inner_of c.reads.input)) log0 log out0 out logged said begun at left'
     c.in_default.ensures.failed) c.reads.invariant.none_logged c.reads.invariant.none_said
-    front.unended before is
+    prefix.unended before is
 
 pub returns-then-count-eq0-clause-talk : goal.returns-then-count-eq0-clause-talk
 returns-then-count-eq0-clause-talk g c = λ before is.
-    let (begun, front, at) = c.reads.invariant.talk in
+    let (begun, prefix, at) = c.reads.invariant.talk in
     let left = g.R.Read.remaining (inner_of c.reads.input) in
     let left' = g.R.Read.remaining (inner_of c.read.new.self) in
     let left0 = g.R.Read.remaining (inner_of c.args.input.now) in
@@ -90,7 +90,7 @@ returns-then-count-eq0-clause-talk g c = λ before is.
       out = out0;
     }) left' (as_place c.reads.live log out c.reads.unsent) t) (append-nil begun)
     (read_more c.args.live.now c.reads.live left0 left log0 log out0 out logged said begun at left'
-    [] taken)) c.reads.invariant.none_logged c.reads.invariant.none_said front.unended before is
+    [] taken)) c.reads.invariant.none_logged c.reads.invariant.none_said prefix.unended before is
 
 pub returns-then-count-eq0-clause-end : goal.returns-then-count-eq0-clause-end
 returns-then-count-eq0-clause-end g c =
@@ -111,7 +111,7 @@ returns-in_err-hear-clause-read g c =
 
 pub returns-in_err-hear-clause-write : goal.returns-in_err-hear-clause-write
 returns-in_err-hear-clause-write g c = λ is_write before is.
-    let (begun, front, at) = c.reads.invariant.talk in
+    let (begun, prefix, at) = c.reads.invariant.talk in
     let left' = g.R.Read.remaining (inner_of c.read.new.self) in
     let left0 = g.R.Read.remaining (inner_of c.args.input.now) in
     let log0 = g.L.Write.contents (inner_of c.args.log.now) in
@@ -126,7 +126,7 @@ returns-in_err-hear-clause-write g c = λ is_write before is.
     cut_short c.args.live.now left0 log0 out0
     (moment_at (as_place c.hear.new.live (g.L.Write.contents (inner_of c.hear.new.log))
     (g.W.Write.contents (inner_of c.hear.new.out)) c.hear.new.unsent) left')
-    (c.in_err-hear.ensures.broken begun front
+    (c.in_err-hear.ensures.broken begun prefix
     (record { known = known_of c.args.live.now; left = left0; log = log0; out = out0 }) left'
     (subst (λ t. TalksAt (record {
       known = known_of c.args.live.now;
@@ -140,7 +140,7 @@ returns-in_err-hear-clause-write g c = λ is_write before is.
 
 pub reads-preserved : goal.reads-preserved
 reads-preserved g c =
-    let (begun, front, at) = c.reads.invariant.talk in
+    let (begun, prefix, at) = c.reads.invariant.talk in
     let left' = g.R.Read.remaining (inner_of c.read.new.self) in
     let left0 = g.R.Read.remaining (inner_of c.args.input.now) in
     let log0 = g.L.Write.contents (inner_of c.args.log.now) in
@@ -152,7 +152,7 @@ reads-preserved g c =
     (g.L.Write.contents (inner_of c.reads.log)) out0
     (g.W.Write.contents (inner_of c.reads.out)) c.reads.unsent.logged.items
     c.reads.unsent.said.items begun at left' bytes c.in-Some.ensures.given in
-    let (later, new_front, new_at) = c.in_ok-hear.ensures.talk begun front
+    let (later, new_prefix, new_at) = c.in_ok-hear.ensures.talk begun prefix
     (record { known = known_of c.args.live.now; left = left0; log = log0; out = out0 }) left'
     (subst (λ t. TalksAt (record {
       known = known_of c.args.live.now;
@@ -170,7 +170,7 @@ reads-preserved g c =
       none_logged = c.in_ok-hear.ensures.none_logged;
       talk = (
         later,
-        new_front,
+        new_prefix,
         subst (TalksAt (record {
           known = known_of c.args.live.now;
           left = left0;
@@ -185,10 +185,10 @@ reads-preserved g c =
 
 pub returns-clause-read : goal.returns-clause-read
 returns-clause-read g c = λ other before is.
-    let (begun, front, at) = c.reads.invariant.talk in
+    let (begun, prefix, at) = c.reads.invariant.talk in
     all_heard c.args.live.now c.reads.live (g.R.Read.remaining (inner_of c.args.input.now))
     (g.R.Read.remaining (inner_of c.reads.input)) (g.L.Write.contents (inner_of c.args.log.now))
     (g.L.Write.contents (inner_of c.reads.log)) (g.W.Write.contents (inner_of c.args.out.now))
     (g.W.Write.contents (inner_of c.reads.out)) c.reads.unsent.logged.items
     c.reads.unsent.said.items begun at c.reads.invariant.none_logged c.reads.invariant.none_said
-    front.unended before is
+    prefix.unended before is

@@ -10,12 +10,12 @@ pub returns-clause-err : goal.returns-clause-err
 returns-clause-err g c =
     let said = c.args.unsent.now.said.items in
     let same : c.extend_from_slice.new.self.items ≡ said = grind (arith, common_steps) in
-    err_then c.put.result _ _ c.put.ensures.front (λ (sent, rest, parts, written). record {
-      log_front = c.args.unsent.now.logged.items;
+    err_then c.put.result _ _ c.put.ensures.prefix (λ (sent, rest, parts, written). record {
+      log_prefix = c.args.unsent.now.logged.items;
       log_rest = [];
       log_parts = sym (append-nil c.args.unsent.now.logged.items);
       to_log = c.in_ok-send.ensures.logged;
-      said_front = said ++ sent;
+      said_prefix = said ++ sent;
       said_rest = rest;
       said_parts = ap (λ t. said ++ t)
           (sym c.fault_line-line.ensures ∙ sym c.deref-2.ensures.0 ∙ parts)

@@ -1,4 +1,4 @@
-use Rattle.redo_text.proofs.Fronts.{more_words}
+use Rattle.redo_text.proofs.FirstWords.{more_words}
 use Rattle.redo_text.proofs.args.one.Goals as goal
 
 pub returns-in-Some-others : goal.returns-in-Some-others

@@ -1,4 +1,4 @@
-use Rattle.redo_text.proofs.Fronts.{no_words_some, okay_some}
+use Rattle.redo_text.proofs.FirstWords.{no_words_some, okay_some}
 use Rattle.redo_text.proofs.forms.check_no_words.Goals as goal
 
 pub returns-in-Some-clause-command : goal.returns-in-Some-clause-command

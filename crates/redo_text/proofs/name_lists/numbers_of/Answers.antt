@@ -4,7 +4,7 @@ use Rattle.std.proofs.lemmas.List.{map_push, take_more}
 use Rattle.std.proofs.lemmas.Result.{err_from_is_err_and}
 use Rattle.redo_names.specs.Names.{is_name, text_at}
 use Rattle.redo_text.proofs.Added.{added_is, extends_then, all_below-Extends, texts-Extends}
-use Rattle.redo_text.proofs.Left.{front_left, front_kept, front_more}
+use Rattle.redo_text.proofs.Left.{prefix_left, prefix_kept, prefix_more}
 use Rattle.redo_text.proofs.NameLists.{texts_of, text_of, length-texts, all_at, AllBelow-push, fails_alike, rest_more, rest_none, rest_done}
 use Rattle.redo_text.proofs.name_lists.numbers_of.Goals as goal
 
@@ -33,8 +33,8 @@ returns-in_err-number-clause-left c =
     let words = c.args.words.now in
     let p = err_from_is_err_and c.from_residual.result c.from_residual.ensures.1 in
     rw (p.1, p.2)
-    (front_left c.args.names.now c.loop-word.names c.number_of.new.names (texts_of words)
-    c.loop-word.word-index _ c.in_err-number.field-0.0 c.loop-word.invariant.front
+    (prefix_left c.args.names.now c.loop-word.names c.number_of.new.names (texts_of words)
+    c.loop-word.word-index _ c.in_err-number.field-0.0 c.loop-word.invariant.prefix
     c.in_err-number.ensures.left c.in_err-number.ensures.reads)
 
 pub returns-in_err-push-clause-left : goal.returns-in_err-push-clause-left
@@ -47,9 +47,9 @@ returns-in_err-push-clause-left c =
     err_from_is_err_and c.from_residual-in_err-push.result
     c.from_residual-in_err-push.ensures.1 in
     rw (p.1, p.2)
-    (front_kept c.args.names.now c.number_of.new.names (texts_of words) (i + 1)
-    (front_more c.args.names.now c.loop-word.names c.number_of.new.names (texts_of words) i _
-    so_far.few lt (text_of words i _ refl) c.in_ok-number.ensures.reads so_far.front))
+    (prefix_kept c.args.names.now c.number_of.new.names (texts_of words) (i + 1)
+    (prefix_more c.args.names.now c.loop-word.names c.number_of.new.names (texts_of words) i _
+    so_far.few lt (text_of words i _ refl) c.in_ok-number.ensures.reads so_far.prefix))
 
 pub loop-word-preserved : goal.loop-word-preserved
 loop-word-preserved c =
@@ -68,8 +68,8 @@ loop-word-preserved c =
     record {
       rest = rest_more old (texts_of words) i _ new _ so_far.few lt
           (text_of words i _ refl) c.in_ok-number.ensures.reads so_far.rest;
-      front = front_more c.args.names.now old new (texts_of words) i _ so_far.few lt
-          (text_of words i _ refl) c.in_ok-number.ensures.reads so_far.front;
+      prefix = prefix_more c.args.names.now old new (texts_of words) i _ so_far.few lt
+          (text_of words i _ refl) c.in_ok-number.ensures.reads so_far.prefix;
       few = (added_is old _ new so_far.few c.in_ok-number.ensures.reads).1;
       numbers = rw c.in_ok-push.ensures.items (map_push (text_at new) before n
           ∙ (λ j. kept j ++ word j ∷ []) ∙ sym (take_more (texts_of words) i [] lt));

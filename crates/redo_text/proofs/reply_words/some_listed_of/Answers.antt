@@ -1,4 +1,4 @@
-use Rattle.redo_text.proofs.Fronts.{some_after}
+use Rattle.redo_text.proofs.FirstWords.{some_after}
 use Rattle.redo_text.proofs.reply_words.some_listed_of.Goals as goal
 
 pub returns-in-Some-clause-reads : goal.returns-in-Some-clause-reads

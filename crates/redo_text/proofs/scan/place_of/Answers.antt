@@ -40,10 +40,10 @@ returns-then-before-lt-BLOCK-2 c =
     let here =
     run_in_chunk_stops is_it text last 16 before 0 room c.before_in_block-before-2.ensures
     c.if-before-lt-BLOCK-2.true in
-    let front = λ (k : ℕ) (lt : k < last). c.loop-at.invariant k (omega arith) in
+    let prefix = λ (k : ℕ) (lt : k < last). c.loop-at.invariant k (omega arith) in
     let fails =
     run_in_chunk_fails is_it text last 16 before 0 room c.before_in_block-before-2.ensures in
-    let none = none_then_block is_it text last before front fails in
+    let none = none_then_block is_it text last before prefix fails in
     sym (place_is is_it text (last + before) (omega arith) none here)
 
 pub returns-else-before-lt-BLOCK-2 : goal.returns-else-before-lt-BLOCK-2
@@ -53,8 +53,8 @@ returns-else-before-lt-BLOCK-2 c =
     let last = length text - 16 in
     let before = c.before_in_block-before-2.result in
     let room : last + 16 ≤ length text = omega arith in
-    let front = λ (k : ℕ) (lt : k < last). c.loop-at.invariant k (omega arith) in
+    let prefix = λ (k : ℕ) (lt : k < last). c.loop-at.invariant k (omega arith) in
     let fails =
     run_in_chunk_fails is_it text last 16 before 0 room c.before_in_block-before-2.ensures in
-    let none = none_then_block is_it text last before front fails in
+    let none = none_then_block is_it text last before prefix fails in
     sym (no_place is_it text (λ k lt. none k (omega arith)))

@@ -7,8 +7,8 @@ use Rattle.redo_whole.specs.Watched.{inner_of}
 use Rattle.redo_whole.proofs.whole.write_whole.Goals as goal
 
 -- a write that takes no more bytes leaves a prefix
-pub returns-in_default-clause-front : goal.returns-in_default-clause-front
-returns-in_default-clause-front g c =
+pub returns-in_default-clause-prefix : goal.returns-in_default-clause-prefix
+returns-in_default-clause-prefix g c =
     let at = c.loop-at.at in
     let bytes = c.args.bytes.now in
     let sent = Appends-trans
@@ -21,7 +21,7 @@ returns-in_default-clause-front g c =
     c.in_default.ensures.sent in (
       take at bytes ++ [],
       drop at bytes,
-      sym (ap (λ (front : List ℕ). front ++ drop at bytes)
+      sym (ap (λ (prefix : List ℕ). prefix ++ drop at bytes)
           (append-nil (take at bytes)) ∙ take-append-drop at bytes),
       sent,
     )
@@ -45,8 +45,8 @@ loop-at-preserved g c =
     let joined : take at bytes ++ take n (take left (drop at bytes)) ≡ take (at + n) bytes =
     ap (λ (more : List ℕ). take at bytes ++ take n more) rest ∙ sym (take-add at n bytes) in
     record {
-      so_far = subst (λ (front : List ℕ). Appends (g.W.Write.contents (inner_of c.args.writer.now))
-          (g.W.Write.contents (inner_of c.write.new.self)) front) joined sent;
+      so_far = subst (λ (prefix : List ℕ). Appends (g.W.Write.contents (inner_of c.args.writer.now))
+          (g.W.Write.contents (inner_of c.write.new.self)) prefix) joined sent;
       within = search rules;
       count = grind (arith, common_steps);
     }

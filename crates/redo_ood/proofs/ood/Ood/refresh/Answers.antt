@@ -27,8 +27,8 @@ invariant_of-self c =
     let entered = holds_entered kept.outdated.unmarked kept.outdated.empty c.enter_marked.ensures in
     record {
       region = cleared_again names
-          (c.find_region-front.ensures.sized ∙ kept.region.sized ∙ same)
-          c.find_region-front.ensures.region c.unmark_queue-2.ensures;
+          (c.find_region-touching.ensures.sized ∙ kept.region.sized ∙ same)
+          c.find_region-touching.ensures.region c.unmark_queue-2.ensures;
       outdated = cleared_again names
           (c.enter_marked.ensures.grown.sized ∙ kept.outdated.sized ∙ same)
           entered c.unmark_queue.ensures;
@@ -39,13 +39,14 @@ returns-clause-right c =
     let r = with_rows c.args.records.now c.args.rows.now in
     let seeds = c.args.seeds.now in
     let region = c.queue-region.result.now in
-    let front = c.find_region-front.result in
+    let touching = c.find_region-touching.result in
     let kept = c.self.invariant.outdated in
     let out = c.self.inside.out in
-    let listed = region_listed r seeds region c.find_region-front.ensures.region
+    let listed = region_listed r seeds region c.find_region-touching.ensures.region
     c.queue-region.ensures.queue in
-    let touched = subst (λ (q : List ℕ). (t : ℕ) → TouchesSeed r seeds t → Contains (take front q) t)
-    (sym c.queue-region.ensures.queue) c.find_region-front.ensures.touched in
+    let touched = subst (λ (q : List ℕ). (t : ℕ) → TouchesSeed r seeds t
+    → Contains (take touching q) t)
+    (sym c.queue-region.ensures.queue) c.find_region-touching.ensures.touched in
     let entered = holds_entered kept.unmarked kept.empty c.enter_marked.ensures in
     let held = subst (λ (us : List ℕ). HoldsOnly (λ t. IsMarked out t × Contains us t) c.enter_marked.new.marks)
     c.split_at.ensures.back entered in
@@ -54,10 +55,10 @@ returns-clause-right c =
     let second = subst (λ (us : List ℕ). EntersDue r us c.derive.new.marks c.derive-2.new.marks)
     c.queue.ensures.queue c.derive-2.ensures in
     memo_right r seeds region c.args.self.now c.requires.right c.self.view_is listed
-    c.unmark.ensures front touched held first second
+    c.unmark.ensures touching touched held first second
 
 pub returns-clause-region : goal.returns-clause-region
 returns-clause-region c =
     let r = with_rows c.args.records.now c.args.rows.now in
     region_counted r c.args.seeds.now c.queue-region.result.now c.queue-region.ensures.queue
-    c.find_region-front.ensures.region c.queue-region.ensures.kept
+    c.find_region-touching.ensures.region c.queue-region.ensures.kept

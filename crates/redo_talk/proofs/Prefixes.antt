@@ -8,7 +8,7 @@ use Rattle.redo_model.specs.Names.{Text}
 use Rattle.redo_model.proofs.Members.{contains_none}
 use Rattle.redo_history.specs.Histories.{ended}
 use Rattle.redo_talk.specs.Logs.{HasNoEnd}
-use Rattle.redo_talk.specs.Inside.KeptLines.{kept_of, IsFrontOf, IsHeardOf}
+use Rattle.redo_talk.specs.Inside.KeptLines.{kept_of, IsPrefixOf, IsHeardOf}
 
 pub no_end_both : (a b : Text) → HasNoEnd a → HasNoEnd b → HasNoEnd (a ++ b)
 no_end_both a b x y is = elim (Contains-append_cases a b 10 is) [
@@ -17,12 +17,12 @@ no_end_both a b x y is = elim (Contains-append_cases a b 10 is) [
 ]
 
 -- after a prefix, so much of what comes fits
-pub kept_behind : (front more : Text) → length front ≤ 8196
-    → front ++ take (8196 - length front) more ≡ kept_of (front ++ more)
-kept_behind front more few =
-    let split : length front + (8196 - length front) ≡ 8196 = omega arith in
-    sym (take-append-add front more (8196 - length front))
-    ∙ ap (λ n. take n (front ++ more)) split
+pub kept_behind : (prefix more : Text) → length prefix ≤ 8196
+    → prefix ++ take (8196 - length prefix) more ≡ kept_of (prefix ++ more)
+kept_behind prefix more few =
+    let split : length prefix + (8196 - length prefix) ≡ 8196 = omega arith in
+    sym (take-append-add prefix more (8196 - length prefix))
+    ∙ ap (λ n. take n (prefix ++ more)) split
 
 -- of a line of which so much is kept, more is kept only after a short prefix
 pub kept_more : (whole more : Text) → kept_of (kept_of whole ++ more) ≡ kept_of (whole ++ more)
@@ -35,29 +35,29 @@ kept_more whole more = elim (cases_lt (length whole) 8196) [
       ∙ sym (take-append-le 8196 whole more long)
 ]
 
-pub front_of_none : (front : Text) → front ≡ [] → IsFrontOf [] front
-front_of_none front e = record { unended = contains_none 10; kept = e }
+pub prefix_of_none : (prefix : Text) → prefix ≡ [] → IsPrefixOf [] prefix
+prefix_of_none prefix e = record { unended = contains_none 10; kept = e }
 
-pub front_more : (whole more front : Text) → HasNoEnd more → IsFrontOf whole front
-    → IsFrontOf (whole ++ more) (kept_of (front ++ more))
-front_more whole more front free is = record {
+pub prefix_more : (whole more prefix : Text) → HasNoEnd more → IsPrefixOf whole prefix
+    → IsPrefixOf (whole ++ more) (kept_of (prefix ++ more))
+prefix_more whole more prefix free is = record {
   unended = no_end_both whole more is.unended free;
   kept = ap (λ t. kept_of (t ++ more)) is.kept ∙ kept_more whole more;
 }
 
-pub none_from_front : (whole : Text) → [] ≡ kept_of whole → whole ≡ []
-none_from_front [] e = refl
-none_from_front (b ∷ bs) e = absurd (omega (arith, ap length e))
+pub none_from_prefix : (whole : Text) → [] ≡ kept_of whole → whole ≡ []
+none_from_prefix [] e = refl
+none_from_prefix (b ∷ bs) e = absurd (omega (arith, ap length e))
 
 -- a line of which nothing is kept has not begun
-pub nothing_begun : (begun front : Text) → IsFrontOf begun front → length front ≡ 0 → begun ≡ []
-nothing_begun begun [] is e = none_from_front begun is.kept
+pub nothing_begun : (begun prefix : Text) → IsPrefixOf begun prefix → length prefix ≡ 0 → begun ≡ []
+nothing_begun begun [] is e = none_from_prefix begun is.kept
 nothing_begun begun (b ∷ bs) is e = absurd (omega (arith, e))
 
 -- what is kept of a line that ends with this piece
-pub heard_behind : (begun front piece line : Text) → IsFrontOf begun front
-    → line ≡ kept_of (front ++ piece) → IsHeardOf (begun ++ piece) line
-heard_behind begun front piece line is e =
+pub heard_behind : (begun prefix piece line : Text) → IsPrefixOf begun prefix
+    → line ≡ kept_of (prefix ++ piece) → IsHeardOf (begun ++ piece) line
+heard_behind begun prefix piece line is e =
     inr (e ∙ ap (λ t. kept_of (t ++ piece)) is.kept ∙ kept_more begun piece)
 
 -- a line goes on after a piece that ends one

@@ -7,27 +7,28 @@ use Rattle.redo_history.specs.Histories.{line_text_of}
 use Rattle.redo_live.specs.Lines.{lines_text_of}
 use Rattle.redo_talk.specs.Rounds.{Round, end_text_of}
 use Rattle.redo_talk.specs.Logs.{logged_of}
-use Rattle.redo_talk.specs.Inside.Replies.{LogsFront}
+use Rattle.redo_talk.specs.Inside.Replies.{LogsPrefix}
 use Rattle.redo_talk.specs.Inside.Steps.{Known, Answering, Ending, IsStep}
 use Rattle.redo_talk.proofs.Steps.{closing_changes}
 
-one_front : (line : Line Text) (b : Bool)
+one_prefix : (line : Line Text) (b : Bool)
     → (rest : Text) × (line_text_of line ≡ lines_text_of (cond b (line ∷ []) [] ++ []) ++ rest)
-one_front line true =
+one_prefix line true =
     ([], sym (append-nil (line_text_of line ++ []) ∙ append-nil (line_text_of line)))
-one_front line false = (line_text_of line, refl)
+one_prefix line false = (line_text_of line, refl)
 
-answering_front : (old new : Known) (round : Round) → Answering old new round
-    → LogsFront old.state round
-answering_front old new round is =
+answering_prefix : (old new : Known) (round : Round) → Answering old new round
+    → LogsPrefix old.state round
+answering_prefix old new round is =
     let line = is.line in
-    let (rest, e) = one_front line (changes old.state.records line.command line.reply) in (
+    let (rest, e) = one_prefix line (changes old.state.records line.command line.reply) in (
       rest,
       is.said_is ∙ e ∙ ap (λ ls. logged_of old.state ls ++ rest) (sym is.lines_are),
     )
 
-ending_front : (old new : Known) (round : Round) → Ending old new round → LogsFront old.state round
-ending_front old new round is =
+ending_prefix : (old new : Known) (round : Round) → Ending old new round
+    → LogsPrefix old.state round
+ending_prefix old new round is =
     let all : changing_from texts old.state round.lines ≡ round.lines =
     ap (changing_from texts old.state) is.lines_are
     ∙ closing_changes is.session old.state is.held old.state ∙ sym is.lines_are in (
@@ -36,13 +37,13 @@ ending_front old new round is =
     )
 
 -- if no line was made nothing is logged
-none_front : (old : Known) (round : Round) → round.lines ≡ [] → LogsFront old.state round
-none_front old round none =
+none_prefix : (old : Known) (round : Round) → round.lines ≡ [] → LogsPrefix old.state round
+none_prefix old round none =
     (round.said, ap (λ ls. logged_of old.state ls ++ round.said) (sym none))
 
-pub logs_front : (old new : Known) (round : Round) → IsStep old new round
-    → LogsFront old.state round
-logs_front old new round (inl is) = answering_front old new round is
-logs_front old new round (inr (inl is)) = ending_front old new round is
-logs_front old new round (inr (inr (inl is))) = none_front old round is.none
-logs_front old new round (inr (inr (inr is))) = none_front old round is.none
+pub logs_prefix : (old new : Known) (round : Round) → IsStep old new round
+    → LogsPrefix old.state round
+logs_prefix old new round (inl is) = answering_prefix old new round is
+logs_prefix old new round (inr (inl is)) = ending_prefix old new round is
+logs_prefix old new round (inr (inr (inl is))) = none_prefix old round is.none
+logs_prefix old new round (inr (inr (inr is))) = none_prefix old round is.none
