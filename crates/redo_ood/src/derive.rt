@@ -18,7 +18,7 @@ pub(crate) fn needs_marked(slot: &Slot, marks: &NameSet) -> bool
     requires { slot.now.name < size_of marks.now }
     ensures { IsTrue result ↔ (IsSome slot.now.change × IsMarked marks.now slot.now.name) }
 {
-    marks.has(slot.name()) && slot.has_change()
+    marks.contains(slot.name()) && slot.has_change()
 }
 
 // Whether the target has a change row on a marked name.
@@ -65,7 +65,7 @@ fn enter_due(records: &Records, rows: &DepRows, t: u32, marks: &mut NameSet)
     requires closed { IsClosed (with_rows records.now rows.now) marks.old.queue marks.old }
     ensures { EntersDue (with_rows records.now rows.now) (t ∷ []) marks.old marks.new }
 {
-    if !marks.has(t) && is_due(records, rows, marks, t) {
+    if !marks.contains(t) && is_due(records, rows, marks, t) {
         let next = marks.queue_len();
         marks.enter(t);
         spread(records, rows, next, marks);

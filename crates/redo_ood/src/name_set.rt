@@ -72,7 +72,7 @@ impl NameSet {
     }
 
     /// Whether the name is marked.
-    pub fn has(&self, t: u32) -> bool
+    pub fn contains(&self, t: u32) -> bool
         requires { t < size_of self.now }
         ensures { result ≡ slice_index_or self.now.marks t false }
     {

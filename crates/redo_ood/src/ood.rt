@@ -114,7 +114,7 @@ impl Ood {
         requires { t < memo_count self.now }
         ensures { result ≡ is_out self.now t }
     {
-        self.out.has(t)
+        self.out.contains(t)
     }
 
     /// Why the target is out of date, if it is and the memo is right. Looks at names that a chain of change rows leads

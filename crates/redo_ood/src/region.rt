@@ -131,7 +131,7 @@ pub(crate) fn enter_marked(elsewhere: &NameSet, names: &[u32], marks: &mut NameS
     ensures { Enters (λ t. IsMarked elsewhere.now t × Contains names.now t) marks.old marks.new }
 {
     for &t in names {
-        let is_marked = elsewhere.has(t);
+        let is_marked = elsewhere.contains(t);
         marks.enter_if(t, is_marked);
     }
 }

@@ -42,7 +42,7 @@ fn find_if(
         (Finds (IsTrue is_due) n from seen.old parents.old.items seen.new parents.new.items) }
     ensures kept { OnErr result (seen.new ≡ seen.old) }
 {
-    if is_due && !seen.has(n) {
+    if is_due && !seen.contains(n) {
         parents.push(from)?;
         seen.enter_new(n);
     }

@@ -9,9 +9,9 @@ loop-t-preserved c =
     let other = c.args.elsewhere.now in
     let names = c.args.names.now in
     let k = c.loop-t.t-index in
-    let is : IsTrue c.has-is_marked.result ↔ IsMarked other (get_or names k 0) =
-    (λ h. sym c.has-is_marked.ensures ∙ h, λ h. c.has-is_marked.ensures ∙ h) in
-    enters_one_more (IsMarked other) names k 0 c.has-is_marked.result c.loop-t-test.true is
+    let is : IsTrue c.contains-is_marked.result ↔ IsMarked other (get_or names k 0) =
+    (λ h. sym c.contains-is_marked.ensures ∙ h, λ h. c.contains-is_marked.ensures ∙ h) in
+    enters_one_more (IsMarked other) names k 0 c.contains-is_marked.result c.loop-t-test.true is
     c.loop-t.invariant c.enter_if.ensures
 
 pub returns : goal.returns
