@@ -19,7 +19,7 @@ use Rattle.redo_joint.proofs.Closed.{IsScripted, IsFailing, Tells, AllTell, all_
 use Rattle.redo_joint.proofs.Replayed as joint
 use Rattle.redo_journal.specs.Plans.{PlanOf, IsPlan, script_of}
 use Rattle.redo_board.specs.Rows.{naming_of, command}
-use Rattle.redo_board.specs.Core.{Core, start, Line, Way, row, claim, free, rows_then, place_at, has, way_at, done, IsNext, IsLegal, after_all, row_words, word, replay}
+use Rattle.redo_board.specs.Core.{Core, start, Line, Way, row, claim, free, rows_then, place_at, holds_at, way_at, done, IsNext, IsLegal, after_all, row_words, word, replay}
 use Rattle.redo_board.specs.Inside.Core.{IsWord}
 use Rattle.redo_board.proofs.Bridge.{legal_from, below_told, of_plan_told, placed_told}
 use Rattle.redo_board.proofs.ClaimWords.{claim_no_row}
@@ -122,7 +122,7 @@ module _ (p : PlanOf) (plan : IsPlan p) where
   module _ (c : Core) (l : Line) (is : IsNext p c l) (o : Sound p c)
       (tells : Tells law (script_of p) l) where
     abbrev word₁ : ℕ
-    word₁ = word p l.session l.number l.command (has c l.session l.command)
+    word₁ = word p l.session l.number l.command (holds_at c l.session l.command)
 
     line_is_word : IsScripted (script_of p) l → asked_lock l.command ≡ None → IsWord p word₁
     line_is_word scripted asked =
@@ -131,13 +131,13 @@ module _ (p : PlanOf) (plan : IsPlan p) where
         let row : asked_lock (command p l.session l.number) ≡ None =
         ap asked_lock scripted.command ∙ asked in
         subst (IsWord p)
-        (sym (word-of-line p l.session l.number l.command (has c l.session l.command) within))
-        (is_line_word p l.session l.number (has c l.session l.command) (omega arith) plan.few
+        (sym (word-of-line p l.session l.number l.command (holds_at c l.session l.command) within))
+        (is_line_word p l.session l.number (holds_at c l.session l.command) (omega arith) plan.few
         is.session within row (command_below p l.session l.number plan))
 
     closing_is_word : IsFailing (script_of p) l → IsWord p word₁
     closing_is_word failing =
-        let h = has c l.session l.command in
+        let h = holds_at c l.session l.command in
         let low = (subst (IsBelow (length p.names)) failing.command
         (command-below p c l plan is o)).0 in
         subst (IsWord p)

@@ -21,7 +21,7 @@ use Rattle.redo_joint.proofs.Own.{part_of-own, part_of-other}
 use Rattle.redo_joint.proofs.Tied.{Tied, tied_at_first}
 use Rattle.redo_journal.specs.Plans.{PlanOf, IsPlan, script_of}
 use Rattle.redo_board.specs.Rows.{naming_of}
-use Rattle.redo_board.specs.Core.{Core, start, Way, row, claim, free, rows_then, claim_place, place_at, has, way_at, done, Line, IsNext, IsLegal, after_all, word}
+use Rattle.redo_board.specs.Core.{Core, start, Way, row, claim, free, rows_then, claim_place, place_at, holds_at, way_at, done, Line, IsNext, IsLegal, after_all, word}
 use Rattle.redo_board.proofs.ClaimWords.{claim_no_row}
 use Rattle.redo_board.proofs.Orders.{by_text_is_naming}
 use Rattle.redo_board.proofs.Ways.{Goes}
@@ -163,7 +163,7 @@ module _ (p : PlanOf) (c : Core) (l : Line) (before : List Line) (so : Stood p c
           rows =
               rows_push (naming_of p) before l
               ∙ (λ i. so.rows i + one_if (is_row (is.place i)))
-              ∙ rows_more w (word p s l.number x (has c s x));
+              ∙ rows_more w (word p s l.number x (holds_at c s x));
           tied =
               tied_after (by_text_is_naming p.names) c.state before l so.tied next stands.0
               stands.1;

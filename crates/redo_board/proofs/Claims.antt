@@ -16,7 +16,7 @@ use Rattle.redo_model.specs.Placed.{Place, Released, is_row}
 use Rattle.redo_model.specs.Journals.{Numbered}
 use Rattle.redo_journal.specs.Plans.{PlanOf}
 use Rattle.redo_board.specs.Rows.{naming_of, rows_of}
-use Rattle.redo_board.specs.Core.{Line, Core, Way, claim, free, rows_then, place_at, has, way_at, done, word, Begins, claim_of, claim_word}
+use Rattle.redo_board.specs.Core.{Line, Core, Way, claim, free, rows_then, place_at, holds_at, way_at, done, word, Begins, claim_of, claim_word}
 use Rattle.redo_board.specs.Views.{ViewOf, view}
 use Rattle.redo_board.specs.Rule.{Orderly}
 use Rattle.redo_board.specs.Plays.{next, own_way}
@@ -93,11 +93,12 @@ module _ (p : PlanOf) (s : St) (o : Orderly p s) (id t : ℕ) (j : List Line) (s
       → ((n : ℕ) → rows_then w c₁.rows n ≡ c₁.rows) → (done p c₁ l).rows ≡ c₁.rows
   still l e f w is rests =
       (λ i. rows_then (way_at c₁ (e i) (f i)) c₁.rows
-      (word p l.session l.number l.command (has c₁ l.session l.command)))
+      (word p l.session l.number l.command (holds_at c₁ l.session l.command)))
       ∙ ap
-      (λ v. rows_then v c₁.rows (word p l.session l.number l.command (has c₁ l.session l.command)))
+      (λ v. rows_then v c₁.rows
+      (word p l.session l.number l.command (holds_at c₁ l.session l.command)))
       is
-      ∙ rests (word p l.session l.number l.command (has c₁ l.session l.command))
+      ∙ rests (word p l.session l.number l.command (holds_at c₁ l.session l.command))
 
   goes₁ : (w : Way) → own_way j x₁ ≡ w
       → (way_at c₁ t x₁ ≡ w) × ways.Goes (naming_of p).order c₁.state t x₁ w

@@ -10,7 +10,7 @@ use Rattle.redo_model.specs.Placed.{part_of}
 use Rattle.redo_model.specs.Step.{locks_after, locks_granted, locks_freed, verdict_of, unless_refused, holds_target}
 use Rattle.redo_journal.specs.Plans.{PlanOf}
 use Rattle.redo_board.specs.Rows.{naming_of}
-use Rattle.redo_board.specs.Core.{Core, start, word, Way, row, claim, free, rows_then, has, way_at, done, Line, IsNext, IsLegal, after_all, Begins}
+use Rattle.redo_board.specs.Core.{Core, start, word, Way, row, claim, free, rows_then, holds_at, way_at, done, Line, IsNext, IsLegal, after_all, Begins}
 use Rattle.redo_joint.proofs.Own.{part_of-own, part_of-other}
 use Rattle.redo_board.proofs.Ways.{Goes}
 use Rattle.redo_board.proofs.Words.{set-same, set-other}
@@ -54,7 +54,7 @@ grows_way rows n (free t) = ([], sym (append-nil rows))
 
 pub grows : (p : PlanOf) (c : Core) (l : Line) → Begins (done p c l).rows c.rows
 grows p c l =
-    grows_way c.rows (word p l.session l.number l.command (has c l.session l.command))
+    grows_way c.rows (word p l.session l.number l.command (holds_at c l.session l.command))
     (way_at c l.session l.command)
 
 -- the locks after a step

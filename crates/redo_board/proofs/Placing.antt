@@ -15,7 +15,7 @@ use Rattle.redo_model.specs.Journals.{Numbered, next_of}
 use Rattle.redo_model.proofs.OwnLines.{holds_by_part, builds_by_part}
 use Rattle.redo_journal.specs.Plans.{PlanOf, script_of}
 use Rattle.redo_board.specs.Rows.{naming_of, rows_of}
-use Rattle.redo_board.specs.Core.{Line, Core, start, way, place_at, has, way_at, builds_target, builds_name, done, IsLegal, after_all, Begins, claim_of}
+use Rattle.redo_board.specs.Core.{Line, Core, start, way, place_at, holds_at, way_at, builds_target, builds_name, done, IsLegal, after_all, Begins, claim_of}
 use Rattle.redo_board.specs.Views.{Part, ViewOf, view}
 use Rattle.redo_board.specs.Rule.{Fits, Orderly}
 use Rattle.redo_board.specs.Plays.{held_name, built_name, next, own, own_build, own_way}
@@ -76,7 +76,7 @@ module _ (p : PlanOf) (s : St) (o : Orderly p s) (id t : ℕ) (j : List Line) (s
   abbrev pub x : Command ℕ
   x = n.command
 
-  pub own-is : has core t x ≡ own j x
+  pub own-is : holds_at core t x ≡ own j x
   own-is = holds_so (target_of x)
 
   build-is : builds_target core.state.records t x ≡ own_build j x

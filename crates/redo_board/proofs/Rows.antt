@@ -17,7 +17,7 @@ use Rattle.redo_model.specs.Placed.{Row}
 use Rattle.redo_model.specs.Journals.{Numbered}
 use Rattle.redo_journal.specs.Plans.{PlanOf}
 use Rattle.redo_board.specs.Rows.{naming_of, rows_of}
-use Rattle.redo_board.specs.Core.{Line, Core, row, rows_then, place_at, has, way_at, done, replay, word, Begins, claim_of}
+use Rattle.redo_board.specs.Core.{Line, Core, row, rows_then, place_at, holds_at, way_at, done, replay, word, Begins, claim_of}
 use Rattle.redo_board.specs.Views.{ViewOf, view}
 use Rattle.redo_board.specs.Rule.{Fits, Orderly}
 use Rattle.redo_board.specs.Plays.{own, own_way, next}
@@ -47,7 +47,7 @@ module _ (p : PlanOf) (s : St) (o : Orderly p s) (id t : ℕ) (j : List Line) (s
       whole p s o seen near (placing.mine p s o id t j seen also me is-session n is-next).seen
       none-there
 
-  is-own : has c₀ t x₀ ≡ own j x₀
+  is-own : holds_at c₀ t x₀ ≡ own j x₀
   is-own = placing.own-is p s o id t j seen also me is-session n is-next
 
   is-way : way_at c₀ t x₀ ≡ row
@@ -69,7 +69,7 @@ module _ (p : PlanOf) (s : St) (o : Orderly p s) (id t : ℕ) (j : List Line) (s
   answer : Answers (naming_of p) c₀.state t x₀ reply
   answer =
       subst
-      (λ a. MatchOption a (Replies (naming_of p) c₀.state.records t (has c₀ t x₀) x₀ reply)
+      (λ a. MatchOption a (Replies (naming_of p) c₀.state.records t (holds_at c₀ t x₀) x₀ reply)
       (λ u. reply ≡ lock_reply (c₀.state.locks.holder u) (c₀.state.locks.grants u)))
       (sym goes₀.0)
       (subst
@@ -82,7 +82,7 @@ module _ (p : PlanOf) (s : St) (o : Orderly p s) (id t : ℕ) (j : List Line) (s
 
   rows-is : (done p c₀ e₀).rows ≡ seen ++ w₀ ∷ []
   rows-is =
-      ap (λ w. rows_then w c₀.rows (word p t n.number x₀ (has c₀ t x₀))) is-way
+      ap (λ w. rows_then w c₀.rows (word p t n.number x₀ (holds_at c₀ t x₀))) is-way
       ∙ (λ i. so i ++ word p t n.number x₀ (is-own i) ∷ [])
 
   it-is : e₀ ≡ made t n reply (Row (length seen))

@@ -7,14 +7,14 @@ use Rattle.redo_model.specs.Inside.Words.{word_before, row_word_of, row_words_af
 use Rattle.redo_joint.proofs.Tied.{flag}
 use Rattle.redo_journal.specs.Plans.{PlanOf, IsPlan, script_of}
 use Rattle.redo_board.specs.Rows.{naming_of}
-use Rattle.redo_board.specs.Core.{Core, start, Line, IsLegal, Way, row, claim, free, claim_place, place_at, rows_then, has, way_at, done, after_all, row_words, word}
+use Rattle.redo_board.specs.Core.{Core, start, Line, IsLegal, Way, row, claim, free, claim_place, place_at, rows_then, holds_at, way_at, done, after_all, row_words, word}
 use Rattle.redo_board.proofs.Bridge.{Stood, start-stood, line_stood}
 use Rattle.redo_board.proofs.Sound.{Sound, start-sound, done-sound}
 
 -- the word that a line writes: the session's own lines determine what it holds
 word-is : (p : PlanOf) (c : Core) (l : Line) (before : List Line) → Stood p c before
     → row_word_of (naming_of p) (script_of p) (part_of l.session before) l
-    ≡ word p l.session l.number l.command (has c l.session l.command)
+    ≡ word p l.session l.number l.command (holds_at c l.session l.command)
 word-is p c l before so =
     ap (word p l.session l.number l.command)
     (flag (naming_of p) c.state before l.session (target_of l.command) so.tied)
@@ -42,7 +42,7 @@ words_from p c before (l ∷ ls) plan o so h =
     words_from p (done p c l) (before ++ l ∷ []) ls plan (done-sound p c l plan h.0 o)
     (line_stood p c l before so plan o h.0).2 h.1 in
     let ws = row_words_after (naming_of p) (script_of p) (before ++ l ∷ []) ls in
-    let w = word p s l.number l.command (has c s l.command) in
+    let w = word p s l.number l.command (holds_at c s l.command) in
     ap (λ n. c.rows ++ word_before l.place n ws) (word-is p c l before so)
     ∙ ap (λ q. c.rows ++ word_before q w ws) h.0.place
     ∙ before-is c (way_at c s l.command) w ws

@@ -79,11 +79,11 @@ place_at c row = Row (length c.rows)
 place_at c (claim t) = claim_place (c.state.locks.holder t) (c.state.locks.grants t) t
 place_at c (free t) = Released t (c.state.locks.grants t)
 
-abbrev pub has : Core → ℕ → Command ℕ → Bool
-has c s x = holds_target c.state.locks s x
+abbrev pub holds_at : Core → ℕ → Command ℕ → Bool
+holds_at c s x = holds_target c.state.locks s x
 
 abbrev pub way_at : Core → ℕ → Command ℕ → Way
-way_at c s x = way x (has c s x) (builds_target c.state.records s x)
+way_at c s x = way x (holds_at c s x) (builds_target c.state.records s x)
 
 -- the core after one line more
 abbrev pub done : PlanOf → Core → Line → Core
@@ -91,7 +91,7 @@ done p c l = record {
   state = after (naming_of p) c.state l.session l.command;
   rows =
       rows_then (way_at c l.session l.command) c.rows
-      (word p l.session l.number l.command (has c l.session l.command));
+      (word p l.session l.number l.command (holds_at c l.session l.command));
   own = set_at c.own l.session (c.own l.session ++ l ∷ []);
 }
 

@@ -14,10 +14,10 @@ pub fn out_of_date_is_least()
         HasReason records t → OutOfDate records t }
     ensures dependents { (records : Records Text) (t n : Text) →
         Depends records t n → OutOfDate records n → OutOfDate records t }
-    ensures least { (records : Records Text) (has : Text → Bool) →
-        ((t : Text) → HasReason records t → IsTrue (has t)) →
-        ((t n : Text) → Depends records t n → IsTrue (has n) → IsTrue (has t)) →
-        (t : Text) → OutOfDate records t → IsTrue (has t) }
+    ensures least { (records : Records Text) (marked : Text → Bool) →
+        ((t : Text) → HasReason records t → IsTrue (marked t)) →
+        ((t n : Text) → Depends records t n → IsTrue (marked n) → IsTrue (marked t)) →
+        (t : Text) → OutOfDate records t → IsTrue (marked t) }
 {}
 
 /// If records differ only at the seeds, the same targets are out of date outside of their region.
@@ -30,11 +30,11 @@ pub fn outside_region_as_before()
 /// A set is all that is out of date if it has what was out of date outside of the region, and inside of it each target
 /// with a reason of its own and each target that depends on one of the set.
 pub fn region_derived_again()
-    ensures { (seeds : List Text) (old new : Records Text) (has : Text → Bool) →
+    ensures { (seeds : List Text) (old new : Records Text) (marked : Text → Bool) →
         DifferAt seeds old new →
-        ((t : Text) → (InRegion new seeds t → ⊥) → OutOfDate old t → IsTrue (has t)) →
-        ((t : Text) → InRegion new seeds t → HasReason new t → IsTrue (has t)) →
-        ((t n : Text) → InRegion new seeds t → Depends new t n → IsTrue (has n) →
-        IsTrue (has t)) →
-        (t : Text) → OutOfDate new t → IsTrue (has t) }
+        ((t : Text) → (InRegion new seeds t → ⊥) → OutOfDate old t → IsTrue (marked t)) →
+        ((t : Text) → InRegion new seeds t → HasReason new t → IsTrue (marked t)) →
+        ((t n : Text) → InRegion new seeds t → Depends new t n → IsTrue (marked n) →
+        IsTrue (marked t)) →
+        (t : Text) → OutOfDate new t → IsTrue (marked t) }
 {}

@@ -62,7 +62,7 @@ ranks_up_to count =
     let rank : (n : ℕ) → Contains (up_to count) n → get_or (up_to count) n 0 ≡ n =
     λ n c. at count n 0 (below count n c) in
     record {
-      has = λ n c. omega (arith, below count n c, length-up_to count);
+      within = λ n c. omega (arith, below count n c, length-up_to count);
       below = λ n c. omega (arith, below count n c, rank n c, length-up_to count);
       at = λ n c. ap (λ k. get_or (up_to count) k 0) (rank n c) ∙ rank n c;
     }

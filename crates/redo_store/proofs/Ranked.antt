@@ -51,7 +51,7 @@ pub rank_read : {sorted ranks : List ℕ} (n rank : ℕ) → AreRanks sorted ran
     → rank ≡ get_or ranks n rank → (rank < length sorted) × (get_or sorted rank 0 ≡ n)
 rank_read {sorted = sorted} {ranks = ranks} n rank are c read =
     let same : get_or ranks n 0 ≡ rank =
-    get_or_default ranks n 0 rank (are.has n c) ∙ sym read in (
+    get_or_default ranks n 0 rank (are.within n c) ∙ sym read in (
       subst (λ k. k < length sorted) same (are.below n c),
       subst (λ k. get_or sorted k 0 ≡ n) same (are.at n c),
     )

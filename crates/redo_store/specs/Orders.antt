@@ -25,6 +25,6 @@ pub record AreSorted (names : List (List ℕ)) (sorted : List ℕ) : Type 0 wher
 
 -- each number of the list has a rank, which is its place there
 pub record AreRanks (sorted ranks : List ℕ) : Type 0 where
-  pub has : (n : ℕ) → Contains sorted n → n < length ranks
+  pub within : (n : ℕ) → Contains sorted n → n < length ranks
   pub below : (n : ℕ) → Contains sorted n → slice_index ranks n < length sorted
   pub at : (n : ℕ) → Contains sorted n → slice_index sorted (slice_index ranks n) ≡ n

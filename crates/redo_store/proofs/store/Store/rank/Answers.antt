@@ -9,7 +9,7 @@ index-requires c =
     let ranks = c.self.inside.ranks in
     let below = subst (λ (t : Stored). n < count_of t) (sym c.self.view_is) c.requires in
     let has : n < length ranks.items =
-    c.self.invariant.ranked.has n ((c.self.invariant.stored.all_in_order.1 n).1 below) in
+    c.self.invariant.ranked.within n ((c.self.invariant.stored.all_in_order.1 n).1 below) in
     let size : vec_len ranks ≡ length ranks.items = search rules in
     omega arith
 
