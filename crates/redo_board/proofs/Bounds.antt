@@ -15,7 +15,7 @@ use Rattle.redo_model.specs.Renaming.{IsBelow, AllBelow, IsReplyBelow, IsLineBel
 use Rattle.redo_model.specs.Placed.{line_of, is_row}
 use Rattle.redo_model.specs.Inside.Room.{is_lock}
 use Rattle.redo_joint.specs.Replayed.{IsLegalOfPlan}
-use Rattle.redo_joint.proofs.Closed.{IsScripted, IsFailing, Tells, AllTell, all_tell}
+use Rattle.redo_joint.proofs.Closed.{IsScripted, IsFailing, LineTells, AllTell, all_tell}
 use Rattle.redo_joint.proofs.Replayed as joint
 use Rattle.redo_journal.specs.Plans.{PlanOf, IsPlan, script_of}
 use Rattle.redo_board.specs.Rows.{naming_of, command}
@@ -120,7 +120,7 @@ module _ (p : PlanOf) (plan : IsPlan p) where
   row_asked c l (free t) g is r = absurd (false≢true (ap is_row (sym is) ∙ r))
 
   module _ (c : Core) (l : Line) (is : IsNext p c l) (o : Sound p c)
-      (tells : Tells law (script_of p) l) where
+      (tells : LineTells law (script_of p) l) where
     abbrev word₁ : ℕ
     word₁ = word p l.session l.number l.command (holds_at c l.session l.command)
 

@@ -15,7 +15,7 @@ use Rattle.redo_model.specs.Inside.Journals.{IsOfPlan}
 use Rattle.redo_model.proofs.JournalRoom.{ClosingsOkay, journal_room, numbers_fit}
 use Rattle.redo_model.proofs.Letting.{closing_held}
 use Rattle.redo_model.proofs.Nexts.{next_past_script}
-use Rattle.redo_joint.proofs.Closed.{Tells, AllTell}
+use Rattle.redo_joint.proofs.Closed.{LineTells, AllTell}
 use Rattle.redo_joint.proofs.Own.{part_of-own, part_of-other}
 use Rattle.redo_journal.specs.Plans.{PlanOf, IsPlan, script_of}
 use Rattle.redo_board.specs.Core.{Line, start, IsLegal, row, free}
@@ -49,7 +49,7 @@ parts_all P (line ∷ lines) all s = dite (ℕ_discrete line.session s)
     (parts_all P lines all.1 s))
 
 module _ (p : PlanOf) (plan : IsPlan p) where
-  row_is : (line : Line) → Tells (by_text_is_naming p.names) (script_of p) line
+  row_is : (line : Line) → LineTells (by_text_is_naming p.names) (script_of p) line
       → RowAsked p plan line → RowIs (script_of p line.session) line
   row_is line tells asked = record {
     no_lock = λ r. lock_asked line.command (asked r);

@@ -115,7 +115,7 @@ module _ {naming : Naming ℕ} (law : IsNaming naming) (plan : ℕ → List (Ite
       ]
 
   -- a line with a row is one of these, and a closing line is answered `ok`
-  pub record Tells (line : PlacedLine ℕ) : Type 0 where
+  pub record LineTells (line : PlacedLine ℕ) : Type 0 where
     pub row : is_row line.place ≡ true → RowTells plan line
     pub okay : length (plan line.session) ≤ line.number → line.reply ≡ Okay
 
@@ -124,7 +124,7 @@ module _ {naming : Naming ℕ} (law : IsNaming naming) (plan : ℕ → List (Ite
       → Answers naming (left_by naming empty (map line_of before)) line.session line.command
       line.reply
       → GoOn naming plan before (line ∷ lines) → IsBelow 65536 line.command
-      → (is_row line.place ≡ true → is_claim line.command line.reply ≡ false) → Tells line
+      → (is_row line.place ≡ true → is_claim line.command line.reply ≡ false) → LineTells line
   told_at before lines line legal answers on below row =
       let own = part_of line.session before in
       let next = next_here naming plan before line lines on in
@@ -149,7 +149,7 @@ module _ {naming : Naming ℕ} (law : IsNaming naming) (plan : ℕ → List (Ite
 
   -- each line is one of these
   abbrev pub AllTell : List (PlacedLine ℕ) → Type 0
-  AllTell lines = AllByRecursion Tells lines
+  AllTell lines = AllByRecursion LineTells lines
 
   by_place : (place : Place ℕ) (command : Command ℕ) (reply : Reply ℕ) → Fits place command reply
       → is_row place ≡ true → is_claim command reply ≡ false

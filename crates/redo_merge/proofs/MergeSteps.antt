@@ -29,7 +29,7 @@ use Rattle.redo_journal.specs.Plans.{PlanOf, IsPlan, scripts_of, script_of}
 use Rattle.redo_journal.specs.Journals.{place_of, command_told, naming_of, journals_of, AreJournals, entries_of}
 use Rattle.redo_merge.specs.Merges.{by_number, AreMerged}
 use Rattle.redo_merge.specs.Inside.Merges.{HaveNoOrder}
-use Rattle.redo_merge.specs.Inside.Merging.{tally, busy_one, busy_in, busy_below, none, Turned, Tells, AllFit, OneMisfits, IsWithin, AreWithin, IsLeast, MayTake, NoneMayCome}
+use Rattle.redo_merge.specs.Inside.Merging.{tally, busy_one, busy_in, busy_below, none, Turned, AddsLine, AllFit, OneMisfits, IsWithin, AreWithin, IsLeast, MayTake, NoneMayCome}
 use Rattle.redo_merge.proofs.Unmerged.{entries_at, entries_past, left, left_less, told_is, journal_is, session_is, script_at}
 use Rattle.redo_merge.proofs.ToldEntries.{told_below, busy_few}
 use Rattle.redo_merge.proofs.TurnsShown.{numbers_are_names, ticketed, shown, told_at, rests, left_entries, shown_after, may_here, can_back, takes_here, counts_step, no_rest, some_rest, below_same, map_in}
@@ -228,7 +228,7 @@ module _ (plan : PlanOf) (js : List Journal) (are : AreJournals plan js) where
         (lines2 : List Line)
         → Turned w w2 entry.place
         → ((t g : ℕ) → tally counts2 t g + busy_one t g entry.place ≡ tally counts t g)
-        → Tells lines lines2 s (script_of plan s) entry
+        → AddsLine lines lines2 s (script_of plan s) entry
         → Merging plan js w2 counts2 after_step lines2
     merging_step w2 counts2 lines2 turned taken tells =
         let line = told_at plan js s entry in
@@ -333,15 +333,15 @@ module _ (plan : PlanOf) (js : List Journal) (are : AreJournals plan js)
         → ((t g : ℕ)
         → tally counts2 t g + busy_one t g (get_or d.entries.items k none).place
         ≡ tally counts t g)
-        → Tells lines lines2 d.session (map item_of script) (get_or d.entries.items k none)
+        → AddsLine lines lines2 d.session (map item_of script) (get_or d.entries.items k none)
         → Merging plan js w2 counts2 (set next s (k + 1)) lines2
     merging_lent w2 counts2 lines2 turned taken told =
         let told_here =
         subst
-        (λ (u : ℕ). Tells lines lines2 u (map item_of script) (get_or d.entries.items k none))
+        (λ (u : ℕ). AddsLine lines lines2 u (map item_of script) (get_or d.entries.items k none))
         its-session told in
         let told_of =
-        subst (λ commands. Tells lines lines2 s commands (get_or d.entries.items k none))
+        subst (λ commands. AddsLine lines lines2 s commands (get_or d.entries.items k none))
         (sym commands-are) told_here in
         subst (λ (others : List ℕ). Merging plan js w2 counts2 others lines2) (sym next-is)
         (merging_step plan js are w counts next lines m s least w2 counts2 lines2
@@ -350,4 +350,4 @@ module _ (plan : PlanOf) (js : List Journal) (are : AreJournals plan js)
         (λ (e : Entry). (t g : ℕ)
         → tally counts2 t g + busy_one t g e.place ≡ tally counts t g)
         entry-is taken)
-        (subst (λ (e : Entry). Tells lines lines2 s (script_of plan s) e) entry-is told_of))
+        (subst (λ (e : Entry). AddsLine lines lines2 s (script_of plan s) e) entry-is told_of))

@@ -7,7 +7,7 @@ ghost use Rattle.redo_model.specs.Placed as placed;
 ghost use Rattle.redo_journal.specs.Journals.{AreJournals, line_told, entries_of};
 ghost use Rattle.redo_merge.specs.Merges.{AreMerged};
 ghost use Rattle.redo_merge.specs.Inside.Merges.{HaveNoOrder};
-ghost use Rattle.redo_merge.specs.Inside.Merging.{none, AreWithin, IsLeast, MayCome, MayTake, NoneMayCome, Tells, Turned, Uncounted};
+ghost use Rattle.redo_merge.specs.Inside.Merging.{none, AreWithin, IsLeast, MayCome, MayTake, NoneMayCome, AddsLine, Turned, Uncounted};
 
 mod counts;
 mod fitting;
@@ -101,7 +101,7 @@ fn take_entry(
         (Turned turns.old turns.new (slice_index_or journal.now.entries.items k none).place) }
     ensures taken { OnOk result
         (Uncounted counts.old counts.new (slice_index_or journal.now.entries.items k none).place) }
-    ensures told { OnOk result (Tells lines.old.items lines.new.items journal.now.session
+    ensures told { OnOk result (AddsLine lines.old.items lines.new.items journal.now.session
         (map item_of script.now) (slice_index_or journal.now.entries.items k none)) }
 {
     let entry = &journal.entries[k];

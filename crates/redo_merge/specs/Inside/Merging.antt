@@ -149,6 +149,6 @@ abbrev pub Uncounted : {S : Type 0} → HashMap (ℕ × ℕ) ℕ S → HashMap (
 Uncounted old new place = (t g : ℕ) → tally new t g + busy_one t g place ≡ tally old t g
 
 -- the line of the entry was added
-abbrev pub Tells : List Line → List Line → ℕ → List (commands.Item ℕ) → Entry → Type 0
-Tells old new s script entry =
+abbrev pub AddsLine : List Line → List Line → ℕ → List (commands.Item ℕ) → Entry → Type 0
+AddsLine old new s script entry =
     map line_of new ≡ map line_of old ++ placed.line_of (line_told s script entry) ∷ []
