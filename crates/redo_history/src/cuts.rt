@@ -3,7 +3,7 @@ ghost use Rattle.redo_model.specs.Names.{Text};
 ghost use Rattle.redo_history.specs.HistoryFaults.{arrow, IsCutAtSpace, IsCutAtArrow, HasNoArrow};
 ghost use Rattle.redo_history.specs.Inside.HistoryFaults.{IsCutAt};
 
-use redo_text::place_of;
+use redo_text::position_of;
 
 const ARROW: &[u8] = b" => ";
 
@@ -13,7 +13,7 @@ pub fn cut_at(text: &[u8], byte: u8) -> Option<(&[u8], &[u8])>
     ensures { MatchOption result (¬ (Contains text.now byte))
         (λ parts. IsCutAt byte text.now parts.0.now parts.1.now) }
 {
-    let at = place_of(text, byte)?;
+    let at = position_of(text, byte)?;
     Some((&text[..at], &text[at + 1..]))
 }
 
@@ -46,7 +46,7 @@ pub fn cut_at_arrow(rest: &[u8]) -> Option<(&[u8], &[u8])>
         (λ parts. IsCutAtArrow rest.now parts.0.now parts.1.now) }
 {
     let mut seen = 0;
-    while let Some(more) = place_of(&rest[seen..], b'=') {
+    while let Some(more) = position_of(&rest[seen..], b'=') {
         let at = seen + more;
         if let Some(reply) = after_arrow(rest, at) {
             return Some((&rest[..at - 1], reply));

@@ -61,7 +61,7 @@ fn swap(counts: &[AtomicU32], at: usize, count: u32) -> u32 {
 }
 
 /// The place of a command among those of all sessions.
-fn place_of(session: u8, line: u32) -> usize {
+fn index_of(session: u8, line: u32) -> usize {
     session as usize * COMMANDS + line as usize % COMMANDS
 }
 
@@ -98,14 +98,14 @@ impl Gate for Counts {
 
     fn ready(&self, session: u8, line: u32, row: u32) {
         self.all.fetch_add(1, Ordering::SeqCst);
-        add(&self.of_commands, place_of(session, line));
+        add(&self.of_commands, index_of(session, line));
         self.expect(load(&self.open, session as usize) == line.wrapping_add(1));
         self.expect(add(&self.of_sessions, session as usize) == row);
     }
 
     fn after(&self, session: u8, line: u32) {
         self.steps.fetch_add(1, Ordering::SeqCst);
-        add(&self.ends, place_of(session, line));
+        add(&self.ends, index_of(session, line));
         self.expect(swap(&self.open, session as usize, 0) == line.wrapping_add(1));
     }
 }
@@ -121,7 +121,7 @@ struct Passed {
 /// history's next: the command was ready as often as that is past the session's row before.
 fn pass(rt: &impl Abort, gate: &Counts, journal: &Journal, passed: &mut Passed, rows: &mut u32) {
     let entry = journal.entries.get(passed.entries).expect(rt, "an entry");
-    let place = place_of(journal.session, entry.line);
+    let place = index_of(journal.session, entry.line);
     let ready = load(&gate.of_commands, place);
     assert!(rt; load(&gate.ends, place) == 1);
     passed.entries = passed.entries.wrapping_add(1);

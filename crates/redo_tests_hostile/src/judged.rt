@@ -1,5 +1,5 @@
 //! The program beside the plain reader.
-use crate::tally::{Tally, place_of};
+use crate::tally::{Tally, index_of};
 use redo_command::Watched;
 use redo_plain::{Fault, run_of, verdict_of};
 use redo_replay::{HistoryFault, ReplayFault, replay_text};
@@ -82,7 +82,7 @@ pub(crate) fn judge_history(
     let said = replayed(alloc, history)?;
     let plain = verdict_of(alloc, history);
     agree(rt, history, &said, &plain);
-    Ok(place_of(&plain))
+    Ok(index_of(&plain))
 }
 
 /// A session file has the run text or the fault that the plain reader gives, and its run text replays as the same.
@@ -99,6 +99,6 @@ pub(crate) fn judge_file<R: Threads + Wait + Sync + Abort + AllocGlobal>(
         let place = judge_history(rt, alloc, text)?;
         assert_eq!(rt; place, crate::tally::ACCEPTED, "{text:?}");
     }
-    tally.note(place_of(&plain));
+    tally.note(index_of(&plain));
     Ok(())
 }

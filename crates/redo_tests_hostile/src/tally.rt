@@ -17,8 +17,8 @@ pub(crate) const ACCEPTED: usize = 0;
 
 pub(crate) const DIFFERS: usize = 1;
 
-/// The place of an outcome. The faults of a line have the numbers 2 to 10.
-pub(crate) fn place_of(outcome: &Result<Vec<u8>, Fault>) -> usize {
+/// The index of an outcome. The faults of a line have the numbers 2 to 10.
+pub(crate) fn index_of(outcome: &Result<Vec<u8>, Fault>) -> usize {
     match outcome {
         Ok(text) if text.starts_with(b"differs ".as_slice()) => DIFFERS,
         Ok(_) => ACCEPTED,

@@ -26,7 +26,7 @@ struct Tally {
     counts: Vec<u32>,
 }
 
-fn place_of(kind: Kind, sort: Sort) -> usize {
+fn index_of(kind: Kind, sort: Sort) -> usize {
     (kind as usize)
         .saturating_mul(SORTS)
         .saturating_add(sort as usize)
@@ -34,13 +34,13 @@ fn place_of(kind: Kind, sort: Sort) -> usize {
 
 impl Tally {
     fn note(&mut self, kind: Kind, sort: Sort) {
-        if let Some(count) = self.counts.get_mut(place_of(kind, sort)) {
+        if let Some(count) = self.counts.get_mut(index_of(kind, sort)) {
             *count = count.saturating_add(1);
         }
     }
 
     fn is_often(&self, kind: Kind, sort: Sort) -> bool {
-        match self.counts.get(place_of(kind, sort)) {
+        match self.counts.get(index_of(kind, sort)) {
             Some(count) => *count >= 200,
             None => false,
         }

@@ -23,7 +23,7 @@ fn before_in_block(text: &[u8], at: usize, byte: u8) -> usize
 }
 
 /// The first place of a byte.
-pub fn place_of(text: &[u8], byte: u8) -> Option<usize>
+pub fn position_of(text: &[u8], byte: u8) -> Option<usize>
     ensures { result ≡ position (λ b. b == byte) text.now }
 {
     if text.len() < BLOCK {

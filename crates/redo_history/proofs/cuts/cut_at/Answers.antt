@@ -5,8 +5,9 @@ use Rattle.redo_history.proofs.cuts.cut_at.Goals as goal
 pub returns-in_err-at : goal.returns-in_err-at
 returns-in_err-at c =
     rw c.from_residual.ensures
-    (not_placed c.args.text.now c.args.byte (sym c.place_of.ensures ∙ c.in_err-at.was))
+    (not_placed c.args.text.now c.args.byte (sym c.position_of.ensures ∙ c.in_err-at.was))
 
 pub returns : goal.returns
 returns c =
-    cut_at_place c.args.text.now c.args.byte c.in_ok-at.at (sym c.place_of.ensures ∙ c.in_ok-at.was)
+    cut_at_place c.args.text.now c.args.byte c.in_ok-at.at (sym c.position_of.ensures
+    ∙ c.in_ok-at.was)

@@ -5,7 +5,7 @@ use Rattle.redo_history.proofs.cuts.cut_at_arrow.Goals as goal
 pub returns-in-Some-after_arrow : goal.returns-in-Some-after_arrow
 returns-in-Some-after_arrow c =
     let rest = c.args.rest.now in
-    let sign = sym c.place_of.ensures ∙ c.in-Some.is in
+    let sign = sym c.position_of.ensures ∙ c.in-Some.is in
     let within = sign_within rest c.loop-more.seen c.in-Some.more sign in
     let none =
     no_arrow_to_sign rest c.loop-more.seen c.in-Some.more c.loop-more.invariant.none sign in
@@ -16,7 +16,7 @@ returns-in-Some-after_arrow c =
 pub loop-more-preserved : goal.loop-more-preserved
 loop-more-preserved c =
     let rest = c.args.rest.now in
-    let sign = sym c.place_of.ensures ∙ c.in-Some.is in
+    let sign = sym c.position_of.ensures ∙ c.in-Some.is in
     let within = sign_within rest c.loop-more.seen c.in-Some.more sign in
     let none =
     no_arrow_to_sign rest c.loop-more.seen c.in-Some.more c.loop-more.invariant.none sign in
@@ -31,4 +31,4 @@ loop-more-preserved c =
 pub returns : goal.returns
 returns c =
     no_arrow_left c.args.rest.now c.loop-more.seen c.loop-more.invariant.none
-    (sym c.place_of.ensures ∙ c.in_default.is)
+    (sym c.position_of.ensures ∙ c.in_default.is)

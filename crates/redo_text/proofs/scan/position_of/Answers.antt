@@ -1,7 +1,7 @@
 use Rattle.std.proofs.Common.{ℕ, ◌+◌, ◌-◌, ◌<◌, ◌≤◌, ◌==◌, length, sym, arith}
 use Rattle.std.proofs.lemmas.Simd.{run_in_chunk_fails, run_in_chunk_stops}
 use Rattle.redo_text.proofs.Places.{place_is, no_place, none_then_block}
-use Rattle.redo_text.proofs.scan.place_of.Goals as goal
+use Rattle.redo_text.proofs.scan.position_of.Goals as goal
 
 pub returns-then-before-lt-BLOCK : goal.returns-then-before-lt-BLOCK
 returns-then-before-lt-BLOCK c =
