@@ -12,7 +12,7 @@ use Rattle.redo_text.proofs.Added.{command_at-Extends, IsBelow-Extends}
 use Rattle.redo_command.specs.declared.fault.TextFault.{TextFault}
 use Rattle.redo_command.specs.declared.fault.TextFault.TheVariants.{Memory, Read, TooManySessions, NoSession, Write, Device, TooLong}
 use Rattle.redo_run_text.specs.Files.{IsAccepted, AreAccepted}
-use Rattle.redo_run_text.specs.Faults.{IsCause}
+use Rattle.redo_run_text.specs.Faults.{IsTextCause}
 use Rattle.redo_run_text.specs.Inside.Files.{IsScriptBelow, AreScriptsBelow, scripts_at}
 use Rattle.redo_run_text.proofs.Causes.{shown_at}
 
@@ -121,23 +121,23 @@ files_more known initial files at d old new scripts script long within same x be
     script x below are accepted)
 
 -- the cause of a fault after the files are accepted
-pub IsCause-sessions : {X : Type 0} (result : Result X TextFault) (files : List (Option Text))
+pub IsTextCause-sessions : {X : Type 0} (result : Result X TextFault) (files : List (Option Text))
     (failed : ℕ → Bool) (scripts : List (List (commands.Item Text))) (names : List Text)
     → AreAccepted [] files scripts names
     → (result ≡ Err TooManySessions → 64 < length scripts) → (result ≡ Err NoSession → scripts ≡ [])
     → IfErr result (λ fault. (fault ≡ Memory) ⊎ (fault ≡ NoSession) ⊎ (fault ≡ TooManySessions))
-    → IfErr result (IsCause files failed false)
-IsCause-sessions (Ok x) files failed scripts names are many none others = tt
-IsCause-sessions (Err Memory) files failed scripts names are many none others = tt
-IsCause-sessions (Err TooManySessions) files failed scripts names are many none others =
+    → IfErr result (IsTextCause files failed false)
+IsTextCause-sessions (Ok x) files failed scripts names are many none others = tt
+IsTextCause-sessions (Err Memory) files failed scripts names are many none others = tt
+IsTextCause-sessions (Err TooManySessions) files failed scripts names are many none others =
     (rw (AreAccepted-length [] files scripts names are) (many refl), (scripts, names, are))
-IsCause-sessions (Err NoSession) files failed scripts names are many none others =
+IsTextCause-sessions (Err NoSession) files failed scripts names are many none others =
     nil_from_length files (AreAccepted-length [] files scripts names are ∙ ap length (none refl))
-IsCause-sessions (Err (Read file line fault)) files failed scripts names are many none others =
+IsTextCause-sessions (Err (Read file line fault)) files failed scripts names are many none others =
     absurd (elim others [ inl e ↦ cc | inr (inl e) ↦ cc | inr (inr e) ↦ cc ])
-IsCause-sessions (Err Write) files failed scripts names are many none others =
+IsTextCause-sessions (Err Write) files failed scripts names are many none others =
     absurd (elim others [ inl e ↦ cc | inr (inl e) ↦ cc | inr (inr e) ↦ cc ])
-IsCause-sessions (Err (Device file)) files failed scripts names are many none others =
+IsTextCause-sessions (Err (Device file)) files failed scripts names are many none others =
     absurd (elim others [ inl e ↦ cc | inr (inl e) ↦ cc | inr (inr e) ↦ cc ])
-IsCause-sessions (Err (TooLong file)) files failed scripts names are many none others =
+IsTextCause-sessions (Err (TooLong file)) files failed scripts names are many none others =
     absurd (elim others [ inl e ↦ cc | inr (inl e) ↦ cc | inr (inr e) ↦ cc ])

@@ -8,31 +8,31 @@ use Rattle.redo_command.specs.declared.fault.TextFault.{TextFault}
 use Rattle.redo_command.specs.declared.fault.TextFault.TheVariants.{Memory, Read, TooManySessions, NoSession, Write, Device, TooLong}
 use Rattle.redo_text.specs.Faults.{IsFirstFault}
 use Rattle.redo_run_text.specs.Files.{AreAccepted, failed_at}
-use Rattle.redo_run_text.specs.Faults.{IsCause, FilesBefore}
+use Rattle.redo_run_text.specs.Faults.{IsTextCause, FilesBefore}
 use Rattle.redo_run_text.specs.Inside.Faults.{IsFileCause}
 
 -- the fault of a file after those that are accepted
-pub IsCause-file : (files : List (Option Text)) (failed : ℕ → Bool) (out : Bool) (at : ℕ)
+pub IsTextCause-file : (files : List (Option Text)) (failed : ℕ → Bool) (out : Bool) (at : ℕ)
     (names : List Text) (fault : TextFault)
     → FilesBefore files at names
     → IsFileCause names (slice_index_or files at None) (failed at) at fault
-    → IsCause files failed out fault
-IsCause-file files failed out at names Memory before cause = tt
-IsCause-file files failed out at names (Read file line fault) before cause = (
+    → IsTextCause files failed out fault
+IsTextCause-file files failed out at names Memory before cause = tt
+IsTextCause-file files failed out at names (Read file line fault) before cause = (
   names,
   subst (λ (n : ℕ). FilesBefore files n names) (sym cause.0) before,
   subst (λ (n : ℕ). IfSome (slice_index_or files n None) (λ bytes. (length bytes ≤ 67108864)
       × IsFirstFault names bytes line fault)) (sym cause.0) cause.1,
 )
-IsCause-file files failed out at names TooManySessions before cause = absurd cause
-IsCause-file files failed out at names NoSession before cause = absurd cause
-IsCause-file files failed out at names Write before cause = absurd cause
-IsCause-file files failed out at names (Device file) before cause = (
+IsTextCause-file files failed out at names TooManySessions before cause = absurd cause
+IsTextCause-file files failed out at names NoSession before cause = absurd cause
+IsTextCause-file files failed out at names Write before cause = absurd cause
+IsTextCause-file files failed out at names (Device file) before cause = (
   names,
   subst (λ (n : ℕ). FilesBefore files n names) (sym cause.0) before,
   subst (λ (n : ℕ). IsTrue (failed n)) (sym cause.0) cause.1,
 )
-IsCause-file files failed out at names (TooLong file) before cause = (
+IsTextCause-file files failed out at names (TooLong file) before cause = (
   names,
   subst (λ (n : ℕ). FilesBefore files n names) (sym cause.0) before,
   subst (λ (n : ℕ). IfSome (slice_index_or files n None) (λ bytes. 67108864 < length bytes))
@@ -77,7 +77,8 @@ failed_there count initial files at d file within same =
     ∙ ap (λ (n : ℕ). not (get_or (map count (set files at file)) at 0 == n)) before
 
 -- the fault of the file that is read, if those before it are accepted
-pub IsCause-read : {X : Type 0} (known : X → Option Text) (count : X → ℕ) (initial files : List X)
+pub IsTextCause-read : {X : Type 0} (known : X → Option Text) (count : X
+    → ℕ) (initial files : List X)
     (at : ℕ) (d file : X) (names : List Text) (scripts : List (List (Item Text)))
     (fault : TextFault)
     → length files ≡ length initial → at < length initial
@@ -86,9 +87,10 @@ pub IsCause-read : {X : Type 0} (known : X → Option Text) (count : X → ℕ) 
     → map count files ≡ map count initial
     → IsFileCause names (known (get_or files at d)) (not (count file == count (get_or files at d)))
     at fault
-    → IsCause (map known initial) (failed_at (map count initial) (map count (set files at file)))
+    → IsTextCause (map known initial)
+    (failed_at (map count initial) (map count (set files at file)))
     false fault
-IsCause-read known count initial files at d file names scripts fault long within are same counts
+IsTextCause-read known count initial files at d file names scripts fault long within are same counts
     cause =
     let here : at < length files = omega arith in
     let cause_1 = subst (λ (bytes : Option Text). IsFileCause names bytes
@@ -96,6 +98,6 @@ IsCause-read known count initial files at d file names scripts fault long within
     (shown_at known files initial at d here same) cause in
     let cause_2 = subst (λ (failed : Bool). IsFileCause names (get_or (map known initial) at None)
     failed at fault) (failed_there count initial files at d file here counts) cause_1 in
-    IsCause-file (map known initial)
+    IsTextCause-file (map known initial)
     (failed_at (map count initial) (map count (set files at file))) false at names fault
     (omega (arith, length-map initial known), (scripts, are)) cause_2

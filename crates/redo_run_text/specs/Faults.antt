@@ -24,30 +24,30 @@ AreTooLong bytes = 67108864 < length bytes
 
 -- the cause of a fault: `files` are the files' bytes, if they are known, `failed` says which files
 -- had a failed read, and `out_failed` whether a write failed
-abbrev pub IsCause : List (Option Text) → (ℕ → Bool) → Bool → TextFault → Type 0
-IsCause files failed out_failed Memory = ⊤
-IsCause files failed out_failed (Read file line fault) =
+abbrev pub IsTextCause : List (Option Text) → (ℕ → Bool) → Bool → TextFault → Type 0
+IsTextCause files failed out_failed Memory = ⊤
+IsTextCause files failed out_failed (Read file line fault) =
     (names : List Text) × FilesBefore files file names
     × IfSome (slice_index_or files file None) (HasFaultyLine names line fault)
-IsCause files failed out_failed TooManySessions =
+IsTextCause files failed out_failed TooManySessions =
     (64 < length files)
     × ((scripts : List (List (Item Text))) × (names : List Text)
     × AreAccepted [] files scripts names)
-IsCause files failed out_failed NoSession = files ≡ []
-IsCause files failed out_failed Write =
+IsTextCause files failed out_failed NoSession = files ≡ []
+IsTextCause files failed out_failed Write =
     ((scripts : List (List (Item Text))) × AreSessions files scripts) × IsTrue out_failed
-IsCause files failed out_failed (Device file) =
+IsTextCause files failed out_failed (Device file) =
     (names : List Text) × FilesBefore files file names × IsTrue (failed file)
-IsCause files failed out_failed (TooLong file) =
+IsTextCause files failed out_failed (TooLong file) =
     (names : List Text) × FilesBefore files file names
     × IfSome (slice_index_or files file None) AreTooLong
 
 -- the fault is a device's: a read or a write failed
-abbrev pub IsDeviceFault : TextFault → Type 0
-IsDeviceFault Memory = ⊥
-IsDeviceFault (Read file line fault) = ⊥
-IsDeviceFault TooManySessions = ⊥
-IsDeviceFault NoSession = ⊥
-IsDeviceFault Write = ⊤
-IsDeviceFault (Device file) = ⊤
-IsDeviceFault (TooLong file) = ⊥
+abbrev pub IsTextDeviceFault : TextFault → Type 0
+IsTextDeviceFault Memory = ⊥
+IsTextDeviceFault (Read file line fault) = ⊥
+IsTextDeviceFault TooManySessions = ⊥
+IsTextDeviceFault NoSession = ⊥
+IsTextDeviceFault Write = ⊤
+IsTextDeviceFault (Device file) = ⊤
+IsTextDeviceFault (TooLong file) = ⊥

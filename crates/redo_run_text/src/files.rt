@@ -6,7 +6,7 @@ ghost use Rattle.redo_whole.specs.Devices.{known_in};
 ghost use Rattle.redo_run_text.specs.Files.{IsAccepted, AreAccepted};
 ghost use Rattle.redo_run_text.specs.Files.{bytes_of_files, failures_of_files, failed_files};
 ghost use Rattle.redo_run_text.specs.Inside.Files.{scripts_at, IsScriptBelow, AreScriptsBelow};
-ghost use Rattle.redo_run_text.specs.Faults.{IsCause, IsDeviceFault};
+ghost use Rattle.redo_run_text.specs.Faults.{IsTextCause, IsTextDeviceFault};
 ghost use Rattle.redo_run_text.specs.Inside.Faults.{IsFileCause};
 
 use redo_command::TextFault;
@@ -58,7 +58,7 @@ fn read_file<R: Read>(
     ensures kept { Extends names.old names.new }
     ensures cause { IfErr result (IsFileCause names.old
         (known_in R.remaining file.old) (has_failed file.old file.new) at) }
-    ensures others { ¬ (IsErrAnd result IsDeviceFault)
+    ensures others { ¬ (IsErrAnd result IsTextDeviceFault)
         → failures_of file.new ≡ failures_of file.old }
 {
     let text = match read_whole(alloc, file, FILE_LIMIT) {
@@ -86,12 +86,12 @@ pub fn read_files<R: Read>(
     ensures below { IfOk result (λ scripts. AreScriptsBelow names.new scripts.items) }
 
     // Each fault has its cause; without a file there is none.
-    ensures cause { IfErr result (IsCause
+    ensures cause { IfErr result (IsTextCause
         (bytes_of_files R.remaining files.old) (failed_files files.old files.new) false) }
     ensures some { OnErr result (0 < length files.old) }
 
     // A file counts one failure more only if a device failed.
-    ensures others { ¬ (IsErrAnd result IsDeviceFault)
+    ensures others { ¬ (IsErrAnd result IsTextDeviceFault)
         → failures_of_files files.new ≡ failures_of_files files.old }
 {
     let mut scripts = Vec::new(alloc);

@@ -12,7 +12,7 @@ use Rattle.redo_command.specs.declared.fault.TextFault.{TextFault}
 use Rattle.redo_command.specs.declared.fault.TextFault.TheVariants.{Memory, Read, TooManySessions, NoSession, Write, Device, TooLong}
 use Rattle.redo_session.specs.Runs.{AreKnownSessions}
 use Rattle.redo_run_text.specs.Files.{AreAccepted}
-use Rattle.redo_run_text.specs.Faults.{IsCause, IsDeviceFault}
+use Rattle.redo_run_text.specs.Faults.{IsTextCause, IsTextDeviceFault}
 
 -- a script leaves one list of names
 one_after : (names : List Text) (text : Text) (a b : List (Item Text)) (m n : List Text)
@@ -50,7 +50,7 @@ module _ (texts : List Text) (scripts : List (List (Item Text))) (names : List T
     (some : 1 ≤ length (map Some texts)) (few : length (map Some texts) ≤ 64)
     (are : AreAccepted [] (map Some texts) scripts names) where
   only_for : (failed : ℕ → Bool) (out : Bool) (fault : TextFault)
-      → IsCause (map Some texts) failed out fault → (fault ≡ Memory) ⊎ IsDeviceFault fault
+      → IsTextCause (map Some texts) failed out fault → (fault ≡ Memory) ⊎ IsTextDeviceFault fault
   only_for failed out Memory cause = inl refl
   only_for failed out (Read file line fault) (middle, (less, (before, prefix)), cause) =
       let no = no_read [] texts scripts names are file less before middle prefix in
@@ -71,10 +71,10 @@ module _ (texts : List Text) (scripts : List (List (Item Text))) (names : List T
       absurd (omega arith)
 
 pub refused_only : (files : List (Option Text)) (failed : ℕ → Bool) (out : Bool)
-    (fault : TextFault) → AreKnownSessions files → IsCause files failed out fault
-    → (fault ≡ Memory) ⊎ IsDeviceFault fault
+    (fault : TextFault) → AreKnownSessions files → IsTextCause files failed out fault
+    → (fault ≡ Memory) ⊎ IsTextDeviceFault fault
 refused_only files failed out fault (texts, same, (scripts, (some, few, (names, are)))) cause =
     only_for texts scripts names (subst (λ (fs : List (Option Text)). 1 ≤ length fs) same some)
     (subst (λ (fs : List (Option Text)). length fs ≤ 64) same few)
     (subst (λ (fs : List (Option Text)). AreAccepted [] fs scripts names) same are) failed out fault
-    (subst (λ (fs : List (Option Text)). IsCause fs failed out fault) same cause)
+    (subst (λ (fs : List (Option Text)). IsTextCause fs failed out fault) same cause)

@@ -4,7 +4,7 @@ ghost use Rattle.redo_whole.specs.Devices.{known_in, WritesNothing};
 ghost use Rattle.redo_session.specs.Runs.{IsRunText, RunsAs, WritesRun, WritesPart, AreKnownSessions};
 ghost use Rattle.redo_run_text.specs.Files.{bytes_of_files, failures_of_files, failed_files};
 ghost use Rattle.redo_run_text.specs.Inside.Files.{scripts_at, AreScriptsBelow};
-ghost use Rattle.redo_run_text.specs.Faults.{IsCause, IsDeviceFault};
+ghost use Rattle.redo_run_text.specs.Faults.{IsTextCause, IsTextDeviceFault};
 
 use crate::runs::run;
 use redo_board::{Open, Plan};
@@ -61,10 +61,10 @@ fn text_of_files<R: Read, T: Threads + Wait + Sync>(
 ) -> Result<Vec<u8>, TextFault>
     ensures text { IfOk result (λ text. RunsAs
         (bytes_of_files R.remaining files.old) text.items) }
-    ensures cause { IfErr result (IsCause
+    ensures cause { IfErr result (IsTextCause
         (bytes_of_files R.remaining files.old) (failed_files files.old files.new) false) }
     ensures none { files.old ≡ [] → IsErrOf result TextFault.NoSession }
-    ensures others { ¬ (IsErrAnd result IsDeviceFault)
+    ensures others { ¬ (IsErrAnd result IsTextDeviceFault)
         → failures_of_files files.new ≡ failures_of_files files.old }
 {
     let mut names = Names::new(alloc);
@@ -89,7 +89,7 @@ pub fn run_texts<R: Read, W: Write, T: Threads + Wait + Sync>(
     ensures none { files.old ≡ [] → IsErrOf result TextFault.NoSession }
 
     // Each fault has its cause, in the order of the work.
-    ensures cause { IfErr result (IsCause (bytes_of_files R.remaining files.old)
+    ensures cause { IfErr result (IsTextCause (bytes_of_files R.remaining files.old)
         (failed_files files.old files.new) (has_failed out.old out.new)) }
     ensures nothing_written { IfErr result (λ fault. fault ≢ TextFault.Write
         → WritesNothing W.contents out.old out.new) }
@@ -99,10 +99,10 @@ pub fn run_texts<R: Read, W: Write, T: Threads + Wait + Sync>(
 
     // If the files' bytes are known and accepted, only memory and devices refuse the run.
     ensures only { AreKnownSessions (bytes_of_files R.remaining files.old)
-        → IfErr result (λ fault. (fault ≡ TextFault.Memory) ⊎ IsDeviceFault fault) }
+        → IfErr result (λ fault. (fault ≡ TextFault.Memory) ⊎ IsTextDeviceFault fault) }
 
     // A device's fault is the result exactly if a read or a write of this call failed.
-    ensures device { IsErrAnd result IsDeviceFault
+    ensures device { IsErrAnd result IsTextDeviceFault
         ↔ (((file : ℕ) × IsTrue (failed_files files.old files.new file))
         ⊎ IsTrue (has_failed out.old out.new)) }
 {
