@@ -62,7 +62,7 @@ fn digest_in_word(word: &[u8]) -> Result<[u8; 20], Unread>
 }
 
 /// The digest, from the one word.
-pub(crate) fn digest_of(args: Option<&[u8]>) -> Result<[u8; 20], Unread>
+pub(crate) fn digest_of_word(args: Option<&[u8]>) -> Result<[u8; 20], Unread>
     ensures { Reads (λ digest. digest) result (one_word_in digest_in (words_after args.entry)) }
 {
     match one(args) {
