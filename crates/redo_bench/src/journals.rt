@@ -109,13 +109,13 @@ fn step(alloc: Global, plan: &Plan, standing: &mut Standing, journal: &mut Journ
         .scripts()
         .get(journal.session as usize)
         .context("no session")?;
-    let line = journal.entries.len();
-    let item = script.items().get(line).context("no command")?;
+    let number = journal.entries.len();
+    let item = script.items().get(number).context("no command")?;
     let (reply, place) = standing
         .done(alloc, journal.session, &item.command)
         .context("no target")?;
     journal.entries.push(Entry {
-        line: line as u32,
+        number: number as u32,
         closing: None,
         reply,
         place,

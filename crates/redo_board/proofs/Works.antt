@@ -54,7 +54,7 @@ entered old new x e enters P holds = subst P (λ i. record {
 -- the entry of what a session does next
 pub record IsEntryOf (p : PlanOf) (w : Worker) (n : Numbered ℕ) (reply : Reply ℕ)
     (place : Place ℕ) (e : Entry) : Type 0 where
-  pub line : e.line ≡ n.number
+  pub number_is : e.number ≡ n.number
   pub command : command_told (script_of p w.session) e ≡ n.command
   pub said : reply_of e.reply ≡ reply
   pub at : place_of e.place ≡ place
@@ -67,12 +67,12 @@ is_some_map (Some command) = refl
 -- with this number, and the same closing command
 pub is_entry : (p : PlanOf) (w : Worker) (n : Numbered ℕ) (reply : Reply ℕ) (place : Place ℕ)
     (e : Entry) (closing : Option terms.Command) → IsNextBy p w n.number closing n.command
-    → e.line ≡ n.number → option_map command_of e.closing ≡ option_map command_of closing
+    → e.number ≡ n.number → option_map command_of e.closing ≡ option_map command_of closing
     → reply_of e.reply ≡ reply → place_of e.place ≡ place → IsEntryOf p w n reply place e
-is_entry p w n reply place e closing next line same said at = record {
-  line = line;
+is_entry p w n reply place e closing next is_number same said at = record {
+  number_is = is_number;
   command =
-      (λ i. unwrap_or (same i) (get_or (commands_in (script_of p w.session)) (line i) Ood))
+      (λ i. unwrap_or (same i) (get_or (commands_in (script_of p w.session)) (is_number i) Ood))
       ∙ next.told;
   said = said;
   at = at;
@@ -80,7 +80,7 @@ is_entry p w n reply place e closing next line same said at = record {
       let some : is_some closing ≡ is_some e.closing =
       sym (is_some_map closing) ∙ ap is_some (sym same) ∙ is_some_map e.closing in
       subst (λ (x : Bool × ℕ). (x.0 ≡ true) ↔ (length (script_of p w.session) ≤ x.1))
-      (λ i. (some i, sym line i)) next.marked;
+      (λ i. (some i, sym is_number i)) next.marked;
 }
 
 entry_tells : (p : PlanOf) (w : Worker) (n : Numbered ℕ) (e : Entry) (reply : Reply ℕ)
@@ -89,7 +89,7 @@ entry_tells : (p : PlanOf) (w : Worker) (n : Numbered ℕ) (e : Entry) (reply : 
 entry_tells p w n e reply place is =
     λ i. record {
       session = w.session;
-      number = is.line i;
+      number = is.number_is i;
       command = is.command i;
       reply = is.said i;
       place = is.at i;

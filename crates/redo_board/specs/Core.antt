@@ -17,8 +17,8 @@ Line = PlacedLine ℕ
 -- the row word of the session s for its command with this number, whose target it holds or not: for
 -- a line of its script, or for a closing command
 abbrev pub word : PlanOf → ℕ → ℕ → Command ℕ → Bool → ℕ
-word p s k x holds =
-    cond (nat_lt k (length (script_of p s))) (1 + 2 * (4096 * s + k) + bit holds)
+word p s number x holds =
+    cond (nat_lt number (length (script_of p s))) (1 + 2 * (4096 * s + number) + bit holds)
     (4294967296 + 65536 * s + unwrap_or (target_of x) 0)
 
 -- the records after the commands that the words name

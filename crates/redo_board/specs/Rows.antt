@@ -12,7 +12,7 @@ naming_of p = by_text p.names
 
 -- the command of the line with this number in the session's script
 abbrev pub command : PlanOf → ℕ → ℕ → Command ℕ
-command p s k = slice_index_or (commands_in (script_of p s)) k Ood
+command p s number = slice_index_or (commands_in (script_of p s)) number Ood
 
 abbrev pub bit : Bool → ℕ
 bit b = cond b 1 0

@@ -44,15 +44,15 @@ pub(crate) fn command_at(plan: &Plan, session: u8, number: usize) -> &Command
 pub(crate) fn command_next<'a>(plan: &'a Plan, session: u8, next: &'a Next) -> &'a Command
     requires session { session < length plan.now.scripts }
     requires marked { IsSome next.now.closing
-        ↔ (length (script_of plan.now session) ≤ next.now.line) }
+        ↔ (length (script_of plan.now session) ≤ next.now.number) }
     ensures { command_of result.now
-        ≡ command_by (script_of plan.now session) next.now.closing next.now.line }
+        ≡ command_by (script_of plan.now session) next.now.closing next.now.number }
 {
     // The prover can move a command only in a function that mentions the types within it.
     let _none: Option<FileStamp> = None;
     match &next.closing {
         Some(command) => command,
-        None => command_at(plan, session, next.line as usize),
+        None => command_at(plan, session, next.number as usize),
     }
 }
 

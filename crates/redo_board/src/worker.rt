@@ -127,21 +127,21 @@ impl Worker {
         // The prover can move a command only in a function that mentions the types within it.
         let _none: Option<FileStamp> = None;
         let command = command_next(plan, self.session, &next);
-        gate.before(self.session, next.line);
+        gate.before(self.session, next.number);
         match way_for(&self.own, command) {
-            Way::Claim(target) => self.lock(board, plan, next.line, target),
+            Way::Claim(target) => self.lock(board, plan, next.number, target),
             Way::Free(target) => self.free(board, plan, &next, target),
             Way::Row => self.place(alloc, board, plan, gate, &next, command)?,
         }
-        gate.after(self.session, next.line);
+        gate.after(self.session, next.number);
         Ok(true)
     }
 
     /// What the session does next, if there is anything.
     fn next(&self, plan: &Plan) -> Option<Next>
         requires { Works plan.now self.now }
-        ensures some { IfSome result (λ next. IsNextBy plan.now self.now next.line next.closing
-            (command_by (script_of plan.now self.now.session) next.closing next.line)) }
+        ensures some { IfSome result (λ next. IsNextBy plan.now self.now next.number next.closing
+            (command_by (script_of plan.now self.now.session) next.closing next.number)) }
         ensures none { IfNone result (IsAtEnd plan.now self.now) }
     {
         next_step(

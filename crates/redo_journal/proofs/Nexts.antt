@@ -117,7 +117,7 @@ module _ (s : ℕ) (script : List Item) (entries : List Entry) where
   -- the script's line after the last entry
   pub line_after : (last : Entry) → slice_get entries (length entries - 1) ≡ Some last
       → next_line_of (map item_of script) (lines_told s (map item_of script) entries)
-      ≡ first_at script (lets_through (reply_of last.reply)) (last.line + 1)
+      ≡ first_at script (lets_through (reply_of last.reply)) (last.number + 1)
   line_after last got =
       let ends = ends_with last got in
       ap (next_line_of (map item_of script)) ends.1
@@ -134,12 +134,12 @@ module _ (s : ℕ) (script : List Item) (entries : List Entry) where
   -- the number of a closing command after the last entry
   pub number_after : (last : Entry) → slice_get entries (length entries - 1) ≡ Some last
       → closing_number (map item_of script) (lines_told s (map item_of script) entries)
-      ≡ length script + (last.line + 1 - length script)
+      ≡ length script + (last.number + 1 - length script)
   number_after last got =
       let ends = ends_with last got in
       ap (closing_number (map item_of script)) ends.1
       ∙ closing_number_more (map item_of script) ends.0 (line_told s (map item_of script) last)
-      ∙ ap (λ n. n + (last.line + 1 - n)) (length-map script item_of)
+      ∙ ap (λ n. n + (last.number + 1 - n)) (length-map script item_of)
 
   -- if there is none
   pub number_at_first : slice_get entries (length entries - 1) ≡ None

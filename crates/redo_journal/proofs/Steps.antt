@@ -40,13 +40,13 @@ module _ (names : List Text) (s : ℕ) (script : List (commands.Item ℕ)) (befo
   -- a line of the script is next: the entry is that line's if it has its number
   pub same_number : (entry : Entry) (n : ℕ) → IsMarked script entry → n < length script
       → next_line_of script told ≡ Some (numbered_in script n)
-      → IsTrue (n == entry.line) ↔ IsNextAfter names s script before entry
+      → IsTrue (n == entry.number) ↔ IsNextAfter names s script before entry
   unfolding number_or
   same_number entry n marked within e =
       let next : next_after names s script before ≡ Some (numbered_in script n) =
       next_is_line (by_text names) script told (numbered_in script n) e in (
         λ yes.
-            let same : n ≡ entry.line = eqb-true n entry.line yes in
+            let same : n ≡ entry.number = eqb-true n entry.number yes in
             let none : entry.closing ≡ None =
             no_command entry.closing (λ some. let past = marked.0 some in absurd (omega arith)) in
             next ∙ (λ i. Some (record {
@@ -54,7 +54,7 @@ module _ (names : List Text) (s : ℕ) (script : List (commands.Item ℕ)) (befo
               command = command_by script (sym none i) (same i);
             })),
         λ is.
-            let same : n ≡ entry.line = ap number_or (sym next ∙ is) in
+            let same : n ≡ entry.number = ap number_or (sym next ∙ is) in
             subst (λ m. IsTrue (n == m)) same (eqb-same n),
       )
 
@@ -78,7 +78,7 @@ module _ (script : List (commands.Item ℕ)) (s : ℕ) (told : List (PlacedLine 
   abbrev found : Numbered ℕ
   found = closing_after script told command
 
-  pub same_closing : (b : Bool) → closing_number script told ≡ entry.line
+  pub same_closing : (b : Bool) → closing_number script told ≡ entry.number
       → IsTrue b ↔ (command_told script entry ≡ command) → IsTrue b ↔ IsEntrys
   same_closing b number alike =
       let after : option_map (closing_after script told) closing ≡ Some found =
@@ -92,7 +92,7 @@ module _ (script : List (commands.Item ℕ)) (s : ℕ) (told : List (PlacedLine 
             alike.1 (sym (ap (λ (n : Numbered ℕ). n.command) same)),
       )
 
-  pub other_number : (b : Bool) → b ≡ false → (closing_number script told ≡ entry.line → ⊥)
+  pub other_number : (b : Bool) → b ≡ false → (closing_number script told ≡ entry.number → ⊥)
       → IsTrue b ↔ IsEntrys
   other_number b not other =
       let after : option_map (closing_after script told) closing ≡ Some found =

@@ -23,18 +23,18 @@ place_of (Released t g) = placed.Released t g
 
 -- the closing command if there is one, else the script's at the number
 abbrev pub command_by : List (Item ℕ) → Option Command → ℕ → commands.Command ℕ
-command_by script closing k =
-    unwrap_or (option_map command_of closing) (slice_index_or (commands_in script) k Ood)
+command_by script closing number =
+    unwrap_or (option_map command_of closing) (slice_index_or (commands_in script) number Ood)
 
 -- the command that was done
 abbrev pub command_told : List (Item ℕ) → Entry → commands.Command ℕ
-command_told script entry = command_by script entry.closing entry.line
+command_told script entry = command_by script entry.closing entry.number
 
 -- the line of an entry of a session with this script
 abbrev pub line_told : ℕ → List (Item ℕ) → Entry → PlacedLine ℕ
 line_told s script entry = record {
   session = s;
-  number = entry.line;
+  number = entry.number;
   command = command_told script entry;
   reply = reply_of entry.reply;
   place = place_of entry.place;
@@ -63,7 +63,7 @@ naming_of plan = by_text plan.names
 
 -- the command is a closing one exactly if no line of the script has its number
 abbrev pub IsMarked : List (Item ℕ) → Entry → Type 0
-IsMarked script entry = IsSome entry.closing ↔ (length script ≤ entry.line)
+IsMarked script entry = IsSome entry.closing ↔ (length script ≤ entry.number)
 
 -- one journal for each script: what that session did so far
 pub record AreJournals (plan : PlanOf) (journals : List Journal) : Type 0 where

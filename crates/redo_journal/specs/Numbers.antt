@@ -10,12 +10,13 @@ use Rattle.redo_journal.specs.Journals.{command_by, lines_told}
 
 -- the script's command with this number
 abbrev pub numbered_in : List (Item ℕ) → ℕ → Numbered ℕ
-numbered_in script k = record { number = k; command = slice_index_or (commands_in script) k Ood }
+numbered_in script number =
+    record { number = number; command = slice_index_or (commands_in script) number Ood }
 
 -- what comes next, and its number
 abbrev pub numbered_by : List (Item ℕ) → Next → Numbered ℕ
 numbered_by script next =
-    record { number = next.line; command = command_by script next.closing next.line }
+    record { number = next.number; command = command_by script next.closing next.number }
 
 -- what a session with this script and these entries does next
 abbrev pub next_after : List Text → ℕ → List (Item ℕ) → List Entry → Option (Numbered ℕ)

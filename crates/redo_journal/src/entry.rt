@@ -25,7 +25,7 @@ pub enum Place {
 pub struct Entry {
     /// The command's number: that of its line in the script, counted from 0. Closing commands are
     /// counted on from the number of lines.
-    pub line: u32,
+    pub number: u32,
     /// The command, if it is a closing one.
     pub closing: Option<Command>,
     pub reply: Reply,
@@ -42,17 +42,17 @@ impl Entry {
         let _none: Option<FileStamp> = None;
         match &self.closing {
             Some(command) => Some(command),
-            None => command_at(script, self.line),
+            None => command_at(script, self.number),
         }
     }
 }
 
 /// The command of a line of the script, if there is one of this number.
-fn command_at(script: &Script, line: u32) -> Option<&Command>
+fn command_at(script: &Script, number: u32) -> Option<&Command>
     ensures { unwrap_or (option_map (λ command. command_of command.now) result) Ood
-        ≡ slice_index_or (commands_in (map item_of script.now)) line Ood }
+        ≡ slice_index_or (commands_in (map item_of script.now)) number Ood }
 {
-    let item = script.items().get(line as usize)?;
+    let item = script.items().get(number as usize)?;
     Some(&item.command)
 }
 

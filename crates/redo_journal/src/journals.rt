@@ -21,7 +21,7 @@ use std::alloc::{AllocError, Global};
 fn is_marked(script: &Script, entry: &Entry) -> bool
     ensures { IsTrue result ↔ IsMarked (map item_of script.now) entry.now }
 {
-    entry.closing.is_some() == (entry.line as usize >= script.items().len())
+    entry.closing.is_some() == (entry.number as usize >= script.items().len())
 }
 
 /// Whether each of the entries does.

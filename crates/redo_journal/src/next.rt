@@ -19,7 +19,7 @@ use redo_terms::{Command, Item, Script};
 #[derive(Debug, Drop)]
 pub struct Next {
     /// The number of its entry.
-    pub line: u32,
+    pub number: u32,
     /// The command, if it is a closing one.
     pub closing: Option<Command>,
 }
@@ -35,7 +35,7 @@ fn is_done(item: &Item, through: bool) -> bool
 fn first_done(script: &Script, through: bool, from: usize) -> Option<u32>
     ensures next { first_from through from (drop from (map item_of script.now))
         ≡ option_map (numbered_in (map item_of script.now)) result }
-    ensures within { IfSome result (λ line. line < length script.now) }
+    ensures within { IfSome result (λ number. number < length script.now) }
 {
     let items = script.items();
     let mut at = from;
@@ -54,11 +54,11 @@ pub fn next_line(script: &Script, entries: &[Entry]) -> Option<u32>
     ensures next { (s : ℕ) → next_line_of (map item_of script.now)
         (lines_told s (map item_of script.now) entries.now)
         ≡ option_map (numbered_in (map item_of script.now)) result }
-    ensures within { IfSome result (λ line. line < length script.now) }
+    ensures within { IfSome result (λ number. number < length script.now) }
 {
     match entries.last() {
         None => first_done(script, true, 0),
-        Some(last) => first_done(script, last.reply.lets_through(), last.line as usize + 1),
+        Some(last) => first_done(script, last.reply.lets_through(), last.number as usize + 1),
     }
 }
 
@@ -67,12 +67,12 @@ fn closing_number(script: &Script, entries: &[Entry]) -> usize
     ensures number { (s : ℕ) → closing_number (map item_of script.now)
         (lines_told s (map item_of script.now) entries.now) ≡ result }
     ensures past { length script.now ≤ result }
-    ensures fits { All (λ entry. entry.line < 4294967295) entries.now → result < 4294967296 }
+    ensures fits { All (λ entry. entry.number < 4294967295) entries.now → result < 4294967296 }
 {
     let lines = script.items().len();
     match entries.last() {
         None => lines,
-        Some(last) => lines.max(last.line as usize + 1),
+        Some(last) => lines.max(last.number as usize + 1),
     }
 }
 
@@ -81,25 +81,25 @@ fn closing_number(script: &Script, entries: &[Entry]) -> usize
 pub fn next_step(names: &Names, script: &Script, entries: &[Entry], holds: &Holds) -> Option<Next>
     requires names { length holds.now ≡ length names.now }
     requires below { AreToldBelow (length names.now) (map item_of script.now) entries.now }
-    requires numbers { All (λ entry. entry.line < 4294967295) entries.now }
+    requires numbers { All (λ entry. entry.number < 4294967295) entries.now }
     ensures next { (s : ℕ)
         → Says names.now holds.now (own_lines s (map item_of script.now) entries.now)
         → next_after names.now s (map item_of script.now) entries.now
         ≡ option_map (numbered_by (map item_of script.now)) result }
     ensures marked { IfSome result (λ next. IsSome next.closing
-        ↔ (length script.now ≤ next.line)) }
+        ↔ (length script.now ≤ next.number)) }
     ensures below { IfSome result (λ next. IfSome next.closing (λ command.
         IsBelow (length names.now) (command_of command))) }
 {
     match next_line(script, entries) {
-        Some(line) => Some(Next {
-            line,
+        Some(number) => Some(Next {
+            number,
             closing: None,
         }),
         None => {
             let command = holds.closing(names, script, entries)?;
             Some(Next {
-                line: closing_number(script, entries) as u32,
+                number: closing_number(script, entries) as u32,
                 closing: Some(command),
             })
         }
@@ -120,7 +120,7 @@ fn closes(names: &Names, script: &Script, before: &[Entry], holds: &Holds, entry
 {
     match holds.least_held(names, script, before) {
         Some(name) => {
-            closing_number(script, before) == entry.line as usize
+            closing_number(script, before) == entry.number as usize
                 && lets_go(script, entry, name, holds.at(name))
         }
         None => false,
@@ -144,7 +144,7 @@ pub(crate) fn is_next(
         ↔ IsNextAfter names.now s (map item_of script.now) before.now entry.now }
 {
     match next_line(script, before) {
-        Some(number) => number == entry.line,
+        Some(number) => number == entry.number,
         None => closes(names, script, before, holds, entry),
     }
 }

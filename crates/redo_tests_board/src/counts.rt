@@ -61,8 +61,8 @@ fn swap(counts: &[AtomicU32], at: usize, count: u32) -> u32 {
 }
 
 /// The place of a command among those of all sessions.
-fn index_of(session: u8, line: u32) -> usize {
-    session as usize * COMMANDS + line as usize % COMMANDS
+fn index_of(session: u8, number: u32) -> usize {
+    session as usize * COMMANDS + number as usize % COMMANDS
 }
 
 impl Counts {
@@ -92,21 +92,21 @@ impl Counts {
 }
 
 impl Gate for Counts {
-    fn before(&self, session: u8, line: u32) {
-        self.expect(swap(&self.open, session as usize, line.wrapping_add(1)) == 0);
+    fn before(&self, session: u8, number: u32) {
+        self.expect(swap(&self.open, session as usize, number.wrapping_add(1)) == 0);
     }
 
-    fn ready(&self, session: u8, line: u32, row: u32) {
+    fn ready(&self, session: u8, number: u32, row: u32) {
         self.all.fetch_add(1, Ordering::SeqCst);
-        add(&self.of_commands, index_of(session, line));
-        self.expect(load(&self.open, session as usize) == line.wrapping_add(1));
+        add(&self.of_commands, index_of(session, number));
+        self.expect(load(&self.open, session as usize) == number.wrapping_add(1));
         self.expect(add(&self.of_sessions, session as usize) == row);
     }
 
-    fn after(&self, session: u8, line: u32) {
+    fn after(&self, session: u8, number: u32) {
         self.steps.fetch_add(1, Ordering::SeqCst);
-        add(&self.ends, index_of(session, line));
-        self.expect(swap(&self.open, session as usize, 0) == line.wrapping_add(1));
+        add(&self.ends, index_of(session, number));
+        self.expect(swap(&self.open, session as usize, 0) == number.wrapping_add(1));
     }
 }
 
@@ -121,7 +121,7 @@ struct Passed {
 /// history's next: the command was ready as often as that is past the session's row before.
 fn pass(rt: &impl Abort, gate: &Counts, journal: &Journal, passed: &mut Passed, rows: &mut u32) {
     let entry = journal.entries.get(passed.entries).expect(rt, "an entry");
-    let place = index_of(journal.session, entry.line);
+    let place = index_of(journal.session, entry.number);
     let ready = load(&gate.of_commands, place);
     assert!(rt; load(&gate.ends, place) == 1);
     passed.entries = passed.entries.wrapping_add(1);

@@ -63,11 +63,11 @@ pub(crate) struct Holds {
 }
 
 /// Notes a line of the first session. Whether it was noted already.
-fn note(lines: &AtomicU64, session: u8, line: u32) -> bool {
+fn note(lines: &AtomicU64, session: u8, number: u32) -> bool {
     if session != 0 {
         return false;
     }
-    let bit = 1 << (line % 64);
+    let bit = 1 << (number % 64);
     lines.fetch_or(bit, Ordering::SeqCst) & bit != 0
 }
 
@@ -111,8 +111,8 @@ impl Holds {
     }
 
     /// Notes a line of the first session, of which it is told but once.
-    fn note_once(&self, lines: &AtomicU64, session: u8, line: u32) {
-        if note(lines, session, line) {
+    fn note_once(&self, lines: &AtomicU64, session: u8, number: u32) {
+        if note(lines, session, number) {
             self.again.fetch_add(1, Ordering::SeqCst);
         }
     }
@@ -138,21 +138,21 @@ impl Holds {
 }
 
 impl Gate for Holds {
-    fn before(&self, session: u8, line: u32) {
-        self.note_once(&self.before, session, line);
-        self.come(Moment::Before(session, line));
+    fn before(&self, session: u8, number: u32) {
+        self.note_once(&self.before, session, number);
+        self.come(Moment::Before(session, number));
     }
 
-    fn ready(&self, session: u8, line: u32, row: u32) {
-        note(&self.ready, session, line);
+    fn ready(&self, session: u8, number: u32, row: u32) {
+        note(&self.ready, session, number);
         if session == 0 {
             self.calls.fetch_add(1, Ordering::SeqCst);
         }
-        self.come(Moment::Ready(session, line, row));
+        self.come(Moment::Ready(session, number, row));
     }
 
-    fn after(&self, session: u8, line: u32) {
-        self.note_once(&self.after, session, line);
-        self.come(Moment::After(session, line));
+    fn after(&self, session: u8, number: u32) {
+        self.note_once(&self.after, session, number);
+        self.come(Moment::After(session, number));
     }
 }

@@ -48,8 +48,8 @@ fn are_at(entries: &[Entry], places: &[(u32, Place)]) -> bool {
         return false;
     }
     for at in 0..places.len() {
-        let (line, place) = places[at];
-        if entries[at].line != line || entries[at].place != place {
+        let (number, place) = places[at];
+        if entries[at].number != number || entries[at].place != place {
             return false;
         }
     }

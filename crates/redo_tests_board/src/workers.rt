@@ -57,14 +57,14 @@ impl Steps {
     fn note(&mut self, entry: Option<&Entry>) {
         if let Some(entry) = entry {
             self.count = self.count.wrapping_add(1);
-            self.last = Some((entry.line, entry.place));
+            self.last = Some((entry.number, entry.place));
         }
     }
 
     /// Whether these are the entries that were made.
     fn are(&self, entries: &[Entry]) -> bool {
         let last = match entries.last() {
-            Some(entry) => Some((entry.line, entry.place)),
+            Some(entry) => Some((entry.number, entry.place)),
             None => None,
         };
         entries.len() == self.count && are_same(last, self.last)

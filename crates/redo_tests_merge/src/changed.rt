@@ -72,13 +72,13 @@ fn changed(told: Told, way: usize) -> Told {
     }
 }
 
-fn get(told: &[Vec<Told>], session: usize, line: usize) -> Option<Told> {
-    told.get(session)?.get(line).copied()
+fn get(told: &[Vec<Told>], session: usize, number: usize) -> Option<Told> {
+    told.get(session)?.get(number).copied()
 }
 
-fn set(told: &mut [Vec<Told>], session: usize, line: usize, one: Told) {
+fn set(told: &mut [Vec<Told>], session: usize, number: usize, one: Told) {
     if let Some(own) = told.get_mut(session) {
-        if let Some(old) = own.get_mut(line) {
+        if let Some(old) = own.get_mut(number) {
             *old = one;
         }
     }

@@ -19,13 +19,13 @@ fn command_of(closing: Closing) -> Command {
 type Made = (u32, Option<Closing>, Answer, Place);
 
 fn entry_of(made: Made) -> Entry {
-    let (line, closing, answer, place) = made;
+    let (number, closing, answer, place) = made;
     let closing = match closing {
         Some(closing) => Some(command_of(closing)),
         None => None,
     };
     Entry {
-        line,
+        number,
         closing,
         reply: reply_of(answer),
         place,
@@ -48,8 +48,8 @@ fn journal_of(alloc: Global, session: u8, made: &[Made]) -> Result<Journal, Allo
 /// What is done by lines that were answered so. Places are not looked at.
 fn made_of(alloc: Global, told: &[(u32, Answer)]) -> Result<Vec<Made>, AllocError> {
     let mut made = Vec::new(alloc);
-    for (line, answer) in told {
-        made.push((*line, None, *answer, Place::Row(0)))?;
+    for (number, answer) in told {
+        made.push((*number, None, *answer, Place::Row(0)))?;
     }
     Ok(made)
 }
@@ -61,8 +61,8 @@ fn journals_of(
     closings: &[(u32, Closing)],
 ) -> Result<Vec<Journal>, AllocError> {
     let mut made = made_of(alloc, told)?;
-    for (line, closing) in closings {
-        made.push((*line, Some(*closing), Answer::Okay, Place::Row(0)))?;
+    for (number, closing) in closings {
+        made.push((*number, Some(*closing), Answer::Okay, Place::Row(0)))?;
     }
     let journal = journal_of(alloc, 0, &made)?;
     Ok(vec![in alloc; journal]?)

@@ -3,7 +3,7 @@ use redo_command::Command;
 use redo_journal::Plan;
 
 /// The session's command of this number.
-pub(crate) fn command_at(plan: &Plan, session: usize, line: usize) -> Option<&Command> {
+pub(crate) fn command_at(plan: &Plan, session: usize, number: usize) -> Option<&Command> {
     let script = plan.scripts().get(session)?;
-    Some(&script.items().get(line)?.command)
+    Some(&script.items().get(number)?.command)
 }

@@ -45,7 +45,7 @@ const SECOND: [Told; 3] = [
 fn set_lines(entries: &mut [Entry], lines: &[u32]) {
     for at in 0..lines.len() {
         if let Some(entry) = entries.get_mut(at) {
-            entry.line = lines[at];
+            entry.number = lines[at];
         }
     }
 }

@@ -129,8 +129,8 @@ fn is_unlock(command: &Command, target: u32) -> bool {
 
 /// Whether all places of a session fit.
 fn session_fits(plan: &Plan, session: usize, own: &[Told]) -> bool {
-    for (line, one) in own.iter().enumerate() {
-        match command_at(plan, session, line) {
+    for (number, one) in own.iter().enumerate() {
+        match command_at(plan, session, number) {
             Some(command) if fits(command, *one) => {}
             _ => return false,
         }

@@ -31,9 +31,9 @@ pub(crate) fn reply_of(answer: Answer) -> Reply {
 }
 
 /// The entry of the line with this number.
-fn entry_of(line: u32, told: Told) -> Entry {
+fn entry_of(number: u32, told: Told) -> Entry {
     Entry {
-        line,
+        number,
         closing: None,
         reply: reply_of(told.answer),
         place: told.place,
@@ -43,10 +43,10 @@ fn entry_of(line: u32, told: Told) -> Entry {
 /// The journal of a session that was told this.
 pub(crate) fn journal_of(alloc: Global, session: u8, told: &[Told]) -> Result<Journal, AllocError> {
     let mut entries = Vec::new(alloc);
-    let mut line: u32 = 0;
+    let mut number: u32 = 0;
     for one in told {
-        entries.push(entry_of(line, *one))?;
-        line = line.wrapping_add(1);
+        entries.push(entry_of(number, *one))?;
+        number = number.wrapping_add(1);
     }
     Ok(Journal {
         session,

@@ -25,7 +25,7 @@ way_of (Free t) = core.free t
 
 -- the entry of a `fetch_or` on the claim word of t that found w
 pub record TellsLock (number t w : ℕ) (entry : Entry) : Type 0 where
-  pub line : entry.line ≡ number
+  pub number_is : entry.number ≡ number
   pub closing : entry.closing ≡ None
   pub said : reply_of entry.reply ≡ lock_said w
   pub at : place_of entry.place ≡ lock_place t w

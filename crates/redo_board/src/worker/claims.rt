@@ -38,7 +38,7 @@ impl Worker {
     /// One `fetch_add` on the claim word of a target that the session holds and doesn't build.
     pub(crate) fn free(&mut self, board: &Board, plan: &Plan, next: &Next, target: u32)
         requires belongs { IsBoardOf plan.now board.now × WorksAt plan.now board.now self.old }
-        requires command { IsNextBy plan.now self.old next.now.line next.now.closing
+        requires command { IsNextBy plan.now self.old next.now.number next.now.closing
             (commands.Unlock target) }
         requires way { own_way (journal_of plan.now self.old) (commands.Unlock target)
             ≡ core.free target }
@@ -54,7 +54,7 @@ impl Worker {
             .fetch_add::<Free>(&mut self.seat, word, 1);
         let grant = (found / 2 + 1) as u32;
         let entry = Entry {
-            line: next.line,
+            number: next.number,
             closing: again(&next.closing),
             reply: Reply::Okay,
             place: Place::Released(target, grant),
@@ -71,14 +71,14 @@ fn claim_entry(number: u32, target: u32, found: u64) -> Entry
     let grant = (found / 2 + 1) as u32;
     if found % 2 == 0 {
         Entry {
-            line: number,
+            number,
             closing: None,
             reply: Reply::Granted(grant),
             place: Place::Granted(target, grant),
         }
     } else {
         Entry {
-            line: number,
+            number,
             closing: None,
             reply: Reply::Busy(grant),
             place: Place::Busy(target, grant),

@@ -117,7 +117,7 @@ impl Worker {
         command: &Command,
     ) -> bool
         requires belongs { IsBoardOf plan.now board.now × WorksAt plan.now board.now self.old }
-        requires command { IsNextBy plan.now self.old next.now.line next.now.closing
+        requires command { IsNextBy plan.now self.old next.now.number next.now.closing
             (command_of command.now) }
         requires way { own_way (journal_of plan.now self.old) (command_of command.now) ≡ row }
         requires none { self.old.pending ≡ None }
@@ -133,7 +133,7 @@ impl Worker {
         if word == 0 {
             return false;
         }
-        gate.ready(self.session, next.line, self.tries);
+        gate.ready(self.session, next.number, self.tries);
         let own = word_of(
             self.session,
             next,
@@ -160,7 +160,7 @@ impl Worker {
         list: Option<Reply>,
     ) -> bool
         requires belongs { IsBoardOf plan.now board.now × WorksAt plan.now board.now self.old }
-        requires command { IsNextBy plan.now self.old next.now.line next.now.closing
+        requires command { IsNextBy plan.now self.old next.now.number next.now.closing
             (command_of command.now) }
         requires way { own_way (journal_of plan.now self.old) (command_of command.now) ≡ row }
         requires none { self.old.pending ≡ None }
@@ -190,7 +190,7 @@ impl Worker {
             unreachable!()
         };
         let entry = Entry {
-            line: next.line,
+            number: next.number,
             closing: again(&next.closing),
             reply,
             place: Place::Row(row),
@@ -210,7 +210,7 @@ impl Worker {
         command: &Command,
     ) -> Result<(), AllocError>
         requires belongs { IsBoardOf plan.now board.now × WorksAt plan.now board.now self.old }
-        requires command { IsNextBy plan.now self.old next.now.line next.now.closing
+        requires command { IsNextBy plan.now self.old next.now.number next.now.closing
             (command_of command.now) }
         requires way { own_way (journal_of plan.now self.old) (command_of command.now) ≡ row }
         ensures works { WorksAt plan.now board.now self.new }
@@ -225,7 +225,7 @@ impl Worker {
             }
             let list = self.list_first(alloc, command)?;
             self.store.reserve(command)?;
-            gate.ready(self.session, next.line, self.tries);
+            gate.ready(self.session, next.number, self.tries);
             if self.try_row(alloc, board, plan, next, command, list) {
                 return Ok(());
             }

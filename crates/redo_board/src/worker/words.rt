@@ -23,14 +23,14 @@ fn flag(holds: bool) -> u64
 /// The word of what the session does next.
 pub(crate) fn word_of(session: u8, next: &Next, command: &Command, holds: bool) -> u64
     ensures { (plan : PlanOf)
-        → (IsSome next.now.closing ↔ (length (script_of plan session) ≤ next.now.line))
-        → result ≡ word plan session next.now.line (command_of command.now) holds }
+        → (IsSome next.now.closing ↔ (length (script_of plan session) ≤ next.now.number))
+        → result ≡ word plan session next.now.number (command_of command.now) holds }
 {
     if next.closing.is_some() {
         let target = command.target().unwrap_or(0);
         CLOSING + 65536 * session as u64 + target as u64
     } else {
-        1 + 2 * (4096 * session as u64 + next.line as u64) + flag(holds)
+        1 + 2 * (4096 * session as u64 + next.number as u64) + flag(holds)
     }
 }
 

@@ -18,7 +18,7 @@ use Rattle.redo_merge.specs.declared.merging.turning.Turns.{Turns}
 
 -- an entry in place of none
 abbrev pub none : Entry
-none = record { line = 0; closing = None; reply = Okay; place = Row 0 }
+none = record { number = 0; closing = None; reply = Okay; place = Row 0 }
 
 -- the entry's place fits its command and its reply
 abbrev pub FitsScript : List (commands.Item ℕ) → Entry → Type 0

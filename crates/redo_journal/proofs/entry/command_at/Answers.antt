@@ -9,7 +9,7 @@ returns c =
     let item = c.in_ok-item.item.now in
     let same = c.items.ensures.items in
     let found = c.in_ok-item.ensures.lookup in
-    let within : c.args.line < length script =
+    let within : c.args.number < length script =
     let a = found.3.0 in let b = ap length same in omega arith in
-    sym (asked script true c.args.line item within
-    (found.1 ∙ ap (λ (xs : List Item). get_or xs c.args.line item) same))
+    sym (asked script true c.args.number item within
+    (found.1 ∙ ap (λ (xs : List Item). get_or xs c.args.number item) same))

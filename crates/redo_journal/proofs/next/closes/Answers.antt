@@ -36,5 +36,5 @@ returns-else-closing_number-entry c s says =
     other_number script s (lines_told s script c.args.before.now) c.args.entry.now _ _
     (closing_told c.args.names.now c.args.holds.now s script c.args.before.now says
     c.requires.below c.in-Some.name c.in-Some.ensures.below c.in-Some.ensures.least)
-    _ (ne_eqb c.closing_number.result c.args.entry.now.line c.if-closing_number-entry.false)
+    _ (ne_eqb c.closing_number.result c.args.entry.now.number c.if-closing_number-entry.false)
     (λ e. c.if-closing_number-entry.false (sym (c.closing_number.ensures.number s) ∙ e))

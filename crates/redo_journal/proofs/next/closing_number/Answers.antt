@@ -19,8 +19,8 @@ returns-in-Some-clause-number c s =
 pub returns-in-Some-clause-fits : goal.returns-in-Some-clause-fits
 returns-in-Some-clause-fits c all =
     let entries = c.args.entries.now in
-    let last : c.in-Some.last.now.line < 4294967295 =
-    of_last (λ entry. entry.line < 4294967295) entries (length entries - 1) c.in-Some.last.now all
+    let last : c.in-Some.last.now.number < 4294967295 =
+    of_last (λ entry. entry.number < 4294967295) entries (length entries - 1) c.in-Some.last.now all
     (sym c.in-Some.ensures.value) in
     let few = c.items-lines.ensures.few in
     let long = ap length c.items-lines.ensures.items in

@@ -11,6 +11,6 @@ pub returns-in-Some-clause-next : goal.returns-in-Some-clause-next
 returns-in-Some-clause-next c s =
     let last = c.in-Some.last.now in
     line_after s c.args.script.now c.args.entries.now last (sym c.in-Some.ensures.value)
-    ∙ ap (λ (through : Bool). first_at c.args.script.now through (last.line + 1))
+    ∙ ap (λ (through : Bool). first_at c.args.script.now through (last.number + 1))
     (sym c.lets_through.ensures)
     ∙ c.first_done-in-Some.ensures.next

@@ -13,4 +13,4 @@ pub returns-in-Some-clause-next : goal.returns-in-Some-clause-next
 returns-in-Some-clause-next c s says =
     let script = map item_of c.args.script.now in
     next_is_line (by_text c.args.names.now) script (lines_told s script c.args.entries.now)
-    (numbered_in script c.in-Some.line) (c.in-Some.ensures.next s)
+    (numbered_in script c.in-Some.number) (c.in-Some.ensures.next s)

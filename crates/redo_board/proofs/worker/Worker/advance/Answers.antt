@@ -21,9 +21,9 @@ pub way_for-requires : goal.way_for-requires
 way_for-requires g c =
     let p = c.args.plan.now in
     let w = c.args.self.now in
-    let k : ℕ = c.in-Some.next.line in
-    let x : Command ℕ = command_by (script_of p w.session) c.in-Some.next.closing k in
-    let n : Numbered ℕ = record { number = k; command = x } in
+    let number : ℕ = c.in-Some.next.number in
+    let x : Command ℕ = command_by (script_of p w.session) c.in-Some.next.closing number in
+    let n : Numbered ℕ = record { number = number; command = x } in
     subst (IsBelow (length w.own)) (sym c.command_next-command.ensures)
     (own_below p w n c.requires.1.works c.in-Some.ensures.some.next)
 
@@ -31,25 +31,25 @@ pub lock-requires-clause-command : goal.lock-requires-clause-command
 lock-requires-clause-command g c =
     let p = c.args.plan.now in
     let w = c.args.self.now in
-    let k : ℕ = c.in-Some.next.line in
-    let x : Command ℕ = command_by (script_of p w.session) c.in-Some.next.closing k in
-    let n : Numbered ℕ = record { number = k; command = x } in
+    let number : ℕ = c.in-Some.next.number in
+    let x : Command ℕ = command_by (script_of p w.session) c.in-Some.next.closing number in
+    let n : Numbered ℕ = record { number = number; command = x } in
     let steps = own_steps p w n c.requires.1.works c.in-Some.ensures.some.next in
     let goes : own_way (journal_of p w) x ≡ claim c.in-Claim.target =
     sym steps ∙ ap (way_by w.own) (sym c.command_next-command.ensures)
     ∙ sym c.way_for.ensures ∙ ap way_of c.in-Claim.is in
     let same : x ≡ Lock c.in-Claim.target =
     way-claim x (own (journal_of p w) x) (own_build (journal_of p w) x) c.in-Claim.target goes in
-    lock_next p w k c.in-Some.next.closing c.in-Claim.target
-    (subst (IsNextBy p w k c.in-Some.next.closing) same c.in-Some.ensures.some)
+    lock_next p w number c.in-Some.next.closing c.in-Claim.target
+    (subst (IsNextBy p w number c.in-Some.next.closing) same c.in-Some.ensures.some)
 
 pub free-requires-clause-way : goal.free-requires-clause-way
 free-requires-clause-way g c =
     let p = c.args.plan.now in
     let w = c.args.self.now in
-    let k : ℕ = c.in-Some.next.line in
-    let x : Command ℕ = command_by (script_of p w.session) c.in-Some.next.closing k in
-    let n : Numbered ℕ = record { number = k; command = x } in
+    let number : ℕ = c.in-Some.next.number in
+    let x : Command ℕ = command_by (script_of p w.session) c.in-Some.next.closing number in
+    let n : Numbered ℕ = record { number = number; command = x } in
     let j = journal_of p w in
     let steps = own_steps p w n c.requires.1.works c.in-Some.ensures.some.next in
     let goes : own_way j x ≡ free c.in-Free.target =
@@ -63,9 +63,9 @@ pub place-requires-clause-way : goal.place-requires-clause-way
 place-requires-clause-way g c =
     let p = c.args.plan.now in
     let w = c.args.self.now in
-    let k : ℕ = c.in-Some.next.line in
-    let x : Command ℕ = command_by (script_of p w.session) c.in-Some.next.closing k in
-    let n : Numbered ℕ = record { number = k; command = x } in
+    let number : ℕ = c.in-Some.next.number in
+    let x : Command ℕ = command_by (script_of p w.session) c.in-Some.next.closing number in
+    let n : Numbered ℕ = record { number = number; command = x } in
     let steps = own_steps p w n c.requires.1.works c.in-Some.ensures.some.next in
     let e = c.command_next-command.ensures in
     ap (own_way (journal_of p w)) e
@@ -76,9 +76,9 @@ pub returns-in_err-place-in-Row-clause-no_memory :
 returns-in_err-place-in-Row-clause-no_memory g c no-row =
     let p = c.args.plan.now in
     let w = c.args.self.now in
-    let k : ℕ = c.in-Some.next.line in
-    let x : Command ℕ = command_by (script_of p w.session) c.in-Some.next.closing k in
-    let n : Numbered ℕ = record { number = k; command = x } in
+    let number : ℕ = c.in-Some.next.number in
+    let x : Command ℕ = command_by (script_of p w.session) c.in-Some.next.closing number in
+    let n : Numbered ℕ = record { number = number; command = x } in
     let steps = own_steps p w n c.requires.1.works c.in-Some.ensures.some.next in
     let e = c.command_next-command.ensures in
     absurd
@@ -90,9 +90,9 @@ pub returns-clause-no_row : goal.returns-clause-no_row
 returns-clause-no_row g c no-row =
     let p = c.args.plan.now in
     let w = c.args.self.now in
-    let k : ℕ = c.in-Some.next.line in
-    let x : Command ℕ = command_by (script_of p w.session) c.in-Some.next.closing k in
-    let n : Numbered ℕ = record { number = k; command = x } in
+    let number : ℕ = c.in-Some.next.number in
+    let x : Command ℕ = command_by (script_of p w.session) c.in-Some.next.closing number in
+    let n : Numbered ℕ = record { number = number; command = x } in
     let steps = own_steps p w n c.requires.1.works c.in-Some.ensures.some.next in
     let e = c.command_next-command.ensures in
     elim c.match-way_for.branch [

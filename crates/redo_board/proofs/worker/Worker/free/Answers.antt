@@ -34,7 +34,7 @@ fetch_add-found-requires c =
     let b = c.requires.belongs.0 in
     let k = c.requires.belongs.1 in
     let u : ℕ = c.args.target in
-    let n : Numbered ℕ = record { number = c.args.next.now.line; command = Unlock u } in
+    let n : Numbered ℕ = record { number = c.args.next.now.number; command = Unlock u } in
     let low : u < length p.names =
     target_low p w n u k.works c.requires.command.next refl in (
       k.table,
@@ -54,7 +54,7 @@ done c =
     let w = c.args.self.now in
     let k = c.requires.belongs.1 in
     let u : ℕ = c.args.target in
-    let n : Numbered ℕ = record { number = c.args.next.now.line; command = Unlock u } in
+    let n : Numbered ℕ = record { number = c.args.next.now.number; command = Unlock u } in
     let e = c.fetch_add-found.ensures in
     let found : ℕ = c.fetch_add-found.result in
     let cap = c.enter.ensures in
@@ -83,16 +83,16 @@ returns-clause-made c = (done (goal.at.returns-clause-made c).After-enter).1
 pub enter-requires-clause-room : goal.enter-requires-clause-room
 enter-requires-clause-room c =
     let u : ℕ = c.args.target in
-    let n : Numbered ℕ = record { number = c.args.next.now.line; command = Unlock u } in
+    let n : Numbered ℕ = record { number = c.args.next.now.number; command = Unlock u } in
     room_next c.args.plan.now c.args.self.now n c.requires.belongs.1.works c.requires.command.next
 
 pub enter-requires-clause-names : goal.enter-requires-clause-names
 enter-requires-clause-names c =
     let u : ℕ = c.args.target in
-    let n : Numbered ℕ = record { number = c.args.next.now.line; command = Unlock u } in
+    let n : Numbered ℕ = record { number = c.args.next.now.number; command = Unlock u } in
     own_below c.args.plan.now c.args.self.now n c.requires.belongs.1.works c.requires.command.next
 
 pub again-requires : goal.again-requires
 again-requires c =
     lets_go_by (script_of c.args.plan.now c.args.self.now.session) c.args.next.now.closing
-    c.args.next.now.line (Unlock c.args.target) c.requires.command.told tt
+    c.args.next.now.number (Unlock c.args.target) c.requires.command.told tt

@@ -76,7 +76,7 @@ done c =
     (claimed p c.args.board.now w w' n (lock_said found) (lock_place u found) k
     c.requires.command.next goes
     _ cap.items
-    (is_entry p w n (lock_said found) (lock_place u found) _ None c.requires.command told.line
+    (is_entry p w n (lock_said found) (lock_place u found) _ None c.requires.command told.number_is
     (ap (option_map command_of) told.closing) told.said told.at)
     (cap.notes p.names) refl e.0 e.2.2
     (let m = cap.capacity in omega arith) refl refl refl (no-row u) (still u found))

@@ -41,8 +41,8 @@ pub next_step-requires-clause-numbers : goal.next_step-requires-clause-numbers
 next_step-requires-clause-numbers c =
     let p = c.args.plan.now in
     let w = c.args.self.now in
-    let all : All (λ (entry : Entry). entry.line < 4294967295) w.entries.items =
-    All-from_recursion (λ (entry : Entry). entry.line < 4294967295) w.entries.items
+    let all : All (λ (entry : Entry). entry.number < 4294967295) w.entries.items =
+    All-from_recursion (λ (entry : Entry). entry.number < 4294967295) w.entries.items
     (told_each (λ (line : Line). line.number < 4294967295) w.session (script_of p w.session)
     w.entries.items (lines_numbers p w c.requires)) in
-    subst (All (λ (entry : Entry). entry.line < 4294967295)) (sym c.deref.ensures.value) all
+    subst (All (λ (entry : Entry). entry.number < 4294967295)) (sym c.deref.ensures.value) all

@@ -20,7 +20,7 @@ load-word-requires g c =
     let b = c.requires.belongs.0 in
     let k = c.requires.belongs.1 in
     let n : Numbered ℕ =
-    record { number = c.args.next.now.line; command = command_of c.args.command.now } in
+    record { number = c.args.next.now.number; command = command_of c.args.command.now } in
     let is-next = c.requires.command.next in
     let near = row_next p w n k.works is-next c.requires.way in (
       k.table,
@@ -46,7 +46,7 @@ returns-then-word-eq0-clause-same g c = λ empty.
 pub holds_its_target-requires : goal.holds_its_target-requires
 holds_its_target-requires g c =
     let n : Numbered ℕ =
-    record { number = c.args.next.now.line; command = command_of c.args.command.now } in
+    record { number = c.args.next.now.number; command = command_of c.args.command.now } in
     own_below c.args.plan.now c.args.self.now n c.requires.belongs.1.works c.requires.command.next
 
 pub compare_exchange-requires : goal.compare_exchange-requires
@@ -58,7 +58,7 @@ compare_exchange-requires g c =
     let e = c.load-word.ensures in
     let found : ℕ = c.load-word.result in
     let n : Numbered ℕ =
-    record { number = c.args.next.now.line; command = command_of c.args.command.now } in
+    record { number = c.args.next.now.number; command = command_of c.args.command.now } in
     let near = row_next p w n k.works c.requires.command.next c.requires.way in
     let v : ViewOf = c.load-word.new.seat.me.0 in
     let seen : v.seen ≡ seen_by w ++ found ∷ [] =
@@ -77,7 +77,7 @@ pub overflow_add-self : goal.overflow_add-self
 overflow_add-self g c =
     let p = c.args.plan.now in
     let n : Numbered ℕ =
-    record { number = c.args.next.now.line; command = command_of c.args.command.now } in
+    record { number = c.args.next.now.number; command = command_of c.args.command.now } in
     let near = row_next p c.args.self.now n c.requires.belongs.1.works c.requires.command.next
     c.requires.way in
     let a = few_words p c.args.board.now c.requires.belongs.0 in
@@ -99,7 +99,7 @@ returns-clause-works g c =
     let x = c.compare_exchange.ensures in
     let found : ℕ = c.load-word.result in
     let n : Numbered ℕ =
-    record { number = c.args.next.now.line; command = command_of c.args.command.now } in
+    record { number = c.args.next.now.number; command = command_of c.args.command.now } in
     let w' : Worker =
     record w { seat = c.compare_exchange.new.seat; pending = Some found; tries = w.tries + 1 } in
     works_lost c.args.plan.now c.args.board.now w w' found c.requires.belongs.1
@@ -110,7 +110,7 @@ returns-clause-works g c =
 pub returns-clause-row : goal.returns-clause-row
 returns-clause-row g c = λ filled.
     let n : Numbered ℕ =
-    record { number = c.args.next.now.line; command = command_of c.args.command.now } in
+    record { number = c.args.next.now.number; command = command_of c.args.command.now } in
     row_next c.args.plan.now c.args.self.now n c.requires.belongs.1.works c.requires.command.next
     c.requires.way
 

@@ -32,7 +32,7 @@ list_first-requires-clause-numbers g c =
     let x = c.pass_row.new.self in
     let e = c.catch_up.ensures in
     numbers_at p w x
-    (record { number = c.args.next.now.line; command = command_of c.args.command.now })
+    (record { number = c.args.next.now.number; command = command_of c.args.command.now })
     c.requires.command.next
     (still p w c.rows.self c.catch_up.new.self x c.rows.invariant.2 e.same.0 e.same.1
     e.seat (c.pass_row.ensures.same c.if-pass_row.false))
@@ -47,7 +47,7 @@ reserve-requires g c =
     record {
       numbers =
           numbers_at p w x
-          (record { number = c.args.next.now.line; command = command_of c.args.command.now })
+          (record { number = c.args.next.now.number; command = command_of c.args.command.now })
           c.requires.command.next
           (still p w c.rows.self c.catch_up.new.self x c.rows.invariant.2 e.same.0
           e.same.1 e.seat (c.pass_row.ensures.same c.if-pass_row.false))

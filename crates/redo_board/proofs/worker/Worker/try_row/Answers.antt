@@ -38,7 +38,7 @@ compare_exchange-found-requires c =
     let b = c.requires.belongs.0 in
     let k = c.requires.belongs.1 in
     let x = command_of c.args.command.now in
-    let n : Numbered ℕ = record { number = c.args.next.now.line; command = x } in
+    let n : Numbered ℕ = record { number = c.args.next.now.number; command = x } in
     let is-next = c.requires.command.next in
     let near = row_next p w n k.works is-next c.requires.way in
     let holds : c.holds_its_target-holds.result ≡ own (journal_of p w) x =
@@ -55,7 +55,7 @@ compare_exchange-found-requires c =
           k.works.session n is-next w.tries
           c.word_of-word.result
           (c.word_of-word.ensures p c.requires.command.marked
-          ∙ ap (word p w.session c.args.next.now.line x) holds)
+          ∙ ap (word p w.session c.args.next.now.number x) holds)
           k.works.tries near c.requires.way
           some.0
           (says p w.store (seen_by w) w.session (holds_its_target w.own x) (own (journal_of p w) x) x some.0
@@ -67,7 +67,7 @@ pub overflow_add-self : goal.overflow_add-self
 overflow_add-self c =
     let p = c.args.plan.now in
     let n : Numbered ℕ =
-    record { number = c.args.next.now.line; command = command_of c.args.command.now } in
+    record { number = c.args.next.now.number; command = command_of c.args.command.now } in
     let near = row_next p c.args.self.now n c.requires.belongs.1.works c.requires.command.next
     c.requires.way in
     let a = few_words p c.args.board.now c.requires.belongs.0 in
@@ -77,14 +77,14 @@ overflow_add-self c =
 pub returns-then-found-ne0-clause-row : goal.returns-then-found-ne0-clause-row
 returns-then-found-ne0-clause-row c =
     let n : Numbered ℕ =
-    record { number = c.args.next.now.line; command = command_of c.args.command.now } in
+    record { number = c.args.next.now.number; command = command_of c.args.command.now } in
     row_next c.args.plan.now c.args.self.now n c.requires.belongs.1.works c.requires.command.next
     c.requires.way
 
 pub returns-clause-row : goal.returns-clause-row
 returns-clause-row c =
     let n : Numbered ℕ =
-    record { number = c.args.next.now.line; command = command_of c.args.command.now } in
+    record { number = c.args.next.now.number; command = command_of c.args.command.now } in
     row_next c.args.plan.now c.args.self.now n c.requires.belongs.1.works c.requires.command.next
     c.requires.way
 
@@ -94,7 +94,7 @@ apply-requires-clause-numbers c =
     let w = c.args.self.now in
     let k = c.requires.belongs.1.works in
     let n : Numbered ℕ =
-    record { number = c.args.next.now.line; command = command_of c.args.command.now } in
+    record { number = c.args.next.now.number; command = command_of c.args.command.now } in
     subst (λ m. IsBelow m n.command) (sym k.lags.count)
     (next_below p w n k c.requires.command.next)
 
@@ -112,7 +112,7 @@ returns-then-found-ne0-clause-works c =
     let e = c.compare_exchange-found.ensures in
     let found : ℕ = c.compare_exchange-found.result in
     let n : Numbered ℕ =
-    record { number = c.args.next.now.line; command = command_of c.args.command.now } in
+    record { number = c.args.next.now.number; command = command_of c.args.command.now } in
     let w' : Worker =
     record {
       seat = c.compare_exchange-found.new.seat;
@@ -157,12 +157,12 @@ done c =
     let cap = c.enter.ensures in
     let r = c.reply_to-reply.ensures in
     let x = command_of c.args.command.now in
-    let n : Numbered ℕ = record { number = c.args.next.now.line; command = x } in
+    let n : Numbered ℕ = record { number = c.args.next.now.number; command = x } in
     let is-next = c.requires.command.next in
     let h : Bool = own (journal_of p w) x in
     let lags = lags_now p w k.works c.requires.none in
     let reply = reply_of c.reply_to-reply.result in
-    let seen : List ℕ = seen_by w ++ word p w.session c.args.next.now.line x h ∷ [] in
+    let seen : List ℕ = seen_by w ++ word p w.session c.args.next.now.number x h ∷ [] in
     let w₁ : Worker =
     record w {
       seat = c.compare_exchange-found.new.seat;
@@ -182,7 +182,7 @@ done c =
     (e.2.0 c.if-found-ne0.false) is-next said in
     let won : Lags p c.apply.new.self None seen =
     lags_won p w.store c.apply.new.self (seen_by w) c.apply.ensures.count c.apply.ensures.order
-    c.in-Ok.ensures.applied w.session (word p w.session c.args.next.now.line x h) h x lags
+    c.in-Ok.ensures.applied w.session (word p w.session c.args.next.now.number x h) h x lags
     (next_word p w.session (journal_of p w) n h (seen_by w) (plan_is p w k.works) k.works.session
     (lines_names p w k.works) is-next c.requires.way)
     (c.in-Ok.ensures.after
@@ -191,7 +191,7 @@ done c =
     holds) in
     let tried : w.tries + 1 ≡ length seen =
     let a = k.works.tries in
-    let b = length_push (seen_by w) (word p w.session c.args.next.now.line x h) in
+    let b = length_push (seen_by w) (word p w.session c.args.next.now.number x h) in
     omega arith in
     entered w₁ c.enter.new.self x _ cap
     (λ v. WorksAt p c.args.board.now v × Made p w v)
@@ -202,7 +202,7 @@ done c =
     (cap.notes p.names) refl e.0 e.2.2
     (let m = cap.capacity in omega arith) tried (ap (λ m. m + 1) k.works.tries)
     (subst (λ o. Lags p c.apply.new.self o seen) (sym c.requires.none) won)
-    (word p w.session c.args.next.now.line x h ∷ [], refl))
+    (word p w.session c.args.next.now.number x h ∷ [], refl))
 
 pub returns-clause-works : goal.returns-clause-works
 returns-clause-works c = (done (goal.at.returns-clause-works c).After-enter).0
@@ -213,7 +213,7 @@ returns-clause-result c = (done (goal.at.returns-clause-result c).After-enter).1
 pub holds_its_target-holds-requires : goal.holds_its_target-holds-requires
 holds_its_target-holds-requires c =
     let n : Numbered ℕ =
-    record { number = c.args.next.now.line; command = command_of c.args.command.now } in
+    record { number = c.args.next.now.number; command = command_of c.args.command.now } in
     own_below c.args.plan.now c.args.self.now n c.requires.belongs.1.works c.requires.command.next
 
 pub reply_to-reply-requires-clause-numbers : goal.reply_to-reply-requires-clause-numbers
@@ -222,23 +222,23 @@ reply_to-reply-requires-clause-numbers c =
     let w = c.args.self.now in
     let k = c.requires.belongs.1.works in
     let n : Numbered ℕ =
-    record { number = c.args.next.now.line; command = command_of c.args.command.now } in
+    record { number = c.args.next.now.number; command = command_of c.args.command.now } in
     subst (λ m. IsBelow m n.command) (sym k.lags.count)
     (next_below p w n k c.requires.command.next)
 
 pub enter-requires-clause-names : goal.enter-requires-clause-names
 enter-requires-clause-names c =
     let n : Numbered ℕ =
-    record { number = c.args.next.now.line; command = command_of c.args.command.now } in
+    record { number = c.args.next.now.number; command = command_of c.args.command.now } in
     own_below c.args.plan.now c.args.self.now n c.requires.belongs.1.works c.requires.command.next
 
 pub enter-requires-clause-room : goal.enter-requires-clause-room
 enter-requires-clause-room c =
     let n : Numbered ℕ =
-    record { number = c.args.next.now.line; command = command_of c.args.command.now } in
+    record { number = c.args.next.now.number; command = command_of c.args.command.now } in
     room_next c.args.plan.now c.args.self.now n c.requires.belongs.1.works c.requires.command.next
 
 pub again-requires : goal.again-requires
 again-requires c =
-    closing_lets_go c.args.plan.now c.args.self.now c.args.next.now.line c.args.next.now.closing
+    closing_lets_go c.args.plan.now c.args.self.now c.args.next.now.number c.args.next.now.closing
     (command_of c.args.command.now) c.requires.command c.requires.way
