@@ -7,7 +7,7 @@ ghost use Rattle.redo_store.specs.Tables.{tables_count};
 
 use crate::plans::plan_of;
 use anyhow::{Result, bail};
-use redo_command::{Command, FileStamp, Item, Reply};
+use redo_command::{Command, Item, Reply};
 use redo_journal::Plan;
 use redo_store::Redo;
 use std::alloc::Global;
@@ -38,8 +38,6 @@ fn command_at(plan: &Plan, session: usize, number: usize) -> &Command
     requires number { number < length (script_of plan.now session) }
     ensures { IsBelow (length plan.now.names) (command_of result.now) }
 {
-    // The check only knows how to move a command where the types within it are met.
-    let _none: Option<FileStamp> = None;
     &items(plan, session)[number].command
 }
 

@@ -8,7 +8,7 @@ ghost use Rattle.redo_journal.specs.Journals.{command_by};
 ghost use Rattle.redo_board.specs.Rows.{command, rows_for, rows_in, rows_of};
 
 use redo_journal::{Next, Plan};
-use redo_terms::{Command, FileStamp, Item, Script};
+use redo_terms::{Command, Item, Script};
 
 /// The script of a session.
 pub(crate) fn script(plan: &Plan, session: u8) -> &Script
@@ -35,8 +35,6 @@ pub(crate) fn command_at(plan: &Plan, session: u8, number: usize) -> &Command
     ensures command { command_of result.now ≡ command plan.now session number }
     ensures plan { IsPlan plan.now }
 {
-    // The prover can move a command only in a function that mentions the types within it.
-    let _none: Option<FileStamp> = None;
     &items(plan, session)[number].command
 }
 
@@ -48,8 +46,6 @@ pub(crate) fn command_next<'a>(plan: &'a Plan, session: u8, next: &'a Next) -> &
     ensures { command_of result.now
         ≡ command_by (script_of plan.now session) next.now.closing next.now.number }
 {
-    // The prover can move a command only in a function that mentions the types within it.
-    let _none: Option<FileStamp> = None;
     match &next.closing {
         Some(command) => command,
         None => command_at(plan, session, next.number as usize),

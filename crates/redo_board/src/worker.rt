@@ -23,7 +23,7 @@ use crate::seat::{Seat, Token};
 use crate::worker::ways::{Way, way_for};
 use redo_journal::{Entry, Holds, Journal, Next, Plan, next_step};
 use redo_store::Store;
-use redo_terms::{Command, FileStamp, Reply};
+use redo_terms::{Command, Reply};
 use std::alloc::{AllocError, Global};
 
 mod claims;
@@ -124,8 +124,6 @@ impl Worker {
         let Some(next) = self.next(plan) else {
             return Ok(false);
         };
-        // The prover can move a command only in a function that mentions the types within it.
-        let _none: Option<FileStamp> = None;
         let command = command_next(plan, self.session, &next);
         gate.before(self.session, next.number);
         match way_for(&self.own, command) {

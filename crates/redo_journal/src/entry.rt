@@ -4,7 +4,7 @@ ghost use Rattle.redo_terms.specs.Meaning.{command_of};
 ghost use Rattle.redo_terms.specs.Inside.Meaning.{item_of};
 ghost use Rattle.redo_journal.specs.Journals.{command_told};
 
-use redo_terms::{Command, FileStamp, Reply, Script};
+use redo_terms::{Command, Reply, Script};
 
 /// The place of a command: a row, or one among the claims on a target. The numbers of a claim are
 /// the target's and the grant's.
@@ -38,8 +38,6 @@ impl Entry {
         ensures { unwrap_or (option_map (λ command. command_of command.now) result) Ood
             ≡ command_told (map item_of script.now) self.now }
     {
-        // The prover can move a command only in a function that mentions the types within it.
-        let _none: Option<FileStamp> = None;
         match &self.closing {
             Some(command) => Some(command),
             None => command_at(script, self.number),

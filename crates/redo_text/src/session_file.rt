@@ -13,7 +13,7 @@ ghost use Rattle.redo_text.specs.Inside.Reading.{script_line_in};
 use crate::fault::{LineFault, ReadFault, Unread, at_line};
 use crate::read::read_script_line;
 use redo_names::{MOST_NAMES, Names};
-use redo_terms::{FileStamp, Item, Script};
+use redo_terms::{Item, Script};
 use std::alloc::Global;
 
 fn line_end(text: &[u8]) -> Option<usize>
@@ -54,8 +54,6 @@ fn take_line(
         (λ item. IsBelow (length names.new) (command_of item.command)) items.new.items) }
     ensures kept { Extends names.old names.new }
 {
-    // The prover can move a command only in a function that mentions the types within it.
-    let _none: Option<FileStamp> = None;
     if let Some(item) = read_script_line(alloc, line, items.len(), names)? {
         items.push(item)?;
     }

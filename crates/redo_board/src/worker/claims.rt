@@ -15,7 +15,7 @@ use crate::rule::{Claim, Free};
 use crate::worker::Worker;
 use crate::worker::words::again;
 use redo_journal::{Entry, Next, Place, Plan};
-use redo_terms::{Command, FileStamp, Reply};
+use redo_terms::{Command, Reply};
 
 impl Worker {
     /// One `fetch_or` on the claim word of a target.

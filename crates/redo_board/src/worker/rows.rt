@@ -27,7 +27,7 @@ use crate::worker::ways::holds_its_target;
 use crate::worker::words::{again, flag_of, is_closing, number_of, session_of, target_of, word_of};
 use redo_journal::{Entry, Next, Place, Plan};
 use redo_store::Store;
-use redo_terms::{Command, FileStamp, Reply};
+use redo_terms::{Command, Reply};
 use std::alloc::{AllocError, Global};
 
 /// Applies the command that a row word names.
@@ -43,8 +43,6 @@ fn apply_word(store: &mut Store, plan: &Plan, word: u64) -> Result<(), AllocErro
     ensures order { order_of store.new ≡ order_of store.old }
     ensures err { OnErr result (IsSameButRoom store.old store.new) }
 {
-    // The prover can move a command only in a function that mentions the types within it.
-    let _none: Option<FileStamp> = None;
     let session = session_of(word);
     let holds = flag_of(word);
     if is_closing(word) {
