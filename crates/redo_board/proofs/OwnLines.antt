@@ -37,7 +37,7 @@ pub record IsOwn (p : PlanOf) (s : ℕ) (lines : List Line) : Type 0 where
   pub okay : ClosingsOkay (script_of p s) lines
   pub rows : RowsAre (script_of p s) lines
 
--- what holds of all lines holds of those of a session
+-- what is true of all lines is true of those of a session
 parts_all : (P : ℕ → Line → Type 0) (lines : List Line)
     → AllByRecursion (λ line. P line.session line) lines → (s : ℕ)
     → AllByRecursion (P s) (part_of s lines)

@@ -36,7 +36,7 @@ pub record Waits (p : PlanOf) (old new : Worker) : Type 0 where
   pub next : next_by p new ≡ next_by p old
   pub begins : Begins (seen_by new) (seen_by old)
 
--- the result lends from s only by `&`, and this holds of the value of s in the end
+-- the result lends from s only by `&`, and this is true of the value of s in the end
 abbrev pub Rests : (R : RattleType) → MutBor R.Denot → (R.Denot → Type 0) → Fml
 Rests R s P = follows_so R R s.ghost_name none (λ _ _. ⊤) P
 

@@ -68,7 +68,7 @@ are_free : (ws : List Text) → AllByRecursion IsPlain ws → AllByRecursion IsF
 are_free [] all = tt
 are_free (w ∷ ws) all = (is_free w all.0, are_free ws all.1)
 
--- the text is words of which P holds
+-- the text is words of which P is true
 pub record IsWords (P : Text → Type 0) (text : Text) : Type 0 where
   pub word : Text
   pub args : List Text

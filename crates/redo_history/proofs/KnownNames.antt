@@ -110,7 +110,7 @@ known_are_names names [] each known = tt
 known_are_names names (n ∷ ns) each known =
     (known_is_name names n each known.0, known_are_names names ns each known.1)
 
--- what holds of each member, one by one
+-- what is true of each member, one by one
 pub all_members : {X : Type 0} (P : X → Type 0) (xs : List X) → ((x : X) → Contains xs x → P x)
     → AllByRecursion P xs
 all_members P [] of = tt

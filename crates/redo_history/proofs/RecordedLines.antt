@@ -1,4 +1,4 @@
--- The lines of the code as those of a history, and what holds of each of them.
+-- The lines of the code as those of a history, and what is true of each of them.
 use Rattle.std.proofs.Common.{◌≡◌, List, [], ◌∷◌, ◌++◌, ◌∙◌, sym, map}
 use Rattle.std.specs.List.{AllByRecursion}
 use Rattle.std.proofs.lemmas.Simd.{map-map}

@@ -25,7 +25,7 @@ pub part_of-other : {N : Type 0} (s : ℕ) (line : PlacedLine N) (lines : List (
 part_of-other s line lines n = cond_other line.session s (line ∷ part_of s lines) (part_of s lines)
     n
 
--- what holds of each line of each session holds of all lines
+-- what is true of each line of each session is true of all lines
 pub all_by_parts : {N : Type 0} (P : PlacedLine N → Type 0) (lines : List (PlacedLine N))
     → ((s : ℕ) (line : PlacedLine N) → In line (part_of s lines) → P line) → AllByRecursion P lines
 all_by_parts P [] h = tt
@@ -36,7 +36,7 @@ all_by_parts P (line ∷ lines) h = (
       (λ s other i. h s other (cond_in (eqb line.session s) other line (part_of s lines) i)),
 )
 
--- what holds of all lines holds of each line of a session
+-- what is true of all lines is true of each line of a session
 pub all_of_part : {N : Type 0} (P : PlacedLine N → Type 0) (lines : List (PlacedLine N))
     → AllByRecursion P lines → (s : ℕ) (line : PlacedLine N) → In line (part_of s lines) → P line
 all_of_part P [] all s line i = absurd i

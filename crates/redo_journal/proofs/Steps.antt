@@ -139,7 +139,7 @@ below_next P n below here k within = dite (ℕ_discrete k n)
     (λ same. subst P (sym same) here)
     (λ other. below k (omega arith))
 
--- what holds of each entry holds of the last
+-- what is true of each entry is true of the last
 pub of_last : (P : Entry → Type 0) (entries : List Entry) (k : ℕ) (entry : Entry)
     → All P entries → slice_get entries k ≡ Some entry → P entry
 of_last P entries k entry all e =

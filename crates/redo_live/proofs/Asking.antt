@@ -1,4 +1,4 @@
--- What an answer says of numbers holds of the names that they stand for.
+-- What an answer says of numbers is true of the names that they stand for.
 use Rattle.std.proofs.Common.{◌≡◌, ℕ, suc, ◌<◌, ◌-◌, false, List, ◌∷◌, arith, map, length, Option, Some, None, IfSome, slice_get, [], refl, option_map, sym, ap, ◌∙◌, subst}
 use Rattle.std.specs.Prelude.{bytes_eq}
 use Rattle.std.specs.List.{position}

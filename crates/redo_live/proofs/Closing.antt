@@ -52,7 +52,7 @@ any_order a b s plan (t ∷ ts) st h =
     any_letting a b s (is_building (target_state plan.records t)) t (closing_lines_of s plan ts) st
     (any_order a b s plan ts) h
 
--- a fact that holds of the closing lines of each target
+-- a fact that is true of the closing lines of each target
 all_letting : (P : Line ℕ → Type 0) (s : ℕ) (building : Bool) (t : ℕ) → P (okay_line s (Failed t))
     → P (okay_line s (Unlock t)) → AllByRecursion P (letting s building t)
 all_letting P s true t failed unlocked = (failed, (unlocked, tt))

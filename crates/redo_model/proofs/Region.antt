@@ -131,9 +131,9 @@ module _ {N : Type 0} {seeds : List N} {old new : Records N} (d : DifferAt seeds
             (w.0 ∷ before.0, (step_kept (differ_back d) t w.0 far w.1, before.1))
       ]
 
-  -- a test that holds of what was out of date outside of the region, and in the region of each
-  -- target with a reason and of each that depends on a name with the test, holds of all that is out
-  -- of date
+  -- a test that is true of what was out of date outside of the region, and in the region of each
+  -- target with a reason and of each that depends on a name with the test, is true of all that is
+  -- out of date
   module _ (test : N → Bool)
       (outside : (t : N) → (InRegion new seeds t → ⊥) → OutOfDate old t → IsTrue (test t))
       (reasons : (t : N) → InRegion new seeds t → HasReason new t → IsTrue (test t))

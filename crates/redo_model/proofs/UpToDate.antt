@@ -104,7 +104,7 @@ module _ {N : Type 0} {naming : Naming N} (law : IsNaming naming) where
       one_listed x (contains_first x [], stale)
       (λ n h. elim (contains_cases x [] n h.0) [ inl e ↦ e | inr k ↦ absurd (contains_none n k) ])
 
-  -- what holds of x, and of each name that the test tells from x, holds of all
+  -- what is true of x, and of each name that the test tells from x, is true of all
   pub at_one : (x : N) (Q : N → Type 0) → Q x → ((n : N) → naming.same x n ≡ false → Q n) → (n : N)
       → Q n
   at_one x Q here other n = elim (cases_Bool (naming.same x n))

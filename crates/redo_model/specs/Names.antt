@@ -1,4 +1,4 @@
--- How names are told apart and ordered. The definitions hold for names of any kind: the contracts
+-- How names are told apart and ordered. The definitions are for names of any kind: the contracts
 -- use texts, and the code uses numbers.
 use Rattle.std.specs.Prelude.{◌≡◌, ℕ, Bool, cond, List, bytes_eq, ◌==◌, ◌↔◌, AllPairs, Contains}
 use Rattle.std.specs.Ordering.{nat_cmp}
@@ -30,6 +30,6 @@ put naming n x f m = cond (naming.same n m) x (f m)
 abbrev pub Ascending : {N : Type 0} → Naming N → List N → Type 0
 Ascending naming names = AllPairs (λ m n. naming.order m n ≡ Less) names
 
--- the list holds exactly the names with P, in order, each once
+-- the list has exactly the names with P, in order, each once
 abbrev pub IsListed : {N : Type 0} → Naming N → (N → Type 0) → List N → Type 0
 IsListed {N} naming P names = Ascending naming names × ((n : N) → Contains names n ↔ P n)

@@ -67,7 +67,7 @@ pub fn building_up_to_date_is_not_legal()
     ensures { Legal texts (with_reply 6 (replies.Ood []) own_reasons) → ⊥ }
 {}
 
-/// A change row holds the mark of its name, and goes with the next build.
+/// A change row has the mark of its name, and goes with the next build.
 pub fn change_rows_are_legal()
     ensures { Legal texts change_rows }
 {}

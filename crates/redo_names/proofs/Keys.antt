@@ -9,7 +9,7 @@ use Rattle.std.proofs.lemmas.Option.{slice_get-map}
 use Rattle.std.proofs.lemmas.Slice.Eq.{bytes_eq-Decides}
 use Rattle.redo_names.specs.Names.{has}
 
--- the names that a set of these keys holds
+-- the names that a set of these keys has
 abbrev pub texts : List (Vec ℕ) → List (List ℕ)
 texts keys = map (λ key. key.items) keys
 

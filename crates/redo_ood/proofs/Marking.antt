@@ -185,7 +185,7 @@ one_more ts k d u in' =
       ]),
     )
 
--- what holds of a prefix that is as long as the list holds of the list
+-- what is true of a prefix that is as long as the list is true of the list
 pub at_take_all : (P : List ℕ → Type 0) (ts : List ℕ) (k : ℕ) → length ts ≤ k → P (take k ts) → P ts
 at_take_all P ts k end = subst P (take_all k ts end)
 

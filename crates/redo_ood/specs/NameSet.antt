@@ -23,7 +23,7 @@ IsQueued m t = Contains m.queue t
 abbrev pub with_name : Marked → ℕ → Marked
 with_name m t = record { marks = slice_set m.marks t true; queue = m.queue ++ t ∷ [] }
 
--- the queue holds marked names, each once
+-- the queue has marked names, each once
 pub record IsQueue (m : Marked) : Type 0 where
   pub marked : (t : ℕ) → IsQueued m t → IsMarked m t
   pub once : AllPairs (λ s t. s ≢ t) m.queue

@@ -131,7 +131,7 @@ impl Run {
     }
 }
 
-/// The run text of the session that a file holds, or the file's fault.
+/// The run text of the session that a file has, or the file's fault.
 pub fn run_of(alloc: Global, file: &[u8]) -> Result<Vec<u8>, Fault> {
     let mut reader = Reader::new(alloc);
     let asked = reader.session(alloc, file)?;

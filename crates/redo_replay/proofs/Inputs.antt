@@ -9,7 +9,7 @@ use Rattle.redo_history.specs.declared.fault.HistoryFault.{HistoryFault}
 use Rattle.redo_history.specs.declared.fault.HistoryFault.TheVariants as history_faults
 use Rattle.redo_replay.specs.declared.fault.ReplayFault.TheVariants.{Memory}
 
--- what holds of all that was read holds of the bytes, if they are known
+-- what is true of all that was read is true of the bytes, if they are known
 known_read : (known : Option Text) (whole : Text) (P : Text → Type 0)
     → IfSome known (λ bytes. whole ≡ bytes) → P whole → IfSome known P
 known_read None whole P same h = tt

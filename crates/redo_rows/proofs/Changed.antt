@@ -18,7 +18,7 @@ rows_ext a b change created always =
     ∙ ap (λ (f : ℕ → Bool). record { change = b.change; created = b.created; always = f })
     (fun_ext always))
 
--- a property of each target's value, if it holds of the new one and of the others as they are
+-- a property of each target's value, if it is true of the new one and of the others as they are
 each_target : {Y : Type 0} (f : TargetRows → Y) (g : ℕ
     → Y) (targets : List TargetRows) (t : ℕ) (new : TargetRows) → t < length targets → f new ≡ g t
     → ((u : ℕ) → u ≢ t → f (target_at targets u) ≡ g u) → (u : ℕ)

@@ -1,4 +1,4 @@
--- What holds of the lines of each session holds of all lines; and how many they are.
+-- What is true of the lines of each session is true of all lines; and how many they are.
 use Rattle.std.proofs.Common.{◌≡◌, ℕ, zero, suc, ◌+◌, ◌*◌, ◌<◌, ◌≤◌, Bool, true, false, cond, eqb, eq-eqb, List, [], ◌∷◌, length, refl, ap, subst, arith}
 use Rattle.std.specs.List.{AllByRecursion}
 use mathlib.Core.Logic.{dite}
@@ -31,7 +31,7 @@ module _ {N : Type 0} where
   later P true line part all = all.1
   later P false line part all = all
 
-  -- what holds of the lines of each of n sessions
+  -- what is true of the lines of each of n sessions
   pub all_by_part : (P : Line N → Type 0) (n : ℕ) (lines : List (Line N))
       → AllByRecursion (λ line. line.session < n) lines
       → ((s : ℕ) → s < n → AllByRecursion P (part_of s lines)) → AllByRecursion P lines

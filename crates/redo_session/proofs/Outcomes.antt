@@ -63,7 +63,7 @@ place_below n l (Granted t g) f b = (subst (IsBelow n) f.0 b).0
 place_below n l (Busy t g) f b = (subst (IsBelow n) f.0 b).0
 place_below n l (Released t g) f b = (subst (IsBelow n) f.0 b).0
 
--- what holds of all lines holds of a session's
+-- what is true of all lines is true of a session's
 part_all : (P : PlacedLine ℕ → Type 0) (s : ℕ) (lines : List (PlacedLine ℕ))
     → AllByRecursion P lines → AllByRecursion P (part_of s lines)
 part_all P s [] all = tt

@@ -137,7 +137,7 @@ module _ (from sorted to : List ℕ) (moved : IsPermutation from sorted)
           subst (λ (ks : List ℕ). Contains ks k) (sym kept) (Contains-dedup_nat sorted k there),
     )
 
--- what holds of each number holds of each kept one
+-- what is true of each number is true of each kept one
 pub all_kept : (P : ℕ → Type 0) (from to : List ℕ) → ((k : ℕ) → Contains to k ↔ Contains from k)
     → All P from → All P to
 all_kept P from to same all i d in' =

@@ -13,7 +13,7 @@ use Rattle.redo_store.specs.Orders.{by_place}
 use Rattle.redo_store.specs.Stored.{Stored, records_of, naming_of, IsSameButRoom}
 use Rattle.redo_store.specs.Tables.{Tables, IsAsBefore, locks_of}
 
--- a test that holds for each of the names
+-- a test that is true for each of the names
 pub all_of_them : (test : ℕ → Bool) (ns : List ℕ) → ((n : ℕ) → Contains ns n → IsTrue (test n))
     → list_all test ns ≡ true
 all_of_them test ns each =

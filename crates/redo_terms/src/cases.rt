@@ -1,6 +1,6 @@
 /// The table of the commands, a row for each. The macro `$then` gets the arguments in brackets, and then the rows.
 ///
-/// A row holds, in this order:
+/// A row has, in this order:
 ///
 /// - the case of `Command` and of `Kind`, with a name for each field of the command;
 /// - the word that a line of it begins with;

@@ -1,4 +1,4 @@
-//! A gate that holds sessions back until others have come to some moment.
+//! A gate that pauses sessions until others have come to some moment.
 use redo_board::Gate;
 use std::alloc::{AllocError, Global};
 use std::hint::spin_loop;
@@ -15,21 +15,21 @@ pub(crate) enum Moment {
     After(u8, u32),
 }
 
-/// Who comes to the first moment of a pair is held there until the second has come.
+/// Who comes to the first moment of a pair is paused there until the second has come.
 pub(crate) type Pairs = &'static [(Moment, Moment)];
 
-/// Who comes to the first moment is held there until the second has come.
+/// Who comes to the first moment is paused there until the second has come.
 #[derive(Drop)]
-struct Hold {
+struct Pause {
     at: Moment,
     until: Moment,
     has_come: AtomicU64,
     is_met: AtomicU64,
 }
 
-impl Hold {
-    fn new(at: Moment, until: Moment) -> Hold {
-        Hold {
+impl Pause {
+    fn new(at: Moment, until: Moment) -> Pause {
+        Pause {
             at,
             until,
             has_come: AtomicU64::new(0),
@@ -49,12 +49,12 @@ impl Hold {
     }
 }
 
-/// A gate with some holds. It knows how often the first session was ready, and keeps which lines of
+/// A gate with some pauses. It knows how often the first session was ready, and keeps which lines of
 /// that session it was told of: a bit for each. It counts those that it was told of again before or
 /// after.
 #[derive(Drop)]
-pub(crate) struct Holds {
-    holds: Vec<Hold>,
+pub(crate) struct Pauses {
+    pauses: Vec<Pause>,
     calls: AtomicU64,
     before: AtomicU64,
     ready: AtomicU64,
@@ -71,14 +71,14 @@ fn note(lines: &AtomicU64, session: u8, number: u32) -> bool {
     lines.fetch_or(bit, Ordering::SeqCst) & bit != 0
 }
 
-impl Holds {
-    pub(crate) fn new(alloc: Global, pairs: &[(Moment, Moment)]) -> Result<Holds, AllocError> {
-        let mut holds = Vec::new(alloc);
+impl Pauses {
+    pub(crate) fn new(alloc: Global, pairs: &[(Moment, Moment)]) -> Result<Pauses, AllocError> {
+        let mut pauses = Vec::new(alloc);
         for (at, until) in pairs {
-            holds.push(Hold::new(*at, *until))?;
+            pauses.push(Pause::new(*at, *until))?;
         }
-        Ok(Holds {
-            holds,
+        Ok(Pauses {
+            pauses,
             calls: AtomicU64::new(0),
             before: AtomicU64::new(0),
             ready: AtomicU64::new(0),
@@ -87,10 +87,10 @@ impl Holds {
         })
     }
 
-    /// Whether each hold has held a session until its second moment had come.
+    /// Whether each pause has kept a session until its second moment had come.
     pub(crate) fn are_met(&self) -> bool {
-        for hold in &self.holds {
-            if hold.is_met.load(Ordering::SeqCst) == 0 {
+        for pause in &self.pauses {
+            if pause.is_met.load(Ordering::SeqCst) == 0 {
                 return false;
             }
         }
@@ -117,27 +117,27 @@ impl Holds {
         }
     }
 
-    /// Lets go of who waits for this moment.
-    fn let_go(&self, moment: Moment) {
-        for hold in &self.holds {
-            if hold.until == moment {
-                hold.has_come.store(1, Ordering::SeqCst);
+    /// Wakes who waits for this moment.
+    fn wake(&self, moment: Moment) {
+        for pause in &self.pauses {
+            if pause.until == moment {
+                pause.has_come.store(1, Ordering::SeqCst);
             }
         }
     }
 
-    /// Lets go of who waits for this moment, and then waits where there is a hold.
+    /// Wakes who waits for this moment, and then waits where there is a pause.
     fn come(&self, moment: Moment) {
-        self.let_go(moment);
-        for hold in &self.holds {
-            if hold.at == moment && hold.comes() {
-                hold.is_met.store(1, Ordering::SeqCst);
+        self.wake(moment);
+        for pause in &self.pauses {
+            if pause.at == moment && pause.comes() {
+                pause.is_met.store(1, Ordering::SeqCst);
             }
         }
     }
 }
 
-impl Gate for Holds {
+impl Gate for Pauses {
     fn before(&self, session: u8, number: u32) {
         self.note_once(&self.before, session, number);
         self.come(Moment::Before(session, number));

@@ -1,5 +1,5 @@
 //! Guarded lines: who is let through, and that a skipped line makes no step.
-use crate::gates::{Holds, Moment, Pairs};
+use crate::gates::{Moment, Pairs, Pauses};
 use crate::outcomes::{Run, check_runs, check_text};
 use crate::plans::plan_of;
 use redo_journal::{Place, Plan};
@@ -110,19 +110,19 @@ fn text_under<R: Threads + Wait + Sync>(
     rt: &R,
     alloc: Global,
     plan: &Plan,
-    gate: &Holds,
+    gate: &Pauses,
 ) -> Result<Vec<u8>, RunFault> {
     let outcome = run(rt, alloc, plan, gate)?;
     Ok(run_text(alloc, plan, &outcome)?)
 }
 
-/// The plan's run under these holds has this text.
+/// The plan's run under these pauses has this text.
 fn check_busy<R: Threads + Wait + Abort + Sync>(
     rt: &R,
     alloc: Global,
     plan: &Plan,
 ) -> Result<(), RunFault> {
-    let gate = Holds::new(alloc, BUSY_PAIRS)?;
+    let gate = Pauses::new(alloc, BUSY_PAIRS)?;
     let text = text_under(rt, alloc, plan, &gate)?;
     assert!(rt; gate.are_met());
     check_text(rt, &text, BUSY_TEXT);

@@ -1,5 +1,5 @@
 //! What runs of whole plans leave.
-use crate::gates::{Holds, Pairs};
+use crate::gates::{Pairs, Pauses};
 use crate::plans::plan_of;
 use redo_board::Gate;
 use redo_history::history_text;
@@ -13,7 +13,7 @@ use std::thread::Threads;
 /// The lines of a session's entries, and their places.
 pub(crate) type Places = &'static [(u32, Place)];
 
-/// A run of files under holds that was worked out by hand: its history, how often each session tries to fill a row, of
+/// A run of files under pauses that was worked out by hand: its history, how often each session tries to fill a row, of
 /// which lines of the first session the gate is told, and, where they are looked at, the entries of each session.
 #[derive(Clone, Copy)]
 pub(crate) struct Run {
@@ -83,7 +83,7 @@ pub(crate) fn have_tried(journals: &[Journal], tries: &[u32]) -> bool {
 }
 
 /// The gate has held each session until its moment had come, and was told so.
-fn check_gate(rt: &impl Abort, gate: &Holds, run: &Run) {
+fn check_gate(rt: &impl Abort, gate: &Pauses, run: &Run) {
     assert!(rt; gate.are_met());
     assert!(rt; gate.was_told(run.told));
     if let Some(tries) = run.tries.first() {
@@ -103,7 +103,7 @@ fn check_under<R: Threads + Wait + Abort + Sync>(
     rt: &R,
     alloc: Global,
     plan: &Plan,
-    gate: &Holds,
+    gate: &Pauses,
     run: &Run,
 ) -> Result<(), RunFault> {
     let left = ran(rt, alloc, plan, gate)?;
@@ -119,7 +119,7 @@ fn check_planned<R: Threads + Wait + Abort + Sync>(
     plan: &Plan,
     run: &Run,
 ) -> Result<(), RunFault> {
-    let gate = Holds::new(alloc, run.pairs)?;
+    let gate = Pauses::new(alloc, run.pairs)?;
     check_under(rt, alloc, plan, &gate, run)
 }
 

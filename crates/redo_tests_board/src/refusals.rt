@@ -2,7 +2,7 @@
 ghost use Rattle.std.specs.Prelude.{◌≡◌, length, IfOk};
 ghost use Rattle.redo_board.specs.Kept.{IsBoardOf, SitsAt, IsFreshOf};
 
-use crate::gates::Holds;
+use crate::gates::Pauses;
 use crate::histories::{counted, history_of, replays};
 use crate::outcomes::{have_tried, ran};
 use crate::plans::plan_of;
@@ -49,12 +49,12 @@ fn opened(alloc: Global, plan: &Plan) -> Result<(Board, Seat), AllocError>
 }
 
 /// The gate of the lost try. Where a request is refused, the next try succeeds.
-fn gated(alloc: Global) -> Result<Holds, AllocError> {
-    match Holds::new(alloc, LOST_TRY.pairs) {
+fn gated(alloc: Global) -> Result<Pauses, AllocError> {
+    match Pauses::new(alloc, LOST_TRY.pairs) {
         Ok(gate) => Ok(gate),
         Err(_) => {
             tell(alloc);
-            Holds::new(alloc, LOST_TRY.pairs)
+            Pauses::new(alloc, LOST_TRY.pairs)
         }
     }
 }
@@ -134,7 +134,7 @@ fn lost_under<R: Threads + Abort + Sync>(
     rt: &R,
     alloc: Global,
     plan: &Plan,
-    gate: &Holds,
+    gate: &Pauses,
 ) -> Result<Vec<Journal>, AllocError>
     requires { length plan.now.scripts ≡ 2 }
 {

@@ -34,7 +34,7 @@ pub(crate) const BROKEN_OFF_HISTORY: &str = "history 4\n\
 
 /// The first session's commands for a target, and its question; the second session's file comes
 /// between the question and its reply. The second session is held until the first is ready for its
-/// question at the fifth row, and the first is held there until the second's file is told.
+/// question at the fifth row, and the first is paused there until the second's file is told.
 pub(crate) const LOST_TRY: Run = Run {
     files: &[
         "file a.c 10\nlock a.o\nstart a.o\nifchange a.o a.c\ndone a.o 20\nunlock a.o\nood\n",

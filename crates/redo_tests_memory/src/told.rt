@@ -2,13 +2,13 @@
 use std::alloc::Global;
 use std::process::Abort;
 
-/// Says that a call was told of a refusal, and demands what has to hold then.
+/// Says that a call was told of a refusal, and demands what has to be true then.
 pub(crate) fn tell(rt: &impl Abort, alloc: Global, stands: bool) {
     let is_heard = redo_testing::tell(alloc);
     assert!(rt; stands && is_heard);
 }
 
-/// The value of a call. Where it is told of a refusal, these conditions hold, and the next try gives the value.
+/// The value of a call. Where it is told of a refusal, these conditions are true, and the next try gives the value.
 macro_rules! again {
     ($rt:expr, $alloc:expr, AllocError, $call:expr) => {
         match $call {

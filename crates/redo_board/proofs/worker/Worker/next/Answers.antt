@@ -11,7 +11,7 @@ use Rattle.redo_board.specs.Core.{Line}
 use Rattle.redo_board.proofs.NextSteps.{lines_names, lines_numbers}
 use Rattle.redo_board.proofs.worker.Worker.next.Goals as goal
 
--- what holds of each line of the entries holds of each entry
+-- what is true of each line of the entries is true of each entry
 told_each : (P : Line → Type 0) (s : ℕ) (script : List (commands.Item ℕ)) (entries : List Entry)
     → AllByRecursion P (lines_told s script entries)
     → AllByRecursion (λ entry. P (line_told s script entry)) entries

@@ -14,7 +14,7 @@ count : (c : goal.In_ok-insert) → length c.args.self.now ≡ c.len-number.resu
 count c =
     rw (← c.self.view_is) (length-texts c.self.inside.texts.keys ∙ sym c.len-number.ensures.len)
 
--- the names that the set holds after the insertion
+-- the names that the set has after the insertion
 names_after : (c : goal.In_ok-insert)
     → texts c.insert.new.self.keys ≡ c.args.self.now ++ c.args.text.now ∷ []
 names_after c =
