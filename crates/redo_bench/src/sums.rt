@@ -1,7 +1,7 @@
 ghost use Rattle.std.specs.Prelude.{◌≡◌};
-ghost use Rattle.redo_rows.specs.Rows.{rows_count};
+ghost use Rattle.redo_records.specs.Rows.{rows_count};
 
-use redo_rows::DepRows;
+use redo_records::DepRows;
 
 /// The numbers and how many they are, summed.
 fn sum_of(numbers: &[u32]) -> u64 {

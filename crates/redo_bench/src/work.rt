@@ -1,10 +1,10 @@
 ghost use Rattle.std.specs.Prelude.{ℕ, ◌≡◌, ◌<◌, IsTrue, Contains};
 ghost use Rattle.redo_model.specs.Renaming.{AllBelow};
-ghost use Rattle.redo_rows.specs.Rows.{rows_count, room_of};
+ghost use Rattle.redo_records.specs.Rows.{rows_count, room_of};
 
 use crate::pattern::{Shape, mark_of, put_names};
 use crate::sums::checksum;
-use redo_rows::DepRows;
+use redo_records::DepRows;
 use std::alloc::{AllocError, Global};
 
 /// Every fifth row is a created row, the others are change rows.

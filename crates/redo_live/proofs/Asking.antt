@@ -23,7 +23,7 @@ use Rattle.redo_model.proofs.RecordsByName.{cell_at_name, value_at_name}
 use Rattle.redo_model.proofs.WhyByName.{why_below, tells_why_by_name, deps_by_name, unknown_by_name, unknown_without_number}
 use Rattle.redo_ood.specs.Meaning.{why_of}
 use Rattle.redo_ood.specs.declared.why.Why.{Why}
-use Rattle.redo_rows.specs.Rows.{by_number}
+use Rattle.redo_records.specs.Rows.{by_number}
 use Rattle.redo_terms.specs.Meaning.{by_text}
 use Rattle.redo_live.specs.Answers.{state_words}
 use Rattle.redo_live.specs.Inside.Asked.{why_at}

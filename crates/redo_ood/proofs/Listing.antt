@@ -11,7 +11,7 @@ use Rattle.std.specs.declared.cmp.Ordering.TheVariants.{Less}
 use Rattle.redo_model.specs.Names.{IsListed}
 use Rattle.redo_model.specs.Renaming.{AllBelow}
 use Rattle.redo_model.proofs.Members.{contains_first, contains_later, contains_cases, contains_none}
-use Rattle.redo_rows.specs.Rows.{by_number}
+use Rattle.redo_records.specs.Rows.{by_number}
 use Rattle.redo_ood.specs.NameSet.{Marked, IsQueue, size_of}
 use Rattle.redo_ood.proofs.Marking.{marked_below}
 

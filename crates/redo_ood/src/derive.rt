@@ -3,15 +3,14 @@
 ghost use Rattle.std.specs.Prelude.{◌≡◌, ◌<◌, ◌↔◌, ℕ, IsTrue, IsSome, [], ◌∷◌, length};
 ghost use Rattle.redo_model.specs.OutOfDate.{Depends};
 ghost use Rattle.redo_model.specs.Renaming.{AllBelow};
-ghost use Rattle.redo_rows.specs.Rows.{with_rows, rows_of, rows_count};
+ghost use Rattle.redo_records.specs.Rows.{with_rows, rows_of, rows_count};
 ghost use Rattle.redo_ood.specs.NameSet.{IsMarked, size_of};
 ghost use Rattle.redo_ood.specs.Inside.Regions.{IsDue, IsClosed, EntersDue};
 
 use crate::name_set::NameSet;
 use crate::reason::has_reason;
 use crate::region::{is_target, spread};
-use redo_records::Records;
-use redo_rows::{DepRows, Slot};
+use redo_records::{DepRows, Records, Slot};
 
 /// Whether the slot has a change row, and its name is marked.
 pub(crate) fn needs_marked(slot: &Slot, marks: &NameSet) -> bool

@@ -6,7 +6,7 @@ ghost use Rattle.redo_model.specs.Inside.Why.{IsWhyBelow};
 ghost use Rattle.redo_model.specs.OutOfDate.{OutOfDate};
 ghost use Rattle.redo_model.specs.Renaming.{AllBelow};
 ghost use Rattle.redo_model.specs.State.{empty};
-ghost use Rattle.redo_rows.specs.Rows.{with_rows, by_number, rows_count};
+ghost use Rattle.redo_records.specs.Rows.{with_rows, by_number, rows_count};
 ghost use Rattle.redo_ood.specs.Meaning.{why_of};
 ghost use Rattle.redo_ood.specs.Memo.{memo_count, is_out, IsRight, WasRight, HasCount};
 
@@ -14,8 +14,7 @@ use crate::derive::derive;
 use crate::name_set::NameSet;
 use crate::region::{enter_marked, find_region};
 use crate::why::{Why, search};
-use redo_records::Records;
-use redo_rows::DepRows;
+use redo_records::{DepRows, Records};
 use std::alloc::{AllocError, Global};
 use std::marker::Model;
 

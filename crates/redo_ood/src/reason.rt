@@ -6,11 +6,10 @@ ghost use Rattle.redo_model.specs.Inside.Why.{IsReasonBelow};
 ghost use Rattle.redo_model.specs.OutOfDate.{HasReason};
 ghost use Rattle.redo_model.specs.State as states;
 ghost use Rattle.redo_records.specs.Cells.{cell_at};
-ghost use Rattle.redo_rows.specs.Rows.{with_rows, rows_count};
+ghost use Rattle.redo_records.specs.Rows.{with_rows, rows_count};
 ghost use Rattle.redo_ood.specs.Meaning.{reason_of};
 
-use redo_records::{Records, State};
-use redo_rows::{DepRows, News};
+use redo_records::{DepRows, News, Records, State};
 
 /// A reason of its own by which a target has to be built again.
 #[derive(Clone, Copy, Debug, PartialEq, Eq)]

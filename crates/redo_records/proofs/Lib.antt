@@ -1,2 +1,15 @@
 pub mod MorePlaces
 pub mod Refusals
+pub mod Begun
+pub mod Changed
+pub mod Forgetting
+pub mod Growing
+pub mod Inverses
+pub mod Keeping
+pub mod Listed
+pub mod Rises
+pub mod SlotEdits
+pub mod Slots
+pub mod Told
+pub mod Walked
+pub mod Writing

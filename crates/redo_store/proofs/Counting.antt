@@ -10,7 +10,7 @@ use Rattle.redo_model.specs.Names.{numbers, IsListed}
 use Rattle.redo_model.specs.State.{Cell, idle}
 use Rattle.redo_records.proofs.MorePlaces.{same_everywhere}
 use Rattle.redo_records.specs.Cells.{cell_at}
-use Rattle.redo_rows.specs.Rows.{rows_count}
+use Rattle.redo_records.specs.Rows.{rows_count}
 use Rattle.redo_store.specs.Orders.{AreRanks, IsByNumber, place, by_place}
 use Rattle.redo_store.specs.Stored.{Stored, IsStored}
 use Rattle.redo_store.proofs.Places.{below_by_numbers}

@@ -10,7 +10,7 @@ use Rattle.redo_model.specs.State.{Cell, idle}
 use Rattle.redo_model.specs.Step.{after, locks_granted}
 use Rattle.redo_model.specs.Command as commands
 use Rattle.redo_store.specs.Orders.{AreSorted}
-use Rattle.redo_rows.specs.Rows.{TargetRows, rows_count}
+use Rattle.redo_records.specs.Rows.{TargetRows, rows_count}
 use Rattle.redo_store.specs.Stored.{Stored, IsStored}
 use Rattle.redo_store.specs.Stored as stored
 use Rattle.redo_records.proofs.MorePlaces.{same_everywhere}

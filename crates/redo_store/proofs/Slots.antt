@@ -4,7 +4,7 @@ use Rattle.redo_model.specs.OutOfDate.{OutOfDate}
 use Rattle.redo_model.specs.State.{Cell, Records}
 use Rattle.redo_ood.specs.Memo.{IsRight, is_out}
 use Rattle.redo_records.specs.Cells.{cell_at}
-use Rattle.redo_rows.specs.Rows.{TargetRows, rows_of, with_rows}
+use Rattle.redo_records.specs.Rows.{TargetRows, rows_of, with_rows}
 use Rattle.redo_store.specs.Tables.{Tables, state_of, tables_records}
 
 pub same_records : (old new : List Cell) (from to : List TargetRows)

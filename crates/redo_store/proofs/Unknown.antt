@@ -3,7 +3,7 @@ use Rattle.std.proofs.Common.{◌≡◌, ℕ, ◌≤◌, None, sym, ap, subst}
 use Rattle.std.proofs.lemmas.List.{get_or_past}
 use Rattle.redo_model.specs.Inside.Unknown.{IsUnknown}
 use Rattle.redo_model.specs.State.{idle}
-use Rattle.redo_rows.specs.Rows.{TargetRows, bare, slot_at, target_at}
+use Rattle.redo_records.specs.Rows.{TargetRows, bare, slot_at, target_at}
 use Rattle.redo_store.specs.Stored.{IsStored}
 use Rattle.redo_store.specs.Tables.{Tables, AreTables, state_of, tables_count}
 

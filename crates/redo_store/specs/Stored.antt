@@ -6,7 +6,7 @@ use Rattle.std.specs.declared.cmp.Ordering.{Ordering}
 use Rattle.redo_model.specs.Names.{Naming, IsListed, numbers}
 use Rattle.redo_model.specs.State.{Cell, Records}
 use Rattle.redo_records.specs.Cells.{cell_at}
-use Rattle.redo_rows.specs.Rows.{TargetRows, room_of, rows_count, with_rows}
+use Rattle.redo_records.specs.Rows.{TargetRows, room_of, rows_count, with_rows}
 use Rattle.redo_store.specs.Orders.{by_place}
 
 -- a cell and the rows for each name, the numbers of all names in order, and how many commands were

@@ -2,14 +2,13 @@
 ghost use Rattle.std.specs.Prelude.{◌≡◌, ◌<◌, length, IfOk};
 ghost use Rattle.redo_model.specs.State.{is_building};
 ghost use Rattle.redo_records.specs.Cells.{cell_at};
-ghost use Rattle.redo_rows.specs.Rows.{rows_count, with_rows};
+ghost use Rattle.redo_records.specs.Rows.{rows_count, with_rows};
 ghost use Rattle.redo_ood.specs.Memo.{memo_count, IsRight};
 ghost use Rattle.redo_tests_store.specs.declared.regions.TheConstants.{NAMES};
 
 use redo_command::FileStamp;
 use redo_ood::Ood;
-use redo_records::{Records, State, digest_of};
-use redo_rows::DepRows;
+use redo_records::{DepRows, Records, State, digest_of};
 use std::alloc::{AllocError, Global};
 use std::process::Abort;
 

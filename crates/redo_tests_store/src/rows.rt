@@ -1,10 +1,9 @@
 //! Rows, and the lists of those that stand on a name.
 ghost use Rattle.std.specs.Prelude.{◌≡◌, ◌<◌, IfOk};
 ghost use Rattle.redo_model.specs.Renaming.{AllBelow};
-ghost use Rattle.redo_rows.specs.Rows.{rows_count};
+ghost use Rattle.redo_records.specs.Rows.{rows_count};
 
-use redo_records::Mark;
-use redo_rows::DepRows;
+use redo_records::{DepRows, Mark};
 use std::alloc::{AllocError, Global};
 use std::process::Abort;
 

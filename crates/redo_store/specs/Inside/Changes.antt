@@ -4,7 +4,7 @@ use Rattle.redo_model.specs.Command.{Command}
 use Rattle.redo_model.specs.Names.{Text}
 use Rattle.redo_model.specs.State.{Cell, Records}
 use Rattle.redo_model.specs.Step.{effect_of, with_cell}
-use Rattle.redo_rows.specs.Rows.{TargetRows, by_number, with_rows}
+use Rattle.redo_records.specs.Rows.{TargetRows, by_number, with_rows}
 use Rattle.redo_store.specs.Stored.{Stored, records_of, naming_of}
 
 -- the records of the new store are the effect of the session's command on those of the old

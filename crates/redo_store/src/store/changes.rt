@@ -4,15 +4,14 @@ ghost use Rattle.redo_model.specs.State.{Cell, is_building, target_state};
 ghost use Rattle.redo_model.specs.Command as commands;
 ghost use Rattle.redo_model.specs.Renaming.{AllBelow};
 ghost use Rattle.redo_ood.specs.Memo.{IsRight, WasRight, memo_count};
-ghost use Rattle.redo_rows.specs.Rows.{room_of, rows_count, with_rows};
+ghost use Rattle.redo_records.specs.Rows.{room_of, rows_count, with_rows};
 ghost use Rattle.redo_store.specs.Inside.Changes.{HasEffect, HasEffectOfAny, AreRowsAfter, records_with_file};
 ghost use Rattle.redo_store.specs.Stored.{records_of, count_of, has_room_for};
 ghost use Rattle.redo_store.specs.Inside.Stored.{HasBuildsLeft, KeepsNames};
 
 use crate::store::Store;
 use redo_ood::Ood;
-use redo_records::{Records, digest_of};
-use redo_rows::DepRows;
+use redo_records::{DepRows, Records, digest_of};
 use redo_terms::FileStamp;
 
 /// A change row of `t` on each of the names, with the mark that the records give it.

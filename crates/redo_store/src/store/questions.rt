@@ -10,7 +10,7 @@ ghost use Rattle.redo_model.specs.Renaming.{AllBelow};
 ghost use Rattle.redo_model.specs.State.{target_state};
 ghost use Rattle.redo_ood.specs.Meaning.{why_of};
 ghost use Rattle.redo_records.specs.Meaning.{target_state_of};
-ghost use Rattle.redo_rows.specs.Rows.{by_number};
+ghost use Rattle.redo_records.specs.Rows.{by_number};
 ghost use Rattle.redo_store.specs.Meaning.{deps_of};
 ghost use Rattle.redo_store.specs.Stored.{count_of, records_of};
 

@@ -2,7 +2,7 @@ ghost use Rattle.std.specs.Prelude.{◌≡◌, ◌<◌, true, IsOk, OnOk};
 ghost use Rattle.std.specs.List.{list_all};
 ghost use Rattle.redo_model.specs.Renaming.{AllBelow, IsBelow};
 ghost use Rattle.redo_terms.specs.Meaning.{command_of};
-ghost use Rattle.redo_rows.specs.Rows.{room_of};
+ghost use Rattle.redo_records.specs.Rows.{room_of};
 ghost use Rattle.redo_store.specs.Stored.{count_of, has_room_for, IsSameButRoom};
 
 use crate::store::Store;

@@ -8,8 +8,7 @@ ghost use Rattle.redo_store.specs.Stored.{records_of, order_of, count_of, applie
 
 use crate::store::Store;
 use redo_ood::Ood;
-use redo_records::Records;
-use redo_rows::DepRows;
+use redo_records::{DepRows, Records};
 use std::alloc::{AllocError, Global};
 
 /// All numbers below the count, in order.

@@ -1,5 +1,5 @@
 use Rattle.std.proofs.Common.{◌≡◌, ℕ}
-use Rattle.redo_rows.specs.Rows.{rows_count, room_of}
+use Rattle.redo_records.specs.Rows.{rows_count, room_of}
 use Rattle.redo_bench.proofs.work.put_rows.Given as goal
 
 abbrev pub invariant-loop-place : goal.invariant-loop-place

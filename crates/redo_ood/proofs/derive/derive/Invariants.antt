@@ -1,5 +1,5 @@
 use Rattle.std.proofs.Common.{take}
-use Rattle.redo_rows.specs.Rows.{with_rows}
+use Rattle.redo_records.specs.Rows.{with_rows}
 use Rattle.redo_ood.specs.Inside.Regions.{EntersDue}
 use Rattle.redo_ood.proofs.derive.derive.Given as goal
 

@@ -1,4 +1,4 @@
-use Rattle.redo_rows.specs.Rows.{with_rows}
+use Rattle.redo_records.specs.Rows.{with_rows}
 use Rattle.redo_ood.proofs.Deriving.{closed_then, due_spread}
 use Rattle.redo_ood.proofs.derive.enter_due.Goals as goal
 

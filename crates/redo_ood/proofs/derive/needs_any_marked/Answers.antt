@@ -1,8 +1,8 @@
 use Rattle.std.proofs.Common.{IsSome, refl, sym, subst, arith}
 use Rattle.std.proofs.lemmas.Bool.{false≢true}
-use Rattle.redo_rows.specs.Rows.{rows_count}
-use Rattle.redo_rows.specs.Inside.Target.{blank}
-use Rattle.redo_rows.proofs.Walked.{name_below_all, row_of_slot, slot_of_row}
+use Rattle.redo_records.specs.Rows.{rows_count}
+use Rattle.redo_records.specs.Inside.Target.{blank}
+use Rattle.redo_records.proofs.Walked.{name_below_all, row_of_slot, slot_of_row}
 use Rattle.redo_ood.specs.NameSet.{IsMarked}
 use Rattle.redo_ood.proofs.derive.needs_any_marked.Goals as goal
 

@@ -1,6 +1,6 @@
 use Rattle.std.proofs.Common.{inl, inr}
 use Rattle.redo_model.specs.OutOfDate.{IsTarget, HasRow}
-use Rattle.redo_rows.specs.Rows.{with_rows}
+use Rattle.redo_records.specs.Rows.{with_rows}
 use Rattle.redo_ood.proofs.Marking.{enters_then}
 use Rattle.redo_ood.proofs.region.enter_holders.Goals as goal
 

@@ -1,4 +1,4 @@
-use Rattle.redo_rows.specs.Rows.{with_rows}
+use Rattle.redo_records.specs.Rows.{with_rows}
 use Rattle.redo_ood.specs.NameSet.{Enters}
 use Rattle.redo_ood.proofs.Marking.{at_take_all}
 use Rattle.redo_ood.proofs.Spreading.{Touches, touches_more}

@@ -1,5 +1,5 @@
 use Rattle.std.proofs.Common.{take}
-use Rattle.redo_rows.specs.Rows.{with_rows}
+use Rattle.redo_records.specs.Rows.{with_rows}
 use Rattle.redo_ood.specs.NameSet.{Enters}
 use Rattle.redo_ood.proofs.Spreading.{Touches}
 use Rattle.redo_ood.proofs.region.enter_touched.Given as goal

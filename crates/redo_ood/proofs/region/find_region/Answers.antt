@@ -1,4 +1,4 @@
-use Rattle.redo_rows.specs.Rows.{with_rows}
+use Rattle.redo_records.specs.Rows.{with_rows}
 use Rattle.redo_ood.proofs.Spreading.{region_found, touched_first}
 use Rattle.redo_ood.proofs.region.find_region.Goals as goal
 

@@ -1,5 +1,5 @@
 use Rattle.std.proofs.Common.{◌≤◌, ◌<◌, length, arith}
-use Rattle.redo_rows.specs.Rows.{with_rows}
+use Rattle.redo_records.specs.Rows.{with_rows}
 use Rattle.redo_ood.specs.Inside.Regions.{Spreads}
 use Rattle.redo_ood.proofs.Marking.{at_take_all, grows_longer}
 use Rattle.redo_ood.proofs.Spreading.{spreads_more}

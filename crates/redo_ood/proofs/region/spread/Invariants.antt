@@ -1,5 +1,5 @@
 use Rattle.std.proofs.Common.{◌≤◌, ◌-◌, length, take}
-use Rattle.redo_rows.specs.Rows.{with_rows}
+use Rattle.redo_records.specs.Rows.{with_rows}
 use Rattle.redo_ood.specs.NameSet.{size_of}
 use Rattle.redo_ood.specs.Inside.Regions.{Spreads}
 use Rattle.redo_ood.proofs.region.spread.Given as goal

@@ -1,6 +1,6 @@
 use Rattle.std.proofs.Common.{sym, subst, arith}
 use Rattle.redo_model.specs.OutOfDate.{HasReason}
-use Rattle.redo_rows.specs.Rows.{with_rows}
+use Rattle.redo_records.specs.Rows.{with_rows}
 use Rattle.redo_ood.proofs.Searching.{none_here}
 use Rattle.redo_ood.proofs.why.first_reason.Goals as goal
 

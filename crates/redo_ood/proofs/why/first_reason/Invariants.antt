@@ -1,5 +1,5 @@
 use Rattle.std.proofs.Common.{◌≤◌}
-use Rattle.redo_rows.specs.Rows.{with_rows}
+use Rattle.redo_records.specs.Rows.{with_rows}
 use Rattle.redo_ood.specs.Inside.Search.{HaveNoReason}
 use Rattle.redo_ood.proofs.why.first_reason.Given as goal
 

@@ -1,6 +1,6 @@
 use Rattle.std.proofs.Common.{◌≡◌, ◌∙◌, ◌<◌, ◌≤◌, ◌+◌, ◌++◌, [], ◌∷◌, get_or, length, length-append, sym, ap, subst, arith}
 use Rattle.redo_model.specs.Renaming.{AllBelow}
-use Rattle.redo_rows.specs.Rows.{with_rows}
+use Rattle.redo_records.specs.Rows.{with_rows}
 use Rattle.redo_ood.specs.Meaning.{reason_of}
 use Rattle.redo_ood.specs.Inside.Search.{HaveNoReason, IsFirstReason}
 use Rattle.redo_ood.proofs.Searching.{one_name, one_name_sized, search_at_first, none_before, none_still, first_kept}

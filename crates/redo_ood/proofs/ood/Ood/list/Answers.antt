@@ -1,6 +1,6 @@
 use Rattle.std.proofs.Common.{arith, rules, ap, ◌≡◌, ◌+◌, ◌<◌, ◌↔◌, ℕ, IsTrue, length, subst, sym, ◌∙◌}
 use Rattle.redo_model.specs.Names.{IsListed}
-use Rattle.redo_rows.specs.Rows.{by_number}
+use Rattle.redo_records.specs.Rows.{by_number}
 use Rattle.redo_ood.specs.Memo.{is_out}
 use Rattle.redo_ood.proofs.Marking.{marked_below}
 use Rattle.redo_ood.proofs.Listing.{listed_more, listed_all, each_below}

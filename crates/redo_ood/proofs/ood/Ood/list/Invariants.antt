@@ -1,6 +1,6 @@
 use Rattle.std.proofs.Common.{◌<◌, IsTrue}
 use Rattle.redo_model.specs.Names.{IsListed}
-use Rattle.redo_rows.specs.Rows.{by_number}
+use Rattle.redo_records.specs.Rows.{by_number}
 use Rattle.redo_ood.specs.Memo.{is_out}
 use Rattle.redo_ood.proofs.ood.Ood.list.Given as goal
 

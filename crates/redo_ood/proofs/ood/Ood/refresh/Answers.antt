@@ -1,7 +1,7 @@
 use Rattle.std.proofs.Common.{◌≡◌, ◌∙◌, ℕ, List, take, sym, subst}
 use Rattle.std.specs.List.{Contains}
 use Rattle.redo_model.specs.Inside.OutOfDate.{TouchesSeed}
-use Rattle.redo_rows.specs.Rows.{with_rows}
+use Rattle.redo_records.specs.Rows.{with_rows}
 use Rattle.redo_ood.specs.NameSet.{IsMarked, size_of}
 use Rattle.redo_ood.specs.Inside.NameSet.{HoldsOnly}
 use Rattle.redo_ood.specs.Inside.Regions.{EntersDue}

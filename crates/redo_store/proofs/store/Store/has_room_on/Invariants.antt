@@ -1,6 +1,6 @@
 use Rattle.std.proofs.Common.{◌≡◌, true, take}
 use Rattle.std.specs.List.{list_all}
-use Rattle.redo_rows.specs.Rows.{room_of}
+use Rattle.redo_records.specs.Rows.{room_of}
 use Rattle.redo_store.proofs.store.Store.has_room_on.Given as goal
 
 abbrev pub invariant-loop-n : goal.invariant-loop-n

@@ -3,7 +3,7 @@ use Rattle.std.proofs.lemmas.Result.{on_ok_weaker}
 use Rattle.redo_model.specs.State.{Rows}
 use Rattle.redo_ood.specs.Memo.{IsRight}
 use Rattle.redo_records.specs.Cells.{cell_at}
-use Rattle.redo_rows.specs.Rows.{room_of}
+use Rattle.redo_records.specs.Rows.{room_of}
 use Rattle.redo_store.specs.KeptStore.{stored_of}
 use Rattle.redo_store.proofs.Kept.{IsStored-set_rows}
 use Rattle.redo_store.proofs.Rooms.{all_of_them}

@@ -1,6 +1,6 @@
 use Rattle.std.proofs.Common.{◌≡◌, ℕ, take}
 use Rattle.redo_model.specs.Command as commands
-use Rattle.redo_rows.specs.Rows.{room_of, rows_count}
+use Rattle.redo_records.specs.Rows.{room_of, rows_count}
 use Rattle.redo_store.specs.Inside.Changes.{AreRowsAfter}
 use Rattle.redo_store.proofs.store.changes.change_each.Given as goal
 

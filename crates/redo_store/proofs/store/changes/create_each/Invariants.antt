@@ -1,7 +1,7 @@
 use Rattle.std.proofs.Common.{◌≡◌, ℕ, List, take}
 use Rattle.redo_model.specs.Command as commands
 use Rattle.redo_model.specs.State.{Cell}
-use Rattle.redo_rows.specs.Rows.{room_of, rows_count}
+use Rattle.redo_records.specs.Rows.{room_of, rows_count}
 use Rattle.redo_store.specs.Inside.Changes.{AreRowsAfter}
 use Rattle.redo_store.proofs.store.changes.create_each.Given as goal
 

@@ -1,0 +1,72 @@
+-- The numbers in the lists are below the count.
+use Rattle.std.proofs.Common.{◌≡◌, ℕ, ◌<◌, Bool, true, List, [], get_or, ◌∷◌, length, sym, ap, subst, ◌∙◌, inl, inr, arith, refl, suc}
+use Rattle.std.proofs.lemmas.Bool.{cases_lt, false≢true}
+use Rattle.std.proofs.lemmas.List.{get_or_past, get_or_default}
+use Rattle.std.specs.List.{Contains}
+use Rattle.redo_model.specs.Renaming.{AllBelow}
+use Rattle.redo_records.specs.Rows.{Slot, TargetRows, has_slot, target_at, bare}
+use Rattle.redo_records.specs.Target.{HasRowIn}
+use Rattle.redo_records.specs.Numbers.{NumberList}
+use Rattle.redo_records.specs.Kept.{passes_on, has_change, has_created, IsKept, IsInverse, numbers_at, no_numbers}
+use Rattle.redo_records.proofs.Inverses.{found_target, IsRowTest, slotted_row}
+
+-- a list whose members are below the count
+all_below : (count : ℕ) (xs : List ℕ) → ((x : ℕ) → Contains xs x → x < count) → AllBelow count xs
+all_below count [] f = tt
+all_below count (x ∷ xs) f =
+    (f x (0, omega arith, refl), all_below count xs (λ y c. f y (suc c.0, omega (arith, c.1), c.2)))
+
+-- only targets have rows
+target_below : (test : Slot → Bool) → IsRowTest test → (targets : List TargetRows) (t n : ℕ)
+    → passes_on test n (target_at targets t) ≡ true → t < length targets
+target_below test blank targets t n row = elim (cases_lt t (length targets)) [
+  | inl below ↦ below
+  | inr past ↦ absurd (false≢true
+      (sym (blank n) ∙ (ap (passes_on test n) (sym (get_or_past targets t bare past)) ∙ row)))
+]
+
+-- and only on names
+pub name_below : (targets : List TargetRows) (needed awaited : List NumberList) (slotted : List ℕ)
+    (t n : ℕ) → IsKept targets needed awaited slotted → HasRowIn (target_at targets t).slots n
+    → n < length targets
+name_below targets needed awaited slotted t n h row = h.below t n (elim row [
+  | inl change ↦ slotted_row has_change (λ k. refl) (target_at targets t).slots n change
+  | inr created ↦ slotted_row has_created (λ k. refl) (target_at targets t).slots n created
+])
+
+-- the same in the terms of the code
+pub inverse_below : (test : Slot → Bool) → IsRowTest test → (targets now : List TargetRows) (n : ℕ)
+    (lists : List NumberList) (list : NumberList) (xs : List ℕ) → targets ≡ now → n < length now
+    → list ≡ get_or lists n list → xs ≡ list.items
+    → IsInverse test targets lists → AllBelow (length now) xs
+inverse_below test blank targets now n lists list xs is n_in at items h =
+    let name : n < length targets = subst (λ (ts : List TargetRows). n < length ts) (sym is) n_in in
+    let inside : n < length lists = omega (arith, name, h.sized) in
+    let same : xs ≡ (numbers_at lists n).items =
+    items ∙ ap (λ (x : NumberList). x.items) (at ∙ get_or_default lists n list no_numbers inside) in
+    subst (λ (ts : List TargetRows). AllBelow (length ts) xs) is
+    (all_below (length targets) xs (λ t in'. target_below test blank targets t n
+    (((h.each n name).listed t).0 (subst (λ ys. Contains ys t) same in'))))
+
+pub names_below : (targets now : List TargetRows) (t : ℕ) (target : TargetRows)
+    (needed awaited : List NumberList) (slotted : List ℕ) (xs : List ℕ) → targets ≡ now
+    → t < length now → target ≡ get_or targets t target
+    → ((n : ℕ) → Contains xs n → HasRowIn target.slots n) → IsKept targets needed awaited slotted
+    → AllBelow (length now) xs
+names_below targets now t target needed awaited slotted xs is t_in at rows h =
+    let found = found_target targets now t target is t_in at in
+    subst (λ (ts : List TargetRows). AllBelow (length ts) xs) is
+    (all_below (length targets) xs (λ n in'. name_below targets needed awaited slotted t n h
+    (subst (λ (x : TargetRows). HasRowIn x.slots n) found.1 (rows n in'))))
+
+pub slots_below : (targets now : List TargetRows) (t : ℕ) (target : TargetRows) (slots : List Slot)
+    (needed awaited : List NumberList) (slotted : List ℕ) → targets ≡ now → t < length now
+    → target ≡ get_or targets t target
+    → slots ≡ target.slots → IsKept targets needed awaited slotted → (n : ℕ)
+    → has_slot slots n ≡ true → n < length now
+slots_below targets now t target slots needed awaited slotted is t_in at same h n there =
+    let found = found_target targets now t target is t_in at in
+    let own : has_slot (target_at targets t).slots n ≡ true =
+    subst (λ (x : TargetRows). has_slot x.slots n ≡ true) found.1
+    (subst (λ ss. has_slot ss n ≡ true) same there) in
+    subst (λ (ts : List TargetRows). n < length ts) is (h.below t n own)

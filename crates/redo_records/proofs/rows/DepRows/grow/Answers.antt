@@ -1,0 +1,92 @@
+use Rattle.std.proofs.Common.{rules, ◌≡◌, ◌∙◌, ℕ, ◌+◌, ◌-◌, ◌++◌, Bool, true, cond, List, length, get_or, ap, sym, subst, vec_len, arith}
+use Rattle.std.proofs.Math.ListN.{replicate, length-replicate}
+use Rattle.redo_records.specs.Rows.{TargetRows, bare, rows_of}
+use Rattle.redo_records.specs.Numbers.{NumberList}
+use Rattle.redo_records.specs.Kept.{IsKept}
+use Rattle.redo_records.proofs.Growing.{kept_grown, rows_grown}
+use Rattle.redo_records.proofs.rows.DepRows.grow.Goals as goal
+
+-- the list after an `append` that succeeds
+joined : {X : Type 0} (ok : Bool) (new old kept other : List X) → ok ≡ true
+    → new ≡ cond ok (old ++ other) old → old ≡ kept → new ≡ kept ++ other
+joined {X = X} ok new old kept other fits is same =
+    is ∙ ap (λ (b : Bool). cond b (old ++ other) old) fits
+    ∙ ap (λ (xs : List X). xs ++ other) same
+
+pub invariant_of-self-2 : goal.invariant_of-self-2
+invariant_of-self-2 c =
+    let old = c.self.inside in
+    let room = c.reserve_each.new in
+    let more = c.args.names - c.len.result in
+    let made = c.in_ok-targets.targets in
+    let needed = c.in_ok-needed.needed in
+    let awaited = c.in_ok-awaited.awaited in
+    let same = c.in_ok-reserve_each.ensures in
+    let old_len : vec_len old.targets ≡ length old.targets.items = search rules in
+    let room_len : vec_len room.targets ≡ length room.targets.items = search rules in
+    let needed_room_len : vec_len room.needed ≡ length room.needed.items = search rules in
+    let awaited_room_len : vec_len room.awaited ≡ length room.awaited.items = search rules in
+    let made_len : vec_len made ≡ length made.items = search rules in
+    let needed_len : vec_len needed ≡ length needed.items = search rules in
+    let awaited_len : vec_len awaited ≡ length awaited.items = search rules in
+    let made_count : length made.items ≡ more =
+    ap length c.in_ok-targets.ensures ∙ length-replicate more bare in
+    let count : length old.targets.items + more ≡ c.args.names =
+    omega (arith, c.requires, ap length c.self.view_is, c.len.ensures, old_len) in
+    let targets : c.append-targets.new.self.items ≡ old.targets.items ++ replicate more bare =
+    joined _ _ room.targets.items old.targets.items made.items
+    (c.append-targets.ensures.succeeds
+    (omega (arith, same.room, room_len, made_len, made_count)))
+    c.append-targets.ensures.items same.targets
+    ∙ ap (λ (xs : List TargetRows). old.targets.items ++ xs) c.in_ok-targets.ensures in
+    let need : c.append-needed.new.self.items ≡ old.needed.items ++ needed.items =
+    joined _ _ room.needed.items old.needed.items needed.items
+    (c.append-needed.ensures.succeeds
+    (omega (arith, same.needed_room, needed_room_len, needed_len, c.in_ok-needed.ensures.count)))
+    c.append-needed.ensures.items same.needed in
+    let await : c.append-awaited.new.self.items ≡ old.awaited.items ++ awaited.items =
+    joined _ _ room.awaited.items old.awaited.items awaited.items
+    (c.append-awaited.ensures.succeeds
+    (omega (
+      arith,
+      same.awaited_room,
+      awaited_room_len,
+      awaited_len,
+      c.in_ok-awaited.ensures.count,
+    )))
+    c.append-awaited.ensures.items same.awaited in
+    let slotted = c.in_ok-slotted.slotted.items in
+    let kept =
+    kept_grown old.targets.items more old.needed.items needed.items old.awaited.items awaited.items
+    old.slotted.items slotted (omega (arith, count))
+    c.in_ok-needed.ensures.count c.in_ok-needed.ensures.empty
+    c.in_ok-awaited.ensures.count c.in_ok-awaited.ensures.empty
+    (c.in_ok-slotted.ensures.count ∙ sym count)
+    (λ n. c.in_ok-slotted.ensures.same n
+    ∙ ap (λ (xs : List ℕ). get_or xs n 0) c.deref.ensures.value)
+    c.self.invariant in
+    subst (λ (ts : List TargetRows). IsKept ts c.append-needed.new.self.items
+    c.append-awaited.new.self.items slotted) (sym targets)
+    (subst (λ (ns : List NumberList). IsKept (old.targets.items ++ replicate more bare) ns
+    c.append-awaited.new.self.items slotted) (sym need)
+    (subst (λ (ns : List NumberList). IsKept (old.targets.items ++ replicate more bare)
+    (old.needed.items ++ needed.items) ns slotted) (sym await) kept))
+
+pub returns-clause-rows : goal.returns-clause-rows
+returns-clause-rows c =
+    let old = c.self.inside in
+    let room = c.reserve_each.new in
+    let more = c.args.names - c.len.result in
+    let made = c.in_ok-targets.targets in
+    let same = c.in_ok-reserve_each.ensures in
+    let room_len : vec_len room.targets ≡ length room.targets.items = search rules in
+    let made_len : vec_len made ≡ length made.items = search rules in
+    let made_count : length made.items ≡ more =
+    ap length c.in_ok-targets.ensures ∙ length-replicate more bare in
+    let targets : c.append-targets.new.self.items ≡ old.targets.items ++ replicate more bare =
+    joined _ _ room.targets.items old.targets.items made.items
+    (c.append-targets.ensures.succeeds
+    (omega (arith, same.room, room_len, made_len, made_count)))
+    c.append-targets.ensures.items same.targets
+    ∙ ap (λ (xs : List TargetRows). old.targets.items ++ xs) c.in_ok-targets.ensures in
+    ap rows_of targets ∙ rows_grown old.targets.items more ∙ ap rows_of c.self.view_is

@@ -1,0 +1,298 @@
+ghost use Rattle.std.specs.Prelude.{◌≡◌, ◌⊎◌, ◌↔◌, ℕ, ◌+◌, ◌<◌, ◌≤◌, ◌==◌, ◌||◌, Some, true, false, not, is_some, IsTrue, length, Contains, option_map, MatchOption, IfOk, IfErr, OnOk, OnErr, if◌then◌else◌};
+ghost use Rattle.redo_model.specs.Names.{IsListed};
+ghost use Rattle.redo_model.specs.State.{mark_in};
+ghost use Rattle.redo_records.specs.Meaning.{row_mark_of};
+ghost use Rattle.redo_records.specs.Rows.{bare, slot_at, has_slot, by_number};
+ghost use Rattle.redo_records.specs.Target.{has_row, HasRowIn, HasChangeBut, Ascending};
+ghost use Rattle.redo_records.specs.Inside.Target.{blank, IsSlotOf, IsGapFor};
+
+use crate::cell::Cell;
+use crate::kept_mark::KeptMark;
+use crate::mark::Mark;
+use crate::numbers::Numbers;
+use std::alloc::{AllocError, Global};
+use std::marker::Model;
+use std::mem::size_of;
+
+/// Reserved memory for a target's rows on one name, and the rows that are there.
+#[derive(Clone, Copy, Debug)]
+pub struct Slot {
+    name: u32,
+    change: Option<KeptMark>,
+    created: bool,
+}
+
+// A large store has many slots.
+const _: () = prove!(size_of::<Slot>() <= 72);
+
+impl Model for Slot {
+    ghost use Rattle.redo_records.specs.Rows as rows;
+
+    ghost Value = { rows.Slot };
+
+    ghost use Rattle.redo_records.specs.Slot.{slot_of, fields_for, fields_for-slot_of};
+
+    ghost view = { slot_of };
+
+    ghost inverse = { fields_for };
+
+    ghost inverse_ok = { λ slot i. fields_for-slot_of slot };
+}
+
+impl Slot {
+    fn blank(name: u32) -> Slot
+        ensures { result ≡ blank name }
+    {
+        Slot {
+            name,
+            change: None,
+            created: false,
+        }
+    }
+
+    pub fn name(&self) -> u32
+        ensures { result ≡ self.now.name }
+    {
+        self.name
+    }
+
+    pub fn change(&self) -> Option<Mark>
+        ensures { option_map row_mark_of result ≡ self.now.change }
+    {
+        self.change.map(|kept| kept.mark())
+    }
+
+    /// Whether there is a change row with another mark than a name with this cell has.
+    pub fn has_changed(&self, cell: &Cell) -> bool
+        ensures { IsTrue result ↔ HasChangeBut (mark_in cell.now.state cell.now) self.now }
+    {
+        match &self.change {
+            Some(kept) => !kept.is_of(cell),
+            None => false,
+        }
+    }
+
+    pub fn has_change(&self) -> bool
+        ensures { result ≡ is_some self.now.change }
+    {
+        self.change.is_some()
+    }
+
+    pub fn created(&self) -> bool
+        ensures { result ≡ self.now.created }
+    {
+        self.created
+    }
+
+    fn has_row(&self) -> bool
+        ensures { result ≡ has_row self.now }
+    {
+        self.change.is_some() || self.created
+    }
+
+    fn put_change(&mut self, mark: Mark)
+        ensures { self.new ≡ record self.old { change = Some (row_mark_of mark) } }
+    {
+        self.change = Some(KeptMark::new(mark));
+    }
+
+    fn put_created(&mut self)
+        ensures { self.new ≡ record self.old { created = true } }
+    {
+        self.created = true;
+    }
+}
+
+/// The place of the name's slot, or of the gap for it.
+fn search(slots: &[Slot], n: u32) -> Result<usize, usize>
+    requires { Ascending slots.now }
+    ensures found { IfOk result (IsSlotOf slots.now n) }
+    ensures absent { IfErr result (IsGapFor slots.now n) }
+{
+    slots.binary_search_by_key(&n, |slot| slot.name())
+}
+
+/// The place of the name's slot, or the place where it would go.
+fn slot_place(slots: &[Slot], n: u32) -> usize
+    requires { Ascending slots.now }
+    ensures there { has_slot slots.now n ≡ true → IsSlotOf slots.now n result }
+    ensures absent { has_slot slots.now n ≡ false → IsGapFor slots.now n result }
+{
+    match search(slots, n) {
+        Ok(place) => place,
+        Err(place) => place,
+    }
+}
+
+/// Lists a name that may be listed already.
+fn list_name(names: &mut Numbers, n: u32, listed: bool)
+    requires listed { IsTrue listed ↔ Contains names.old.items n }
+    requires room { listed ≡ false → length names.old.items < names.old.room }
+    ensures each { (u : ℕ) → Contains names.new.items u ↔ (Contains names.old.items u ⊎ (u ≡ n)) }
+    ensures length { length names.new.items ≡ length names.old.items + (if listed then 0 else 1) }
+    ensures room { names.old.room ≤ names.new.room }
+{
+    if !listed {
+        names.insert(n);
+    }
+}
+
+/// The rows of one target, and reserved memory for more.
+#[derive(Drop)]
+pub struct Target {
+    slots: Vec<Slot>,
+    names: Numbers,
+    always: bool,
+}
+
+impl Model for Target {
+    ghost use Rattle.redo_records.specs.Rows.{TargetRows};
+    ghost use Rattle.redo_records.specs.Target.{IsKept};
+
+    ghost Value = { TargetRows };
+
+    ghost view = { λ inside. record { slots = inside.slots.items; always = inside.always } };
+
+    ghost invariant = { λ inside. IsKept inside.slots.items inside.names };
+}
+
+impl Target {
+    /// No rows and no slots.
+    pub fn new(alloc: Global) -> Target
+        ensures { result ≡ bare }
+    {
+        Target {
+            slots: Vec::new(alloc),
+            names: Numbers::new(alloc),
+            always: false,
+        }
+    }
+
+    fn find(&self, n: u32) -> Option<&Slot>
+        ensures there { is_some result ≡ has_slot self.now.slots n }
+        ensures slot { MatchOption result (slot_at self.now.slots n ≡ blank n)
+            (λ slot. slot.now ≡ slot_at self.now.slots n) }
+    {
+        match search(self.slots.as_slice(), n) {
+            Ok(place) => Some(&self.slots[place]),
+            Err(_) => None,
+        }
+    }
+
+    /// Whether the name has a slot.
+    pub fn has_slot(&self, n: u32) -> bool
+        ensures { result ≡ has_slot self.now.slots n }
+    {
+        self.find(n).is_some()
+    }
+
+    /// The mark of the change row on the name.
+    pub fn change_of(&self, n: u32) -> Option<Mark>
+        ensures { option_map row_mark_of result ≡ (slot_at self.now.slots n).change }
+    {
+        match self.find(n) {
+            Some(slot) => slot.change(),
+            None => None,
+        }
+    }
+
+    /// Whether there is a created row on the name.
+    pub fn created(&self, n: u32) -> bool
+        ensures { result ≡ (slot_at self.now.slots n).created }
+    {
+        match self.find(n) {
+            Some(slot) => slot.created(),
+            None => false,
+        }
+    }
+
+    /// Whether there is an always row.
+    pub fn always(&self) -> bool
+        ensures { result ≡ self.now.always }
+    {
+        self.always
+    }
+
+    /// The names with a row, by ascending number.
+    pub fn names(&self) -> &[u32]
+        ensures listed { IsListed by_number (λ n. HasRowIn self.now.slots n) result.now }
+    {
+        self.names.as_slice()
+    }
+
+    /// The slots, by their names' ascending numbers.
+    pub fn slots(&self) -> &[Slot]
+        ensures same { result.now ≡ self.now.slots }
+        ensures ascending { Ascending result.now }
+    {
+        self.slots.as_slice()
+    }
+
+    /// Reserves memory for rows on a name. No other call allocates.
+    pub fn add_slot(&mut self, n: u32) -> Result<(), AllocError>
+        requires new { has_slot self.old.slots n ≡ false }
+        ensures rows { (k : ℕ) → slot_at self.new.slots k ≡ slot_at self.old.slots k }
+        ensures always { self.new.always ≡ self.old.always }
+        ensures made { OnOk result
+            ((k : ℕ) → has_slot self.new.slots k ≡ (k == n || has_slot self.old.slots k)) }
+        ensures err { OnErr result (self.new ≡ self.old) }
+    {
+        self.names.reserve(self.slots.len() + 1)?;
+        let place = slot_place(self.slots.as_slice(), n);
+        Ok(self.slots.insert(place, Slot::blank(n))?)
+    }
+
+    /// A change row on a name with a slot, which replaces an earlier one. Returns whether there was one.
+    pub fn put_change(&mut self, n: u32, mark: Mark) -> bool
+        requires { has_slot self.old.slots n ≡ true }
+        ensures was { result ≡ is_some (slot_at self.old.slots n).change }
+        ensures rows { (k : ℕ)
+            → slot_at self.new.slots k ≡ (if n == k then record (slot_at self.old.slots k)
+            { change = Some (row_mark_of mark) } else slot_at self.old.slots k) }
+        ensures room { (k : ℕ) → has_slot self.new.slots k ≡ has_slot self.old.slots k }
+        ensures always { self.new.always ≡ self.old.always }
+    {
+        let place = slot_place(self.slots.as_slice(), n);
+        let slot = &mut self.slots[place];
+        let was = slot.has_change();
+        let listed = slot.has_row();
+        slot.put_change(mark);
+        list_name(&mut self.names, n, listed);
+        was
+    }
+
+    /// A created row on a name with a slot. Returns whether there was one.
+    pub fn put_created(&mut self, n: u32) -> bool
+        requires { has_slot self.old.slots n ≡ true }
+        ensures was { result ≡ (slot_at self.old.slots n).created }
+        ensures rows { (k : ℕ)
+            → slot_at self.new.slots k ≡ (if n == k then record (slot_at self.old.slots k)
+            { created = true } else slot_at self.old.slots k) }
+        ensures room { (k : ℕ) → has_slot self.new.slots k ≡ has_slot self.old.slots k }
+        ensures always { self.new.always ≡ self.old.always }
+    {
+        let place = slot_place(self.slots.as_slice(), n);
+        let slot = &mut self.slots[place];
+        let was = slot.created();
+        let listed = slot.has_row();
+        slot.put_created();
+        list_name(&mut self.names, n, listed);
+        was
+    }
+
+    /// An always row.
+    pub fn put_always(&mut self)
+        ensures { self.new ≡ record self.old { always = true } }
+    {
+        self.always = true;
+    }
+
+    /// Removes the rows and their slots.
+    pub fn clear(&mut self)
+        ensures { self.new ≡ bare }
+    {
+        self.slots.clear();
+        self.names.clear();
+        self.always = false;
+    }
+}

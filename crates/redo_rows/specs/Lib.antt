@@ -1,8 +1,0 @@
-pub mod Inside
-pub mod Kept
-pub mod KeptMark
-pub mod News
-pub mod Numbers
-pub mod Rows
-pub mod Slot
-pub mod Target
