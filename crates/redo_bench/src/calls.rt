@@ -7,9 +7,9 @@ ghost use Rattle.redo_store.specs.Tables.{tables_count};
 
 use crate::plans::plan_of;
 use anyhow::{Result, bail};
-use redo_command::{Command, Item, Reply};
 use redo_journal::Plan;
 use redo_store::Redo;
+use redo_terms::{Command, Item, Reply};
 use std::alloc::Global;
 
 /// A database is called no more often.

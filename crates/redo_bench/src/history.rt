@@ -4,9 +4,9 @@ ghost use Rattle.redo_model.specs.History.{Line};
 ghost use Rattle.redo_history.specs.Histories.{history_text_of};
 
 use anyhow::{Result, bail};
-use redo_command::{Watched, read_whole};
 use redo_history::{history_text, read_history};
 use redo_replay::{INPUT_LIMIT, replay_text};
+use redo_whole::{Watched, read_whole};
 use std::alloc::Global;
 use std::io;
 

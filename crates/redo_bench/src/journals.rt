@@ -2,10 +2,11 @@
 ghost use Rattle.std.specs.Prelude.{◌<◌};
 
 use anyhow::{Context, Result};
-use redo_command::{Command, Refusal, Reply, Watched};
 use redo_journal::{Entry, Journal, Place, Plan};
 use redo_names::Names;
 use redo_session::read_files;
+use redo_terms::{Command, Refusal, Reply};
+use redo_whole::Watched;
 use std::alloc::{AllocError, Global};
 
 /// How many targets the sessions lock, in turn.

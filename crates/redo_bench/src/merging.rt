@@ -1,8 +1,8 @@
 use crate::journals::{journals_of, plan_of};
 use anyhow::{Result, bail};
-use redo_command::Line;
 use redo_journal::are_journals;
 use redo_merge::merge;
+use redo_terms::Line;
 
 /// A checksum of the order of the lines' sessions.
 fn checksum(lines: &[Line]) -> u64 {

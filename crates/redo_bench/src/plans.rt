@@ -2,10 +2,10 @@
 ghost use Rattle.std.specs.Prelude.{◌<◌};
 
 use anyhow::{Result, bail};
-use redo_command::Watched;
 use redo_journal::Plan;
 use redo_names::Names;
 use redo_session::read_files;
+use redo_whole::Watched;
 use std::alloc::Global;
 
 /// How many commands each session has.

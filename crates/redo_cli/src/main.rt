@@ -3,10 +3,10 @@
 
 ghost use Rattle.std.specs.Prelude.{◌≡◌, ◌⊎◌, ℕ, ◌<◌, length, IfOk, IfErr};
 
-use redo_command::Watched;
 use redo_job::{Fault, finish};
 use redo_replay::{ReplayFault, Verdict, replay_text};
 use redo_session::{TextFault, run_texts};
+use redo_whole::Watched;
 use redo_words::{Job, WordsFault, job};
 use std::io::Read;
 use std::process::ExitCode;

@@ -2,8 +2,8 @@
 use Rattle.std.specs.Prelude.{ℕ, List, ◌++◌, Option, Some, None, Result, Ok, Err, slice_get, codes, decimal, string_bytes, String}
 use Rattle.std.specs.declared.alloc.Global.{Global}
 use Rattle.redo_text.specs.Faults.{fault_word_of}
-use Rattle.redo_command.specs.declared.fault.TextFault.{TextFault}
-use Rattle.redo_command.specs.declared.fault.TextFault.TheVariants as texts
+use Rattle.redo_text.specs.declared.fault.TextFault.{TextFault}
+use Rattle.redo_text.specs.declared.fault.TextFault.TheVariants as texts
 use Rattle.redo_history.specs.declared.fault.HistoryFault.{HistoryFault}
 use Rattle.redo_history.specs.declared.fault.HistoryFault.TheVariants as histories
 use Rattle.redo_replay.specs.declared.fault.ReplayFault.{ReplayFault}

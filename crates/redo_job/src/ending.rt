@@ -7,9 +7,8 @@ ghost use Rattle.redo_job.specs.Lines.{file_name, text_line, history_line, repla
 use crate::fault::Fault;
 use arrayvec::ArrayVec;
 use itoa::Buffer;
-use redo_command::TextFault;
 use redo_replay::{HistoryFault, ReplayFault, Verdict};
-use redo_text::fault_word;
+use redo_text::{TextFault, fault_word};
 use redo_whole::{Watched, WriteFault, write_whole};
 use std::io::Write;
 

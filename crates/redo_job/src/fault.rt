@@ -1,5 +1,5 @@
-use redo_command::TextFault;
 use redo_replay::ReplayFault;
+use redo_text::TextFault;
 use thiserror::Error;
 
 /// Why the program fails.

@@ -1,5 +1,6 @@
 //! The words of a line, by the rules of session files.
-use redo_command::{Kind, LineFault};
+use redo_terms::Kind;
+use redo_text::LineFault;
 
 /// What follows the word of a command.
 #[derive(Clone, Copy)]

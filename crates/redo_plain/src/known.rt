@@ -1,4 +1,4 @@
-use redo_command::FileStamp;
+use redo_terms::FileStamp;
 use std::alloc::{AllocError, Global};
 
 /// How far a name has come. It is a target from its first start on.

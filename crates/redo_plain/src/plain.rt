@@ -1,6 +1,6 @@
 use crate::known::{Known, State};
-use redo_command::{Command, FileStamp, Refusal, Reply};
 use redo_names::Names;
+use redo_terms::{Command, FileStamp, Refusal, Reply};
 use sha1::Sha1;
 use std::alloc::{AllocError, Global};
 

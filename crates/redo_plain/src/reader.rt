@@ -1,6 +1,7 @@
 //! Session files and histories, read line after line.
 use crate::forms::{kind_of, names_of_reply, number_of};
-use redo_command::{Command, FileStamp, Kind, LineFault};
+use redo_terms::{Command, FileStamp, Kind};
+use redo_text::LineFault;
 use std::alloc::{AllocError, AllocFailed, Global};
 
 /// Why a text is refused. Lines are counted from 1, in a history without the header.

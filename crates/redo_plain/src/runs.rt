@@ -1,7 +1,7 @@
 //! What comes of a whole text: the run text of a session file, and the verdict on a history.
 use crate::plain::Plain;
 use crate::reader::{Asked, Fault, Reader};
-use redo_command::{Command, Refusal, Reply};
+use redo_terms::{Command, Refusal, Reply};
 use std::alloc::{AllocError, Global};
 
 /// Adds a word, and after it the names of these numbers.

@@ -9,8 +9,8 @@ use Rattle.redo_terms.specs.declared.script.Item.{Item}
 use Rattle.redo_terms.specs.Meaning.{command_of}
 use Rattle.redo_terms.specs.Inside.Meaning.{item_at}
 use Rattle.redo_text.proofs.Added.{command_at-Extends, IsBelow-Extends}
-use Rattle.redo_command.specs.declared.fault.TextFault.{TextFault}
-use Rattle.redo_command.specs.declared.fault.TextFault.TheVariants.{Memory, Read, TooManySessions, NoSession, Write, Device, TooLong}
+use Rattle.redo_text.specs.declared.fault.TextFault.{TextFault}
+use Rattle.redo_text.specs.declared.fault.TextFault.TheVariants.{Memory, Read, TooManySessions, NoSession, Write, Device, TooLong}
 use Rattle.redo_run_text.specs.Files.{IsAccepted, AreAccepted}
 use Rattle.redo_run_text.specs.Faults.{IsTextCause}
 use Rattle.redo_run_text.specs.Inside.Files.{IsScriptBelow, AreScriptsBelow, scripts_at}

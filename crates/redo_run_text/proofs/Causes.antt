@@ -4,8 +4,8 @@ use Rattle.std.specs.Prelude.{IsTrue, slice_index_or, IfSome}
 use Rattle.std.proofs.lemmas.List.{get_or-map, length-map, get_or-set_same, get_or-set_other, map-set}
 use Rattle.redo_model.specs.Names.{Text}
 use Rattle.redo_model.specs.Command.{Item}
-use Rattle.redo_command.specs.declared.fault.TextFault.{TextFault}
-use Rattle.redo_command.specs.declared.fault.TextFault.TheVariants.{Memory, Read, TooManySessions, NoSession, Write, Device, TooLong}
+use Rattle.redo_text.specs.declared.fault.TextFault.{TextFault}
+use Rattle.redo_text.specs.declared.fault.TextFault.TheVariants.{Memory, Read, TooManySessions, NoSession, Write, Device, TooLong}
 use Rattle.redo_text.specs.Faults.{IsFirstFault}
 use Rattle.redo_run_text.specs.Files.{AreAccepted, failed_at}
 use Rattle.redo_run_text.specs.Faults.{IsTextCause, FilesBefore}

@@ -5,8 +5,8 @@ use Rattle.redo_model.specs.Command.{Item}
 use Rattle.redo_text.specs.Faults.{IsFirstFault}
 use Rattle.redo_run_text.specs.Files.{AreAccepted, AreSessions}
 use Rattle.redo_text.specs.declared.fault.LineFault.{LineFault}
-use Rattle.redo_command.specs.declared.fault.TextFault.{TextFault}
-use Rattle.redo_command.specs.declared.fault.TextFault.TheVariants.{Memory, Read, TooManySessions, NoSession, Write, Device, TooLong}
+use Rattle.redo_text.specs.declared.fault.TextFault.{TextFault}
+use Rattle.redo_text.specs.declared.fault.TextFault.TheVariants.{Memory, Read, TooManySessions, NoSession, Write, Device, TooLong}
 
 -- the files before this one are accepted, and leave these names
 abbrev pub FilesBefore : List (Option Text) → ℕ → List Text → Type 0

@@ -9,10 +9,9 @@ ghost use Rattle.redo_run_text.specs.Inside.Files.{scripts_at, IsScriptBelow, Ar
 ghost use Rattle.redo_run_text.specs.Faults.{IsTextCause, IsTextDeviceFault};
 ghost use Rattle.redo_run_text.specs.Inside.Faults.{IsFileCause};
 
-use redo_command::TextFault;
 use redo_names::Names;
 use redo_terms::Script;
-use redo_text::{LineFault, ReadFault, read_script};
+use redo_text::{LineFault, ReadFault, TextFault, read_script};
 use redo_whole::{Watched, WholeFault, read_whole};
 use std::alloc::Global;
 use std::io::Read;

@@ -3,8 +3,8 @@ use Rattle.std.proofs.Common.{◌≡◌, ℕ, Bool, false, not, ◌==◌, Option
 use Rattle.std.specs.Prelude.{IsTrue, ◌↔◌}
 use Rattle.std.proofs.lemmas.Bool.{both_ways, not_from_true}
 use Rattle.redo_model.specs.Names.{Text}
-use Rattle.redo_command.specs.declared.fault.TextFault.{TextFault}
-use Rattle.redo_command.specs.declared.fault.TextFault.TheVariants.{Memory, Read, TooManySessions, NoSession, Write, Device, TooLong}
+use Rattle.redo_text.specs.declared.fault.TextFault.{TextFault}
+use Rattle.redo_text.specs.declared.fault.TextFault.TheVariants.{Memory, Read, TooManySessions, NoSession, Write, Device, TooLong}
 use Rattle.redo_run_text.specs.Files.{failed_at}
 use Rattle.redo_run_text.specs.Faults.{IsTextCause, IsTextDeviceFault}
 

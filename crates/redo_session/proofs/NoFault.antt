@@ -8,8 +8,8 @@ use Rattle.redo_text.specs.Grammar.{IsScript}
 use Rattle.redo_text.specs.Faults.{IsFirstFault}
 use Rattle.redo_text.proofs.ScriptLaws.{one_script}
 use Rattle.redo_text.proofs.ScriptSteps.{no_first_fault}
-use Rattle.redo_command.specs.declared.fault.TextFault.{TextFault}
-use Rattle.redo_command.specs.declared.fault.TextFault.TheVariants.{Memory, Read, TooManySessions, NoSession, Write, Device, TooLong}
+use Rattle.redo_text.specs.declared.fault.TextFault.{TextFault}
+use Rattle.redo_text.specs.declared.fault.TextFault.TheVariants.{Memory, Read, TooManySessions, NoSession, Write, Device, TooLong}
 use Rattle.redo_session.specs.Runs.{AreKnownSessions}
 use Rattle.redo_run_text.specs.Files.{AreAccepted}
 use Rattle.redo_run_text.specs.Faults.{IsTextCause, IsTextDeviceFault}

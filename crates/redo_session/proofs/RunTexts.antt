@@ -16,8 +16,8 @@ use Rattle.redo_terms.specs.Meaning.{line_at}
 use Rattle.redo_terms.specs.Inside.Meaning.{item_at, item_of}
 use Rattle.redo_terms.specs.declared.reply.Line as coded
 use Rattle.redo_journal.specs.Plans.{PlanOf, scripts_of}
-use Rattle.redo_command.specs.declared.fault.TextFault.{TextFault}
-use Rattle.redo_command.specs.declared.fault.TextFault.TheVariants.{NoSession}
+use Rattle.redo_text.specs.declared.fault.TextFault.{TextFault}
+use Rattle.redo_text.specs.declared.fault.TextFault.TheVariants.{NoSession}
 use Rattle.redo_session.specs.Runs.{IsRun, IsRunText, RunsAs}
 use Rattle.redo_run_text.specs.Files.{AreAccepted}
 use Rattle.redo_run_text.proofs.Accepted.{AreAccepted-length}

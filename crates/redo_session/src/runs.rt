@@ -8,9 +8,9 @@ ghost use Rattle.redo_journal.specs.Plans.{scripts_named};
 
 use crate::sessions::{Sessions, run_all};
 use redo_board::{Board, Gate, Plan};
-use redo_command::TextFault;
 use redo_merge::merge;
 use redo_run_text::Outcome;
+use redo_text::TextFault;
 use std::alloc::{AllocError, AllocFailed, Global};
 use std::sync::Wait;
 use std::thread::Threads;
@@ -37,7 +37,7 @@ impl From<AllocError> for RunFault {
 
 impl From<RunFault> for TextFault {
     ghost use Rattle.std.specs.Prelude.{◌≡◌};
-    ghost use Rattle.redo_command.specs.declared.fault.TextFault.TheVariants.{Memory};
+    ghost use Rattle.redo_text.specs.declared.fault.TextFault.TheVariants.{Memory};
 
     ghost from_gives = { λ _ fault. fault ≡ Memory };
 

@@ -8,11 +8,11 @@ ghost use Rattle.redo_run_text.specs.Faults.{IsTextCause, IsTextDeviceFault};
 
 use crate::runs::run;
 use redo_board::{Open, Plan};
-use redo_command::TextFault;
 use redo_journal::PlanFault;
 use redo_names::Names;
 use redo_run_text::{read_files, run_text};
 use redo_terms::Script;
+use redo_text::TextFault;
 use redo_whole::{Watched, WriteFault, write_whole};
 use std::alloc::Global;
 use std::io::{Read, Write};

@@ -1,7 +1,8 @@
-use redo_command::{TextFault, Watched};
 use redo_journal::Plan;
 use redo_names::Names;
 use redo_run_text::read_files;
+use redo_text::TextFault;
+use redo_whole::Watched;
 use std::alloc::{AllocError, Global};
 
 /// The files, as readers.

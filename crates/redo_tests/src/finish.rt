@@ -1,9 +1,11 @@
 //! What the program says of a fault, and its status.
 use crate::devices::FailingWriter;
-use redo_command::{LineFault, Reply, Watched};
 use redo_job::{Fault, finish};
 use redo_replay::{HistoryFault, ReplayFault, Verdict};
 use redo_session::TextFault;
+use redo_terms::Reply;
+use redo_text::LineFault;
+use redo_whole::Watched;
 use std::alloc::{AllocError, Global};
 use std::process::Abort;
 

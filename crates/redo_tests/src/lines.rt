@@ -1,7 +1,8 @@
 //! Lines of histories, written and cut.
-use redo_command::{Line, Reply, read_command};
 use redo_history::{cut_at, cut_at_arrow, cut_at_space, put_line, session_of};
 use redo_names::Names;
+use redo_terms::{Line, Reply};
+use redo_text::read_command;
 use std::test::Fail;
 
 #[test]

@@ -1,8 +1,7 @@
 //! Texts of commands and replies.
-use redo_command::{
-    Command, LineFault, ReadFault, Reply, command_text, fault_word, read_command, reply_text,
-};
 use redo_names::Names;
+use redo_terms::{Command, Reply};
+use redo_text::{LineFault, ReadFault, command_text, fault_word, read_command, reply_text};
 use std::test::Fail;
 
 #[test]

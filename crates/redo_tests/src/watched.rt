@@ -1,9 +1,9 @@
 //! Readers and writers that fail once and then work: what is answered, what is noted, and that
 //! nothing is tried again.
 use crate::devices::{FailingReader, FailingWriter};
-use redo_command::{Watched, WholeFault, read_whole, write_whole};
 use redo_replay::{ReplayFault, replay_text};
 use redo_session::{TextFault, run_texts};
+use redo_whole::{Watched, WholeFault, read_whole, write_whole};
 use std::alloc::{AllocError, Global};
 use std::io::{Read, Write};
 use std::process::Abort;

@@ -5,9 +5,9 @@ use crate::order::advance;
 use crate::outcomes::{Run, check_runs, check_text};
 use crate::plans::plan_of;
 use crate::schedules::{MOST, lines_of_schedule};
-use redo_command::Line;
 use redo_journal::{Place, Plan};
 use redo_session::RunFault;
+use redo_terms::Line;
 use std::alloc::{AllocError, Global};
 use std::process::Abort;
 

@@ -1,7 +1,7 @@
 //! A gate that counts the steps and the tries of each command, and what its counts have to be.
 use redo_board::Gate;
-use redo_command::Line;
 use redo_journal::{Journal, Place};
+use redo_terms::Line;
 use std::alloc::{AllocError, Global};
 use std::process::Abort;
 use std::sync::atomic::{AtomicU32, Ordering};

@@ -4,11 +4,11 @@ ghost use Rattle.std.specs.List.{AllByRecursion};
 ghost use Rattle.redo_model.specs.Renaming.{AllBelow, IsBelow, IsReplyBelow, IsLineBelow};
 ghost use Rattle.redo_terms.specs.Meaning.{command_of, reply_of, line_of};
 
-use redo_command::{Command, Kind, Line, Refusal, Reply};
 use redo_history::{History, HistoryFault, history_text, read_history};
 use redo_journal::{Entry, Journal, Place, Plan, are_journals};
 use redo_merge::merge;
 use redo_replay::{Verdict, replay};
+use redo_terms::{Command, Kind, Line, Refusal, Reply};
 use std::alloc::{AllocError, Global};
 use std::process::Abort;
 

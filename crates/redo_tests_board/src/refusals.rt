@@ -13,9 +13,9 @@ use crate::worked::{
 };
 use crate::workers::{MOST_STEPS, work};
 use redo_board::{Board, Open, Seat};
-use redo_command::Line;
 use redo_journal::{Journal, Plan};
 use redo_session::{Outcome, RunFault};
+use redo_terms::Line;
 use redo_testing::tell;
 use std::alloc::{AllocError, Global};
 use std::process::Abort;

@@ -9,8 +9,8 @@ use crate::plans::plan_of;
 use crate::seats::split;
 use crate::workers::worker_of;
 use redo_board::{Board, Seat, Worker};
-use redo_command::Line;
 use redo_journal::{Entry, Journal, Place, Plan};
+use redo_terms::Line;
 use std::alloc::{AllocError, Global};
 use std::process::Abort;
 

@@ -1,9 +1,9 @@
 //! The program beside the plain reader.
 use crate::tally::{Tally, index_of};
-use redo_command::Watched;
 use redo_plain::{Fault, run_of, verdict_of};
 use redo_replay::{HistoryFault, ReplayFault, replay_text};
 use redo_session::{TextFault, run_texts};
+use redo_whole::Watched;
 use std::alloc::{AllocError, Global};
 use std::process::Abort;
 use std::sync::Wait;

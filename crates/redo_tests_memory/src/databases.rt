@@ -6,9 +6,9 @@ ghost use Rattle.redo_store.specs.Tables.{tables_count};
 
 use crate::lines::{APPEARANCE, Line, REFUSALS, RING, check_text, command_of_line, names_of};
 use crate::told::again;
-use redo_command::{Command, Reply};
 use redo_names::Names;
 use redo_store::Redo;
+use redo_terms::{Command, Reply};
 use std::alloc::{AllocError, Global};
 use std::process::Abort;
 use std::test::Fail;

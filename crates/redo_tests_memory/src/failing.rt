@@ -1,8 +1,8 @@
 //! Replays and runs over devices that fail at each call in turn.
 use crate::devices::{Fault, FaultyReader, FaultyWriter};
-use redo_command::Watched;
 use redo_replay::{ReplayFault, replay_text};
 use redo_session::{TextFault, run_texts};
+use redo_whole::Watched;
 use std::alloc::Global;
 use std::process::Abort;
 use std::sync::Wait;

@@ -4,8 +4,9 @@ ghost use Rattle.redo_model.specs.Renaming.{IsBelow, IsReplyBelow};
 ghost use Rattle.redo_terms.specs.Meaning.{command_of, reply_of};
 
 use crate::told::again;
-use redo_command::{Command, ReadFault, Reply, read_command, reply_text};
 use redo_names::{Names, NamesFault, is_name};
+use redo_terms::{Command, Reply};
+use redo_text::{ReadFault, read_command, reply_text};
 use std::alloc::{AllocError, Global};
 use std::process::Abort;
 use std::test::Fail;

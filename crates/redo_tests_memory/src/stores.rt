@@ -7,9 +7,9 @@ ghost use Rattle.redo_store.specs.Stored.{count_of};
 
 use crate::lines::{APPEARANCE, Line, RING, check_text, command_of_line, names_of};
 use crate::told::again;
-use redo_command::Command;
 use redo_names::Names;
 use redo_store::Store;
+use redo_terms::Command;
 use std::alloc::{AllocError, Global};
 use std::process::Abort;
 use std::test::Fail;

@@ -1,7 +1,7 @@
 //! Whole reads.
 use crate::devices::{Fault, FaultyReader};
 use crate::told::again;
-use redo_command::{Watched, WholeFault, read_whole};
+use redo_whole::{Watched, WholeFault, read_whole};
 use std::alloc::{AllocError, Global};
 use std::process::Abort;
 

@@ -1,9 +1,9 @@
 //! A case: what merge answers is what the search finds.
 use crate::orders::first_order;
 use crate::told::{Told, Wanted, are_lines, are_wanted, journals_of};
-use redo_command::Line;
 use redo_journal::{Journal, Plan, are_journals};
 use redo_merge::merge;
+use redo_terms::Line;
 use std::alloc::{AllocError, Global};
 use std::process::Abort;
 

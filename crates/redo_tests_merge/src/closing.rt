@@ -3,8 +3,8 @@ use crate::cases::{check_merged, check_unmerged};
 use crate::closings::{CASES, Case, Closing, Closings, HAS_LOCKED_AGAIN};
 use crate::plans::plan_of;
 use crate::told::{Answer, Wanted, reply_of};
-use redo_command::{Command, Kind};
 use redo_journal::{Entry, Journal, Place, Plan, are_journals};
+use redo_terms::{Command, Kind};
 use std::alloc::{AllocError, Global};
 use std::process::Abort;
 

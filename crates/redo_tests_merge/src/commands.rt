@@ -1,6 +1,6 @@
 //! The commands of a plan.
-use redo_command::Command;
 use redo_journal::Plan;
+use redo_terms::Command;
 
 /// The session's command of this number.
 pub(crate) fn command_at(plan: &Plan, session: usize, number: usize) -> Option<&Command> {

@@ -2,8 +2,8 @@
 use crate::cases::check_merged;
 use crate::plans::plan_of;
 use crate::told::{Answer, Told, Wanted, journal_of};
-use redo_command::Kind;
 use redo_journal::{Entry, Journal, Place, Plan, are_journals};
+use redo_terms::Kind;
 use std::alloc::{AllocError, Global};
 use std::process::Abort;
 

@@ -1,8 +1,8 @@
 //! The rules of places, written once more: by what stands so far, a place may come next or may not.
 use crate::commands::command_at;
 use crate::told::{Answer, Told};
-use redo_command::Command;
 use redo_journal::{Place, Plan};
+use redo_terms::Command;
 use std::alloc::{AllocError, Global};
 
 /// How often a target was granted, and whether that grant is in force.

@@ -1,7 +1,7 @@
 //! Journals, as the tests make them.
 use crate::commands::command_at;
-use redo_command::{Command, Kind, Line, Refusal, Reply};
 use redo_journal::{Entry, Journal, Place, Plan};
+use redo_terms::{Command, Kind, Line, Refusal, Reply};
 use std::alloc::{AllocError, Global};
 
 /// The replies in these tests.

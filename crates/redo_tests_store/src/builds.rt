@@ -5,7 +5,7 @@ ghost use Rattle.redo_model.specs.Renaming.{AllBelow, IsBelow};
 ghost use Rattle.redo_terms.specs.Meaning.{command_of};
 
 use crate::commands::{Commands, NAMES};
-use redo_command::{Command, FileStamp};
+use redo_terms::{Command, FileStamp};
 use std::alloc::{AllocError, Global};
 
 /// How many of the names are built as targets; the others are sources.

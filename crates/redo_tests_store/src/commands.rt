@@ -3,7 +3,7 @@ ghost use Rattle.std.specs.Prelude.{◌<◌, ◌≤◌, IfOk};
 ghost use Rattle.redo_model.specs.Renaming.{AllBelow, IsBelow};
 ghost use Rattle.redo_terms.specs.Meaning.{command_of};
 
-use redo_command::{Command, FileStamp};
+use redo_terms::{Command, FileStamp};
 use redo_testing::Random;
 use std::alloc::{AllocError, Global};
 

@@ -1,6 +1,6 @@
 //! What is known of each name.
-use redo_command::FileStamp;
 use redo_records::{Mark, Records, digest_of};
+use redo_terms::FileStamp;
 use std::mem::size_of;
 use std::test::Fail;
 

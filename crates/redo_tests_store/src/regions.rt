@@ -6,9 +6,9 @@ ghost use Rattle.redo_records.specs.Rows.{rows_count, with_rows};
 ghost use Rattle.redo_ood.specs.Memo.{memo_count, IsRight};
 ghost use Rattle.redo_tests_store.specs.declared.regions.TheConstants.{NAMES};
 
-use redo_command::FileStamp;
 use redo_ood::Ood;
 use redo_records::{DepRows, Records, State, digest_of};
+use redo_terms::FileStamp;
 use std::alloc::{AllocError, Global};
 use std::process::Abort;
 

@@ -1,5 +1,5 @@
 //! The sorts of replies.
-use redo_command::{Refusal, Reply};
+use redo_terms::{Refusal, Reply};
 
 #[derive(Clone, Copy)]
 pub(crate) enum Sort {

@@ -1,6 +1,6 @@
 -- Faults of the parts as faults of the program.
-use Rattle.redo_command.specs.declared.fault.TextFault.{TextFault}
-use Rattle.redo_command.specs.declared.fault.TextFault.TheVariants as texts
+use Rattle.redo_text.specs.declared.fault.TextFault.{TextFault}
+use Rattle.redo_text.specs.declared.fault.TextFault.TheVariants as texts
 use Rattle.redo_replay.specs.declared.fault.ReplayFault.{ReplayFault}
 use Rattle.redo_replay.specs.declared.fault.ReplayFault.TheVariants as replays
 use Rattle.redo_job.specs.declared.fault.Fault.{Fault}

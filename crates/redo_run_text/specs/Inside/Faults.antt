@@ -1,8 +1,8 @@
 -- The faults of one file.
 use Rattle.std.specs.Prelude.{◌≡◌, ℕ, Bool, List, Option, IfSome, IsTrue, ⊤}
 use Rattle.redo_model.specs.Names.{Text}
-use Rattle.redo_command.specs.declared.fault.TextFault.{TextFault}
-use Rattle.redo_command.specs.declared.fault.TextFault.TheVariants.{Memory, Read, TooManySessions, NoSession, Write, Device, TooLong}
+use Rattle.redo_text.specs.declared.fault.TextFault.{TextFault}
+use Rattle.redo_text.specs.declared.fault.TextFault.TheVariants.{Memory, Read, TooManySessions, NoSession, Write, Device, TooLong}
 use Rattle.redo_run_text.specs.Faults.{HasFaultyLine, AreTooLong}
 
 -- the cause of a fault of one file, which has this number, these bytes and this flag, with the
