@@ -1,2 +1,0 @@
-mod Below
-mod Workers
