@@ -2,7 +2,7 @@
 use Rattle.std.proofs.Common.{◌≡◌, ℕ, ◌+◌, ◌*◌, ◌<◌, eqb, cond, List, length, get_or, Bool, true, false, Option, Some, None, is_some, sym, ap, ◌∙◌, arith, eq-eqb, ne_eqb}
 use Rattle.atomic_table.specs.Table.{State}
 use Rattle.redo_model.specs.Placed.{grants_in, releases_in}
-use Rattle.redo_model.specs.Inside.Words.{claim_word_of}
+use Rattle.redo_joint.specs.Words.{claim_word_of}
 use Rattle.redo_journal.specs.Plans.{PlanOf}
 use Rattle.redo_board.specs.Rows.{naming_of, rows_of}
 use Rattle.redo_board.specs.Core.{Line, Core, start, after_all, claim_word, claim_of}

@@ -3,7 +3,7 @@ use Rattle.std.proofs.Common.{◌≡◌, ℕ, List, [], ◌∷◌, ◌++◌, Opt
 use Rattle.std.proofs.lemmas.List.{append-nil}
 use Rattle.redo_model.specs.Command.{target_of}
 use Rattle.redo_model.specs.Placed.{part_of}
-use Rattle.redo_model.specs.Inside.Words.{word_before, row_word_of, row_words_after, row_words_of}
+use Rattle.redo_joint.specs.Words.{word_before, row_word_of, row_words_after, row_words_of}
 use Rattle.redo_joint.proofs.Tied.{flag}
 use Rattle.redo_journal.specs.Plans.{PlanOf, IsPlan, script_of}
 use Rattle.redo_board.specs.Rows.{naming_of}

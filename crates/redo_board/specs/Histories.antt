@@ -11,7 +11,7 @@ use Rattle.redo_model.specs.Renaming.{named_line, IsLineBelow}
 use Rattle.redo_model.specs.Placed.{Place, line_of, part_of, is_row, IsPlaced}
 use Rattle.redo_model.specs.Inside.Journals.{IsOfPlan}
 use Rattle.redo_model.specs.Seen.{HasSeen, StandsIn}
-use Rattle.redo_model.specs.Inside.Words.{row_words_of, claim_word_of}
+use Rattle.redo_joint.specs.Words.{row_words_of, claim_word_of}
 use Rattle.redo_names.specs.Names.{text_at}
 use Rattle.redo_journal.specs.Plans.{PlanOf, script_of}
 use Rattle.redo_board.specs.Rows.{naming_of, rows_of}

@@ -4,7 +4,7 @@ use Rattle.std.specs.Borrow.{Bor, Fml, MutBor, RattleType, follows_so}
 use mathlib.Core.Option.{none}
 use Rattle.redo_model.specs.Placed.{rows_in}
 use Rattle.redo_model.specs.Journals.{numbered, IsJointOrder}
-use Rattle.redo_model.specs.Inside.Words.{claim_word_of}
+use Rattle.redo_joint.specs.Words.{claim_word_of}
 use Rattle.redo_journal.specs.Plans.{PlanOf, script_of}
 use Rattle.redo_journal.specs.Journals.{told_by, IsMarked}
 use Rattle.redo_journal.specs.declared.entry.Entry.{Entry}

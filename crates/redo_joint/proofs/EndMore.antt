@@ -14,7 +14,7 @@ use Rattle.redo_model.specs.Placed.{Place, Row, Granted, Busy, Released, PlacedL
 use Rattle.redo_model.specs.Inside.Placed.{holds_by}
 use Rattle.redo_joint.specs.ByRows.{Stands, records_left}
 use Rattle.redo_joint.specs.Events.{GoesOnBy, moved_by}
-use Rattle.redo_model.specs.Inside.Words.{word_before, row_word_of, row_words_after, row_words_of, claim_word_of}
+use Rattle.redo_joint.specs.Words.{word_before, row_word_of, row_words_after, row_words_of, claim_word_of}
 use Rattle.redo_joint.proofs.Counts.{Paired, paired_after, paired_by, grants_push, releases_push}
 use Rattle.redo_joint.proofs.Bridge.{tied_after}
 use Rattle.redo_joint.proofs.Answered.{from_answers, from_stands}

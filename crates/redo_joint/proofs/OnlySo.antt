@@ -6,7 +6,7 @@ use Rattle.redo_model.specs.Inside.Names.{IsNaming}
 use Rattle.redo_model.specs.State.{empty}
 use Rattle.redo_model.specs.History.{left_by, Legal}
 use Rattle.redo_model.specs.Placed.{Granted, Busy, PlacedLine, line_of, Fits, Follows, part_of, grants_in, releases_in, IsPlaced}
-use Rattle.redo_model.specs.Inside.Words.{claim_word_of}
+use Rattle.redo_joint.specs.Words.{claim_word_of}
 use Rattle.redo_model.proofs.OneMore.{legal_prefix}
 use Rattle.redo_joint.specs.ByRows.{Stands, records_left}
 use Rattle.redo_joint.specs.Events.{GoesOnBy}

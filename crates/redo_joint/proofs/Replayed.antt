@@ -15,7 +15,7 @@ use Rattle.redo_model.specs.Step.{after, records_after}
 use Rattle.redo_model.specs.History.{left_by, LegalFrom}
 use Rattle.redo_model.specs.Placed.{Place, Row, Granted, Busy, Released, PlacedLine, line_of, part_of, is_row, IsPlacedAfter}
 use Rattle.redo_model.specs.Inside.Placed.{holds_by}
-use Rattle.redo_model.specs.Inside.Words.{word_before, script_word_of, closing_word_of, row_word_of, row_words_after, row_words_of}
+use Rattle.redo_joint.specs.Words.{word_before, script_word_of, closing_word_of, row_word_of, row_words_after, row_words_of}
 use Rattle.redo_model.specs.Journals.{IsJournal}
 use Rattle.redo_joint.specs.ByRows.{records_by, records_left}
 use Rattle.redo_joint.specs.Replayed.{is_closing, session_in, number_in, flag_in, target_in, command_in, no_records, replayed, IsLegalOfPlan}

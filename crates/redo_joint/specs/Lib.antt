@@ -1,4 +1,5 @@
 pub mod ByRows
+pub mod Words
 pub mod Replayed
 pub mod Events
 pub mod Named

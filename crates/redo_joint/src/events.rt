@@ -13,7 +13,7 @@ ghost use Rattle.redo_model.specs.Reply as replies;
 ghost use Rattle.redo_model.specs.Reply.{Okay, Reply};
 ghost use Rattle.redo_model.specs.State.{empty, target_state};
 ghost use Rattle.redo_model.specs.Step.{Replies, is_built_by, is_held_by};
-ghost use Rattle.redo_model.specs.Inside.Words.{claim_word_of};
+ghost use Rattle.redo_joint.specs.Words.{claim_word_of};
 
 /// A session's own lines determine what it holds, and all lines the number of grants.
 pub fn locks_by_lines()

@@ -9,7 +9,7 @@ ghost use Rattle.redo_model.specs.Command.{Item};
 ghost use Rattle.redo_model.specs.Names.{Text, numbers, texts};
 ghost use Rattle.redo_model.specs.Placed.{IsPlaced, PlacedLine, part_of};
 ghost use Rattle.redo_model.specs.Inside.Names.{IsNaming};
-ghost use Rattle.redo_model.specs.Inside.Words.{claim_word_of, row_word_of, row_words_of, word_before};
+ghost use Rattle.redo_joint.specs.Words.{claim_word_of, row_word_of, row_words_of, word_before};
 
 /// The words after one line more, over numbers, and the claim words over texts too.
 pub fn words_by_one_more()

@@ -17,7 +17,7 @@ ghost use Rattle.redo_joint.specs.Worked.{
 };
 ghost use Rattle.redo_model.specs.History.{Legal};
 ghost use Rattle.redo_model.specs.Inside.Merging.{first_journal, merging, second_journal, shared};
-ghost use Rattle.redo_model.specs.Inside.Words.{claim_word_of, row_word_of, row_words_of};
+ghost use Rattle.redo_joint.specs.Words.{claim_word_of, row_word_of, row_words_of};
 ghost use Rattle.redo_model.specs.Journals.{IsJournal, IsWholeJournal, NoLater};
 ghost use Rattle.redo_model.specs.Names.{texts};
 ghost use Rattle.redo_model.specs.Placed.{Granted, IsPlaced, Released, Row, line_of, part_of};

@@ -7,7 +7,6 @@ pub mod Deps
 pub mod Unknown
 pub mod Placed
 pub mod Journals
-pub mod Words
 pub mod Renaming
 pub mod Room
 pub mod Worked
