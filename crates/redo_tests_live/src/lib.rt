@@ -1,4 +1,4 @@
-//! The tests of the live database, its log and its conversation, worked out by hand from the rules.
+//! Tests of the live database, its log and its conversation, worked out by hand from the rules.
 #![tactic(auto)]
 
 #[cfg(test)]

@@ -1,4 +1,4 @@
-//! What is said to sessions, worked out by hand from the rules.
+//! The answers of the live database, worked out by hand from the rules.
 use redo_live::{Live, Unanswered, Withheld};
 use redo_text::{Inquiry, LineFault};
 use std::alloc::{AllocError, Global};
@@ -8,25 +8,25 @@ use std::process::Abort;
 #[derive(Clone, Copy)]
 enum Ask {
     Answer(&'static str),
-    /// An answer of so many bytes at most.
+    /// The answer to the command, if it has at most so many bytes.
     Within(&'static str, usize),
     End,
     EndWithin(usize),
     Why(&'static str),
     Deps(&'static str),
     State(&'static str),
-    /// That so many names are gone: `n0`, `n1` and so on.
+    /// The command `gone` of so many names: `n0`, `n1` and so on.
     Gone(u32),
 }
 
-/// What it is told.
+/// What the session is answered.
 #[derive(Clone, Copy)]
 enum Told {
-    /// These lines, which are logged.
+    /// These lines, and the log has them.
     Logged(&'static str),
-    /// These lines, of which none is logged.
+    /// These lines, and the log has none of them.
     Said(&'static str),
-    /// These lines, and then that the session ended, which isn't logged.
+    /// The first lines, which the log has, and then the answer to `end`, which it doesn't have.
     Ended(&'static str, &'static str),
     Nothing,
     TooLong(usize),
@@ -36,7 +36,7 @@ enum Told {
 use Ask::{Answer, Deps, End, EndWithin, Gone, State, Why, Within};
 use Told::{Ended, Fault, Logged, Nothing, Said, TooLong};
 
-/// A session, counted from 0, what it asks for, and what it is told.
+/// The session, counted from 0, what it asks for, and what it is answered.
 type Step = (u8, Ask, Told);
 
 const COMMON_PATH: &[Step] = &[
@@ -64,7 +64,7 @@ const COMMON_PATH: &[Step] = &[
     (0, Answer("ood"), Said("1 ood => ood a.o\n")),
 ];
 
-/// Names that don't fit are refused, and take no place.
+/// A command whose names don't fit is a fault, and makes no name known.
 const TOO_MANY_NAMES: &[Step] = &[
     (0, Gone(65_535), Nothing),
     (0, Answer("ifchange a b"), Fault(LineFault::TooManyNames)),
@@ -73,7 +73,7 @@ const TOO_MANY_NAMES: &[Step] = &[
     (1, Answer("lock a"), Logged("2 lock a => granted 1\n")),
 ];
 
-/// A line that is no command is a fault, and says nothing.
+/// A line that is no command is a fault, and has no answer.
 const FAULTS: &[Step] = &[
     (0, Answer(""), Fault(LineFault::UnknownCommand)),
     (0, Answer("lock"), Fault(LineFault::WrongWords)),
@@ -81,7 +81,7 @@ const FAULTS: &[Step] = &[
     (0, Answer("file a -"), Fault(LineFault::BadStamp)),
 ];
 
-/// A session that ends lets go of what it holds, in the order of the texts, and others hold what they held.
+/// A session that ends closes its targets, in the order of their bytes. Others keep their locks.
 const ENDS: &[Step] = &[
     (0, Answer("lock b"), Logged("1 lock b => granted 1\n")),
     (0, Answer("start b"), Logged("1 start b => ok\n")),
@@ -99,7 +99,7 @@ const ENDS: &[Step] = &[
     (0, Answer("lock c"), Said("1 lock c => busy 1\n")),
 ];
 
-/// What is too long is withheld and not done, so that it can be asked again with more room.
+/// If an answer is over the limit, nothing is done, and a greater limit can be tried.
 const TOO_LONG: &[Step] = &[
     (0, Within("lock a", 0), TooLong(22)),
     (0, Within("lock a", 21), TooLong(22)),
@@ -118,7 +118,7 @@ const TOO_LONG: &[Step] = &[
     ),
 ];
 
-/// A build of `t`, and what is told while it goes on; then `top` is built, which needs `t`.
+/// Questions during a build of `t`, and after a build of `top`, which depends on `t`.
 const QUESTIONS: &[Step] = &[
     (0, Answer("file z.h 1"), Logged("1 file z.h 1 => ok\n")),
     (0, Answer("file a.h 1"), Logged("1 file a.h 1 => ok\n")),
@@ -182,7 +182,7 @@ const QUESTIONS: &[Step] = &[
     ),
 ];
 
-/// Names that nobody spoke of before are said to be gone.
+/// Sends `gone` of so many names, `n0`, `n1` and so on.
 fn tell_gone(alloc: Global, live: &mut Live, count: u32) -> Result<(), Unanswered> {
     let (mut said, mut logged) = (Vec::new(alloc), Vec::new(alloc));
     for number in 0..count {
@@ -232,7 +232,7 @@ fn answer_to(
     }
 }
 
-/// The answer to a step, what it says that is logged, and what it says that isn't.
+/// The result of a step, the lines that the log has, and the other lines.
 fn want(told: Told) -> (Result<(), Withheld>, &'static str, &'static str) {
     match told {
         Logged(text) => (Ok(()), text, ""),
@@ -244,7 +244,7 @@ fn want(told: Told) -> (Result<(), Withheld>, &'static str, &'static str) {
     }
 }
 
-/// Whether the text is these two parts.
+/// Whether the text is the first part and then the second.
 fn is_joined(text: &[u8], first: &str, second: &str) -> bool {
     match text.strip_prefix(first.as_bytes()) {
         Some(rest) => rest == second.as_bytes(),
@@ -252,7 +252,7 @@ fn is_joined(text: &[u8], first: &str, second: &str) -> bool {
     }
 }
 
-/// A word for a failed step.
+/// What a failed test prints of a step.
 fn named(asked: Ask) -> &'static str {
     match asked {
         Answer(text) | Within(text, _) | Why(text) | Deps(text) | State(text) => text,

@@ -1,17 +1,17 @@
-//! What is restored from logs that were worked out by hand from the rules.
+//! Logs that were worked out by hand from the rules, and what is restored of them.
 use crate::talk::check_reply;
 use redo_log::{RestoreFault, restore};
 use redo_talk::Replied;
 use std::alloc::{AllocError, Global};
 
-/// Two sessions: a target that is built, and a lock. The header has 13 bytes, and the lines have 140.
+/// One session builds a target, another locks a name. The header has 13 bytes, the lines 140.
 const LOG: &str = "redodb-log 1\n1 file a.c 10 => ok\n1 lock a.o => granted 1\n1 start a.o => ok\n\
     2 lock b => granted 1\n1 ifchange a.o z.h a.c => stale z.h\n1 done a.o 20 => ok\n";
 
 /// A header and one line.
 const ONE_LINE: &str = "redodb-log 1\n1 file a.c 10 => ok\n";
 
-/// A line that isn't the database's answer behind `ONE_LINE`, and another log's header.
+/// The faults of a wrong line after `ONE_LINE`, and of a wrong header.
 const OTHER_LINE: Result<(usize, usize), RestoreFault> = Err(RestoreFault::Differs {
     line: 3,
     lines: 1,
@@ -24,9 +24,9 @@ const OTHER_HEADER: Result<(usize, usize), RestoreFault> = Err(RestoreFault::Dif
     bytes: 0,
 });
 
-/// Logs in two parts, and how many lines and bytes of them are restored.
+/// Logs in two parts, and how many lines and bytes of them are restored, or their fault.
 const LOGS: &[(&str, &str, Result<(usize, usize), RestoreFault>)] = &[
-    // What stands behind the last LF is left out, and so is a header without its LF.
+    // Bytes after the last LF are left out; so is a beginning of a header.
     (LOG, "", Ok((6, 153))),
     (LOG, "1", Ok((6, 153))),
     (LOG, "1 unlock a.o => o", Ok((6, 153))),
@@ -36,7 +36,7 @@ const LOGS: &[(&str, &str, Result<(usize, usize), RestoreFault>)] = &[
     ("", "", Ok((0, 0))),
     ("", "r", Ok((0, 0))),
     ("", "redodb-log 1", Ok((0, 0))),
-    // A line that isn't the database's answer is refused, whatever follows.
+    // A line that isn't the database's answer is a fault, whatever follows.
     (
         ONE_LINE,
         "1 lock a.c => granted 2\n1 gone a.c => ok\n",
@@ -99,7 +99,7 @@ fn logs(rt: HostRuntime) -> Result<(), AllocError> {
     Ok(())
 }
 
-/// All lines are done again, and the database goes on from there.
+/// All lines of the log are done again, and the database goes on from there.
 #[test]
 fn whole(rt: HostRuntime) -> Result<(), RestoreFault> {
     let mut live = restore(rt.alloc(), LOG.as_bytes())?.live;

@@ -5,10 +5,10 @@ use redo_whole::Watched;
 use std::alloc::{AllocError, Global};
 use std::process::Abort;
 
-/// What is heard, what is said, and what is logged.
+/// The input, the output and the log.
 type Talk = (&'static str, &'static str, &'static str);
 
-/// A session builds a target and ends while it holds it; another asks.
+/// A session builds a target, and ends while it holds the lock; another fails a build of it.
 const COMMON_PATH: Talk = (
     "1 file a.c 10\n1 lock a.o\n2 lock a.o\n1 start a.o\n1 ifchange a.o a.c\n1 done a.o 20\n\
     1 file a.c 11\n2 ood\n1 end\n2 lock a.o\n2 start a.o\n2 end\n",
@@ -21,7 +21,7 @@ const COMMON_PATH: Talk = (
     2 start a.o => ok\n2 failed a.o => ok\n2 unlock a.o => ok\n",
 );
 
-/// Lines that are no commands are faults, the first that they have; a rest without LF is not heard.
+/// A line that is no command is answered by its first fault. A rest without LF gets no answer.
 const FAULTS: Talk = (
     "\n0 ood\n65 ood\nood\n1 end now\n1 \n3 lock\n3 lock -\n64 ? ood\n2 file a -\n1 ood",
     "0 fault bad-session\n0 fault bad-session\n0 fault bad-session\n0 fault bad-session\n\
@@ -30,7 +30,7 @@ const FAULTS: Talk = (
     "",
 );
 
-/// Questions about names are answered and not logged; one that isn't known is idle.
+/// Questions about names are answered and not logged. A name that isn't known is idle.
 const QUESTIONS: Talk = (
     "1 file util.h 1\n1 lock util.o\n1 start util.o\n1 ifchange util.o util.h\n1 done util.o 2\n\
     1 lock app\n1 start app\n1 ifchange app util.o\n1 done app 3\n1 file util.h 4\n2 why app\n\
@@ -49,7 +49,7 @@ const QUESTIONS: Talk = (
     1 start app => ok\n1 ifchange app util.o => ok\n1 done app 3 => ok\n1 file util.h 4 => ok\n",
 );
 
-/// What is said and what is logged when these bytes are heard.
+/// The output and the log for this input.
 fn heard(alloc: Global, bytes: &[u8]) -> Result<(Vec<u8>, Vec<u8>), AllocError> {
     let (mut said, mut logged) = (Vec::new(alloc), Vec::new(alloc));
     let ended = converse(
@@ -76,7 +76,7 @@ fn check_talk(
     Ok(())
 }
 
-/// Lines with so many bytes behind the session's number, and the space after it.
+/// Lines of session 64, each with so many bytes after the number and its space.
 fn lines_of(alloc: Global, lengths: &[usize]) -> Result<Vec<u8>, AllocError> {
     let mut bytes = Vec::new(alloc);
     for length in lengths {
@@ -89,7 +89,7 @@ fn lines_of(alloc: Global, lengths: &[usize]) -> Result<Vec<u8>, AllocError> {
     Ok(bytes)
 }
 
-/// A line of any length is one line.
+/// A line of more than 8,192 bytes is still one line, and gets one answer.
 const TOO_LONG: &str = "64 fault bad-name\n64 fault line-too-long\n64 fault line-too-long\n";
 
 #[test]
@@ -101,7 +101,7 @@ fn talks(rt: HostRuntime) -> Result<(), AllocError> {
     check_talk(&rt, rt.alloc(), &long, (TOO_LONG, ""))
 }
 
-/// Lines, what is said to them, how they are answered, and how many bytes of what is said are logged.
+/// Lines, their answers, how they are answered, and how many bytes of each answer are logged.
 const REPLIES: &[(&str, &str, Replied, usize)] = &[
     ("1 lock a", "1 lock a => granted 1\n", Replied::Done, 22),
     ("2 lock a", "2 lock a => busy 1\n", Replied::Done, 0),
@@ -118,7 +118,7 @@ const REPLIES: &[(&str, &str, Replied, usize)] = &[
     ),
 ];
 
-/// With room for so many bytes the line is answered so, and this is said, of which so many bytes are logged.
+/// The line, with its limit, has this result and answer; so many bytes of the answer are logged.
 pub(crate) fn check_reply(
     rt: &impl Abort,
     alloc: Global,
@@ -144,7 +144,7 @@ pub(crate) fn check_reply(
     );
 }
 
-/// Each line is answered where there is room for the answer; with one byte less nothing is done.
+/// Each line is answered if its answer is just in the limit. With one byte less nothing is done.
 #[test]
 fn replies(rt: HostRuntime) -> Result<(), AllocError> {
     let mut live = Live::new(rt.alloc())?;
