@@ -1,4 +1,4 @@
-//! Commands and replies: read, copied, and written.
+//! Commands and replies are read, copied and printed.
 ghost use Rattle.std.specs.List.{AllByRecursion};
 ghost use Rattle.std.specs.Prelude.{length};
 ghost use Rattle.redo_model.specs.Renaming.{IsBelow, IsReplyBelow};
@@ -15,12 +15,12 @@ use std::alloc::{AllocError, Global};
 use std::process::Abort;
 use std::test::Fail;
 
-/// A session file with each form of a command.
+/// A session file with each kind of command.
 const COMMANDS: &str = "file a.c 10\ngone b.c\nlock a.o\nunlock a.o\nstart a.o\n\
     ifchange a.o a.c b.c lib\nifcreate a.o config x y z a.c\nalways a.o\nstamp a.o 616263\n\
     done a.o 20\nfailed a.o\nood\ntargets\nsources\n";
 
-/// The forms.
+/// Their kinds.
 const KINDS: [Kind; 14] = [
     Kind::File,
     Kind::Gone,
@@ -38,15 +38,15 @@ const KINDS: [Kind; 14] = [
     Kind::Sources,
 ];
 
-/// Their names, as they come.
+/// Their names, in the order in which they come.
 const NAMES: [&str; 8] = ["a.c", "b.c", "a.o", "lib", "config", "x", "y", "z"];
 
-/// Each form of a reply, but for most refusals. Their names come in another order.
+/// Each kind of reply, with two of the five refusals. Their names come in the same order.
 const REPLIES: &str = "ok\ngranted 1\nbusy 4294967295\nstale a.c b.c\n\
     stamped a9993e364706816aba3e25717850c26c9cd0d89d\nood a.o lib\ntargets a.o lib config x y z\n\
     sources a.c b.c\nrefused self\nrefused exists z\n";
 
-/// Whether the names are the first of these.
+/// Whether the names are the first of `NAMES`.
 fn are_first(names: &Names) -> bool {
     let count = names.len();
     if count > 8 {
@@ -60,7 +60,7 @@ fn are_first(names: &Names) -> bool {
     true
 }
 
-/// Whether the names are these.
+/// Whether the names are `NAMES`.
 fn are_all(names: &Names) -> bool {
     names.len() == 8 && are_first(names)
 }
@@ -123,7 +123,7 @@ fn check_reply(
     check_reply_text(rt, alloc, &copy, names, want)
 }
 
-/// The line is read as a command that has this text.
+/// The line is read as a command with this text.
 fn check_command_line(
     rt: &impl Abort,
     alloc: Global,
@@ -149,7 +149,7 @@ fn check_commands(rt: &impl Abort, alloc: Global, names: &mut Names) -> Result<(
     Ok(())
 }
 
-/// The line is read as a reply that has this text.
+/// The line is read as a reply with this text.
 fn check_reply_line(
     rt: &impl Abort,
     alloc: Global,
@@ -175,7 +175,7 @@ fn check_replies(rt: &impl Abort, alloc: Global, names: &mut Names) -> Result<()
     Ok(())
 }
 
-/// Whether the lines are one of each form.
+/// Whether the items have the kinds of `KINDS`, in order.
 fn are_forms(items: &[Item]) -> bool {
     if items.len() != KINDS.len() {
         return false;
@@ -204,7 +204,7 @@ fn check_forms(rt: &impl Abort, alloc: Global, names: &mut Names) -> Result<(), 
 /// Guarded lines of session files.
 const GUARDED: &str = "? file a.c 10\n? ifchange a.o a.c b.c lib\n? stamp a.o 616263\n? ood\n";
 
-/// The line has this text.
+/// The item has this text, and is guarded if the text begins with `? `.
 fn check_item(
     rt: &impl Abort,
     alloc: Global,
@@ -220,7 +220,7 @@ fn check_item(
     Ok(())
 }
 
-/// The one line has this text.
+/// The one item of the script has this text.
 fn check_one(
     rt: &impl Abort,
     alloc: Global,
@@ -237,7 +237,7 @@ fn check_one(
     Ok(check_item(rt, alloc, item, names, text)?)
 }
 
-/// The text of the one line of a session file is that file.
+/// The session file has one line, and is the text of its one item.
 fn check_line(rt: &impl Abort, alloc: Global, names: &mut Names, line: &str) -> Result<(), Fail> {
     let text = line.as_bytes();
     let script = again!(
@@ -249,7 +249,7 @@ fn check_line(rt: &impl Abort, alloc: Global, names: &mut Names, line: &str) -> 
     check_one(rt, alloc, &script, names, text)
 }
 
-/// What is read and written over names of which there is none before.
+/// What is read and printed over a list of names that is empty at first.
 #[derive(Clone, Copy)]
 enum Part {
     Commands,

@@ -42,7 +42,7 @@ impl Database {
         self.redo.call(alloc, session, command)
     }
 
-    /// What the session is answered.
+    /// The reply to the session. A try to which memory is refused counts no call.
     fn reply(
         &mut self,
         rt: &impl Abort,
@@ -64,7 +64,7 @@ impl Database {
         Ok(reply)
     }
 
-    /// A line of a history: what the session asks is answered so.
+    /// The command of the line has its reply.
     fn check_line(
         &mut self,
         rt: &impl Abort,

@@ -1,14 +1,14 @@
-//! Readers and writers that fail once, or from then on.
+//! Readers and writers that fail at one call, or from that call on.
 use std::io;
 use std::io::{Error, ErrorKind, Read, Write};
 
-/// What a device does at one of its calls, counted from 0, and how often.
+/// At which call, counted from 0, a device begins to fail, and how.
 #[derive(Clone, Copy)]
 pub(crate) struct Fault {
     pub at: usize,
     /// Whether the calls after it succeed.
     pub is_once: bool,
-    /// Whether a write takes no byte, in place of a failure.
+    /// Whether a write then takes no byte, rather than giving an error.
     pub takes_none: bool,
 }
 
@@ -22,7 +22,7 @@ impl Fault {
     }
 }
 
-/// Gives these bytes, at most so many a read.
+/// Gives these bytes, at most `most` a read.
 #[derive(Drop)]
 pub(crate) struct FaultyReader<'a> {
     pub bytes: &'a [u8],
@@ -43,7 +43,7 @@ impl Read for FaultyReader<'_> {
     }
 }
 
-/// Takes at most so many bytes a write.
+/// Takes at most `most` bytes a write.
 #[derive(Drop)]
 pub(crate) struct FaultyWriter {
     pub taken: Vec<u8>,

@@ -8,7 +8,7 @@ use std::process::Abort;
 use std::sync::Wait;
 use std::thread::Threads;
 
-/// The faults at call 0, then those at call 1, and so on.
+/// The fault of this number: four are at call 0, the next four at call 1, and so on.
 fn fault(number: usize) -> Fault {
     Fault {
         at: number / 4,
@@ -17,14 +17,14 @@ fn fault(number: usize) -> Fault {
     }
 }
 
-/// A fault at a call that no device comes to.
+/// A fault at a call that no test makes.
 pub(crate) const NEVER: Fault = Fault {
     at: 1_000_000,
     is_once: false,
     takes_none: false,
 };
 
-/// More than a device is asked for at once.
+/// More bytes than any text of these tests has.
 pub(crate) const ALL: usize = 9_999;
 
 fn reader(bytes: &[u8], most: usize, fault: Fault) -> Watched<FaultyReader<'_>> {
@@ -50,12 +50,12 @@ const HISTORY: &[u8] = b"history 1\n1 ood => ood\n";
 
 const VERDICT: &[u8] = b"same 1\n";
 
-/// So many faults are tried where so many calls are made: those at each, and at two calls that no device comes to.
+/// How many faults to try if so many calls are made: four at each, and at two calls after them.
 fn count_of_faults(calls: usize) -> usize {
     calls.saturating_add(2).saturating_mul(4)
 }
 
-/// What a replay over these devices came to.
+/// The fault of a replay, and its devices after it.
 #[derive(Drop)]
 struct Replayed {
     fault: Option<ReplayFault>,
@@ -78,7 +78,7 @@ fn replay_with(alloc: Global, reader: Watched<FaultyReader<'_>>, writer: FaultyW
     }
 }
 
-/// Whether the replay failed by its reader, or not at all.
+/// Whether the replay failed by its reader alone if `fails`, and else wrote the verdict.
 fn is_replay_read(done: &Replayed, fails: bool) -> bool {
     let is_device = matches!(done.fault, Some(ReplayFault::Device));
     let want = if fails { b"".as_slice() } else { VERDICT };
@@ -89,7 +89,7 @@ fn is_replay_read(done: &Replayed, fails: bool) -> bool {
         && done.writer.taken.as_slice() == want
 }
 
-/// Whether the replay failed by its writer, or not at all.
+/// Whether the replay failed by its writer alone if `fails`, else not, and wrote these bytes.
 fn is_replay_written(done: &Replayed, fails: bool, want: &[u8]) -> bool {
     let is_write = matches!(done.fault, Some(ReplayFault::Write));
     done.output_faulted == fails
@@ -99,20 +99,20 @@ fn is_replay_written(done: &Replayed, fails: bool, want: &[u8]) -> bool {
         && done.writer.taken.as_slice() == want
 }
 
-/// A replay that reads at most so many bytes at once, and makes so many reads.
+/// A replay with reads of at most `most` bytes fails exactly if one of its `reads` has the fault.
 fn replay_read(rt: &impl Abort, alloc: Global, most: usize, reads: usize, fault: Fault) {
     let done = replay_with(alloc, reader(HISTORY, most, fault), writer(alloc, 1, NEVER));
     assert!(rt; is_replay_read(&done, fault.at < reads));
 }
 
-/// A replay that writes at most so many bytes at once, and makes so many writes.
+/// A replay with writes of at most `most` bytes fails exactly if one of its `writes` has the fault.
 fn replay_written(rt: &impl Abort, alloc: Global, most: usize, writes: usize, fault: Fault) {
     let done = replay_with(alloc, reader(HISTORY, 1, NEVER), writer(alloc, most, fault));
     let want = prefix(VERDICT, fault.at, most);
     assert!(rt; is_replay_written(&done, fault.at < writes, want));
 }
 
-/// What so many writes of so many bytes take of a text.
+/// The prefix of a text that so many writes take, of so many bytes each.
 fn prefix(text: &[u8], writes: usize, most: usize) -> &[u8] {
     let count = writes.min(text.len()).saturating_mul(most).min(text.len());
     &text[..count]
@@ -130,21 +130,21 @@ fn replay_writes(rt: &impl Abort, alloc: Global, most: usize, writes: usize) {
     }
 }
 
-/// A byte at a time there are as many reads as bytes, and one that finds the end; else there are two.
+/// Reads of one byte are as many as the bytes, and one more finds the end. Else there are two.
 #[test]
 fn replays_of_failing_readers(rt: HostRuntime) {
     replay_reads(&rt, rt.alloc(), 1, HISTORY.len() + 1);
     replay_reads(&rt, rt.alloc(), ALL, 2);
 }
 
-/// What went out is what the writes before the fault took.
+/// The output is what the writes before the fault took.
 #[test]
 fn replays_to_failing_writers(rt: HostRuntime) {
     replay_writes(&rt, rt.alloc(), 1, VERDICT.len());
     replay_writes(&rt, rt.alloc(), ALL, 1);
 }
 
-/// A session file, and the run text of it beside an empty one, before which or after which it stands.
+/// A session file, and its run texts with an empty file after it, and before it.
 const FILE: &[u8] = b"file a 1\nood\n";
 
 const FIRST_TEXT: &[u8] = b"history 2\n1 file a 1 => ok\n1 ood => ood\n\
@@ -153,7 +153,7 @@ const FIRST_TEXT: &[u8] = b"history 2\n1 file a 1 => ok\n1 ood => ood\n\
 const SECOND_TEXT: &[u8] = b"history 2\n2 file a 1 => ok\n2 ood => ood\n\
     session 1 0\nsession 2 2\nfile a 1 => ok\nood => ood\n";
 
-/// What a run over these devices came to.
+/// The fault of a run, and its devices after it.
 #[derive(Drop)]
 struct Ran {
     fault: Option<TextFault>,
@@ -184,7 +184,7 @@ fn run_with<R: Threads + Wait + Sync>(
     }
 }
 
-/// A session file, the first or the second of two, of which the other is empty, and their run text.
+/// The first or the second of two session files, of which the other is empty, and their run text.
 #[derive(Clone, Copy)]
 struct Given {
     bytes: &'static [u8],
@@ -216,8 +216,8 @@ const COMMON_PATH: Given = Given {
         sources => sources a.c\n",
 };
 
-/// A run of two files, of which the one that isn't empty is read so many bytes at once by a faulty
-/// reader.
+/// A run of two files. A faulty reader reads the one that isn't empty, at most `most` bytes at a
+/// time.
 fn run_over<R: Threads + Wait + Sync>(
     rt: &R,
     alloc: Global,
@@ -239,7 +239,7 @@ fn is_device(fault: &Option<TextFault>, file: usize) -> bool {
     matches!(fault, Some(TextFault::Device { file: at }) if *at == file)
 }
 
-/// Whether the run failed by the reader of the file that isn't empty, or not at all.
+/// Whether the run failed by this file's reader alone if `fails`, and else wrote the run text.
 fn is_run_read(done: &Ran, given: &Given, fails: bool) -> bool {
     let is_first = given.file == 0;
     let want = if fails { b"".as_slice() } else { given.text };
@@ -251,7 +251,7 @@ fn is_run_read(done: &Ran, given: &Given, fails: bool) -> bool {
         && done.writer.taken.as_slice() == want
 }
 
-/// Runs of two files, of which the one that isn't empty is read in so many reads.
+/// Runs of two files, of which the one that isn't empty takes so many reads.
 fn run_reads<R: Threads + Wait + Abort + Sync>(
     rt: &R,
     alloc: Global,
@@ -266,7 +266,7 @@ fn run_reads<R: Threads + Wait + Abort + Sync>(
     }
 }
 
-/// Whether the run failed by its writer, or not at all.
+/// Whether the run failed by its writer alone if `fails`, else not, and wrote these bytes.
 fn is_run_written(done: &Ran, fails: bool, want: &[u8]) -> bool {
     let is_write = matches!(&done.fault, Some(TextFault::Write));
     done.output_faulted == fails
@@ -277,7 +277,7 @@ fn is_run_written(done: &Ran, fails: bool, want: &[u8]) -> bool {
         && done.writer.taken.as_slice() == want
 }
 
-/// Runs of two files that write at most so many bytes at once, and make so many writes.
+/// Runs of two files with writes of at most `most` bytes, of which there are `writes`.
 fn run_writes<R: Threads + Wait + Abort + Sync>(rt: &R, alloc: Global, most: usize, writes: usize) {
     for number in 0..count_of_faults(writes) {
         let fault = fault(number);
@@ -297,8 +297,8 @@ fn runs_of_failing_readers(rt: HostRuntime) {
     }
 }
 
-/// The common path is the second of two files: its 91 bytes are read in three reads, and a fourth
-/// one finds the end.
+/// The file of the common path is the second of two. Three reads get its 91 bytes, and a fourth one
+/// finds the end.
 #[test]
 fn runs_of_a_failing_second_reader(rt: HostRuntime) {
     run_reads(&rt, rt.alloc(), &COMMON_PATH, 32, 4);

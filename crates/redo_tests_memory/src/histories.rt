@@ -1,4 +1,4 @@
-//! Histories that are read, replayed and written.
+//! Histories are read, replayed and printed.
 ghost use Rattle.std.specs.Prelude.{length};
 ghost use Rattle.redo_replay.specs.Inside.Verdicts.{IsVerdictBelow};
 
@@ -14,18 +14,18 @@ use std::alloc::{AllocError, Global};
 use std::process::Abort;
 use std::test::Fail;
 
-/// What one session is told.
+/// The history of one session.
 pub(crate) const HISTORY: &str = "history 9\n1 file a.c 10 => ok\n1 lock a.o => granted 1\n\
     1 start a.o => ok\n1 ifchange a.o a.c => ok\n1 done a.o 20 => ok\n1 unlock a.o => ok\n\
     1 ood => ood\n1 targets => targets a.o\n1 sources => sources a.c\n";
 
-/// A wrong reply, and a right one of the other kinds.
+/// Histories whose last reply is wrong: a number, and a list.
 const WRONG_REPLY: &str = "history 2\n1 file a.c 10 => ok\n1 lock a.o => granted 2\n";
 
 const WRONG_LIST: &str =
     "history 3\n1 file a 1 => ok\n1 lock t => granted 1\n1 targets => targets a\n";
 
-/// The text is read as a history; a fault is another than want of memory.
+/// The history of the text, or its fault. The error is a refused allocation.
 fn read(alloc: Global, text: &str) -> Result<Result<History, HistoryFault>, AllocError> {
     match read_history(alloc, text.as_bytes()) {
         Err(HistoryFault::Memory) => Err(AllocError),
@@ -33,7 +33,7 @@ fn read(alloc: Global, text: &str) -> Result<Result<History, HistoryFault>, Allo
     }
 }
 
-/// The verdict is written so.
+/// The verdict has this text.
 fn check_verdict(
     rt: &impl Abort,
     alloc: Global,
@@ -48,7 +48,7 @@ fn check_verdict(
     Ok(())
 }
 
-/// The verdict on the history is written so.
+/// The verdict on the history has this text.
 fn check_said(
     rt: &impl Abort,
     alloc: Global,
@@ -59,7 +59,7 @@ fn check_said(
     check_verdict(rt, alloc, &verdict, history.names(), want)
 }
 
-/// The history is written as it was read.
+/// The text begins with the history's text.
 fn check_told(
     rt: &impl Abort,
     alloc: Global,
@@ -87,7 +87,7 @@ fn check_history(
     check_told(rt, alloc, history, text)
 }
 
-/// The text is read as a history with this verdict, or has this fault.
+/// The answer is a history with this verdict, whose text begins this one; or it is this fault.
 fn check_answer(
     rt: &impl Abort,
     alloc: Global,
@@ -105,14 +105,14 @@ fn check_answer(
     }
 }
 
-/// The verdict on the text is written so, and the text as it was read; or the text has this fault.
+/// The text begins with the text of a history with this verdict, or has this fault.
 pub(crate) fn check_text(
     rt: &impl Abort,
     alloc: Global,
     text: &str,
     want: Result<&str, HistoryFault>,
 ) -> Result<(), AllocError> {
-    // A faulty header is told without memory.
+    // A faulty header is reported without an allocation.
     let answer = match want {
         Err(HistoryFault::BadHeader) => read(alloc, text)?,
         _ => again!(rt, alloc, AllocError, read(alloc, text)),
@@ -120,7 +120,7 @@ pub(crate) fn check_text(
     check_answer(rt, alloc, &answer, text, want)
 }
 
-/// The verdict of the replay is written so. The writer has room.
+/// The replay writes this verdict. The writer has reserved memory.
 fn check_written(
     rt: &impl Abort,
     alloc: Global,
@@ -145,7 +145,7 @@ fn check_replay(rt: &impl Abort, alloc: Global, text: &str, want: &str) -> Resul
     Ok(check_written(rt, alloc, text, want, &mut writer)?)
 }
 
-/// A replay of the text.
+/// Replays the text to the writer.
 fn replayed(alloc: Global, text: &str, writer: &mut FaultyWriter) -> Result<(), ReplayFault> {
     let mut input = Watched::new(text.as_bytes());
     match replay_text(alloc, &mut input, &mut Watched::new(writer)) {

@@ -1,4 +1,4 @@
-//! The tests of refused memory, each of which passes, too, where any one request is refused; and of devices that fail.
+//! Tests that pass, too, if any one request for memory is refused; and tests of failing devices.
 #![tactic(auto)]
 
 #[cfg(test)]

@@ -1,4 +1,4 @@
-//! Lines of one session and what they are answered, over two names.
+//! Lines of histories over two names.
 ghost use Rattle.std.specs.Prelude.{◌≡◌, length, IfOk, OnOk};
 ghost use Rattle.redo_model.specs.Renaming.{IsBelow, IsReplyBelow};
 ghost use Rattle.redo_terms.specs.Meaning.{command_of, reply_of};
@@ -11,10 +11,10 @@ use std::alloc::{AllocError, Global};
 use std::process::Abort;
 use std::test::Fail;
 
-/// What a session asks, and what it is answered.
+/// A session, its command and the reply.
 pub(crate) type Line = (u8, &'static str, &'static str);
 
-/// The order of refusals.
+/// Refusals, in the order of the rules.
 pub(crate) const REFUSALS: &[Line] = &[
     (0, "start T", "refused not-locked"),
     (0, "lock T", "granted 1"),
@@ -92,7 +92,7 @@ pub(crate) const APPEARANCE: &[Line] = &[
     (0, "ood", "ood"),
 ];
 
-/// The two names are added, to none.
+/// Adds the two names to an empty list.
 fn add_names(
     rt: &impl Abort,
     alloc: Global,
@@ -109,7 +109,7 @@ fn add_names(
     Ok(())
 }
 
-/// These two names alone.
+/// The list of these two names.
 pub(crate) fn names_of(
     rt: &impl Abort,
     alloc: Global,
@@ -122,7 +122,7 @@ pub(crate) fn names_of(
     Ok(names)
 }
 
-/// The command of a line of known names, whose numbers are below two.
+/// The command of a line whose names are all known.
 pub(crate) fn command_of_line(
     rt: &impl Abort,
     alloc: Global,

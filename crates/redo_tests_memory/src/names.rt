@@ -1,23 +1,23 @@
-//! Names, and names that are read.
+//! Names are added, and found by their texts.
 use crate::told::again;
 use redo_names::{Names, NamesFault, is_name};
 use std::alloc::Global;
 use std::process::Abort;
 
-/// So many names of three bytes.
+/// How many names are added.
 const COUNT: u8 = 100;
 
-/// The name of this number.
+/// The name of this number: an `n` and two digits.
 fn text_of(number: u8) -> [u8; 3] {
     [b'n', b'0' + number / 10, b'0' + number % 10]
 }
 
-/// Whether the text is none of so many names.
+/// Whether there are so many names, and none of them is the text.
 fn is_none_of(names: &Names, count: u32, text: &[u8]) -> bool {
     names.len() == count && names.number_of(text).is_none()
 }
 
-/// A name whose number is refused is none of the names.
+/// The name of this number is added. A try to which memory is refused adds no name.
 fn check_added(
     rt: &impl Abort,
     alloc: Global,
@@ -38,7 +38,7 @@ fn check_added(
     Ok(())
 }
 
-/// Each name has its number later.
+/// Whether each name has its number.
 fn are_numbered(names: &Names) -> bool {
     for number in 0..COUNT {
         if names.number_of(&text_of(number)) != Some(u32::from(number)) {

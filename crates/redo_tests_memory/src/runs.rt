@@ -19,7 +19,7 @@ use std::sync::Wait;
 use std::test::Fail;
 use std::thread::Threads;
 
-/// The file of one session, and what stands after the history in its run text.
+/// The file of one session, and what follows the history in its run text.
 const FILE: &str = "file a.c 10\nlock a.o\nstart a.o\nifchange a.o a.c\ndone a.o 20\nunlock a.o\n\
     ood\ntargets\nsources\n";
 
@@ -27,7 +27,7 @@ const PART: &str = "session 1 9\nfile a.c 10 => ok\nlock a.o => granted 1\nstart
     ifchange a.o a.c => ok\ndone a.o 20 => ok\nunlock a.o => ok\nood => ood\n\
     targets => targets a.o\nsources => sources a.c\n";
 
-/// The text of this file's run.
+/// Whether this is the run text of the one file.
 fn is_right(text: &[u8]) -> bool {
     text.len() == HISTORY.len() + PART.len()
         && text.starts_with(HISTORY.as_bytes())
@@ -57,7 +57,7 @@ fn planned(rt: &impl Abort, alloc: Global, files: &[&str]) -> Result<Plan, TextF
     Ok(Plan::new(scripts, names).expect(rt, "a plan"))
 }
 
-/// The run's text is right.
+/// The outcome's run text is right.
 fn check_outcome(
     rt: &impl Abort,
     alloc: Global,
@@ -71,7 +71,7 @@ fn check_outcome(
     Ok(())
 }
 
-/// The plan is run, and the run's text is right.
+/// The plan is run, and the outcome's run text is right.
 fn check_run<R: Threads + Wait + Abort + Sync>(
     rt: &R,
     alloc: Global,
@@ -89,7 +89,7 @@ fn one_run(rt: HostRuntime) -> Result<(), Fail> {
     check_run(&rt, alloc, &plan)
 }
 
-/// A run of these files. The writer has room.
+/// Writes the run text of these files. The writer has reserved memory.
 fn written<R: Threads + Wait + Sync>(
     rt: &R,
     alloc: Global,
@@ -100,7 +100,7 @@ fn written<R: Threads + Wait + Sync>(
     run_texts(rt, alloc, &mut readers, &mut Watched::new(writer))
 }
 
-/// The run text of these files, of which nothing is written where memory is refused.
+/// Writes the run text of these files. A try to which memory is refused writes nothing.
 fn write_run<R: Threads + Wait + Abort + Sync>(
     rt: &R,
     alloc: Global,
@@ -117,7 +117,7 @@ fn write_run<R: Threads + Wait + Abort + Sync>(
     Ok(())
 }
 
-/// What a run text is to be.
+/// What a run text has to be.
 #[derive(Clone, Copy)]
 enum Want {
     /// That of the one file.
@@ -136,7 +136,7 @@ fn check_text_of_run(rt: &impl Abort, alloc: Global, text: &[u8], want: Want) ->
     Ok(())
 }
 
-/// A run of these files has such a text.
+/// The run text of these files is such a text.
 fn check_files<R: Threads + Wait + Abort + Sync>(
     rt: &R,
     alloc: Global,
@@ -154,7 +154,7 @@ fn run_of_one(rt: HostRuntime) -> Result<(), Fail> {
     check_files(&rt, rt.alloc(), &[FILE], Want::Right)
 }
 
-/// A session that breaks off in a build, and its run text.
+/// A session that ends during a build, and its run text.
 const BROKEN_OFF: &str = "lock T\nstart T\nfile a 1\n";
 
 const BROKEN_OFF_TEXT: &str = "history 5\n1 lock T => granted 1\n1 start T => ok\n\

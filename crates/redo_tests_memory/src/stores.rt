@@ -1,4 +1,4 @@
-//! The store, to which room is given first, or with the change.
+//! The store, with memory that is reserved before the change, or by it.
 ghost use Rattle.std.specs.Prelude.{◌≡◌, false, None, length};
 ghost use Rattle.redo_model.specs.Command.{asked_lock};
 ghost use Rattle.redo_model.specs.Renaming.{IsBelow};
@@ -35,7 +35,7 @@ impl Stored {
         Ok(Stored { store })
     }
 
-    /// Room for the command is made, and nothing else is done.
+    /// Reserves memory for the command, and does nothing else.
     fn reserve(
         &mut self,
         rt: &impl Abort,
@@ -79,7 +79,7 @@ impl Stored {
         check_text(rt, alloc, &reply, names, want)
     }
 
-    /// The command's change is made.
+    /// Makes the command's change. A try to which memory is refused makes none.
     fn apply(&mut self, rt: &impl Abort, alloc: Global, command: &Command) -> Result<(), AllocError>
         requires numbers { IsBelow 2 (command_of command.now) }
         requires no_lock { asked_lock (command_of command.now) ≡ None }
@@ -96,8 +96,8 @@ impl Stored {
         Ok(())
     }
 
-    /// A command of the session that holds the target is answered so, and its change is made. Room is made first, or
-    /// with the change.
+    /// The command of a session that holds the target has this reply, and then its change is made.
+    /// Memory for it is reserved first, or by the change.
     fn check_command(
         &mut self,
         rt: &impl Abort,
@@ -118,7 +118,7 @@ impl Stored {
         self.apply(rt, alloc, command)
     }
 
-    /// A line of a history of one session, which holds the target.
+    /// The command of the line, by a session that holds the target. A lock is left out.
     fn check_line(
         &mut self,
         rt: &impl Abort,

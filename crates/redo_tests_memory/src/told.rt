@@ -1,14 +1,14 @@
-//! Calls that are tried once more where they are told of a refusal.
+//! Calls that are tried once more if memory was refused.
 use std::alloc::Global;
 use std::process::Abort;
 
-/// Says that a call was told of a refusal, and demands what has to be true then.
+/// Reports that memory was refused to a call, and asserts what has to be true then.
 pub(crate) fn tell(rt: &impl Abort, alloc: Global, stands: bool) {
     let is_heard = redo_testing::tell(alloc);
     assert!(rt; stands && is_heard);
 }
 
-/// The value of a call. Where it is told of a refusal, these conditions are true, and the next try gives the value.
+/// The value of a call. If memory was refused, the condition is true, and a second try gives it.
 macro_rules! again {
     ($rt:expr, $alloc:expr, AllocError, $call:expr) => {
         match $call {

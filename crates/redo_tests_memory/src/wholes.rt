@@ -5,10 +5,10 @@ use redo_whole::{Watched, WholeFault, read_whole};
 use std::alloc::{AllocError, Global};
 use std::process::Abort;
 
-/// So many bytes that the room for them grows.
+/// So many bytes that the memory for them grows.
 static BYTES: [u8; 70_000] = [b'x'; 70_000];
 
-/// What a read of the bytes answers; the read of this number fails.
+/// The result of reading the bytes, where one read fails. The error is a refused allocation.
 fn read(
     alloc: Global,
     bytes: &[u8],
@@ -31,7 +31,7 @@ fn read(
     }
 }
 
-/// What a read answers.
+/// What a whole read has to give.
 #[derive(Clone, Copy)]
 enum Want {
     Whole,
@@ -48,7 +48,7 @@ fn is_right(answer: &Result<Vec<u8>, WholeFault>, bytes: &[u8], want: Want) -> b
     }
 }
 
-/// The read has this answer. It is asked once more where it is told of a refusal.
+/// The whole read gives this. It is tried once more if memory was refused.
 fn check_read(
     rt: &impl Abort,
     alloc: Global,
