@@ -2,7 +2,7 @@
 use redo_testing::Random;
 use std::alloc::{AllocError, Global};
 
-/// Texts to be inserted.
+/// Texts to insert.
 const PIECES: [&str; 34] = [
     " ",
     "  ",
@@ -40,7 +40,7 @@ const PIECES: [&str; 34] = [
     "targets\n",
 ];
 
-/// Lengths at which something is too long, and the ones before.
+/// Limits on lengths, and the lengths just over them.
 const LENGTHS: [usize; 6] = [64, 65, 255, 256, 8192, 8193];
 
 /// How often something is repeated. A list has at most 64 names.
@@ -51,7 +51,7 @@ fn part(text: &[u8], from: usize, to: usize) -> &[u8] {
     text.get(from..to).unwrap_or(b"".as_slice())
 }
 
-/// The text with something else in place of what stands from one place up to another.
+/// The text with something else in place of the bytes from one place up to another.
 fn spliced(
     alloc: Global,
     text: &[u8],
@@ -65,12 +65,12 @@ fn spliced(
     Ok(out)
 }
 
-/// Whether a byte stands between two lines, or two words.
+/// Whether the byte ends a line or, unless `is_line`, a word.
 fn is_gap(byte: u8, is_line: bool) -> bool {
     byte == b'\n' || byte == b' ' && !is_line
 }
 
-/// From where to where the line or the word goes that this place is in.
+/// Where the line or the word at this place begins, and where it ends.
 fn piece_at(text: &[u8], at: usize, is_line: bool) -> (usize, usize) {
     let before = part(text, 0, at).iter().rev();
     let after = part(text, at, text.len()).iter();
@@ -88,7 +88,7 @@ fn repeated(alloc: Global, text: &[u8], times: usize) -> Result<Vec<u8>, AllocEr
     Ok(out)
 }
 
-/// One of these numbers.
+/// One of these numbers, drawn at random.
 fn one_of(random: &mut Random, numbers: &[usize]) -> usize {
     match numbers.len() {
         0 => 0,
@@ -96,7 +96,7 @@ fn one_of(random: &mut Random, numbers: &[usize]) -> usize {
     }
 }
 
-/// A text to be inserted: a byte, or one of the pieces.
+/// A text to insert: a byte, or one of the pieces.
 fn piece(alloc: Global, random: &mut Random) -> Result<Vec<u8>, AllocError> {
     if random.below(3) == 0 {
         return Vec::from_elem(alloc, (random.below(256) & 0xff) as u8, 1);
@@ -105,7 +105,7 @@ fn piece(alloc: Global, random: &mut Random) -> Result<Vec<u8>, AllocError> {
     Vec::from_slice(alloc, PIECES.get(at).copied().unwrap_or("").as_bytes())
 }
 
-/// The text with one damage.
+/// The text with one damage, drawn at random.
 pub(crate) fn damaged(
     alloc: Global,
     random: &mut Random,
@@ -142,7 +142,7 @@ pub(crate) fn damaged(
     }
 }
 
-/// The text in which the line or the word has a length near a limit.
+/// The text with the line or the word stretched to one of `LENGTHS`, if it is shorter.
 fn stretched(
     alloc: Global,
     random: &mut Random,
@@ -184,7 +184,7 @@ pub(crate) fn with_guards(
     Ok(out)
 }
 
-/// The text, as a history that has as many lines as its header says.
+/// The text as a history: its first line is the header, which counts the other lines.
 pub(crate) fn with_header(alloc: Global, text: &[u8]) -> Result<Vec<u8>, AllocError> {
     let lines = text
         .iter()
@@ -196,7 +196,7 @@ pub(crate) fn with_header(alloc: Global, text: &[u8]) -> Result<Vec<u8>, AllocEr
     spliced(alloc, text, 0, end, header.as_bytes())
 }
 
-/// A session file's lines, each as the line of a history that is answered `ok`.
+/// A session file's lines, but for skipped ones, as lines of a history with the reply `ok`.
 pub(crate) fn as_history(alloc: Global, file: &[u8]) -> Result<Vec<u8>, AllocError> {
     let mut out = Vec::from_slice(alloc, b"\n")?;
     for line in file.split(|byte| *byte == b'\n') {

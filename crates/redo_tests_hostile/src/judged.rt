@@ -1,4 +1,4 @@
-//! The program beside the plain reader.
+//! Compares the program with the plain reader.
 use crate::tally::{Tally, index_of};
 use redo_plain::{Fault, run_of, verdict_of};
 use redo_replay::{HistoryFault, ReplayFault, replay_text};
@@ -10,10 +10,10 @@ use std::sync::Wait;
 use std::test::Fail;
 use std::thread::Threads;
 
-/// What the program says of a text: what it writes, or its fault; none for one that no text has.
+/// What the program writes for a text, or the text's fault; none for any other fault.
 type Said = Result<Vec<u8>, Option<Fault>>;
 
-/// What a run of one session file says.
+/// The result of a run of one session file.
 pub(crate) fn ran<R: Threads + Wait + Sync + AllocGlobal>(
     rt: &R,
     file: &[u8],
@@ -35,7 +35,7 @@ pub(crate) fn ran<R: Threads + Wait + Sync + AllocGlobal>(
     }
 }
 
-/// The same fault as the plain reader names it.
+/// The plain reader's value for the same fault.
 fn plain_fault(fault: HistoryFault) -> Fault {
     match fault {
         HistoryFault::Memory => Fault::Memory,
@@ -47,7 +47,7 @@ fn plain_fault(fault: HistoryFault) -> Fault {
     }
 }
 
-/// What a replay says.
+/// The result of a replay.
 fn replayed(alloc: Global, history: &[u8]) -> Result<Said, AllocError> {
     let mut out = Vec::new(alloc);
     let mut input = Watched::new(history);
@@ -59,7 +59,7 @@ fn replayed(alloc: Global, history: &[u8]) -> Result<Said, AllocError> {
     }
 }
 
-/// The program says what the plain reader says.
+/// The program gives what the plain reader gives.
 fn agree(rt: &impl Abort, text: &[u8], said: &Said, plain: &Result<Vec<u8>, Fault>) {
     let is_same = match (said, plain) {
         (Ok(said), Ok(plain)) => said.as_slice() == plain.as_slice(),
@@ -73,7 +73,7 @@ fn agree(rt: &impl Abort, text: &[u8], said: &Said, plain: &Result<Vec<u8>, Faul
     );
 }
 
-/// A history has the verdict or the fault that the plain reader gives. Answers its place.
+/// The history has the plain reader's verdict or fault. Returns the index of this outcome.
 pub(crate) fn judge_history(
     rt: &impl Abort,
     alloc: Global,
@@ -85,7 +85,7 @@ pub(crate) fn judge_history(
     Ok(index_of(&plain))
 }
 
-/// A session file has the run text or the fault that the plain reader gives, and its run text replays as the same.
+/// The session file has the plain reader's run text or fault. A run text replays as `same`.
 pub(crate) fn judge_file<R: Threads + Wait + Sync + Abort + AllocGlobal>(
     rt: &R,
     file: &[u8],

@@ -1,4 +1,4 @@
-//! Damaged session files and histories: what the program says of each is what the plain reader says of it.
+//! Damaged session files and histories: the program gives what the plain reader gives.
 #![tactic(auto)]
 
 #[cfg(test)]

@@ -1,4 +1,4 @@
-//! The texts that are damaged.
+//! The texts to damage.
 use crate::judged::ran;
 use std::alloc::{AllocError, Global};
 use std::sync::Wait;
@@ -37,7 +37,7 @@ const HISTORIES: [&str; 2] = [
     64 done T 5 => ok\n64 targets => targets T\n64 sources => sources x\n",
 ];
 
-/// The history of a session file's run: half of the lines of its run text.
+/// Half of the lines of a file's run text: its history and, if lines were skipped, a few more.
 fn history_of<R: Threads + Wait + Sync + AllocGlobal>(
     rt: &R,
     file: &[u8],

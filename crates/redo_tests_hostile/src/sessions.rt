@@ -6,8 +6,8 @@ use crate::tally::Tally;
 use redo_testing::Random;
 use std::test::Fail;
 
-/// Each file runs, and its history replays, or it has the fault that the plain reader names. Every
-/// other file has some guards.
+/// Each file has the run text or the fault that the plain reader gives, and a run text replays as
+/// `same`. Every other file has some guards.
 #[test]
 fn damaged_session_files(rt: HostRuntime) -> Result<(), Fail> {
     let alloc = rt.alloc();
@@ -25,10 +25,10 @@ fn damaged_session_files(rt: HostRuntime) -> Result<(), Fail> {
     Ok(())
 }
 
-/// The last of a file's commands, one more than there is room for.
+/// The last commands of a file. With them it has one command more than the limit.
 const LAST: &[u8] = b"lock c\nstart c\nstamp c 61\ndone c 1\nood\n";
 
-/// The same of files with about as many commands as a file may have, damaged near the end.
+/// The same of files with about as many commands as the limit, damaged near the end.
 #[test]
 fn damaged_long_session_files(rt: HostRuntime) -> Result<(), Fail> {
     let alloc = rt.alloc();

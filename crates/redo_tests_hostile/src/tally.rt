@@ -1,4 +1,4 @@
-//! What came of how many texts.
+//! Counts the outcomes of texts.
 use redo_plain::Fault;
 use std::alloc::{AllocError, Global};
 use std::process::Abort;
@@ -6,13 +6,13 @@ use std::process::Abort;
 /// How many outcomes there are.
 const OUTCOMES: usize = 16;
 
-/// How often each outcome was met, by its place.
+/// How often each outcome came, by its index.
 #[derive(Drop)]
 pub(crate) struct Tally {
     counts: Vec<u32>,
 }
 
-/// A text that is accepted; of a history with a wrong reply, its own place.
+/// The indexes of an accepted text, and of a history with a wrong reply.
 pub(crate) const ACCEPTED: usize = 0;
 
 pub(crate) const DIFFERS: usize = 1;
@@ -44,7 +44,7 @@ impl Tally {
         }
     }
 
-    /// So many texts were judged, and each of these outcomes was met so often or more.
+    /// So many texts were judged, and each of these outcomes came so often or more.
     pub(crate) fn check(&self, rt: &impl Abort, all: u32, often: u32, places: &[usize]) {
         let counts = &self.counts;
         let sum = counts
