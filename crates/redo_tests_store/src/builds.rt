@@ -1,5 +1,5 @@
-//! Builds of targets on one another, drawn at random so that rings, diamonds and chains of them come about. For the
-//! most part a build leaves its target as it was, so that targets become up to date again.
+//! Builds of targets that depend on each other, drawn at random: they make rings, diamonds and
+//! chains. Most builds leave their target as it was, so targets become up to date again.
 ghost use Rattle.std.specs.Prelude.{◌<◌, IfOk};
 ghost use Rattle.redo_model.specs.Renaming.{AllBelow, IsBelow};
 ghost use Rattle.redo_terms.specs.Meaning.{command_of};
@@ -11,7 +11,7 @@ use std::alloc::{AllocError, Global};
 /// How many of the names are built as targets; the others are sources.
 pub(crate) const TARGETS: u32 = 9;
 
-/// The source that for the most part has no file.
+/// The source that mostly has no file.
 const MISSING: u32 = NAMES - 1;
 
 /// How many commands a build has.
@@ -23,7 +23,7 @@ fn source(drawn: &mut Commands) -> u32
     TARGETS + drawn.below(NAMES - TARGETS)
 }
 
-/// A source has a file, or none: for the most part, what it had before.
+/// A source gets a file or none: mostly what it had before.
 fn source_file(drawn: &mut Commands) -> Command
     ensures { IsBelow NAMES (command_of result) }
 {
@@ -40,8 +40,8 @@ fn source_file(drawn: &mut Commands) -> Command
     }
 }
 
-/// A name that the target is to need: the next target, so that there are chains and a ring; one of two popular
-/// targets; a source; or any name.
+/// A name for the target to depend on: the next target, which makes chains and a ring; one of two
+/// popular targets; a source; or any name.
 fn needed_name(drawn: &mut Commands, t: u32) -> u32
     requires { t < NAMES }
     ensures { result < NAMES }
@@ -64,7 +64,7 @@ fn needed_names(drawn: &mut Commands, alloc: Global, t: u32) -> Result<Vec<u32>,
     })
 }
 
-/// The same content, for the most part.
+/// Mostly the same content.
 fn content(drawn: &mut Commands, alloc: Global) -> Result<Vec<u8>, AllocError> {
     match drawn.below(32) {
         0 => Vec::from_slice(alloc, b"abd"),
@@ -72,7 +72,7 @@ fn content(drawn: &mut Commands, alloc: Global) -> Result<Vec<u8>, AllocError> {
     }
 }
 
-/// What comes just before the end of a build.
+/// The command just before the end of a build.
 fn last_words(drawn: &mut Commands, alloc: Global, t: u32) -> Result<Command, AllocError>
     requires { t < NAMES }
     ensures { IfOk result (λ command. IsBelow NAMES (command_of command)) }
@@ -85,7 +85,7 @@ fn last_words(drawn: &mut Commands, alloc: Global, t: u32) -> Result<Command, Al
     })
 }
 
-/// The command of this step of a build of the target; once in a while, any command on it.
+/// The command at this step of a build of the target; rarely, any command.
 pub(crate) fn step_command(
     drawn: &mut Commands,
     alloc: Global,

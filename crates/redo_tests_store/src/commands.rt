@@ -7,7 +7,7 @@ use redo_terms::{Command, FileStamp};
 use redo_testing::Random;
 use std::alloc::{AllocError, Global};
 
-/// How many names the commands speak of, and how many sessions ask them.
+/// How many names the commands are about, and how many sessions give them.
 pub(crate) const NAMES: u32 = 12;
 
 const SESSIONS: u32 = 4;
@@ -53,7 +53,7 @@ impl Commands {
         self.below(count)
     }
 
-    /// One to three names, of which two may be the same.
+    /// One to three names, some of which may be the same.
     fn few_names(&mut self, alloc: Global) -> Result<Vec<u32>, AllocError>
         ensures { IfOk result (λ names. AllBelow NAMES names.items) }
     {
@@ -64,7 +64,7 @@ impl Commands {
         })
     }
 
-    /// A session: for the most part the one that works on this target.
+    /// A session: mostly the one that works on this target.
     pub(crate) fn session(&mut self, t: u32) -> u8 {
         if self.below(12) == 0 {
             self.below(SESSIONS) as u8
@@ -92,7 +92,7 @@ impl Commands {
         }
     }
 
-    /// Some name has another file, or none.
+    /// A command that gives some name a file, or none.
     fn file(&mut self) -> Command
         ensures { IsBelow NAMES (command_of result) }
     {
@@ -103,7 +103,7 @@ impl Commands {
         }
     }
 
-    /// A command on this target, or on any file.
+    /// A command on this target, on any file, or for a list.
     pub(crate) fn command(&mut self, alloc: Global, t: u32) -> Result<Command, AllocError>
         requires { t < NAMES }
         ensures { IfOk result (λ command. IsBelow NAMES (command_of command)) }

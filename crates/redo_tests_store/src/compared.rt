@@ -1,4 +1,4 @@
-//! The database beside the plain form of it, which has to give the same replies, and beside the slow search.
+//! Compares the replies of the database with those of its plain form, and with the slow search.
 ghost use Rattle.std.specs.Prelude.{◌≡◌, length, IfOk};
 ghost use Rattle.redo_store.specs.Tables.{tables_count};
 ghost use Rattle.redo_model.specs.Renaming.{IsBelow};
@@ -17,12 +17,12 @@ use std::alloc::{AllocError, Global};
 use std::process::Abort;
 use std::test::Fail;
 
-/// Names whose order by bytes is another than that of their numbers.
+/// Names whose order by bytes isn't that of their numbers.
 const TEXTS: [&str; 12] = [
     "lib.o", "b", "lib", "a.o", "B", "a", "a.c", "lib.c", "y", "all", "T", "top",
 ];
 
-/// The names, numbered as their texts stand.
+/// The names, numbered as in `TEXTS`.
 pub(crate) fn all_names(rt: &impl Abort, alloc: Global) -> Result<Names, Fail>
     ensures { IfOk result (λ names. length names ≡ NAMES) }
 {
@@ -35,7 +35,7 @@ pub(crate) fn all_names(rt: &impl Abort, alloc: Global) -> Result<Names, Fail>
     Ok(names)
 }
 
-/// A database, and the plain form of it.
+/// A database, and its plain form.
 #[derive(Drop)]
 pub(crate) struct Compared {
     redo: Redo,
@@ -44,7 +44,7 @@ pub(crate) struct Compared {
 }
 
 impl Compared {
-    /// The databases of which nothing was asked so far.
+    /// Both databases, empty.
     pub(crate) fn new(alloc: Global, names: &Names) -> Result<Compared, AllocError>
         requires { length names.now ≡ NAMES }
     {
@@ -53,8 +53,8 @@ impl Compared {
         Ok(Compared { redo, plain })
     }
 
-    /// The reply of the database is that of the plain form, and so is what is out of date after it, and what is known of
-    /// some name. Answers the sort of the reply.
+    /// Both databases give this command the same reply, and then have the same out-of-date targets,
+    /// and agree about one name. Returns the sort of the reply.
     pub(crate) fn call(
         &mut self,
         rt: &impl Abort,
@@ -71,7 +71,7 @@ impl Compared {
         Ok(sort)
     }
 
-    /// The reply is that of the plain form, and what it says of being out of date is what the search finds.
+    /// The reply is the plain form's, and the names in it are those that the search finds.
     fn ask(
         &mut self,
         rt: &impl Abort,
@@ -89,7 +89,7 @@ impl Compared {
         Ok(sort_of(&reply))
     }
 
-    /// The names that the reply tells are those that the search finds, where they are asked for.
+    /// If the reply lists out-of-date or stale names, these are the ones that the search finds.
     fn check_found(&self, rt: &impl Abort, command: &Command, reply: &Reply) {
         let told = match (command, reply) {
             (Command::Ood, Reply::Ood(names)) => names.as_slice(),
@@ -104,7 +104,7 @@ impl Compared {
         }
     }
 
-    /// Whether the reply to the command has to tell the name, which is out of date or not.
+    /// Whether the reply to the command has to list the name, by whether that is out of date.
     fn is_asked_for(&self, command: &Command, n: u32, is_out: bool) -> bool {
         match command {
             Command::Ood => is_out && self.plain.has_file(n),

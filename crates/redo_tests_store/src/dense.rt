@@ -1,4 +1,4 @@
-//! The database against its plain form and the slow search, over builds of targets on one another.
+//! Compares the database with its plain form and the slow search, over builds of targets.
 ghost use Rattle.std.specs.Prelude.{◌≡◌, ◌<◌, length};
 
 use crate::builds::{STEPS, TARGETS, step_command};
@@ -17,7 +17,7 @@ const LISTS: u32 = 40;
 
 const BUILDS: u32 = 75;
 
-/// How often a build left each shape, and a command did this.
+/// How often a build left each shape, and how often a command had each effect.
 #[derive(Drop)]
 struct Met {
     cycle: u32,
@@ -28,7 +28,7 @@ struct Met {
     spread: u32,
     /// At least three targets became up to date at once.
     settled: u32,
-    /// A cycle, with no target out of date.
+    /// There is a cycle, and no target is out of date.
     fresh_cycle: u32,
 }
 
@@ -38,7 +38,7 @@ fn count_if(is_met: bool, count: &mut u32) {
     }
 }
 
-/// The target to build next: for the most part, one that was never built or has to be built again.
+/// The target to build next: mostly one that was never started, or has a reason of its own.
 fn next_target(drawn: &mut Commands, plain: &Plain) -> u32
     ensures { result < NAMES }
 {
@@ -62,7 +62,7 @@ fn are_many_lost(first: &[bool; 12], second: &[bool; 12]) -> bool {
     lost >= 3
 }
 
-/// Counts what a build left.
+/// Counts the shapes that a build left.
 fn note_shapes(plain: &Plain, met: &mut Met) {
     let shapes = shapes_in(plain);
     let is_fresh = !search(plain).contains(&true);
@@ -73,7 +73,7 @@ fn note_shapes(plain: &Plain, met: &mut Met) {
     count_if(shapes.cycle && is_fresh, &mut met.fresh_cycle);
 }
 
-/// A step of a build of the target has the same reply by both databases.
+/// Both databases give the same reply to a step of a build of the target.
 fn obey(
     rt: &impl Abort,
     alloc: Global,

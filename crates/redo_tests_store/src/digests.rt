@@ -11,7 +11,7 @@ fn check(rt: &impl Abort, alloc: Global, content: &[u8], want: &str) -> Result<(
     Ok(())
 }
 
-/// The vectors of the standard for SHA-1, and that of no bytes.
+/// The test vectors of the standard for SHA-1, and the digest of no bytes.
 #[test]
 fn digests(rt: HostRuntime) -> Result<(), Fail> {
     let alloc = rt.alloc();

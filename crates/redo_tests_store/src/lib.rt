@@ -1,4 +1,4 @@
-//! The tests of the database and of the layers below it.
+//! Tests of the database and of the layers below it.
 #![tactic(auto)]
 
 #[cfg(test)]

@@ -1,4 +1,4 @@
-//! The database against its plain form and the slow search, over commands drawn at drawn.
+//! Compares the database with its plain form and the slow search, over commands drawn at random.
 ghost use Rattle.std.specs.Prelude.{◌≡◌, ◌<◌, ◌≤◌, length};
 
 use crate::commands::{Commands, NAMES};
@@ -15,7 +15,7 @@ const LISTS: u32 = 100;
 
 const COMMANDS: u32 = 500;
 
-/// How many kinds of commands there are, and sorts of replies.
+/// How many kinds of commands and sorts of replies there are.
 const KINDS: usize = 14;
 
 const SORTS: usize = 13;
@@ -47,7 +47,7 @@ impl Tally {
     }
 }
 
-/// Draws a command, on one of so many targets, and demands the same reply of both databases.
+/// Draws a command on one of so many targets. Both databases have to give the same reply.
 fn draw(
     rt: &impl Abort,
     alloc: Global,
@@ -92,7 +92,7 @@ fn compare(
     Ok(())
 }
 
-/// Each of these kinds had each of these sorts of replies, and often.
+/// Each of these kinds often had this sort of reply.
 fn check_all_seen(rt: &impl Abort, tally: &Tally) {
     for (kind, sort) in [
         (Kind::File, Sort::Okay),

@@ -1,4 +1,4 @@
-//! Questions to the database, whose answers have to be those of the plain form of it.
+//! Questions to the database, whose answers have to agree with its plain form.
 ghost use Rattle.std.specs.Prelude.{◌≡◌, ◌<◌};
 ghost use Rattle.redo_store.specs.Tables.{tables_count};
 ghost use Rattle.redo_tests_store.specs.declared.commands.TheConstants.{NAMES};
@@ -12,7 +12,7 @@ use redo_store::{Deps, Redo};
 use std::alloc::{AllocError, Global};
 use std::process::Abort;
 
-/// Of how many rows a shortest chain is that leads from the target to one with a reason of its own.
+/// How many rows the shortest chain from the target to one with a reason has, if there is one.
 fn least_rows(plain: &Plain, t: u32) -> Option<u32> {
     if plain.has_reason(t) {
         return Some(0);
@@ -38,7 +38,7 @@ fn may_have(plain: &Plain, t: u32, reason: Reason) -> bool {
     }
 }
 
-/// The names after the target make a chain that leads to a target with a reason of its own, and none is shorter.
+/// The names after the target are a shortest chain to a target with a reason, if there is one.
 fn check_why(rt: &impl Abort, plain: &Plain, t: u32, why: &Option<Why>) {
     let least = least_rows(plain, t);
     let Some(why) = why else {
@@ -60,7 +60,7 @@ fn check_why(rt: &impl Abort, plain: &Plain, t: u32, why: &Option<Why>) {
     );
 }
 
-/// The rows are on exactly these names.
+/// The answer has the target's rows, and no others.
 fn check_deps(rt: &impl Abort, plain: &Plain, t: u32, deps: &Deps) {
     for n in 0..NAMES {
         assert!(rt; deps.change.contains(&n) == plain.needs(t, n), "{t} {n}");
@@ -69,7 +69,7 @@ fn check_deps(rt: &impl Abort, plain: &Plain, t: u32, deps: &Deps) {
     assert!(rt; deps.always == plain.always(t), "{t}");
 }
 
-/// What is asked of a name after each command.
+/// The answers about a name agree with the plain form.
 pub(crate) fn check_answers(
     rt: &impl Abort,
     alloc: Global,

@@ -1,4 +1,4 @@
-//! What is known of each name.
+//! What is kept of each name.
 use redo_records::{Mark, Records, digest_of};
 use redo_terms::FileStamp;
 use std::mem::size_of;
@@ -9,7 +9,7 @@ const DIGEST_OF_ABC: [u8; 20] = [
     0x9c, 0xd0, 0xd8, 0x9d,
 ];
 
-/// A mark goes with the file, the state and the builds of its name.
+/// A mark follows from the file, the state, the digest and the builds of its name.
 #[test]
 fn marks(rt: HostRuntime) -> Result<(), Fail> {
     let mut records = Records::new(rt.alloc(), 2)?;

@@ -57,7 +57,7 @@ impl Graph {
         Ok(())
     }
 
-    /// The build of the target ends, always with the same content.
+    /// Ends the build of the target, always with the same content.
     fn finish(&mut self, rt: &impl Abort, t: u32, has_file: bool)
         requires { t < NAMES }
     {
@@ -71,7 +71,7 @@ impl Graph {
         }
     }
 
-    /// A build of the target, which needs the name.
+    /// Builds the target, with a change row on the name.
     fn build(&mut self, rt: &impl Abort, t: u32, n: u32, has_file: bool) -> Result<(), AllocError>
         requires target { t < NAMES }
         requires name { n < NAMES }
@@ -82,7 +82,7 @@ impl Graph {
         Ok(())
     }
 
-    /// The memo for all of this.
+    /// The memo for these records and rows.
     fn memo(&self, alloc: Global) -> Result<Ood, AllocError>
         ensures count { IfOk result (λ ood. memo_count ood ≡ NAMES) }
         ensures right { IfOk result (λ ood.
@@ -93,7 +93,8 @@ impl Graph {
         Ok(ood)
     }
 
-    /// No target is out of date. The name's file changes, and then these are; the region has so many names.
+    /// No target is out of date. A change of the name's file makes these out of date, and its
+    /// region has so many names.
     fn change_file(
         &mut self,
         rt: &impl Abort,
@@ -112,7 +113,8 @@ impl Graph {
         Ok(())
     }
 
-    /// No target is out of date. A build of the target begins, and then these are; the region has so many names.
+    /// No target is out of date. A start of the target makes these out of date, and its region has
+    /// so many names.
     fn begin(
         &mut self,
         rt: &impl Abort,
@@ -134,7 +136,7 @@ impl Graph {
     }
 }
 
-/// 3 needs 2, which needs 1, which needs 0; and 2 has no file.
+/// 3 depends on 2, 2 on 1, and 1 on 0; and 2 has no file.
 #[test]
 fn chain(rt: HostRuntime) -> Result<(), AllocError> {
     let mut graph = Graph::new(rt.alloc())?;
@@ -145,7 +147,7 @@ fn chain(rt: HostRuntime) -> Result<(), AllocError> {
     graph.change_file(&rt, rt.alloc(), 0, 4, &[1, 2, 3])
 }
 
-/// 1 needs 0 not to have a file.
+/// 1 has a created row on 0.
 #[test]
 fn appearance(rt: HostRuntime) -> Result<(), AllocError> {
     let mut graph = Graph::new(rt.alloc())?;
@@ -157,7 +159,7 @@ fn appearance(rt: HostRuntime) -> Result<(), AllocError> {
     graph.change_file(&rt, rt.alloc(), 0, 2, &[1])
 }
 
-/// 0 and 1 need each other.
+/// 0 and 1 depend on each other.
 #[test]
 fn cycle(rt: HostRuntime) -> Result<(), AllocError> {
     let mut graph = Graph::new(rt.alloc())?;

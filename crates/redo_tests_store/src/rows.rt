@@ -1,4 +1,4 @@
-//! Rows, and the lists of those that stand on a name.
+//! Rows, and for each name the targets with a row on it.
 ghost use Rattle.std.specs.Prelude.{◌≡◌, ◌<◌, IfOk};
 ghost use Rattle.redo_model.specs.Renaming.{AllBelow};
 ghost use Rattle.redo_records.specs.Rows.{rows_count};
@@ -9,7 +9,7 @@ use std::process::Abort;
 
 const NAMES: u32 = 4;
 
-/// No rows. Where a request for memory is refused, the next try succeeds.
+/// No rows. If memory is refused, the next try succeeds.
 fn no_rows(alloc: Global) -> Result<DepRows, AllocError>
     ensures { IfOk result (λ rows. rows_count rows ≡ NAMES) }
 {
@@ -19,7 +19,7 @@ fn no_rows(alloc: Global) -> Result<DepRows, AllocError>
     }
 }
 
-/// Room for rows on these names. Where a request for memory is refused, the next try succeeds.
+/// Reserves memory for rows on these names. If memory is refused, the next try succeeds.
 fn reserve(rows: &mut DepRows, t: u32, names: &[u32]) -> Result<(), AllocError>
     requires target { t < rows_count rows.old }
     requires names { AllBelow (rows_count rows.old) names.now }
@@ -31,7 +31,7 @@ fn reserve(rows: &mut DepRows, t: u32, names: &[u32]) -> Result<(), AllocError>
     }
 }
 
-/// A change row, for which there is room.
+/// Puts a change row into reserved memory.
 fn put_change(rt: &impl Abort, rows: &mut DepRows, t: u32, n: u32, mark: Mark)
     requires target { t < rows_count rows.old }
     requires name { n < rows_count rows.old }
@@ -41,7 +41,7 @@ fn put_change(rt: &impl Abort, rows: &mut DepRows, t: u32, n: u32, mark: Mark)
     rows.put_change(t, n, mark);
 }
 
-/// Room for some rows, and those rows.
+/// Reserves memory for some rows, and puts them there.
 fn put_rows(rt: &impl Abort, rows: &mut DepRows) -> Result<(), AllocError>
     requires { rows_count rows.old ≡ NAMES }
     ensures { rows_count rows.new ≡ NAMES }
@@ -56,7 +56,7 @@ fn put_rows(rt: &impl Abort, rows: &mut DepRows) -> Result<(), AllocError>
     Ok(())
 }
 
-/// What stands before the rows of 0 are taken away.
+/// What is there before the rows of 0 are cleared.
 fn check_rows(rt: &impl Abort, rows: &DepRows)
     requires { rows_count rows.now ≡ NAMES }
 {
@@ -74,7 +74,7 @@ fn check_rows(rt: &impl Abort, rows: &DepRows)
     assert!(rt; !rows.has_room(3, 2));
 }
 
-/// What stands after that.
+/// What is there after that.
 fn check_rest(rt: &impl Abort, rows: &DepRows)
     requires { rows_count rows.now ≡ NAMES }
 {
@@ -86,7 +86,7 @@ fn check_rest(rt: &impl Abort, rows: &DepRows)
     assert!(rt; !rows.has_room(0, 1) && rows.has_room(3, 1));
 }
 
-/// Room for more rows. Where it is refused, all rows and all room are as they were, and the next try succeeds.
+/// Reserves memory for more rows. A refused try changes nothing, and the next try succeeds.
 fn more_room(rt: &impl Abort, rows: &mut DepRows) -> Result<(), AllocError>
     requires { rows_count rows.old ≡ NAMES }
     ensures { rows_count rows.new ≡ NAMES }
@@ -100,7 +100,7 @@ fn more_room(rt: &impl Abort, rows: &mut DepRows) -> Result<(), AllocError>
     Ok(())
 }
 
-/// Passes with each request for memory refused in turn, too.
+/// Passes, too, if any one request for memory is refused.
 #[test]
 fn inverse_rows(rt: HostRuntime) -> Result<(), AllocError> {
     let mut rows = no_rows(rt.alloc())?;

@@ -1,9 +1,9 @@
-//! What is out of date, by the definition: searched for anew at each question, and nothing is kept.
+//! The out-of-date targets by the definition: each question begins a new search.
 use crate::commands::NAMES;
 use crate::shapes::lengths_from;
 use redo_plain::Plain;
 
-/// Whether the target has a reason of its own to be built again, or a chain of rows leads from it to one that has.
+/// Whether the target has a reason of its own, or a chain leads from it to one that has.
 pub(crate) fn is_out_of_date(plain: &Plain, t: u32) -> bool {
     let lengths = lengths_from(plain, t);
     for n in 0..NAMES {

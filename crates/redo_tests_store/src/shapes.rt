@@ -7,17 +7,17 @@ use redo_plain::Plain;
 /// Which shapes there are.
 #[derive(Clone, Copy)]
 pub(crate) struct Shapes {
-    /// A target needs itself, through others.
+    /// A target depends on itself, through others.
     pub(crate) cycle: bool,
-    /// A target needs two that need one name.
+    /// A target depends on two that depend on one name.
     pub(crate) diamond: bool,
-    /// A target needs a name through three others, and through no fewer.
+    /// A target depends on a name through three others or more, by the shortest chain.
     pub(crate) chain: bool,
-    /// Four targets need one name.
+    /// Four targets depend on one name.
     pub(crate) popular: bool,
 }
 
-/// Gives each name that the target needs this length, unless it has one.
+/// Each name that the target depends on gets this length, unless it has one.
 fn lengthen(plain: &Plain, t: u32, chain: u32, lengths: &mut [u32; 12]) {
     for n in 0..NAMES {
         if plain.needs(t, n) && lengths[n as usize] == 0 {
@@ -26,7 +26,7 @@ fn lengthen(plain: &Plain, t: u32, chain: u32, lengths: &mut [u32; 12]) {
     }
 }
 
-/// Gives each name that one of this length needs the next length, unless it has one.
+/// Each name that one of this length depends on gets the next length, unless it has one.
 fn lengthen_all(plain: &Plain, chain: u32, lengths: &mut [u32; 12])
     requires { chain < NAMES }
 {
@@ -37,7 +37,7 @@ fn lengthen_all(plain: &Plain, chain: u32, lengths: &mut [u32; 12])
     }
 }
 
-/// For each name, of how many rows the shortest chain is that leads there from the target; 0 where none does.
+/// For each name, how many rows the shortest chain from the target to it has; 0 if there is none.
 pub(crate) fn lengths_from(plain: &Plain, t: u32) -> [u32; 12] {
     let mut lengths = [0; 12];
     lengthen(plain, t, 1, &mut lengths);
@@ -47,7 +47,7 @@ pub(crate) fn lengths_from(plain: &Plain, t: u32) -> [u32; 12] {
     lengths
 }
 
-/// Whether the target needs two that need the name.
+/// Whether the target depends on two that depend on the name.
 fn needs_twice(plain: &Plain, t: u32, n: u32) -> bool {
     let mut once = false;
     for between in 0..NAMES {
@@ -61,7 +61,7 @@ fn needs_twice(plain: &Plain, t: u32, n: u32) -> bool {
     false
 }
 
-/// Whether four targets need the name.
+/// Whether four targets depend on the name.
 fn is_popular(plain: &Plain, n: u32) -> bool {
     let mut count = 0u32;
     for t in 0..NAMES {
@@ -72,14 +72,14 @@ fn is_popular(plain: &Plain, n: u32) -> bool {
     count >= 4
 }
 
-/// Adds the shapes in which the target needs this name, over chains of these lengths.
+/// Adds the shapes that the target makes with this name, to which the shortest chain is this long.
 fn note(shapes: &mut Shapes, plain: &Plain, t: u32, n: u32, length: u32) {
     shapes.cycle |= n == t && length > 0;
     shapes.chain |= length >= 4;
     shapes.diamond |= needs_twice(plain, t, n);
 }
 
-/// Adds the shapes in which the target needs some name, or four targets need it.
+/// Adds the shapes that the target makes with any name, or with four targets on it.
 fn note_all(shapes: &mut Shapes, plain: &Plain, t: u32) {
     let lengths = lengths_from(plain, t);
     for n in 0..NAMES {
