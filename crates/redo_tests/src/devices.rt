@@ -1,4 +1,4 @@
-//! Readers and writers that fail once, and then work. They count what they are asked.
+//! Readers and writers that fail once, and then work. They count their calls.
 use std::alloc::Global;
 use std::io;
 use std::io::{Error, ErrorKind, Read, Write};
@@ -37,8 +37,8 @@ impl Read for FailingReader {
     }
 }
 
-/// Takes `room` bytes. The next write fails, or takes none where `fails` is false, and later ones
-/// take all. The first flush fails.
+/// Takes `room` bytes. The next write fails, or takes none if `fails` is false. Later writes take
+/// all. The first flush fails.
 #[derive(Drop)]
 pub(crate) struct FailingWriter {
     pub taken: Vec<u8>,

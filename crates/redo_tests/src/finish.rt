@@ -1,4 +1,4 @@
-//! What the program says of a fault, and its status.
+//! What the program reports of a fault, and its status.
 use crate::devices::FailingWriter;
 use redo_job::{Fault, finish};
 use redo_replay::{HistoryFault, ReplayFault, Verdict};
@@ -9,7 +9,7 @@ use redo_whole::Watched;
 use std::alloc::{AllocError, Global};
 use std::process::Abort;
 
-/// What is said of line 1 of the file `a`.
+/// What is reported of line 1 of the file `a`.
 const LINES: &[(LineFault, &str)] = &[
     (LineFault::LineTooLong, "redodb: a: line 1: line-too-long\n"),
     (LineFault::BadByte, "redodb: a: line 1: bad-byte\n"),
@@ -31,7 +31,7 @@ const LINES: &[(LineFault, &str)] = &[
     ),
 ];
 
-/// What is said of the history `a`.
+/// What is reported of the history `a`.
 const HISTORIES: &[(HistoryFault, &str)] = &[
     (HistoryFault::BadHeader, "redodb: a: bad header\n"),
     (HistoryFault::Cut, "redodb: a: cut\n"),
@@ -49,7 +49,7 @@ const HISTORIES: &[(HistoryFault, &str)] = &[
     ),
 ];
 
-/// A fault of a line of a run.
+/// The fault of a line of a run's file.
 fn in_run(file: usize, line: usize, fault: LineFault) -> TextFault {
     TextFault::Read { file, line, fault }
 }
@@ -62,7 +62,7 @@ fn files_of(alloc: Global, names: &[&str]) -> Result<Vec<String>, AllocError> {
     Ok(files)
 }
 
-/// The answer gives this status, and this is said of it.
+/// The program reports this of the answer, and ends with this status.
 fn check(
     rt: &impl Abort,
     alloc: Global,
@@ -76,7 +76,7 @@ fn check(
     assert!(rt; err.as_slice() == want.1.as_bytes(), "{}", want.1);
 }
 
-/// What is said where the files are `a` and `b`.
+/// What is reported if the files are `a` and `b`.
 #[test]
 fn faults(rt: HostRuntime) -> Result<(), AllocError> {
     let files = files_of(rt.alloc(), &["a", "b"])?;
@@ -146,7 +146,7 @@ fn verdicts(rt: HostRuntime) {
     }
 }
 
-/// The line about a file whose name has so many bytes is so many writes.
+/// The line about a file with a name of so many bytes takes so many writes.
 fn check_writes(
     rt: &impl Abort,
     alloc: Global,
@@ -166,8 +166,8 @@ fn check_writes(
     Ok(())
 }
 
-/// The line is one write where the name has at most 4,096 bytes, and is whole all the same where the
-/// name is longer.
+/// If the name has at most 4,096 bytes, the line is one write. With a longer name it takes more,
+/// and is still whole.
 #[test]
 fn lines_are_one_write(rt: HostRuntime) -> Result<(), AllocError> {
     for (length, writes) in [(1, 1), (4096, 1), (8192, 5)] {
@@ -176,7 +176,7 @@ fn lines_are_one_write(rt: HostRuntime) -> Result<(), AllocError> {
     Ok(())
 }
 
-/// The next line is written all the same where one failed.
+/// After a line whose write failed, the next line is still written.
 #[test]
 fn line_after_a_failed_one(rt: HostRuntime) -> Result<(), AllocError> {
     let mut device = FailingWriter::new(rt.alloc(), 0, true);

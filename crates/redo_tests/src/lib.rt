@@ -1,4 +1,4 @@
-//! The tests of names, of texts, and of runs whose readers and writers fail.
+//! Tests of names, of texts, of reports, and of runs whose readers and writers fail.
 #![tactic(auto)]
 
 #[cfg(test)]

@@ -1,4 +1,4 @@
-//! Lines of histories, written and cut.
+//! Lines of histories, printed and cut.
 use redo_history::{cut_at, cut_at_arrow, cut_at_space, put_line, session_of};
 use redo_names::Names;
 use redo_terms::{Line, Reply};

@@ -5,7 +5,7 @@ use std::cmp::Ordering;
 use std::process::Abort;
 use std::test::Fail;
 
-/// Names are numbered as they come, and ordered by their bytes.
+/// Names are numbered in the order in which they come, and sorted by their bytes.
 #[test]
 fn numbers(rt: HostRuntime) -> Result<(), Fail> {
     let mut names = Names::new(rt.alloc());
@@ -37,7 +37,7 @@ fn add(rt: &impl Abort, alloc: Global, names: &mut Names, number: u32) -> Result
     names.add(text.as_bytes())
 }
 
-/// There are up to 65,536 names; those that are there keep their numbers.
+/// There are at most 65,536 names. One more is a fault, and the others keep their numbers.
 #[test]
 fn full_names(rt: HostRuntime) -> Result<(), Fail> {
     let alloc = rt.alloc();

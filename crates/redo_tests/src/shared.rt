@@ -2,7 +2,7 @@
 use redo_testing::{Random, planned, tell};
 use std::alloc::AllocError;
 
-/// The numbers that the generator is known to give for this seed, less their thousands.
+/// The generator's known numbers for this seed, modulo 1,000.
 #[test]
 fn numbers_of_a_seed(rt: HostRuntime) {
     let mut random = Random::new(1_477_776_061_723_855_037);

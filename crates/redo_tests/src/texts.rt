@@ -22,7 +22,7 @@ fn fault_words(rt: HostRuntime) -> Result<(), Fail> {
     Ok(())
 }
 
-/// A line read alone is line 1, and nothing is skipped. Of a faulty line no name stays.
+/// A line read alone is line 1, and none is skipped. No name of these faulty lines stays.
 #[test]
 fn single_lines(rt: HostRuntime) -> Result<(), Fail> {
     let alloc = rt.alloc();

@@ -1,5 +1,5 @@
-//! Readers and writers that fail once and then work: what is answered, what is noted, and that
-//! nothing is tried again.
+//! Readers and writers that fail once and then work: what is returned, what is noted, and that no
+//! call is tried again.
 use crate::devices::{FailingReader, FailingWriter};
 use redo_replay::{ReplayFault, replay_text};
 use redo_session::{TextFault, run_texts};
@@ -10,7 +10,7 @@ use std::process::Abort;
 use std::sync::Wait;
 use std::thread::Threads;
 
-/// Whether a read of so many bytes at most gives these, or this fault.
+/// Whether a read of at most so many bytes gives these, or this fault.
 fn is_read<R: Read>(
     alloc: Global,
     reader: &mut Watched<R>,
@@ -25,7 +25,7 @@ fn is_read<R: Read>(
     }
 }
 
-/// Four bytes are read, and five are too long.
+/// Four bytes are within the limit, and five are too many.
 #[test]
 fn whole_reads(rt: HostRuntime) {
     for (bytes, want) in [
@@ -37,8 +37,8 @@ fn whole_reads(rt: HostRuntime) {
     }
 }
 
-/// The third read fails, and no fourth one is tried. What comes later is read, and the failure stays
-/// noted.
+/// The third read fails, and no fourth one is tried. What comes later is read, and the failure
+/// stays noted.
 #[test]
 fn failing_read(rt: HostRuntime) {
     let mut device = FailingReader::new(5, 2);
@@ -63,8 +63,8 @@ fn check_write(rt: &impl Abort, device: &mut FailingWriter) {
     }
 }
 
-/// A write that fails or takes no byte is the last one. Later ones go out, and the failure stays
-/// noted.
+/// After a write that fails or takes no byte, the call tries no other. Later calls write, and the
+/// failure stays noted.
 #[test]
 fn failing_write(rt: HostRuntime) {
     for (room, fails, writes, taken) in [
@@ -80,7 +80,7 @@ fn failing_write(rt: HostRuntime) {
     }
 }
 
-/// These bytes are written, and flushed twice; whether the flushes are done, and whether a failure is noted after each.
+/// Writes these bytes and flushes twice: whether each call works, and if a failure is noted.
 fn flushed<W: Write>(out: &mut Watched<W>, bytes: &[u8]) -> [(bool, bool); 3] {
     let written = (write_whole(out, bytes).is_ok(), out.faulted());
     let first = (out.flush().is_ok(), out.faulted());
@@ -102,15 +102,15 @@ fn failing_flush(rt: HostRuntime) {
     assert!(rt; device.taken.as_slice() == b"ab".as_slice());
 }
 
-/// What a run is given: its files, and a writer that has room for so many bytes, and then fails or takes no byte.
+/// A run's files, and a writer that takes so many bytes, and then fails or takes no byte.
 type Given = (&'static [&'static str], usize, bool);
 
 const TWO: &[&str] = &["", "file a 1\n"];
 
-/// What a run of these files writes.
+/// The run text of `TWO`.
 const TEXT: &str = "history 1\n2 file a 1 => ok\nsession 1 0\nsession 2 1\nfile a 1 => ok\n";
 
-/// What it writes of a text, in so many writes, and whether it fails.
+/// Runs, their run text, how many writes are made, and whether the run fails.
 const RUNS: &[(Given, &str, usize, bool)] = &[
     ((TWO, 0, true), TEXT, 1, true),
     ((TWO, 0, false), TEXT, 1, true),
@@ -118,7 +118,7 @@ const RUNS: &[(Given, &str, usize, bool)] = &[
     ((TWO, 40, true), TEXT, 2, true),
     ((TWO, 65, false), TEXT, 2, true),
     ((TWO, 66, true), TEXT, 1, false),
-    // What one empty file's run leaves where there is room for ten bytes: the history, and no session.
+    // One empty file: the ten bytes that are written are the history, without the session.
     ((&[""], 10, true), "history 0\nsession 1 0\n", 2, true),
     ((&[""], 10, false), "history 0\nsession 1 0\n", 2, true),
 ];
@@ -140,7 +140,7 @@ fn run_fault<T: Threads + Wait + Sync, R: Read, W: Write>(
     run_texts(rt, alloc, files, out).err()
 }
 
-/// Whether a run fails by its writer alone, or not at all.
+/// Whether the run fails by its writer alone if `fails`, and else doesn't fail.
 fn is_run<T: Threads + Wait + Sync>(
     rt: &T,
     alloc: Global,
@@ -157,7 +157,7 @@ fn is_run<T: Threads + Wait + Sync>(
     is_right && out.faulted() == fails && !files.iter().any(|file| file.faulted())
 }
 
-/// The prefix of a run text that there is room for is written, and nothing after the failure.
+/// The prefix of the run text that the writer takes is written, and nothing after the failure.
 #[test]
 fn runs_by_a_failing_writer(rt: HostRuntime) -> Result<(), AllocError> {
     for ((files, room, fails), text, writes, is_full) in RUNS {
@@ -176,8 +176,8 @@ fn runs_by_a_failing_writer(rt: HostRuntime) -> Result<(), AllocError> {
     Ok(())
 }
 
-/// The second of three files fails at its second read. The file after it is not read, and nothing is
-/// written.
+/// The second of three files fails at its second read. The file after it is not read, and nothing
+/// is written.
 #[test]
 fn runs_by_a_failing_reader(rt: HostRuntime) {
     let mut first = FailingReader::new(0, 9);
