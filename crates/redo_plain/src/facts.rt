@@ -83,7 +83,7 @@ impl Plain {
         }
     }
 
-    /// The mark that a change row on it would record now.
+    /// The mark that a change row on it would get now.
     pub(crate) fn mark(&self, n: u32) -> Mark {
         match self.known(n) {
             Some(known) => known.mark(),
@@ -91,17 +91,17 @@ impl Plain {
         }
     }
 
-    /// Whether a name that it recorded a change row on has another mark now.
+    /// Whether the name of one of its change rows has another mark now.
     fn has_changed_row(&self, known: &Known) -> bool {
         known.changes.iter().any(|row| self.mark(row.0) != row.1)
     }
 
-    /// Whether a name that it recorded a created row on has a file now.
+    /// Whether the name of one of its created rows has a file now.
     fn has_created_file(&self, known: &Known) -> bool {
         known.created.iter().any(|n| self.has_file(*n))
     }
 
-    /// Whether it has a reason of its own to be built again.
+    /// Whether it has a reason of its own.
     pub fn has_reason(&self, t: u32) -> bool {
         match self.known(t) {
             None => false,

@@ -14,7 +14,7 @@ pub(crate) enum Shape {
     NameAndContent,
 }
 
-/// The commands.
+/// The commands, each with its word and its shape.
 const FORMS: [(&str, Kind, Shape); 14] = [
     ("file", Kind::File, Shape::NameAndStamp),
     ("gone", Kind::Gone, Shape::Name),
@@ -41,7 +41,7 @@ fn form_of(word: &[u8]) -> Option<(Kind, Shape)> {
     None
 }
 
-/// Whether the bytes are visible, from 1 to this many of them, and neither `-` nor `=>`.
+/// Whether the word has from 1 to so many bytes, all visible, and is neither `-` nor `=>`.
 fn is_visible(word: &[u8], most: usize) -> bool {
     let is_marked = word == b"-".as_slice() || word == b"=>".as_slice();
     let is_short = !word.is_empty() && word.len() <= most;
@@ -61,7 +61,7 @@ fn is_content(word: &[u8]) -> bool {
     word == b"-".as_slice() || !word.is_empty() && word.len() % 2 == 0 && is_digits
 }
 
-/// Whether so many words may follow.
+/// Whether a command of this shape may have so many words after its own.
 fn fits(shape: Shape, count: usize) -> bool {
     match shape {
         Shape::Nothing => count == 0,
@@ -71,7 +71,7 @@ fn fits(shape: Shape, count: usize) -> bool {
     }
 }
 
-/// What is wrong with a word that follows: the first is a name.
+/// The fault of a word after the command's own, if it has one. The first such word is a name.
 fn word_fault(shape: Shape, is_first: bool, word: &[u8]) -> Option<LineFault> {
     let (is_right, fault) = match shape {
         Shape::NameAndStamp if !is_first => (is_stamp(word), LineFault::BadStamp),
@@ -107,7 +107,7 @@ pub(crate) fn kind_of(words: &[&[u8]]) -> Result<Kind, LineFault> {
     Ok(kind)
 }
 
-/// The number that a text is, where it is at most this. No number begins with a zero but zero.
+/// The number with this text, if it is at most `most`. No number but zero begins with a zero.
 pub(crate) fn number_of(text: &[u8], most: u64) -> Option<u64> {
     let is_padded = text.len() > 1 && text.starts_with(b"0".as_slice());
     let is_digits = text.iter().all(|byte| byte.is_ascii_digit());
@@ -122,7 +122,7 @@ pub(crate) fn number_of(text: &[u8], most: u64) -> Option<u64> {
     if number <= most { Some(number) } else { None }
 }
 
-/// The names in the words of a reply; none where they are no reply.
+/// The names in the words of a reply; none if the words are no reply.
 pub(crate) fn names_of_reply<'a, 'b>(words: &'b [&'a [u8]]) -> Option<&'b [&'a [u8]]> {
     let (head, rest) = words.split_first()?;
     let (last, prefix) = words.split_last()?;

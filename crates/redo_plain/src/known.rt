@@ -1,17 +1,17 @@
 use redo_terms::FileStamp;
 use std::alloc::{AllocError, Global};
 
-/// How far a name has come. It is a target from its first start on.
+/// The state of a name. It is a target from its first `start` on.
 #[derive(Clone, Copy, PartialEq, Eq)]
 pub(crate) enum State {
     Idle,
-    /// This session is building it.
+    /// This session builds it.
     Building(u8),
     Built,
     Failed,
 }
 
-/// What a change row records of a name.
+/// What a name looks like to a build.
 #[derive(Clone, Copy, PartialEq, Eq)]
 pub(crate) enum Mark {
     Digest([u8; 20]),
@@ -21,20 +21,20 @@ pub(crate) enum Mark {
     Absent,
 }
 
-/// All that is known of one name.
+/// What is kept of one name.
 #[derive(Drop)]
 pub(crate) struct Known {
     pub(crate) text: Vec<u8>,
     pub(crate) file: Option<FileStamp>,
     pub(crate) state: State,
     pub(crate) builds: u32,
-    /// The stamp that its last done gave.
+    /// The stamp that its last `done` gave.
     pub(crate) done: Option<FileStamp>,
-    /// The digest that its present build told, or its last.
+    /// The digest of its present build, or of its last.
     pub(crate) digest: Option<[u8; 20]>,
-    /// Its change rows: the names that it needs, each with its mark at that time.
+    /// Its change rows: the names that they are on, each with its mark at that time.
     pub(crate) changes: Vec<(u32, Mark)>,
-    /// Its created rows: the names that it needs not to have a file.
+    /// Its created rows: the names that they are on.
     pub(crate) created: Vec<u32>,
     pub(crate) always: bool,
     /// The session that holds its lock.
@@ -43,7 +43,7 @@ pub(crate) struct Known {
 }
 
 impl Known {
-    /// A name of which nothing was said.
+    /// An idle name, without a file, a row or a lock.
     pub(crate) fn new(alloc: Global, text: Vec<u8>) -> Known {
         Known {
             text,
@@ -72,7 +72,7 @@ impl Known {
         self.file.is_some()
     }
 
-    /// The mark that a change row on it would record now.
+    /// The mark that a change row on it would get now.
     pub(crate) fn mark(&self) -> Mark {
         match self.state {
             State::Idle => match self.file {
@@ -97,14 +97,14 @@ impl Known {
         self.needs(n) || self.created.contains(&n)
     }
 
-    /// Records a change row, in place of an earlier one on that name.
+    /// Puts a change row, in place of an earlier one on that name.
     pub(crate) fn put_change(&mut self, n: u32, mark: Mark) -> Result<(), AllocError> {
         self.changes.retain(|row| row.0 != n);
         self.changes.push((n, mark))?;
         Ok(())
     }
 
-    /// The session builds it from now on, with no rows and no digest.
+    /// The session begins to build it: its rows and its digest go.
     pub(crate) fn start(&mut self, session: u8) {
         self.state = State::Building(session);
         self.changes.clear();
@@ -113,7 +113,7 @@ impl Known {
         self.digest = None;
     }
 
-    /// Its build ended with this file, or with none.
+    /// Its build ends with this file, or with none.
     pub(crate) fn done(&mut self, stamp: Option<FileStamp>) {
         self.state = State::Built;
         self.builds = self.builds.saturating_add(1);

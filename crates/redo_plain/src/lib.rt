@@ -1,9 +1,10 @@
-//! The database once more, in the plainest way: one thread, lists that are searched from the beginning, everything
-//! derived again at each call. And the readers of session files and histories once more, with what comes of a text. It is
-//! for tests to compare the real ones with.
+//! The database once more, in the plainest way: one thread, lists that are searched from the
+//! beginning, everything derived again at each call. Also the readers of session files and
+//! histories once more, and their results. Tests compare the real ones with these.
 //!
-//! It is slow, and it has no contracts: proved of it is only that it is safe and ends. That it follows the rules is to
-//! be seen by reading it. It shares no definition with the proofs of the real database, and no reading or printing.
+//! It is slow, and has no contracts: only that it is safe and ends is proved. Reading shows that it
+//! follows the rules. It shares no definition with the real one's proofs, and no reading or
+//! printing.
 #![tactic(auto)]
 
 mod facts;

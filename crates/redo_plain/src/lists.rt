@@ -7,7 +7,7 @@ impl Plain {
         u32::try_from(self.names.len()).unwrap_or(u32::MAX)
     }
 
-    /// Puts a name into a list that is ordered by the bytes of the names, unless it is there.
+    /// Puts a name into a list that is sorted by the bytes of the names, unless it is there.
     fn insert(&self, list: &mut Vec<u32>, n: u32) -> Result<(), AllocError> {
         if list.contains(&n) {
             return Ok(());
@@ -18,7 +18,7 @@ impl Plain {
         Ok(())
     }
 
-    /// The names whose lock the session holds, by their bytes.
+    /// The names whose lock the session holds, sorted by their bytes.
     pub(crate) fn held(&self, alloc: Global, session: u8) -> Result<Vec<u32>, AllocError> {
         let mut list = Vec::new(alloc);
         for n in 0..self.count() {
@@ -29,7 +29,7 @@ impl Plain {
         Ok(list)
     }
 
-    /// The targets that have a file, by the bytes of their names.
+    /// The targets with a file, sorted by the bytes of their names.
     pub(crate) fn targets(&self, alloc: Global) -> Result<Vec<u32>, AllocError> {
         let mut list = Vec::new(alloc);
         for n in 0..self.count() {
@@ -40,7 +40,7 @@ impl Plain {
         Ok(list)
     }
 
-    /// The targets that are out of date and have a file, by the bytes of their names.
+    /// The out-of-date targets with a file, sorted by the bytes of their names.
     pub(crate) fn old_targets(&self, alloc: Global) -> Result<Vec<u32>, AllocError> {
         let old = self.out_of_date(alloc)?;
         let mut list = Vec::new(alloc);
@@ -52,7 +52,7 @@ impl Plain {
         Ok(list)
     }
 
-    /// The names that are no targets, have a file and are in some row, by their bytes.
+    /// The idle names with a file on which some target has a row, sorted by their bytes.
     pub(crate) fn sources(&self, alloc: Global) -> Result<Vec<u32>, AllocError> {
         let mut list = Vec::new(alloc);
         for n in 0..self.count() {
@@ -68,8 +68,8 @@ impl Plain {
         self.names.iter().any(|known| known.has_row_on(n))
     }
 
-    /// Those of these names that are stale, by their bytes, each once: targets that are out of date, and names that
-    /// are no targets and have no file.
+    /// Those of these names that are stale, sorted by their bytes, each once: out-of-date targets,
+    /// and idle names without a file.
     pub(crate) fn stale(&self, alloc: Global, names: &[u32]) -> Result<Vec<u32>, AllocError> {
         let old = self.out_of_date(alloc)?;
         let mut list = Vec::new(alloc);
@@ -81,8 +81,8 @@ impl Plain {
         Ok(list)
     }
 
-    /// The targets that are out of date, in any order: those that have a reason of their own, and as many times as
-    /// there are names, those that need one that was found so far.
+    /// The out-of-date targets, in any order: those with a reason of their own and then, as many
+    /// times as there are names, those that depend on one found so far.
     fn out_of_date(&self, alloc: Global) -> Result<Vec<u32>, AllocError> {
         let mut old = Vec::new(alloc);
         for t in 0..self.count() {
@@ -96,7 +96,7 @@ impl Plain {
         Ok(old)
     }
 
-    /// Adds to a list of targets those that have a change row on one of them.
+    /// Adds to a list of targets those that depend on one of them.
     fn add_those_that_need(&self, old: &mut Vec<u32>) -> Result<(), AllocError> {
         for t in 0..self.count() {
             if !old.contains(&t) && self.needs_one_of(t, old) {

@@ -4,14 +4,14 @@ use redo_terms::{Command, FileStamp, Refusal, Reply};
 use sha1::Sha1;
 use std::alloc::{AllocError, Global};
 
-/// The database with its locks. A number that is no name's stands for a name of which nothing is ever known.
+/// The database with its locks. A number that no name has is of a name that no command changes.
 #[derive(Drop)]
 pub struct Plain {
     pub(crate) names: Vec<Known>,
 }
 
 impl Plain {
-    /// The database of which nothing was asked so far.
+    /// The empty database.
     pub fn new(alloc: Global, names: &Names) -> Result<Plain, AllocError> {
         let mut texts = Vec::new(alloc);
         for n in 0..names.len() {
@@ -29,7 +29,7 @@ impl Plain {
         Ok(Plain { names })
     }
 
-    /// The reply to a session's command, and its change. After want of memory the database is of no further use.
+    /// The reply to a session's command, and its change. After an error the database is of no use.
     pub fn call(
         &mut self,
         alloc: Global,
@@ -44,7 +44,7 @@ impl Plain {
         Ok(reply)
     }
 
-    /// Why the command is refused, where it is.
+    /// Why the command is refused, if it is.
     fn refusal(&self, session: u8, command: &Command) -> Option<Refusal> {
         match command {
             Command::Unlock(t) | Command::Start(t) => {
@@ -77,7 +77,7 @@ impl Plain {
         }
     }
 
-    /// Why the command is refused for the names after its target, where it is.
+    /// Why the command is refused for the names after its target, if it is.
     fn refusal_of_names(&self, command: &Command) -> Option<Refusal> {
         match command {
             Command::IfChange(t, names) | Command::IfCreate(t, names) if names.contains(t) => {
@@ -93,7 +93,7 @@ impl Plain {
         names.iter().copied().find(|n| self.has_file(*n))
     }
 
-    /// What a command that is not refused is answered, before its change.
+    /// The reply to an accepted command, before its change.
     fn reply(&self, alloc: Global, command: &Command) -> Result<Reply, AllocError> {
         Ok(match command {
             Command::Lock(t) => self.lock_reply(*t),
@@ -129,7 +129,7 @@ impl Plain {
         }
     }
 
-    /// What a command that is not refused changes.
+    /// Makes the change of an accepted command.
     fn change(&mut self, session: u8, command: &Command) -> Result<(), AllocError> {
         match command {
             Command::File(n, stamp) => self.set_file(*n, Some(*stamp)),
@@ -154,7 +154,7 @@ impl Plain {
         }
     }
 
-    /// The lock is the session's, unless somebody has it.
+    /// The session gets the lock, unless it is held.
     fn lock(&mut self, session: u8, t: u32) {
         if let Some(known) = self.names.get_mut(t as usize) {
             if known.holder.is_none() {
@@ -176,7 +176,7 @@ impl Plain {
         }
     }
 
-    /// Records a change row of the target on each of these names, with the mark that the name has now.
+    /// Puts a change row of the target on each of these names, with the name's mark of now.
     fn put_changes(&mut self, t: u32, names: &[u32]) -> Result<(), AllocError> {
         for n in names {
             let mark = self.mark(*n);
@@ -187,7 +187,7 @@ impl Plain {
         Ok(())
     }
 
-    /// Records a created row of the target on each of these names.
+    /// Puts a created row of the target on each of these names.
     fn put_created(&mut self, t: u32, names: &[u32]) -> Result<(), AllocError> {
         if let Some(known) = self.names.get_mut(t as usize) {
             known.created.extend_from_slice(names)?;

@@ -4,7 +4,7 @@ use redo_terms::{Command, FileStamp, Kind};
 use redo_text::LineFault;
 use std::alloc::{AllocError, AllocFailed, Global};
 
-/// Why a text is refused. Lines are counted from 1, in a history without the header.
+/// Why a text isn't read. Lines are counted from 1, in a history without the header.
 #[derive(Clone, Copy, Debug, PartialEq, Eq)]
 pub enum Fault {
     Memory,
@@ -13,7 +13,7 @@ pub enum Fault {
     Cut,
     BadSession(usize),
     BadReply(usize),
-    /// The library has no value for a command that is right.
+    /// The library has no value for a command that is valid.
     NoValue,
 }
 
@@ -29,7 +29,7 @@ impl<T: Drop> From<AllocFailed<T>> for Fault {
     }
 }
 
-/// A line of a session file: whether it is guarded, its command, and that one's text.
+/// A line of a session file: whether it is guarded, its command, and the command's text.
 #[derive(Drop)]
 pub(crate) struct Asked {
     pub(crate) guarded: bool,
@@ -61,7 +61,7 @@ fn part(text: &[u8], from: usize, to: usize) -> &[u8] {
     text.get(from..to).unwrap_or(b"".as_slice())
 }
 
-/// The session, counted from 0, whose number a word is.
+/// The session, counted from 0, with this word as its number.
 fn session_of(word: &[u8]) -> Option<u8> {
     let number = number_of(word, 64)?;
     u8::try_from(number).ok()?.checked_sub(1)
@@ -77,7 +77,7 @@ fn digit(byte: u8) -> u8 {
     }
 }
 
-/// The bytes that a word of hexadecimal digits, or `-`, stands for.
+/// The bytes of a word of hexadecimal digits, or of `-`.
 fn content_of(alloc: Global, word: &[u8]) -> Result<Vec<u8>, AllocError> {
     let mut content = Vec::new(alloc);
     for pair in word.chunks(2) {
@@ -88,7 +88,7 @@ fn content_of(alloc: Global, word: &[u8]) -> Result<Vec<u8>, AllocError> {
     Ok(content)
 }
 
-/// The command of this kind with these names, whose last word this is.
+/// The command of this kind with these names and this last word.
 fn command_of(alloc: Global, kind: Kind, numbers: &[u32], last: &[u8]) -> Result<Command, Fault> {
     let t = numbers.first().copied().unwrap_or(0);
     let others = Vec::from_slice(alloc, numbers.get(1..).unwrap_or(numbers))?;
@@ -120,7 +120,7 @@ fn count_of_names(kind: Kind, words: usize) -> usize {
     }
 }
 
-/// The text of a command: that of its line, but with content in small letters.
+/// The text of a command: that of its line, but with hexadecimal digits in lower case.
 fn text_of(alloc: Global, command: &Command, line: &[u8]) -> Result<Vec<u8>, AllocError> {
     let mut text = Vec::new(alloc);
     let mut spaces = 0usize;
@@ -145,7 +145,7 @@ impl Reader {
         }
     }
 
-    /// The numbers of these names, which are added where they are new; none where there is no room for one.
+    /// The numbers of these names. It adds the new ones; none if there would be too many.
     fn numbers_of(
         &mut self,
         alloc: Global,
@@ -220,7 +220,7 @@ impl Reader {
         Ok(all)
     }
 
-    /// The line of a history of this number, or its fault.
+    /// The line with this number of a history, or its fault.
     fn told(&mut self, alloc: Global, number: usize, line: &[u8]) -> Result<Told, Fault> {
         let end = line
             .iter()

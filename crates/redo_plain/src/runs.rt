@@ -1,4 +1,4 @@
-//! What comes of a whole text: the run text of a session file, and the verdict on a history.
+//! The result of a whole text: the run text of a session file, or the verdict on a history.
 use crate::plain::Plain;
 use crate::reader::{Asked, Fault, Reader};
 use redo_terms::{Command, Refusal, Reply};
@@ -65,7 +65,7 @@ fn put_line(out: &mut Vec<u8>, command: &[u8], reply: &[u8]) -> Result<(), Alloc
     Ok(())
 }
 
-/// A session as far as it has come: the lines of its history and its own, and how many they are.
+/// What a session has done so far: its history and its own lines, and how many each has.
 #[derive(Drop)]
 struct Run {
     plain: Plain,
@@ -76,13 +76,13 @@ struct Run {
 }
 
 impl Run {
-    /// Puts one of the session's own lines.
+    /// Adds one of the session's own lines.
     fn put(&mut self, command: &[u8], reply: &[u8]) -> Result<(), AllocError> {
         self.lines = self.lines.saturating_add(1);
         put_line(&mut self.own, command, reply)
     }
 
-    /// Does a command of this text. Answers whether the reply stops the guarded lines after it.
+    /// Does a command with this text. Returns whether its reply stops guarded lines.
     fn call(&mut self, alloc: Global, text: &[u8], command: &Command) -> Result<bool, AllocError> {
         let reply = self.plain.call(alloc, 0, command)?;
         let is_stopped = matches!(reply, Reply::Busy(_) | Reply::Refused(_));
@@ -117,7 +117,7 @@ impl Run {
         Ok(text)
     }
 
-    /// Lets go of all that is held, by the bytes of the names: a build that isn't over is failed.
+    /// Closes what is held, the least name first: it fails a build of it, and then unlocks it.
     fn close(&mut self, alloc: Global) -> Result<(), AllocError> {
         for t in &self.plain.held(alloc, 0)? {
             if self.plain.is_building(*t) {
@@ -131,7 +131,7 @@ impl Run {
     }
 }
 
-/// The run text of the session that a file has, or the file's fault.
+/// The run text of a session file, or the file's fault.
 pub fn run_of(alloc: Global, file: &[u8]) -> Result<Vec<u8>, Fault> {
     let mut reader = Reader::new(alloc);
     let asked = reader.session(alloc, file)?;
