@@ -1,5 +1,5 @@
-//! What the crates of tests share: random numbers, plans of texts, and how a test reports that a call met a refusal of
-//! memory.
+//! What the crates of tests share: random numbers, plans of texts, and how a test reports that
+//! memory was refused to a call.
 #![tactic(auto)]
 
 mod plans;

@@ -3,7 +3,7 @@ use std::alloc::{AllocError, Global};
 /// How many bytes a report requests; `tests/refusing.c` counts such requests.
 const MARK: usize = 54_321;
 
-/// Reports, by a request for memory, that a call met a refusal. Returns whether the request
+/// Reports, by a request for memory, that memory was refused to a call. Returns whether the request
 /// succeeded.
 pub fn tell(alloc: Global) -> bool {
     let mark: Result<Vec<u8>, AllocError> = Vec::with_capacity(alloc, MARK);
