@@ -1,4 +1,4 @@
-//! A case: what merge answers is what the search finds.
+//! A case: the journals are merged to what the search finds.
 use crate::orders::first_order;
 use crate::told::{Told, Wanted, are_lines, are_wanted, journals_of};
 use redo_journal::{Journal, Plan, are_journals};
@@ -39,7 +39,7 @@ fn merged(
     merge(alloc, plan, journals)
 }
 
-/// Whether the lines are in this order, or neither is there.
+/// Whether the lines are in this order, or there is neither.
 fn agree(
     plan: &Plan,
     told: &[Vec<Told>],
@@ -53,7 +53,7 @@ fn agree(
     }
 }
 
-/// Whether the journals of what was told are merged as it is in this order, if there is one.
+/// Whether the journals of these answers are merged to this order, or there is neither.
 fn agrees(
     rt: &impl Abort,
     alloc: Global,
@@ -66,7 +66,7 @@ fn agrees(
     Ok(agree(plan, told, order, &lines))
 }
 
-/// Merges the journals of what was told. Answers the first order, if there is one.
+/// Merges the journals of these answers. Returns the first order, if there is one.
 pub(crate) fn check(
     rt: &impl Abort,
     alloc: Global,
@@ -80,7 +80,7 @@ pub(crate) fn check(
     Ok(order)
 }
 
-/// Whether the lines are these, where there are any.
+/// Whether there are lines, and they are these.
 fn are_these(lines: &Option<Vec<Line>>, want: &[Wanted]) -> bool {
     match lines {
         Some(lines) => are_wanted(lines, want),

@@ -1,4 +1,4 @@
-//! Journals with other places.
+//! Journals with changed places.
 use crate::told::{Answer, Told, copied};
 use redo_journal::Place;
 use redo_testing::Random;
@@ -35,7 +35,7 @@ fn told_at(place: Place, answer: Answer) -> Told {
     Told { answer, place }
 }
 
-/// A granted lock was busy, and a busy one granted.
+/// A granted lock becomes a busy one, and a busy one becomes the next grant.
 fn turned(place: Place) -> Place {
     match place {
         Place::Granted(target, grant) => Place::Busy(target, grant),
@@ -84,7 +84,7 @@ fn set(told: &mut [Vec<Told>], session: usize, number: usize, one: Told) {
     }
 }
 
-/// Exchanges what was told at two lines: of two rows the places, and else the answers too.
+/// Exchanges the places of two lines and, unless both are rows, their answers, too.
 pub(crate) fn exchange(told: &mut [Vec<Told>], one: (usize, usize), two: (usize, usize)) {
     let (Some(first), Some(second)) = (get(told, one.0, one.1), get(told, two.0, two.1)) else {
         return;
@@ -101,7 +101,7 @@ pub(crate) fn exchange(told: &mut [Vec<Told>], one: (usize, usize), two: (usize,
     }
 }
 
-/// One of the lines.
+/// The session and the number of a line, drawn at random.
 fn drawn_line(random: &mut Random, told: &[Vec<Told>]) -> (usize, usize) {
     if told.is_empty() {
         return (0, 0);
@@ -131,7 +131,7 @@ pub(crate) fn with_change(
     Ok(copy)
 }
 
-/// A copy in which each journal is cut short anywhere.
+/// A copy in which each journal, as drawn, is cut short or whole.
 pub(crate) fn with_prefixes(
     alloc: Global,
     random: &mut Random,

@@ -1,4 +1,4 @@
-//! Journals of sessions that let go at their end.
+//! Journals of sessions with closing commands.
 use crate::cases::{check_merged, check_unmerged};
 use crate::closings::{CASES, Case, Closing, Closings, HAS_LOCKED_AGAIN};
 use crate::plans::plan_of;
@@ -15,7 +15,7 @@ fn command_of(closing: Closing) -> Command {
     }
 }
 
-/// What was done with a line, or to close after the lines: its number, and what was answered where.
+/// An entry: its number, its closing command if it has one, its answer and its place.
 type Made = (u32, Option<Closing>, Answer, Place);
 
 fn entry_of(made: Made) -> Entry {
@@ -32,7 +32,7 @@ fn entry_of(made: Made) -> Entry {
     }
 }
 
-/// The journal of the session that did this.
+/// The session's journal with these entries.
 fn journal_of(alloc: Global, session: u8, made: &[Made]) -> Result<Journal, AllocError> {
     let mut entries = Vec::new(alloc);
     for one in made {
@@ -45,7 +45,7 @@ fn journal_of(alloc: Global, session: u8, made: &[Made]) -> Result<Journal, Allo
     })
 }
 
-/// What is done by lines that were answered so. Places are not looked at.
+/// Entries of lines with these answers. Their places aren't tested.
 fn made_of(alloc: Global, told: &[(u32, Answer)]) -> Result<Vec<Made>, AllocError> {
     let mut made = Vec::new(alloc);
     for (number, answer) in told {
@@ -54,7 +54,7 @@ fn made_of(alloc: Global, told: &[(u32, Answer)]) -> Result<Vec<Made>, AllocErro
     Ok(made)
 }
 
-/// The one journal that tells this.
+/// The one journal with these answers and these closing commands.
 fn journals_of(
     alloc: Global,
     told: &[(u32, Answer)],
@@ -79,7 +79,7 @@ fn may_close(
     are_journals(alloc, plan, &journals)
 }
 
-/// The session may close in each of these ways, or in none, as it is wanted.
+/// The session may close in each of these ways, or in none of them, as wanted.
 fn check_closings(
     rt: &impl Abort,
     alloc: Global,
@@ -114,7 +114,7 @@ fn check_case(rt: &impl Abort, alloc: Global, case: &Case) -> Result<(), AllocEr
     check_planned(rt, alloc, &plan, case)
 }
 
-/// After the lines comes what lets go of the least target that is held, and nothing else.
+/// After the lines come closing commands, the least held target first, and nothing else.
 #[test]
 fn journals_with_closing_commands(rt: HostRuntime) -> Result<(), AllocError> {
     for case in &CASES {
@@ -123,7 +123,7 @@ fn journals_with_closing_commands(rt: HostRuntime) -> Result<(), AllocError> {
     Ok(())
 }
 
-/// The entry at this place says that its command is this closing one, or none.
+/// Gives the entry at this place this closing command, or none.
 fn mark(journals: &mut [Journal], at: usize, closing: Option<Command>) {
     if let Some(journal) = journals.get_mut(0) {
         if let Some(entry) = journal.entries.get_mut(at) {
@@ -132,10 +132,10 @@ fn mark(journals: &mut [Journal], at: usize, closing: Option<Command>) {
     }
 }
 
-/// What a session closes by that has locked again.
+/// The closing command of the session that has locked again.
 const UNLOCKS: Closings = &[(3, Closing::Unlock(0))];
 
-/// The journals of that session, but for the mark of the entry at this place.
+/// The journals of that session, with a wrong mark on the entry at this place.
 fn marked(alloc: Global, at: usize) -> Result<Vec<Journal>, AllocError> {
     let mut journals = journals_of(alloc, HAS_LOCKED_AGAIN.told, UNLOCKS)?;
     if at < 3 {
@@ -146,7 +146,7 @@ fn marked(alloc: Global, at: usize) -> Result<Vec<Journal>, AllocError> {
     Ok(journals)
 }
 
-/// Without the mark they aren't journals.
+/// With a wrong mark at this place they aren't journals.
 fn check_mark(rt: &impl Abort, alloc: Global, plan: &Plan, at: usize) -> Result<(), AllocError> {
     assert!(rt; may_close(alloc, plan, HAS_LOCKED_AGAIN.told, UNLOCKS)?);
     let journals = marked(alloc, at)?;
@@ -154,7 +154,7 @@ fn check_mark(rt: &impl Abort, alloc: Global, plan: &Plan, at: usize) -> Result<
     Ok(())
 }
 
-/// Without any of the marks.
+/// The same of each place.
 fn check_marks(rt: &impl Abort, alloc: Global, plan: &Plan) -> Result<(), AllocError> {
     for at in 0..4 {
         check_mark(rt, alloc, plan, at)?;
@@ -162,18 +162,18 @@ fn check_marks(rt: &impl Abort, alloc: Global, plan: &Plan) -> Result<(), AllocE
     Ok(())
 }
 
-/// An entry says that its command is a closing one exactly where no line has its number.
+/// An entry has a closing command exactly if no line has its number.
 #[test]
 fn marks_of_closing_commands(rt: HostRuntime) -> Result<(), AllocError> {
     let plan = plan_of(&rt, rt.alloc(), &[HAS_LOCKED_AGAIN.text])?;
     check_marks(&rt, rt.alloc(), &plan)
 }
 
-/// The first session breaks off in a build, and the second has the target after it.
+/// The first session ends during a build, and the second gets the target after it.
 const TEXTS: [&str; 2] = ["lock T\nlock a\nstart T\n", "lock T\n"];
 
-/// All that the first session does: its three lines, and then it lets go of `T`, and of `a` after
-/// it. `T` is name 0.
+/// All that the first session does: its three lines, and then it closes `T`, and `a` after it. `T`
+/// is name 0.
 const FIRST: [Made; 6] = [
     (0, None, Answer::Granted(1), Place::Granted(0, 1)),
     (1, None, Answer::Granted(1), Place::Granted(1, 1)),
@@ -216,7 +216,7 @@ const MERGED: [Wanted; 8] = [
     (1, Kind::Unlock, 0, Answer::Okay),
 ];
 
-/// The journals of both, where the first does so much.
+/// The journals of both, if the first has these entries.
 fn two_sessions(alloc: Global, first: &[Made]) -> Result<Vec<Journal>, AllocError> {
     let first = journal_of(alloc, 0, first)?;
     let second = journal_of(alloc, 1, &SECOND)?;
@@ -229,7 +229,7 @@ fn check_whole(rt: &impl Abort, alloc: Global, plan: &Plan) -> Result<(), AllocE
     check_merged(rt, alloc, plan, &journals, &MERGED)
 }
 
-/// Where the first session was left before it let go of `T`, the second can't have it.
+/// If the first session left before it unlocked `T`, the journals have no joint order.
 fn check_left(rt: &impl Abort, alloc: Global, plan: &Plan) -> Result<(), AllocError> {
     let journals = two_sessions(alloc, &FIRST[..4])?;
     check_unmerged(rt, alloc, plan, &journals)

@@ -1,4 +1,4 @@
-//! What sessions may close by at their end, and what not.
+//! How sessions may close at their end, and how not.
 use crate::told::Answer;
 
 /// A closing command, of the name with this number.
@@ -11,8 +11,8 @@ pub(crate) enum Closing {
 /// Closing commands, each with its number.
 pub(crate) type Closings = &'static [(u32, Closing)];
 
-/// A session: its file, what lines of it were answered, and what it may and may not close after
-/// these. Names have numbers in the order in which they come.
+/// A session: its file, the answers to its lines, and how it may and may not close after these.
+/// Names have numbers in the order in which they come.
 #[derive(Clone, Copy)]
 pub(crate) struct Case {
     pub(crate) text: &'static str,
@@ -54,7 +54,7 @@ const HAS_BUILT: Case = Case {
     may_not: &[&[(3, Closing::Failed(0))]],
 };
 
-/// The least name by bytes comes first, and not what was locked first.
+/// The least name by bytes comes first, not the one that was locked first.
 const HOLDS_TWO: Case = Case {
     text: "lock b\nlock a\n",
     told: &[(0, Answer::Granted(1)), (1, Answer::Granted(1))],
@@ -86,7 +86,7 @@ const HOLDS_THREE: Case = Case {
     may_not: &[&[(3, Closing::Unlock(2)), (4, Closing::Unlock(0))]],
 };
 
-/// Only what is built fails.
+/// Only a target that is building is failed.
 const BUILDS_ONE: Case = Case {
     text: "lock b\nlock a\nstart b\n",
     told: &[
@@ -102,7 +102,7 @@ const BUILDS_ONE: Case = Case {
     may_not: &[&[(3, Closing::Failed(0))], &[(3, Closing::Failed(1))]],
 };
 
-/// What another session holds stays.
+/// A session doesn't close what another one holds.
 const FINDS_IT_BUSY: Case = Case {
     text: "lock t\n",
     told: &[(0, Answer::Busy(1))],
@@ -128,7 +128,7 @@ pub(crate) const HAS_LOCKED_AGAIN: Case = Case {
     may_not: &[&[(3, Closing::Failed(0))]],
 };
 
-/// A start that was refused begins no build.
+/// A refused start begins no build.
 const STARTS_TOO_LATE: Case = Case {
     text: "lock a\nlock b\nunlock a\nstart a\n",
     told: &[
@@ -141,7 +141,7 @@ const STARTS_TOO_LATE: Case = Case {
     may_not: &[&[(4, Closing::Failed(0))], &[(4, Closing::Unlock(0))]],
 };
 
-/// The lines of the file come before.
+/// Closing commands come after all lines of the file.
 const HAS_A_LINE_LEFT: Case = Case {
     text: "lock t\ntargets\n",
     told: &[(0, Answer::Granted(1))],
@@ -149,7 +149,7 @@ const HAS_A_LINE_LEFT: Case = Case {
     may_not: &[&[(1, Closing::Unlock(0))], &[(2, Closing::Unlock(0))]],
 };
 
-/// Lines that are skipped are counted too.
+/// Skipped lines are counted, too.
 const SKIPS_A_LINE: Case = Case {
     text: "lock a\nlock b\n? start b\n",
     told: &[(0, Answer::Granted(1)), (1, Answer::Busy(1))],

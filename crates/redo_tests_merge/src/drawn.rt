@@ -1,4 +1,4 @@
-//! Plans that are drawn, and what their sessions were told in an order that was drawn.
+//! Plans that are drawn at random, and what their sessions are answered in a drawn order.
 ghost use Rattle.std.specs.Prelude.{◌<◌};
 
 use crate::commands::command_at;
@@ -10,7 +10,7 @@ use redo_testing::Random;
 use std::alloc::{AllocError, Global};
 use std::process::Abort;
 
-/// A plan, an order of its sessions' lines, and what each session was told.
+/// A plan, an order of its sessions' lines, and what each session is answered.
 #[derive(Drop)]
 pub(crate) struct Drawn {
     pub(crate) plan: Plan,
@@ -18,7 +18,7 @@ pub(crate) struct Drawn {
     pub(crate) told: Vec<Vec<Told>>,
 }
 
-/// How many lines a session has at most: two of four sessions have few, so that the orders are few.
+/// How many lines a session has at most: two of four sessions have few, to keep the orders few.
 fn most_lines(sessions: usize, session: usize) -> usize
     ensures { 0 < result }
 {
@@ -130,7 +130,7 @@ impl Simple {
     }
 }
 
-/// What a session is told next, which it is told.
+/// Does the session's next command, and adds its answer.
 fn tell(
     rt: &impl Abort,
     plan: &Plan,
@@ -144,7 +144,7 @@ fn tell(
     Ok(())
 }
 
-/// So many sessions that were told nothing.
+/// So many sessions without an answer.
 fn untold(alloc: Global, sessions: usize) -> Result<Vec<Vec<Told>>, AllocError> {
     let mut told = Vec::new(alloc);
     for _ in 0..sessions {
@@ -153,7 +153,7 @@ fn untold(alloc: Global, sessions: usize) -> Result<Vec<Vec<Told>>, AllocError> 
     Ok(told)
 }
 
-/// What the sessions are told in this order.
+/// What each session is answered in this order.
 fn told_in(
     rt: &impl Abort,
     alloc: Global,
@@ -186,7 +186,7 @@ fn shuffle(random: &mut Random, order: &mut [u8]) {
     }
 }
 
-/// A plan, and what its sessions were told.
+/// A plan, an order, and what the sessions are answered in it.
 pub(crate) fn draw(
     rt: &impl Abort,
     alloc: Global,

@@ -1,4 +1,4 @@
-//! Cases that are drawn, against the search over all orders.
+//! Compares drawn cases with the search over all orders.
 ghost use Rattle.std.specs.Prelude.{◌<◌, length};
 
 use crate::cases::{Tally, check};
@@ -16,7 +16,7 @@ const HISTORIES: u32 = 2000;
 /// How many changes of each history's journals are drawn.
 const CHANGES: u32 = 12;
 
-/// The line at this place and the one before it, which are of one session, exchange what was told.
+/// Exchanges the answers of the line at this place and of the one before it, of the same session.
 fn check_exchanged(
     rt: &impl Abort,
     alloc: Global,
@@ -42,8 +42,8 @@ fn is_order(alloc: Global, drawn: &Drawn, order: &[u8]) -> Result<bool, AllocErr
     Ok(is_placed(&drawn.told, order, &mut standing))
 }
 
-/// The order with the line at this place moved one place forward is one more order of the same
-/// lines, if it is one: it doesn't come before the first.
+/// If the lines are still a placed history when the line at this place moves one place forward,
+/// this order doesn't come before the first.
 fn check_swapped(
     rt: &impl Abort,
     alloc: Global,
@@ -59,8 +59,8 @@ fn check_swapped(
     Ok(())
 }
 
-/// The history with the line at this place moved one place forward: of another session it is one
-/// more order of the same lines, and else what was told changes.
+/// Moves the line at this place one place forward: past another session's line that is one more
+/// order of the same lines, and past its own session's it changes answers.
 fn check_moved(
     rt: &impl Abort,
     alloc: Global,
@@ -78,7 +78,7 @@ fn check_moved(
     }
 }
 
-/// The history with each line moved one place forward.
+/// Moves each line of the history one place forward, one at a time.
 fn check_moves(
     rt: &impl Abort,
     alloc: Global,
@@ -93,7 +93,7 @@ fn check_moves(
     Ok(())
 }
 
-/// A history's journals with a change that is drawn.
+/// The journals of a history with a drawn change.
 fn check_change(
     rt: &impl Abort,
     alloc: Global,
@@ -106,7 +106,7 @@ fn check_change(
     Ok(())
 }
 
-/// A history's journals with some changes, one at a time.
+/// The journals of a history with some drawn changes, one at a time.
 fn check_changes(
     rt: &impl Abort,
     alloc: Global,
@@ -120,7 +120,7 @@ fn check_changes(
     Ok(())
 }
 
-/// A history's journals, and what they become where a line is moved.
+/// The journals of a history, as they are and with each line moved.
 fn check_history(
     rt: &impl Abort,
     alloc: Global,
@@ -131,7 +131,7 @@ fn check_history(
     check_moves(rt, alloc, drawn, &first, tally)
 }
 
-/// A history that is drawn, moved and changed.
+/// A drawn history, with moves and with changes.
 fn check_drawn(
     rt: &impl Abort,
     alloc: Global,
@@ -155,7 +155,7 @@ fn every_order(rt: HostRuntime) -> Result<(), AllocError> {
     Ok(())
 }
 
-/// Whether the history's order is the first that its parts merge to.
+/// Whether the history's order is the first of its journals.
 fn is_found(
     rt: &impl Abort,
     alloc: Global,
@@ -168,7 +168,7 @@ fn is_found(
     }
 }
 
-/// The same of a history that is drawn.
+/// The same of a drawn history.
 fn is_first(
     rt: &impl Abort,
     alloc: Global,
@@ -179,7 +179,7 @@ fn is_first(
     is_found(rt, alloc, &drawn, tally)
 }
 
-/// A history whose order is the first is what its parts merge to.
+/// If a history's order is the first, its journals are merged to it.
 #[test]
 fn first_order(rt: HostRuntime) -> Result<(), AllocError> {
     let mut random = Random::new(2026);
@@ -194,7 +194,7 @@ fn first_order(rt: HostRuntime) -> Result<(), AllocError> {
     Ok(())
 }
 
-/// A history's journals, cut short in a way that is drawn.
+/// The journals of a history, cut short as drawn.
 fn check_prefix(
     rt: &impl Abort,
     alloc: Global,
@@ -207,7 +207,7 @@ fn check_prefix(
     Ok(())
 }
 
-/// The journals of a history that is drawn, cut short in three ways.
+/// The journals of a drawn history, cut short in three ways.
 fn check_prefixes(
     rt: &impl Abort,
     alloc: Global,

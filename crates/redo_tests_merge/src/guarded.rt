@@ -7,13 +7,13 @@ use redo_terms::Kind;
 use std::alloc::{AllocError, Global};
 use std::process::Abort;
 
-/// The second session finds the target locked, and has it later.
+/// The second session finds the target locked, and gets it later.
 const TEXTS: [&str; 2] = [
     "? lock t\n? unlock t\n",
     "lock t\n? unlock t\nlock t\n? unlock t\n",
 ];
 
-/// What the first session is told, of both its lines.
+/// The answers to both lines of the first session.
 const FIRST: [Told; 2] = [
     Told {
         answer: Answer::Granted(1),
@@ -25,7 +25,7 @@ const FIRST: [Told; 2] = [
     },
 ];
 
-/// What the second session is told, of all its lines but the second, which is skipped.
+/// The answers to all lines of the second session but its second, which is skipped.
 const SECOND: [Told; 3] = [
     Told {
         answer: Answer::Busy(1),
@@ -41,7 +41,7 @@ const SECOND: [Told; 3] = [
     },
 ];
 
-/// The first entries are of these lines.
+/// Makes the first entries those of these lines.
 fn set_lines(entries: &mut [Entry], lines: &[u32]) {
     for at in 0..lines.len() {
         if let Some(entry) = entries.get_mut(at) {
@@ -50,7 +50,7 @@ fn set_lines(entries: &mut [Entry], lines: &[u32]) {
     }
 }
 
-/// The journals, where the second session's first entries, and no others, are of these lines.
+/// The journals, if the second session has entries of these lines alone.
 fn journals_at(alloc: Global, lines: &[u32]) -> Result<Vec<Journal>, AllocError> {
     let first = journal_of(alloc, 0, &FIRST)?;
     let mut second = journal_of(alloc, 1, &SECOND)?;
@@ -59,7 +59,7 @@ fn journals_at(alloc: Global, lines: &[u32]) -> Result<Vec<Journal>, AllocError>
     Ok(vec![in alloc; first, second]?)
 }
 
-/// The lines that are journals of these scripts, as far as they go, and such as are none.
+/// The lines of the second session's entries, and whether these make journals.
 const LINES: [(&[u32], bool); 12] = [
     (&[], true),
     (&[0], true),
@@ -75,13 +75,13 @@ const LINES: [(&[u32], bool); 12] = [
     (&[0, 2, 4], false),
 ];
 
-/// Whether there are journals of these lines.
+/// Whether entries of these lines make journals.
 fn are_at(alloc: Global, plan: &Plan, lines: &[u32]) -> Result<bool, AllocError> {
     let journals = journals_at(alloc, lines)?;
     are_journals(alloc, plan, &journals)
 }
 
-/// There are journals of such lines alone.
+/// Entries of such lines make journals as wanted.
 fn check_lines(rt: &impl Abort, alloc: Global, plan: &Plan) -> Result<(), AllocError> {
     for (lines, want) in LINES {
         assert!(rt; are_at(alloc, plan, lines)? == want, "{lines:?}");
@@ -89,7 +89,7 @@ fn check_lines(rt: &impl Abort, alloc: Global, plan: &Plan) -> Result<(), AllocE
     Ok(())
 }
 
-/// An entry is of the first line after the one before it that is let through.
+/// An entry is of the next line that is unguarded or let through.
 #[test]
 fn journals_with_guards(rt: HostRuntime) -> Result<(), AllocError> {
     let plan = plan_of(&rt, rt.alloc(), &TEXTS)?;
@@ -105,7 +105,7 @@ const MERGED: [Wanted; 5] = [
     (1, Kind::Unlock, 0, Answer::Okay),
 ];
 
-/// The journals are merged to them.
+/// The journals are merged to `MERGED`.
 fn check_history(rt: &impl Abort, alloc: Global, plan: &Plan) -> Result<(), AllocError> {
     let journals = journals_at(alloc, &[0, 2, 3])?;
     check_merged(rt, alloc, plan, &journals, &MERGED)

@@ -1,4 +1,4 @@
-//! The tests of merging: a search over all orders, and journals that are drawn and changed.
+//! Tests of merging: a search over all orders, and journals that are drawn and changed.
 #![tactic(auto)]
 
 #[cfg(test)]

@@ -22,7 +22,7 @@ const FIRST: [Told; 2] = [
     },
 ];
 
-/// The other finds it busy by this grant, and has it later.
+/// The other gets `busy` by this grant, and gets the lock later.
 fn second(busy: u32) -> [Told; 2] {
     [
         Told {
@@ -43,7 +43,7 @@ fn two_sessions(alloc: Global, busy: u32) -> Result<Vec<Journal>, AllocError> {
     Ok(vec![in alloc; first, second]?)
 }
 
-/// The lines of their history, where the second is told busy by the first one's grant.
+/// The lines of their history, if the second gets `busy` by the first one's grant.
 const MERGED: [Wanted; 4] = [
     (0, Kind::Lock, 0, Answer::Granted(1)),
     (1, Kind::Lock, 0, Answer::Busy(1)),
@@ -51,13 +51,13 @@ const MERGED: [Wanted; 4] = [
     (1, Kind::Lock, 0, Answer::Granted(2)),
 ];
 
-/// They are merged to these.
+/// The journals are merged to `MERGED`.
 fn check_first(rt: &impl Abort, alloc: Global, plan: &Plan) -> Result<(), AllocError> {
     let journals = two_sessions(alloc, 1)?;
     check_merged(rt, alloc, plan, &journals, &MERGED)
 }
 
-/// Where the second is told busy by a grant that nobody has, there is no order.
+/// If the second gets `busy` by a grant that nobody has, there is no order.
 fn check_no_grant(rt: &impl Abort, alloc: Global, plan: &Plan) -> Result<(), AllocError> {
     let journals = two_sessions(alloc, 3)?;
     check_unmerged(rt, alloc, plan, &journals)
@@ -70,7 +70,7 @@ fn merging(rt: HostRuntime) -> Result<(), AllocError> {
     check_no_grant(&rt, rt.alloc(), &plan)
 }
 
-/// The plan. Where a request is refused, the next try succeeds.
+/// The plan. If memory is refused, the next try succeeds.
 fn planned(rt: &impl Abort, alloc: Global) -> Result<Plan, AllocError> {
     match plan_of(rt, alloc, &TEXTS) {
         Ok(plan) => Ok(plan),
@@ -78,7 +78,7 @@ fn planned(rt: &impl Abort, alloc: Global) -> Result<Plan, AllocError> {
     }
 }
 
-/// The journals. Where a request is refused, the next try succeeds.
+/// The journals. If memory is refused, the next try succeeds.
 fn journals_again(alloc: Global) -> Result<Vec<Journal>, AllocError> {
     match two_sessions(alloc, 1) {
         Ok(journals) => Ok(journals),
@@ -86,7 +86,7 @@ fn journals_again(alloc: Global) -> Result<Vec<Journal>, AllocError> {
     }
 }
 
-/// What they are merged to. Where a request is refused, the next try succeeds.
+/// The journals are merged to `MERGED`. If memory is refused, the next try succeeds.
 fn check_again(rt: &impl Abort, alloc: Global, plan: &Plan) -> Result<(), AllocError> {
     let journals = journals_again(alloc)?;
     match check_merged(rt, alloc, plan, &journals, &MERGED) {
@@ -95,8 +95,8 @@ fn check_again(rt: &impl Abort, alloc: Global, plan: &Plan) -> Result<(), AllocE
     }
 }
 
-/// Passes with each request for memory refused in turn, too: it is then met in one of these calls,
-/// and the next try succeeds.
+/// Passes, too, if any one request for memory is refused: one of these calls then fails, and the
+/// next try succeeds.
 #[test]
 fn refused_memory(rt: HostRuntime) -> Result<(), AllocError> {
     let plan = planned(&rt, rt.alloc())?;

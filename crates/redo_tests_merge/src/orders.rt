@@ -50,7 +50,7 @@ fn last_above(order: &[u8], session: u8) -> usize
     last
 }
 
-/// Makes the order the next one in dictionary order; false where it is the last.
+/// Makes the order the next one in dictionary order; false if it is the last.
 pub(crate) fn advance(order: &mut [u8]) -> bool {
     let Some(rise) = last_rise(order) else {
         return false;
@@ -61,7 +61,7 @@ pub(crate) fn advance(order: &mut [u8]) -> bool {
     true
 }
 
-/// Goes on to the first order in which the lines are a placed history, if there is one.
+/// Advances to the first order in which the lines are a placed history, if there is one.
 fn finds(
     rt: &impl Abort,
     plan: &Plan,
@@ -81,7 +81,7 @@ fn finds(
     panic!(rt; "too many orders")
 }
 
-/// Of all orders in which the lines are a placed history the first in dictionary order.
+/// The first in dictionary order of all orders in which the lines are a placed history.
 pub(crate) fn first_order(
     rt: &impl Abort,
     alloc: Global,

@@ -1,4 +1,4 @@
-//! The rules of places, written once more: by what stands so far, a place may come next or may not.
+//! The rules of places, written once more: whether a place may come next after the lines so far.
 use crate::commands::command_at;
 use crate::told::{Answer, Told};
 use redo_journal::{Place, Plan};
@@ -12,14 +12,14 @@ struct Claim {
     is_held: bool,
 }
 
-/// The claims on a target that nobody asked for.
+/// The claims on a target that was never granted.
 const FREE: Claim = Claim {
     grants: 0,
     is_held: false,
 };
 
 impl Claim {
-    /// The next grant, if nobody holds the target.
+    /// Notes this grant. Returns whether it is the next one, and nobody held the target.
     fn grant(&mut self, grant: u32) -> bool {
         let is_next = !self.is_held && grant > 0 && self.grants == grant.wrapping_sub(1);
         self.is_held = true;
@@ -32,7 +32,7 @@ impl Claim {
         self.is_held && self.grants == grant
     }
 
-    /// The end of this grant, if it is in force.
+    /// Notes the end of this grant. Returns whether it was in force.
     fn release(&mut self, grant: u32) -> bool {
         let is_next = self.is_in_force(grant);
         self.is_held = false;
@@ -40,7 +40,7 @@ impl Claim {
     }
 }
 
-/// What stands so far: how many lines of each session, how many rows, and the claims on each target.
+/// What was done so far: how many lines of each session, how many rows, and all claims.
 #[derive(Drop)]
 pub(crate) struct Standing {
     lines: Vec<usize>,
@@ -49,7 +49,7 @@ pub(crate) struct Standing {
 }
 
 impl Standing {
-    /// Nothing of these sessions and targets.
+    /// Nothing was done by these sessions on these targets.
     pub(crate) fn new(
         alloc: Global,
         sessions: usize,
@@ -62,14 +62,14 @@ impl Standing {
         })
     }
 
-    /// Back to nothing.
+    /// Goes back to where nothing was done.
     pub(crate) fn clear(&mut self) {
         self.lines.fill(0);
         self.rows = 0;
         self.claims.fill(FREE);
     }
 
-    /// What the session was told next.
+    /// Goes past the session's next line, and returns its answer.
     pub(crate) fn next_of(&mut self, told: &[Vec<Told>], session: u8) -> Option<Told> {
         let own = told.get(session as usize)?;
         let number = self.lines.get_mut(session as usize)?;
@@ -78,7 +78,7 @@ impl Standing {
         Some(*one)
     }
 
-    /// Whether the place may come next; it stands from now on.
+    /// Notes the place. Returns whether it may come next.
     pub(crate) fn takes(&mut self, place: Place) -> bool {
         let (target, grant) = match place {
             Place::Row(row) => {

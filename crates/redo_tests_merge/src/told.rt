@@ -13,14 +13,14 @@ pub(crate) enum Answer {
     NotLocked,
 }
 
-/// What was answered to a command, and where.
+/// The answer to a command, and its place.
 #[derive(Clone, Copy)]
 pub(crate) struct Told {
     pub(crate) answer: Answer,
     pub(crate) place: Place,
 }
 
-/// The reply itself.
+/// The reply of this answer.
 pub(crate) fn reply_of(answer: Answer) -> Reply {
     match answer {
         Answer::Okay => Reply::Okay,
@@ -40,7 +40,7 @@ fn entry_of(number: u32, told: Told) -> Entry {
     }
 }
 
-/// The journal of a session that was told this.
+/// The journal of a session with these answers.
 pub(crate) fn journal_of(alloc: Global, session: u8, told: &[Told]) -> Result<Journal, AllocError> {
     let mut entries = Vec::new(alloc);
     let mut number: u32 = 0;
@@ -55,7 +55,7 @@ pub(crate) fn journal_of(alloc: Global, session: u8, told: &[Told]) -> Result<Jo
     })
 }
 
-/// The journals of sessions that were told this.
+/// The journals of sessions with these answers.
 pub(crate) fn journals_of(alloc: Global, told: &[Vec<Told>]) -> Result<Vec<Journal>, AllocError> {
     let mut journals = Vec::new(alloc);
     let mut session: u8 = 0;
@@ -66,7 +66,7 @@ pub(crate) fn journals_of(alloc: Global, told: &[Vec<Told>]) -> Result<Vec<Journ
     Ok(journals)
 }
 
-/// A copy of it all, to be changed.
+/// A copy of all answers.
 pub(crate) fn copied(alloc: Global, told: &[Vec<Told>]) -> Result<Vec<Vec<Told>>, AllocError> {
     let mut copies = Vec::new(alloc);
     for own in told {
@@ -88,7 +88,7 @@ fn is_same(one: &Command, two: &Command) -> bool {
     }
 }
 
-/// A line by its session, its command's kind and target, and its reply. Sessions are counted from 0.
+/// A line: its session, counted from 0, its command's kind and target, and its reply.
 pub(crate) type Wanted = (u8, Kind, u32, Answer);
 
 /// Whether the line is this one.
@@ -113,7 +113,7 @@ pub(crate) fn are_wanted(lines: &[Line], want: &[Wanted]) -> bool {
     true
 }
 
-/// Whether the line is the one of this session that has this number.
+/// Whether the line is the session's line of this number, with this answer.
 fn is_line(plan: &Plan, session: u8, number: usize, told: Told, line: &Line) -> bool {
     match command_at(plan, session as usize, number) {
         Some(command) => {
@@ -125,7 +125,7 @@ fn is_line(plan: &Plan, session: u8, number: usize, told: Told, line: &Line) -> 
     }
 }
 
-/// Whether the line is what was told the session at this number.
+/// Whether the line is the session's line of this number, with its answer.
 fn is_told(plan: &Plan, told: &[Vec<Told>], session: u8, number: usize, line: &Line) -> bool {
     match told.get(session as usize) {
         Some(own) => match own.get(number) {
@@ -136,7 +136,7 @@ fn is_told(plan: &Plan, told: &[Vec<Told>], session: u8, number: usize, line: &L
     }
 }
 
-/// How often the session stands in the order.
+/// How often the session is in the order.
 pub(crate) fn count_of(order: &[u8], session: u8) -> usize {
     let mut count: usize = 0;
     for other in order {
@@ -147,7 +147,7 @@ pub(crate) fn count_of(order: &[u8], session: u8) -> usize {
     count
 }
 
-/// Whether the lines are what was told, in this order of the sessions.
+/// Whether the lines are those of the sessions in this order, with their answers.
 pub(crate) fn are_lines(plan: &Plan, told: &[Vec<Told>], order: &[u8], lines: &[Line]) -> bool {
     if lines.len() != order.len() {
         return false;
