@@ -1,4 +1,4 @@
-//! Sessions that end while they hold and build: they let go, the least name first.
+//! Sessions that end while they hold and build: they close their targets, the least name first.
 use crate::gates::Moment;
 use crate::histories::{counted, text_of};
 use crate::order::advance;
@@ -11,7 +11,7 @@ use redo_terms::Line;
 use std::alloc::{AllocError, Global};
 use std::process::Abort;
 
-/// The second session has the lock once the first, which broke off in a build, has let go of it.
+/// The second session gets the lock after the first, which ends during a build, has released it.
 const SESSION_LETS_GO: Run = Run {
     files: &["lock T\nstart T\n", "lock T\n"],
     pairs: &[(Moment::Before(1, 0), Moment::After(0, 3))],
@@ -35,9 +35,9 @@ const SESSION_LETS_GO: Run = Run {
     ],
 };
 
-/// A session loses its row to another one's closing command, which it has to know by the row's word:
-/// the target has failed for it, and so is out of date. The second asks once the first has let go.
-/// By then two rows came after its own.
+/// A session loses its row to the other's closing command, and has to learn by the row's word that
+/// the target failed, and so is out of date. It asks after the other has closed all. By then two
+/// rows come after its own.
 const CLOSING_ROW_IS_READ: Run = Run {
     files: &[
         "file t 1\nlock t\nstart t\n",
@@ -81,25 +81,25 @@ fn turns_of(alloc: Global, counts: [usize; 2]) -> Result<Vec<usize>, AllocError>
     Ok(turns)
 }
 
-/// Two sessions that hold and build at their end, and in every order of their steps let go of all.
+/// Two sessions that hold and build at their end, and in every order of their steps close all.
 struct Ends {
     files: [&'static str; 2],
     /// How many steps each session takes at most.
     steps: [usize; 2],
     /// How many orders of these steps there are.
     orders: usize,
-    /// The lines of the files: a grant and a start have one line more each, by which they are let go of.
+    /// How many lines the files have. Each grant and each start has one closing line more.
     lines: usize,
-    /// The starts, each of which has a row, also where it is refused.
+    /// How many starts the files have. Each has a row, also a refused one.
     starts: u32,
-    /// How many grants at most no start follows.
+    /// How many grants at most are followed by no start.
     unstarted: usize,
-    /// How many grants there are: a bit for each number that is met.
+    /// Which numbers of grants are met: a bit for each.
     grants: u32,
 }
 
-/// Sessions with targets of their own, of which each holds and builds two at its end: eight steps of
-/// each. There are 16! / (8! 8!) orders.
+/// Sessions with targets of their own: each holds and builds two at its end, and takes eight steps.
+/// There are 16! / (8! 8!) orders.
 const APART: Ends = Ends {
     files: [
         "lock b\nstart b\nlock a\nstart a\n",
@@ -113,8 +113,8 @@ const APART: Ends = Ends {
     grants: 0b1_0000,
 };
 
-/// Sessions that want the same two targets: eight steps of the first and six of the second at most,
-/// where they get both. Two, three and four grants are met. There are 14! / (8! 6!) orders.
+/// Sessions that want the same two targets. If they get both, the first takes eight steps, the
+/// second six. Two, three and four grants are met. There are 14! / (8! 6!) orders.
 const TOGETHER: Ends = Ends {
     files: [
         "lock b\nstart b\nlock a\nstart a\n",
@@ -128,8 +128,8 @@ const TOGETHER: Ends = Ends {
     grants: 0b1_1100,
 };
 
-/// Each grant is followed by an unlock, and each start by a failed build, which has a row. Answers the
-/// bit of how many locks are granted.
+/// Each grant is followed by an unlock, and each start by a `failed`, which has a row. Returns the
+/// bit of the number of grants.
 fn check_end(rt: &impl Abort, ends: &Ends, lines: &[Line], rows: u32) -> u32 {
     let all = counted(lines);
     let (granted, started) = (all.granted, all.started);
@@ -140,7 +140,7 @@ fn check_end(rt: &impl Abort, ends: &Ends, lines: &[Line], rows: u32) -> u32 {
     1 << granted
 }
 
-/// The bit of how many locks are granted in this order. The sessions let go of all.
+/// The bit of the number of grants in this order. The sessions close all.
 fn granted_in(
     rt: &impl Abort,
     alloc: Global,
@@ -152,7 +152,7 @@ fn granted_in(
     Ok(check_end(rt, ends, &lines, rows))
 }
 
-/// In every order from this one on the sessions let go of all.
+/// In every order from this one on the sessions close all.
 fn check_orders(
     rt: &impl Abort,
     alloc: Global,
@@ -172,7 +172,7 @@ fn check_orders(
     Ok(())
 }
 
-/// In every order the sessions let go of all.
+/// In every order the sessions close all.
 fn check_ends(rt: &impl Abort, alloc: Global, ends: &Ends) -> Result<(), AllocError> {
     let mut turns = turns_of(alloc, ends.steps)?;
     let plan = plan_of(rt, alloc, &ends.files)?;
@@ -214,7 +214,7 @@ fn check_schedule(
     check_lines(rt, alloc, plan, &lines, want)
 }
 
-/// In this schedule the sessions that want the same have this history.
+/// In this schedule the sessions of `TOGETHER` have this history.
 fn has_history(
     rt: &impl Abort,
     alloc: Global,
@@ -225,7 +225,7 @@ fn has_history(
     check_schedule(rt, alloc, &plan, turns, want)
 }
 
-/// What comes of the sessions that want the same, where the first does all before the second begins.
+/// The history of `TOGETHER` if the first session does all before the second begins.
 const IN_TURN: &str = "history 14\n\
     1 lock b => granted 1\n\
     1 start b => ok\n\
@@ -242,7 +242,7 @@ const IN_TURN: &str = "history 14\n\
     2 unlock a => ok\n\
     2 unlock b => ok\n";
 
-/// The same, where they go step by step: each gets its first target, and finds the other's held.
+/// The same if they go step by step: each gets its first target, and finds the other's held.
 const STEP_BY_STEP: &str = "history 11\n\
     1 lock b => granted 1\n\
     1 start b => ok\n\

@@ -1,4 +1,4 @@
-//! A gate that counts the steps and the tries of each command, and what its counts have to be.
+//! A gate that counts the steps and the tries of each command, and tests of its counts.
 use redo_board::Gate;
 use redo_journal::{Journal, Place};
 use redo_terms::Line;
@@ -6,7 +6,7 @@ use std::alloc::{AllocError, Global};
 use std::process::Abort;
 use std::sync::atomic::{AtomicU32, Ordering};
 
-/// As many sessions, and as many commands of each, closing ones among them, as the plans here have at most.
+/// The plans here have at most so many sessions, and so many commands of each, with closing ones.
 const SESSIONS: usize = 4;
 
 const COMMANDS: usize = 64;
@@ -20,10 +20,10 @@ pub(crate) struct Counts {
     /// How many steps have ended, and how many of each command.
     steps: AtomicU32,
     ends: Vec<AtomicU32>,
-    /// One more than the number of each session's command whose step goes on, or 0.
+    /// For each session, one more than the number of the command whose step goes on, or 0.
     open: Vec<AtomicU32>,
-    /// How many calls were out of turn: in no step or another command's, or on another row than the one after the
-    /// session's last try.
+    /// How many calls were out of turn: not in a step of this command, or not on the row after the
+    /// one of the session's last try.
     strays: AtomicU32,
 }
 
@@ -44,7 +44,7 @@ fn load(counts: &[AtomicU32], at: usize) -> u32 {
     }
 }
 
-/// Counts one more at this place, and answers what the count was.
+/// Counts one more at this place, and returns what the count was.
 fn add(counts: &[AtomicU32], at: usize) -> u32 {
     match counts.get(at) {
         Some(count) => count.fetch_add(1, Ordering::SeqCst),
@@ -52,7 +52,7 @@ fn add(counts: &[AtomicU32], at: usize) -> u32 {
     }
 }
 
-/// Puts another count at this place, and answers what the count was.
+/// Puts another count at this place, and returns what the count was.
 fn swap(counts: &[AtomicU32], at: usize, count: u32) -> u32 {
     match counts.get(at) {
         Some(old) => old.swap(count, Ordering::SeqCst),
@@ -78,14 +78,14 @@ impl Counts {
         })
     }
 
-    /// A call is out of turn unless this is so.
+    /// Counts a call as out of turn, unless this is so.
     fn expect(&self, in_turn: bool) {
         if !in_turn {
             self.strays.fetch_add(1, Ordering::SeqCst);
         }
     }
 
-    /// How often any command was ready.
+    /// How often commands were ready, in all.
     pub(crate) fn all(&self) -> u32 {
         self.all.load(Ordering::SeqCst)
     }
@@ -117,8 +117,8 @@ struct Passed {
     tried: u32,
 }
 
-/// Passes the session's next entry, whose command had one step. Its row, where it has one, is the
-/// history's next: the command was ready as often as that is past the session's row before.
+/// Passes the session's next entry, whose command had one step. If it has a row, that is the
+/// history's next, and the command was ready once for each row after the session's row before.
 fn pass(rt: &impl Abort, gate: &Counts, journal: &Journal, passed: &mut Passed, rows: &mut u32) {
     let entry = journal.entries.get(passed.entries).expect(rt, "an entry");
     let place = index_of(journal.session, entry.number);
@@ -136,8 +136,8 @@ fn pass(rt: &impl Abort, gate: &Counts, journal: &Journal, passed: &mut Passed, 
     }
 }
 
-/// The history's lines and rows, of which there are so many, agree with the journals' tries and with
-/// the gate's counts: of each command, of each session, and of all.
+/// The history agrees with the journals' tries and with the gate's counts: of each command, of each
+/// session, and of all. Returns how many rows it has.
 pub(crate) fn check_counts(
     rt: &impl Abort,
     lines: &[Line],
@@ -167,7 +167,7 @@ pub(crate) fn check_counts(
     rows
 }
 
-/// The session's entries were passed, and it has tried the rows up to its last one.
+/// All entries of the session were passed, and it has tried the rows up to its last one.
 fn check_sum(rt: &impl Abort, journal: &Journal, passed: Passed, gate: &Counts) {
     assert!(rt; passed.entries == journal.entries.len());
     assert!(rt; journal.tries == passed.tried);

@@ -1,4 +1,4 @@
-//! Plans that are drawn, the same for the same seed, and what is counted in them.
+//! Plans that are drawn at random, the same for the same seed, and their counts.
 use crate::counts::{Counts, check_counts};
 use crate::histories::counted;
 use crate::order::first_schedule;
@@ -12,7 +12,7 @@ use std::process::Abort;
 use std::sync::Wait;
 use std::thread::Threads;
 
-/// What the sessions ask.
+/// The commands of the sessions.
 const COMMANDS: [&str; 16] = [
     "lock t\n",
     "lock t\n",
@@ -117,8 +117,8 @@ fn drawn_schedules(rt: HostRuntime) -> Result<(), AllocError> {
     Ok(())
 }
 
-/// The history is legal at its end, and agrees with what was counted: so many rows. Each session lets
-/// go of at most two targets at its end, by at most four commands.
+/// After the history nothing is held or building, and it agrees with the counts. Returns how many
+/// rows it has. Each session closes at most two targets, by at most four commands.
 fn check_outcome(rt: &impl Abort, outcome: &Outcome, gate: &Counts) -> u32 {
     let lines = outcome.history.len();
     assert!(rt; lines >= 128 && lines <= 144 && counted(&outcome.history).is_let_go());

@@ -1,4 +1,4 @@
-//! A gate that pauses sessions until others have come to some moment.
+//! A gate that makes sessions wait until others come to a moment.
 use redo_board::Gate;
 use std::alloc::{AllocError, Global};
 use std::hint::spin_loop;
@@ -15,10 +15,10 @@ pub(crate) enum Moment {
     After(u8, u32),
 }
 
-/// Who comes to the first moment of a pair is paused there until the second has come.
+/// A session that comes to the first moment of a pair waits there until the second has come.
 pub(crate) type Pairs = &'static [(Moment, Moment)];
 
-/// Who comes to the first moment is paused there until the second has come.
+/// A session that comes to the first moment waits there until the second has come.
 #[derive(Drop)]
 struct Pause {
     at: Moment,
@@ -49,9 +49,9 @@ impl Pause {
     }
 }
 
-/// A gate with some pauses. It knows how often the first session was ready, and keeps which lines of
-/// that session it was told of: a bit for each. It counts those that it was told of again before or
-/// after.
+/// A gate with some pauses. It counts how often the first session was ready, and keeps for which
+/// lines of that session it was called: a bit for each. It counts second calls before or after the
+/// same line.
 #[derive(Drop)]
 pub(crate) struct Pauses {
     pauses: Vec<Pause>,
@@ -62,7 +62,7 @@ pub(crate) struct Pauses {
     again: AtomicU64,
 }
 
-/// Notes a line of the first session. Whether it was noted already.
+/// Notes a line of the first session. Returns whether it was noted already.
 fn note(lines: &AtomicU64, session: u8, number: u32) -> bool {
     if session != 0 {
         return false;
@@ -87,7 +87,7 @@ impl Pauses {
         })
     }
 
-    /// Whether each pause has kept a session until its second moment had come.
+    /// Whether at each pause a session waited until the second moment had come.
     pub(crate) fn are_met(&self) -> bool {
         for pause in &self.pauses {
             if pause.is_met.load(Ordering::SeqCst) == 0 {
@@ -101,8 +101,8 @@ impl Pauses {
         self.calls.load(Ordering::SeqCst)
     }
 
-    /// Whether these are the lines of the first session of which it was told before, when ready and
-    /// after: before and after once of each.
+    /// Whether the gate was called before, when ready and after for these lines of the first
+    /// session: before and after once for each.
     pub(crate) fn was_told(&self, lines: [u64; 3]) -> bool {
         self.before.load(Ordering::SeqCst) == lines[0]
             && self.ready.load(Ordering::SeqCst) == lines[1]
@@ -110,14 +110,14 @@ impl Pauses {
             && self.again.load(Ordering::SeqCst) == 0
     }
 
-    /// Notes a line of the first session, of which it is told but once.
+    /// Notes a line of the first session, for which there is only one call.
     fn note_once(&self, lines: &AtomicU64, session: u8, number: u32) {
         if note(lines, session, number) {
             self.again.fetch_add(1, Ordering::SeqCst);
         }
     }
 
-    /// Wakes who waits for this moment.
+    /// Wakes the sessions that wait for this moment.
     fn wake(&self, moment: Moment) {
         for pause in &self.pauses {
             if pause.until == moment {
@@ -126,7 +126,7 @@ impl Pauses {
         }
     }
 
-    /// Wakes who waits for this moment, and then waits where there is a pause.
+    /// Wakes the sessions that wait for this moment, and then waits if there is a pause.
     fn come(&self, moment: Moment) {
         self.wake(moment);
         for pause in &self.pauses {

@@ -1,4 +1,4 @@
-//! Guarded lines: who is let through, and that a skipped line makes no step.
+//! Guarded lines: which are let through, and that a skipped line is no step.
 use crate::gates::{Moment, Pairs, Pauses};
 use crate::outcomes::{Run, check_runs, check_text};
 use crate::plans::plan_of;
@@ -9,8 +9,8 @@ use std::process::Abort;
 use std::sync::Wait;
 use std::thread::Threads;
 
-/// Each guarded line that is skipped follows a busy or a refused reply. Lines 0, 1, 4, 5 and 7 are
-/// done; of these 5 and 7 need a row.
+/// Each skipped guarded line follows a busy or a refused reply. Lines 0, 1, 4, 5 and 7 are done; of
+/// these 5 and 7 have a row.
 const SKIPPED_LINES: Run = Run {
     files: &[
         "? lock T\nlock T\n? start T\n? unlock T\n\
@@ -34,7 +34,7 @@ const SKIPPED_LINES: Run = Run {
     ]],
 };
 
-/// A stale reply lets through what comes after it.
+/// The reply `stale` lets the next guarded line through.
 const STALE_LETS_THROUGH: Run = Run {
     files: &["lock T\n? start T\n? ifchange T a\n? done T 5\n? unlock T\n"],
     pairs: &[],
@@ -55,7 +55,7 @@ const STALE_LETS_THROUGH: Run = Run {
     ]],
 };
 
-/// Nothing is left after a refusal but guarded lines: the session is at its end.
+/// After a refusal only guarded lines are left: the session is at its end.
 const GUARDED_AT_THE_END: Run = Run {
     files: &["unlock T\n? ood\n? lock T\n"],
     pairs: &[],
@@ -71,8 +71,8 @@ fn guarded_lines(rt: HostRuntime) -> Result<(), RunFault> {
     check_runs(&rt, rt.alloc(), &runs)
 }
 
-/// Two sessions try one lock. The second has its build skipped while the first has the lock, and
-/// does it once it gets the lock.
+/// Two sessions try one lock. The second skips its build while the first has the lock, and does it
+/// after it gets the lock.
 const BUSY_FILES: [&str; 2] = [
     "? lock t\n? unlock t\n",
     "? lock t\n? start t\n? done t 1\nlock t\n? start t\n? done t 2\n",
@@ -84,7 +84,7 @@ const BUSY_PAIRS: Pairs = &[
     (Moment::Before(1, 3), Moment::After(0, 1)),
 ];
 
-/// The text of their run.
+/// The run text of these files.
 const BUSY_TEXT: &str = "history 7\n\
     1 lock t => granted 1\n\
     2 lock t => busy 1\n\
@@ -105,7 +105,7 @@ const BUSY_TEXT: &str = "history 7\n\
     ? done t 2 => ok\n\
     unlock t => ok\n";
 
-/// The text of a run under the gate.
+/// The run text of a run under the gate.
 fn text_under<R: Threads + Wait + Sync>(
     rt: &R,
     alloc: Global,
@@ -116,7 +116,7 @@ fn text_under<R: Threads + Wait + Sync>(
     Ok(run_text(alloc, plan, &outcome)?)
 }
 
-/// The plan's run under these pauses has this text.
+/// The plan's run under these pauses has `BUSY_TEXT`.
 fn check_busy<R: Threads + Wait + Abort + Sync>(
     rt: &R,
     alloc: Global,

@@ -49,7 +49,7 @@ fn is_reply_below(count: u32, reply: &Reply) -> bool
     }
 }
 
-/// Whether the numbers of each line are those of names.
+/// Whether the numbers in each line are below the count of names.
 fn are_below(count: u32, lines: &[Line]) -> bool
     ensures { IsTrue result → AllByRecursion (λ line. IsLineBelow count (line_of line)) lines.now }
 {
@@ -100,12 +100,12 @@ fn read(rt: &impl Abort, alloc: Global, history: &[u8]) -> Result<History, Alloc
     }
 }
 
-/// Whether the database answers as the history says that it did, which has so many lines.
+/// Whether the replay answers `same`, with so many lines.
 fn is_same(alloc: Global, told: &History, count: usize) -> Result<bool, AllocError> {
     Ok(matches!(replay(alloc, told)?, Verdict::Same(lines) if lines == count))
 }
 
-/// Whether the database answers as the history of this text says that it did, and it has so many lines.
+/// Whether the history of this text replays as `same`, with so many lines.
 fn is_replayed(
     rt: &impl Abort,
     alloc: Global,
@@ -116,7 +116,7 @@ fn is_replayed(
     is_same(alloc, &told, count)
 }
 
-/// The database answers as the history says that it did, line by line, and it has so many lines.
+/// The history of this text replays as `same`, with so many lines.
 pub(crate) fn replays(
     rt: &impl Abort,
     alloc: Global,
@@ -127,8 +127,8 @@ pub(crate) fn replays(
     Ok(())
 }
 
-/// What the lines of a legal history have in all: locks that were granted, unlocks and starts that were accepted, and
-/// builds that failed or were done.
+/// Totals over the lines of a legal history: locks that were granted, unlocks and starts that were
+/// accepted, and builds that were done or failed.
 #[derive(Clone, Copy)]
 pub(crate) struct Totals {
     pub(crate) granted: usize,
@@ -138,7 +138,7 @@ pub(crate) struct Totals {
 }
 
 impl Totals {
-    /// Whether after the lines nothing is held and nothing is building.
+    /// Whether nothing is held and nothing is building after the lines.
     pub(crate) fn is_let_go(self) -> bool {
         self.granted == self.unlocked && self.started == self.ended
     }

@@ -1,4 +1,4 @@
-//! A worker that leaves before its script's end.
+//! Workers that leave before their session's end.
 ghost use Rattle.std.specs.Prelude.{◌≡◌, length};
 
 use crate::histories::{history_of, rows_in};
@@ -12,7 +12,7 @@ use std::alloc::{AllocError, Global};
 use std::process::Abort;
 
 /// Two sessions that leave after so many steps each, the first before the second begins; how many
-/// rows are filled then, how often each session has tried to, and what comes of them.
+/// rows are then filled, how many tries each session made, and the history.
 struct Left {
     files: [&'static str; 2],
     steps: [u32; 2],
@@ -21,8 +21,8 @@ struct Left {
     history: &'static str,
 }
 
-/// The first session leaves before its fourth command. The other goes on, and loses the rows of the
-/// one that left. It finds the lock held, and may not release it.
+/// The first session leaves before its fourth command. The other loses the rows that the first has
+/// filled. It finds the lock held, and can't unlock it.
 const IN_THE_MIDDLE: Left = Left {
     files: [
         "file a 1\nlock t\nstart t\nifchange t a\ndone t 1\nunlock t\n",
@@ -41,8 +41,8 @@ const IN_THE_MIDDLE: Left = Left {
         2 unlock t => refused not-locked\n",
 };
 
-/// The first session breaks off in a build. A worker that leaves before its end doesn't let go: after
-/// its lines it still holds the lock.
+/// The first worker leaves after its lines, during a build. It closes nothing: it still holds the
+/// lock.
 const AFTER_ITS_LINES: Left = Left {
     files: ["lock t\nstart t\n", "lock t\n"],
     steps: [2, 1],
@@ -60,8 +60,8 @@ const AFTER_ONE_CLOSING: Left = Left {
     history: "history 4\n1 lock t => granted 1\n1 start t => ok\n1 failed t => ok\n2 lock t => busy 1\n",
 };
 
-/// A closing command and a session that loses each row before fill all rows of the board, of which
-/// the plan has three: two for the `start`, and one for the `file`.
+/// A closing command and a session that first loses two rows fill all rows of the board. The plan
+/// has three: two for the `start`, and one for the `file`.
 const IN_THE_LAST_ROW: Left = Left {
     files: ["lock t\nstart t\n", "file a 1\n"],
     steps: [3, 1],
@@ -70,7 +70,7 @@ const IN_THE_LAST_ROW: Left = Left {
     history: "history 4\n1 lock t => granted 1\n1 start t => ok\n1 failed t => ok\n2 file a 1 => ok\n",
 };
 
-/// The sessions leave after so many steps: the number of filled rows, and the journals.
+/// Both sessions leave after so many steps: the number of filled rows, and the journals.
 fn leave_apart(
     rt: &impl Abort,
     alloc: Global,
@@ -95,7 +95,7 @@ fn have_made(journals: &[Journal], steps: [u32; 2]) -> bool {
         && journals[1].entries.len() == steps[1] as usize
 }
 
-/// The journals are those of sessions that leave so.
+/// The journals are those of sessions that leave as in this case.
 fn check_journals(
     rt: &impl Abort,
     alloc: Global,
@@ -111,7 +111,7 @@ fn check_journals(
     Ok(())
 }
 
-/// The plan's sessions leave so.
+/// The plan's sessions leave as in this case.
 fn check_planned(
     rt: &impl Abort,
     alloc: Global,
@@ -124,7 +124,7 @@ fn check_planned(
     check_journals(rt, alloc, plan, &found.1, left)
 }
 
-/// The sessions leave so.
+/// The sessions of this case leave as it says.
 fn check_left(rt: &impl Abort, alloc: Global, left: &Left) -> Result<(), AllocError> {
     let plan = plan_of(rt, alloc, &left.files)?;
     check_planned(rt, alloc, &plan, left)

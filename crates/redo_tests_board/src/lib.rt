@@ -1,4 +1,4 @@
-//! The tests of the board: sessions on threads of their own, and every schedule of small plans.
+//! Tests of the board: sessions on threads of their own, and every schedule of small plans.
 #![tactic(auto)]
 
 #[cfg(test)]

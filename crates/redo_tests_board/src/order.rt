@@ -40,7 +40,7 @@ fn above(turns: &[usize], at: usize) -> Option<usize>
     None
 }
 
-/// Goes on to the next order of the same turns, as words go in a dictionary, if there is one.
+/// Goes on to the next order of the same turns in dictionary order, if there is one.
 pub(crate) fn advance(turns: &mut [usize]) -> bool {
     let Some(at) = rise(turns) else {
         return false;

@@ -1,4 +1,4 @@
-//! What runs of whole plans leave.
+//! The outcomes of runs of whole plans.
 use crate::gates::{Pairs, Pauses};
 use crate::plans::plan_of;
 use redo_board::Gate;
@@ -13,8 +13,8 @@ use std::thread::Threads;
 /// The lines of a session's entries, and their places.
 pub(crate) type Places = &'static [(u32, Place)];
 
-/// A run of files under pauses that was worked out by hand: its history, how often each session tries to fill a row, of
-/// which lines of the first session the gate is told, and, where they are looked at, the entries of each session.
+/// A run of files under pauses, worked out by hand: its history, each session's tries, for which
+/// lines of the first session the gate is called, and the entries of the first sessions, if any.
 #[derive(Clone, Copy)]
 pub(crate) struct Run {
     pub(crate) files: &'static [&'static str],
@@ -37,7 +37,7 @@ pub(crate) fn ran<G: Gate + Sync, R: Threads + Wait + Sync>(
     Ok((outcome, history))
 }
 
-/// The text is this one, and is printed where it isn't.
+/// The text is this one; else the test prints it.
 pub(crate) fn check_text(rt: &impl Abort, text: &[u8], want: &str) {
     assert!(rt; text == want.as_bytes(), "{text:?}");
 }
@@ -56,7 +56,7 @@ fn are_at(entries: &[Entry], places: &[(u32, Place)]) -> bool {
     true
 }
 
-/// Whether the sessions' entries are at these places, as far as these go.
+/// Whether the first sessions' entries are of these lines, at these places.
 fn are_placed(journals: &[Journal], places: &[Places]) -> bool {
     if journals.len() < places.len() {
         return false;
@@ -69,7 +69,7 @@ fn are_placed(journals: &[Journal], places: &[Places]) -> bool {
     true
 }
 
-/// Whether the journals tell of so many tries.
+/// Whether the journals have so many tries.
 pub(crate) fn have_tried(journals: &[Journal], tries: &[u32]) -> bool {
     if journals.len() != tries.len() {
         return false;
@@ -82,7 +82,7 @@ pub(crate) fn have_tried(journals: &[Journal], tries: &[u32]) -> bool {
     true
 }
 
-/// The gate has held each session until its moment had come, and was told so.
+/// Each pause of the gate was met, and the gate was called for the first session as in this run.
 fn check_gate(rt: &impl Abort, gate: &Pauses, run: &Run) {
     assert!(rt; gate.are_met());
     assert!(rt; gate.was_told(run.told));
@@ -133,7 +133,7 @@ fn check_run<R: Threads + Wait + Abort + Sync>(
     check_planned(rt, alloc, &plan, run)
 }
 
-/// All these runs.
+/// Checks all these runs.
 pub(crate) fn check_runs<R: Threads + Wait + Abort + Sync>(
     rt: &R,
     alloc: Global,

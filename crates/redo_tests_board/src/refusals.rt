@@ -1,4 +1,4 @@
-//! Refused requests for memory: these tests pass with any one request refused, too.
+//! Refused memory: these tests pass, too, if any one request for memory is refused.
 ghost use Rattle.std.specs.Prelude.{◌≡◌, length, IfOk};
 ghost use Rattle.redo_board.specs.Kept.{IsBoardOf, SitsAt, IsFreshOf};
 
@@ -22,7 +22,7 @@ use std::process::Abort;
 use std::sync::Wait;
 use std::thread::Threads;
 
-/// The plan of these files. Where a request is refused, the next try succeeds.
+/// The plan of these files. If memory is refused, the next try succeeds.
 fn planned(rt: &impl Abort, alloc: Global, files: &[&str]) -> Result<Plan, AllocError> {
     match plan_of(rt, alloc, files) {
         Ok(plan) => Ok(plan),
@@ -33,7 +33,7 @@ fn planned(rt: &impl Abort, alloc: Global, files: &[&str]) -> Result<Plan, Alloc
     }
 }
 
-/// The board of a plan. Where a request is refused, the next try succeeds.
+/// The board of a plan. If memory is refused, the next try succeeds.
 fn opened(alloc: Global, plan: &Plan) -> Result<(Board, Seat), AllocError>
     ensures board { IfOk result (λ r. IsBoardOf plan.now r.0) }
     ensures seat { IfOk result (λ r. SitsAt plan.now r.0 r.1) }
@@ -48,7 +48,7 @@ fn opened(alloc: Global, plan: &Plan) -> Result<(Board, Seat), AllocError>
     }
 }
 
-/// The gate of the lost try. Where a request is refused, the next try succeeds.
+/// The gate of the lost try. If memory is refused, the next try succeeds.
 fn gated(alloc: Global) -> Result<Pauses, AllocError> {
     match Pauses::new(alloc, LOST_TRY.pairs) {
         Ok(gate) => Ok(gate),
@@ -59,7 +59,7 @@ fn gated(alloc: Global) -> Result<Pauses, AllocError> {
     }
 }
 
-/// The journals' history. Where a request is refused, the next try succeeds.
+/// The journals' history. If memory is refused, the next try succeeds.
 fn merged(
     rt: &impl Abort,
     alloc: Global,
@@ -75,7 +75,7 @@ fn merged(
     }
 }
 
-/// The journal of the one session, which does its whole script and lets go, with so many rows.
+/// The journal of the one session, which does its whole script and closes all, with so many rows.
 fn done_alone(rt: &impl Abort, alloc: Global, plan: &Plan, rows: u32) -> Result<Journal, AllocError>
     requires { length plan.now.scripts ≡ 1 }
 {
@@ -142,7 +142,7 @@ fn lost_under<R: Threads + Abort + Sync>(
         tell(alloc);
         return Err(AllocError);
     };
-    // `join` does without a thread, and doesn't say so.
+    // If a thread isn't started, `join` works without it, and doesn't report that.
     if !gate.are_met() {
         tell(alloc);
         return Err(AllocError);
@@ -151,7 +151,7 @@ fn lost_under<R: Threads + Abort + Sync>(
     Ok(left.1)
 }
 
-/// The journals of the lost try. Without a thread of its own, a session waits in vain for the other.
+/// The journals of the lost try. A session without a thread of its own waits in vain for the other.
 fn lost<R: Threads + Abort + Sync>(
     rt: &R,
     alloc: Global,
@@ -163,7 +163,7 @@ fn lost<R: Threads + Abort + Sync>(
     lost_under(rt, alloc, plan, &gate)
 }
 
-/// The same. Where a request or the start of a thread is refused, the next try succeeds.
+/// The same. If memory or the start of a thread is refused, the next try succeeds.
 fn lost_again<R: Threads + Abort + Sync>(
     rt: &R,
     alloc: Global,
@@ -195,15 +195,15 @@ fn refused_after_the_lost_row(rt: HostRuntime) -> Result<(), AllocError> {
     check_lost(&rt, rt.alloc(), &plan)
 }
 
-/// Two sessions that want one target. The second may hold it at its end, and build it: so there are 13
-/// lines and up to two closing ones.
+/// Two sessions that want one target. The second may hold and build it at its end: so there are 13
+/// lines, and up to two closing ones.
 const TWO_SESSIONS: [&str; 2] = [
     "file a 1\nlock t\nstart t\nifchange t a\ndone t 1\nunlock t\nood\n",
     "lock t\nstart t\nfile a 2\nood\nlock t\ntargets\n",
 ];
 
-/// The outcome of a run, and its history. Where a request or the start of a thread is refused, the run answers that,
-/// and the next one succeeds.
+/// The outcome of a run, and its history. If memory or the start of a thread is refused, the run
+/// returns that fault, and the next run succeeds.
 fn ran_again<R: Threads + Wait + Sync>(
     rt: &R,
     alloc: Global,
@@ -218,7 +218,7 @@ fn ran_again<R: Threads + Wait + Sync>(
     }
 }
 
-/// The history replays. Where a request is refused, the next try succeeds.
+/// The history replays. If memory is refused, the next try succeeds.
 fn replays_again(
     rt: &impl Abort,
     alloc: Global,
@@ -234,7 +234,7 @@ fn replays_again(
     }
 }
 
-/// How many lines a run has, after which nothing is held.
+/// The number of lines of a run, after which nothing is held or building.
 fn count_of(rt: &impl Abort, lines: &[Line]) -> usize {
     assert!(rt; lines.len() >= 13 && lines.len() <= 15);
     assert!(rt; counted(lines).is_let_go());

@@ -17,7 +17,7 @@ use std::process::Abort;
 /// More schedules than a plan here has.
 pub(crate) const MOST: usize = 20_000;
 
-/// Small plans, whose sessions ask for one target, are refused, lose rows and ask for lists.
+/// Small plans, whose sessions want one target, are refused, lose rows and ask for lists.
 const PLANS: [&[&str]; 5] = [
     &[
         "lock t\nstart t\ndone t 1\nunlock t\nood\nlock t\n",
@@ -72,7 +72,7 @@ fn workers_of(
     Ok(workers)
 }
 
-/// How many rows were passed by this entry, where so many were passed before it.
+/// How many rows the session has passed with this entry, if so many before it.
 fn rows_passed(entry: Option<&Entry>, passed: u32) -> u32 {
     match entry {
         Some(entry) => match entry.place {
@@ -83,9 +83,9 @@ fn rows_passed(entry: Option<&Entry>, passed: u32) -> u32 {
     }
 }
 
-/// Takes one step, whose command was ready as often as it tried an exchange: as often as its row is
-/// past the session's row before it. So many rows were passed by then. A session that is at its end
-/// tries none.
+/// Takes one step. The command was ready once for each exchange that it tried: once for each row
+/// after the session's row before, up to its own. At its end a session tries none. Returns how many
+/// rows the session has passed.
 fn take_turn(
     rt: &impl Abort,
     alloc: Global,
@@ -162,8 +162,8 @@ fn check_legal(
     replays(rt, alloc, &history, lines.len())
 }
 
-/// The lines of the history of this schedule, which is legal and agrees with what was counted: so
-/// many rows, and so many exchanges.
+/// The lines of this schedule's history, its rows and its exchanges. The history is legal, and
+/// agrees with the counts.
 pub(crate) fn lines_of_schedule(
     rt: &impl Abort,
     alloc: Global,
@@ -178,7 +178,7 @@ pub(crate) fn lines_of_schedule(
     Ok((lines, rows, gate.all()))
 }
 
-/// The same of a schedule in which each turn makes a line: so many rows, and so many exchanges.
+/// The same of a schedule in which each turn makes a line: its rows and its exchanges.
 pub(crate) fn check_schedule(
     rt: &impl Abort,
     alloc: Global,
@@ -190,7 +190,7 @@ pub(crate) fn check_schedule(
     Ok((rows, exchanges))
 }
 
-/// How many schedules there are from this one on; the history of each is legal.
+/// How many schedules there are from this one on. The history of each is legal.
 fn check_orders(
     rt: &impl Abort,
     alloc: Global,

@@ -14,7 +14,7 @@ use std::alloc::{AllocError, Global};
 use std::process::Abort;
 use std::thread::{Threads, join};
 
-/// Does the scripts of both sessions. Both threads are joined before it answers.
+/// Does the scripts of both sessions. Joins both threads before it returns.
 fn work_both<G: Gate + Sync, R: Threads + Abort + Sync>(
     rt: &R,
     alloc: Global,

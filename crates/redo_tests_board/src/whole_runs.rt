@@ -12,7 +12,7 @@ use std::process::Abort;
 use std::sync::Wait;
 use std::thread::Threads;
 
-/// A session that is held until the other one's command is done comes second.
+/// A session that waits until the other one's command is done comes second.
 const GATE_A: Run = Run {
     files: &FILES,
     pairs: &[(Moment::Before(0, 0), Moment::After(1, 0))],
@@ -31,8 +31,8 @@ const GATE_B: Run = Run {
     places: &[],
 };
 
-/// Three sessions that want one lock: the second is told busy by the first one's grant, and by the
-/// third's. Each command is held until the one before it in the history is done.
+/// Three sessions that want one lock. The second gets `busy` by the first one's grant, and by the
+/// third's. Each command waits until the one before it in the history is done.
 const BUSY_ACROSS_A_RELEASE: Run = Run {
     files: &[
         "lock t\nunlock t\n",
@@ -78,7 +78,7 @@ const MERGING: Run = Run {
     places: &[],
 };
 
-/// A session without a command.
+/// Sessions without a command.
 const EMPTY: Run = Run {
     files: &[""],
     pairs: &[],
@@ -107,8 +107,8 @@ const BETWEEN_EMPTY: Run = Run {
     places: &[],
 };
 
-/// Sessions that share no name, whose commands take turns. Nothing orders their locks, so that in
-/// the history all of the first come first.
+/// The commands of sessions that share no name take turns. Nothing orders their locks, so in the
+/// history all of the first session come first.
 const BESIDE_OWN_LOCK: Run = Run {
     files: &[COMMON_PATH, "lock T\nlock T\n"],
     pairs: &[
@@ -155,7 +155,7 @@ fn runs_under_gates(rt: HostRuntime) -> Result<(), RunFault> {
 /// The file of each of many sessions: all build one target.
 const BUILD: &str = "file a 1\nlock t\nstart t\nifchange t a\ndone t 1\nunlock t\nood\n";
 
-/// What the 64 sessions leave replays as the same.
+/// The history of the 64 sessions replays as `same`.
 fn check_most<R: Threads + Wait + Abort + Sync>(
     rt: &R,
     alloc: Global,

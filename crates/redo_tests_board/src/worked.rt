@@ -1,4 +1,4 @@
-//! What is written down of sessions: their files, and what comes of them.
+//! Sessions that were worked out by hand: their files and their histories.
 use crate::gates::Moment;
 use crate::outcomes::Run;
 
@@ -10,7 +10,7 @@ pub(crate) const COMMON_PATH: &str =
     "file a.c 10\nlock a.o\nstart a.o\nifchange a.o a.c\ndone a.o 20\n\
     unlock a.o\nood\ntargets\nsources\n";
 
-/// What comes of it.
+/// Its history.
 pub(crate) const COMMON_PATH_HISTORY: &str = "history 9\n\
     1 file a.c 10 => ok\n\
     1 lock a.o => granted 1\n\
@@ -22,19 +22,19 @@ pub(crate) const COMMON_PATH_HISTORY: &str = "history 9\n\
     1 targets => targets a.o\n\
     1 sources => sources a.c\n";
 
-/// One session, which breaks off in a build.
+/// One session, which ends during a build.
 pub(crate) const BROKEN_OFF: &str = "lock T\nstart T\n";
 
-/// What comes of it.
+/// Its history.
 pub(crate) const BROKEN_OFF_HISTORY: &str = "history 4\n\
     1 lock T => granted 1\n\
     1 start T => ok\n\
     1 failed T => ok\n\
     1 unlock T => ok\n";
 
-/// The first session's commands for a target, and its question; the second session's file comes
-/// between the question and its reply. The second session is held until the first is ready for its
-/// question at the fifth row, and the first is paused there until the second's file is told.
+/// The first session builds a target and then asks `ood`. The second one's `file` comes between
+/// that command's first try and its reply: the second session waits until the first is ready at the
+/// fifth row, and the first waits there until the `file` is done.
 pub(crate) const LOST_TRY: Run = Run {
     files: &[
         "file a.c 10\nlock a.o\nstart a.o\nifchange a.o a.c\ndone a.o 20\nunlock a.o\nood\n",

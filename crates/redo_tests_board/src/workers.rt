@@ -1,4 +1,4 @@
-//! Workers that try a refused step once more.
+//! Workers that try a step once more if memory was refused.
 ghost use Rattle.std.specs.Prelude.{◌≡◌, ◌+◌, ◌<◌, length, IfOk};
 ghost use Rattle.redo_board.specs.Shown.{first_of, end_of, session_of};
 ghost use Rattle.redo_board.specs.Kept.{IsBoardOf, SitsAt, IsFresh, WorksAt};
@@ -13,7 +13,7 @@ use std::process::Abort;
 /// More steps than a session here takes.
 pub(crate) const MOST_STEPS: u32 = 16;
 
-/// The worker of a seat. Where it is refused, the seat comes back, and the next try succeeds.
+/// The worker of a seat. If memory is refused, the seat comes back, and the next try succeeds.
 pub(crate) fn worker_of(
     alloc: Global,
     _board: &Board,
@@ -61,7 +61,7 @@ impl Steps {
         }
     }
 
-    /// Whether these are the entries that were made.
+    /// Whether the entries are as many, and the last one is the same.
     fn are(&self, entries: &[Entry]) -> bool {
         let last = match entries.last() {
             Some(entry) => Some((entry.number, entry.place)),
@@ -71,7 +71,7 @@ impl Steps {
     }
 }
 
-/// One step. Where it is refused, the next step does the command.
+/// One step. If memory is refused, the next step does the command.
 fn step<G: Gate>(
     alloc: Global,
     board: &Board,
@@ -94,8 +94,8 @@ fn step<G: Gate>(
     Ok(())
 }
 
-/// Does so many commands of the seat's session, or all where there are fewer, and leaves. Its
-/// journal has what the steps have made, and a refused step nothing.
+/// Does so many commands of the seat's session, or all if there are fewer, and leaves. Its journal
+/// has the entries that the steps have made, and none of a refused step.
 pub(crate) fn work<G: Gate>(
     rt: &impl Abort,
     alloc: Global,
