@@ -1,12 +1,12 @@
 -- What the row words of a legal history say, and how many rows, lines and grants it has.
-use Rattle.std.proofs.Common.{◌≡◌, ℕ, ◌+◌, ◌*◌, ◌<◌, ◌≤◌, true, false, List, [], ◌∷◌, length, map, get_or, None, refl, sym, ap, ◌∙◌, subst, inl, inr, arith}
-use Rattle.std.specs.List.{AllByRecursion, count_by}
+use Rattle.std.proofs.Common.{◌≡◌, ℕ, ◌<◌, ◌≤◌, true, false, List, [], ◌∷◌, length, map, get_or, None, refl, sym, ap, ◌∙◌, subst, inl, inr, arith}
+use Rattle.std.specs.List.{AllByRecursion}
 use Rattle.std.proofs.lemmas.Bool.{false≢true}
 use Rattle.std.proofs.lemmas.List.{get_or_past, get_or_push, get_or_append_left, length_push}
 use mathlib.Core.Logic.{dite}
 use native.Mathlib.Decide.{dec_lt}
 use Rattle.redo_model.specs.Inside.Names.{IsNaming}
-use Rattle.redo_model.specs.Command.{Command, Failed, Lock, asked_lock, target_of}
+use Rattle.redo_model.specs.Command.{Command, asked_lock}
 use Rattle.redo_model.specs.Reply.{Reply, Okay, Granted, Busy, Stale, Stamped, Refused, NotLocked, Building, NotBuilding, Itself, Exists}
 use Rattle.redo_model.specs.Reply as replies
 use Rattle.redo_model.specs.History as histories
@@ -15,19 +15,20 @@ use Rattle.redo_model.specs.Renaming.{IsBelow, AllBelow, IsReplyBelow, IsLineBel
 use Rattle.redo_model.specs.Placed.{line_of, is_row}
 use Rattle.redo_model.specs.Inside.Room.{is_lock}
 use Rattle.redo_joint.specs.Replayed.{IsLegalOfPlan}
-use Rattle.redo_joint.proofs.Closed.{IsScripted, IsFailing, LineTells, AllTell, all_tell}
+use Rattle.redo_joint.proofs.Closed.{LineTells, AllTell, all_tell}
 use Rattle.redo_joint.proofs.Replayed as joint
 use Rattle.redo_journal.specs.Plans.{PlanOf, IsPlan, script_of}
 use Rattle.redo_board.specs.Rows.{naming_of, command}
 use Rattle.redo_board.specs.Core.{Core, start, Line, Way, row, claim, free, rows_then, place_at, holds_at, way_at, done, IsNext, IsLegal, after_all, row_words, word, replay}
-use Rattle.redo_board.specs.Inside.Core.{IsWord}
+use Rattle.redo_board.specs.Inside.Core.{IsRow, IsWord}
 use Rattle.redo_board.proofs.Bridge.{legal_from, below_told, of_plan_told, placed_told}
 use Rattle.redo_board.proofs.ClaimWords.{claim_no_row}
 use Rattle.redo_board.proofs.Orders.{by_text_is_naming}
 use Rattle.redo_board.proofs.Scripts.{command_below}
 use Rattle.redo_board.proofs.Sound.{Sound, start-sound, done-sound, goes-now, command-below}
 use Rattle.redo_board.proofs.Ways.{Goes}
-use Rattle.redo_board.proofs.Words.{word-of-line, word-of-closing, is_line_word, is_closing_word}
+use Rattle.redo_joint.specs.RowWord.{row_for}
+use Rattle.redo_joint.proofs.Decoding.{word_some, line_decoded, closing_decoded}
 use Rattle.redo_board.proofs.WordsTold.{words-told}
 
 -- more names
@@ -124,33 +125,30 @@ module _ (p : PlanOf) (plan : IsPlan p) where
     abbrev word₁ : ℕ
     word₁ = word p l.session l.number l.command (holds_at c l.session l.command)
 
-    line_is_word : IsScripted (script_of p) l → asked_lock l.command ≡ None → IsWord p word₁
-    line_is_word scripted asked =
-        let short = plan.short l.session in
-        let within = scripted.within in
-        let row : asked_lock (command p l.session l.number) ≡ None =
-        ap asked_lock scripted.command ∙ asked in
-        subst (IsWord p)
-        (sym (word-of-line p l.session l.number l.command (holds_at c l.session l.command) within))
-        (is_line_word p l.session l.number (holds_at c l.session l.command) (omega arith) plan.few
-        is.session within row (command_below p l.session l.number plan))
-
-    closing_is_word : IsFailing (script_of p) l → IsWord p word₁
-    closing_is_word failing =
-        let h = holds_at c l.session l.command in
-        let low = (subst (IsBelow (length p.names)) failing.command
-        (command-below p c l plan is o)).0 in
-        subst (IsWord p)
-        (sym (word-of-closing p l.session l.number l.command h failing.past
-        ∙ ap (λ (x : Command ℕ). 4294967296 + 65536 * l.session
-        + Rattle.std.specs.Option.unwrap_or (target_of x) 0) failing.command))
-        (is_closing_word p l.session failing.target failing.below low is.session)
-
     row_is_word : is_row l.place ≡ true → asked_lock l.command ≡ None → IsWord p word₁
-    row_is_word r asked = elim (tells.row r) [
-      | inl scripted ↦ line_is_word scripted asked
-      | inr failing ↦ closing_is_word failing
-    ]
+    row_is_word r asked =
+        let h = holds_at c l.session l.command in
+        let few = plan.few in
+        let here = is.session in record {
+          some = word_some (row_for (script_of p) l.session l.number l.command h);
+          row = elim (tells.row r) [
+            | inl scripted ↦
+                subst (IsRow p)
+                (sym
+                (line_decoded (script_of p) l h scripted (omega arith) (plan.short l.session)))
+                (record {
+                  session = here;
+                  within = scripted.within;
+                  no_lock = ap asked_lock scripted.command ∙ asked;
+                  below = command_below p l.session l.number plan;
+                })
+            | inr failing ↦
+                let low = (subst (IsBelow (length p.names)) failing.command
+                (command-below p c l plan is o)).0 in
+                subst (IsRow p) (sym (closing_decoded (script_of p) l h failing))
+                (record { session = here; within = tt; no_lock = refl; below = (low, tt) })
+          ];
+        }
 
     words_done : (w : Way) → Goes (naming_of p).order c.state l.session l.command w
         → l.place ≡ place_at c w → ((r : ℕ) → r < length c.rows → IsWord p (get_or c.rows r 0))

@@ -1,13 +1,11 @@
 -- What a session does next: the journal has a place for it, and its row word says what it is.
-use Rattle.std.proofs.Common.{◌≡◌, ℕ, ◌<◌, List, [], ◌∷◌, ◌++◌, length, Bool, Some, sym, ap, ◌∙◌, subst, arith, inl, inr}
-use Rattle.std.specs.Option.{unwrap_or}
+use Rattle.std.proofs.Common.{◌≡◌, ℕ, ◌<◌, List, [], ◌∷◌, ◌++◌, length, Bool, Some, ◌∙◌, subst, arith, inl, inr}
 use Rattle.std.proofs.lemmas.Bool.{false≢true}
 use Rattle.std.proofs.lemmas.List.{length_push}
-use Rattle.redo_model.specs.Command.{target_of}
 use Rattle.redo_model.specs.Reply.{Okay}
 use Rattle.redo_model.specs.Renaming.{IsBelow}
 use Rattle.redo_model.specs.Step.{records_after}
-use Rattle.redo_model.specs.Placed.{Place, Granted}
+use Rattle.redo_model.specs.Placed.{Place, Row, Granted}
 use Rattle.redo_model.specs.Journals.{Numbered}
 use Rattle.redo_model.specs.Inside.Room.{room_of}
 use Rattle.redo_model.proofs.Nexts.{next_cases, next_line_from}
@@ -18,7 +16,9 @@ use Rattle.redo_board.specs.Plays.{next, own_way}
 use Rattle.redo_board.specs.Inside.Plays.{made}
 use Rattle.redo_board.proofs.Below.{AskBelow, next-below}
 use Rattle.redo_board.proofs.OwnLines.{IsOwn, own_entries, own_next, closing_fails}
-use Rattle.redo_board.proofs.Words.{closing_word, word-of-line, word-of-closing, replay-line, replay-closing}
+use Rattle.redo_board.proofs.Words.{replay-push}
+use Rattle.redo_joint.proofs.Closed.{RowTells}
+use Rattle.redo_joint.proofs.Decoding.{row_says}
 
 -- the journal has a place for it
 pub next_room : (p : PlanOf) (s : ℕ) (j : List Line) (n : Numbered ℕ) → IsOwn p s j
@@ -39,22 +39,18 @@ pub next_word : (p : PlanOf) (s : ℕ) (j : List Line) (n : Numbered ℕ) (h : B
     ≡ records_after (naming_of p) (replay p ws) s h n.command
 next_word p s j n h ws plan here below is-next in-row =
     let few = plan.few in
-    let short = plan.short s in
     let names = plan.names.few in
+    let line = made s n Okay (Row 0) in
+    let tells : RowTells (script_of p) line =
     elim (next_cases (naming_of p) (script_of p s) j n is-next) [
       | inl is ↦
           let found = next_line_from (script_of p s) j n is in
-          let within = found.within in
-          ap (λ w. replay p (ws ++ w ∷ [])) (word-of-line p s n.number n.command h within)
-          ∙ replay-line p ws s n.number h n.command (omega arith) (omega arith)
-          (sym found.command)
+          inl (record { within = found.within; command = found.command })
       | inr closing ↦
           let (t, fails) = closing_fails p s j n.command closing.closes in-row in
           let low : t < length p.names =
           (subst (IsBelow (length p.names)) fails (next-below p s j n plan below is-next)).0 in
-          ap (λ w. replay p (ws ++ w ∷ []))
-          (word-of-closing p s n.number n.command h closing.past
-          ∙ ap (λ x. closing_word s (unwrap_or (target_of x) 0)) fails)
-          ∙ replay-closing p ws s t h (omega arith)
-          ∙ ap (λ x. records_after (naming_of p) (replay p ws) s h x) (sym fails)
-    ]
+          inr (record { past = closing.past; target = t; command = fails; below = omega arith })
+    ] in
+    replay-push p ws (word p s n.number n.command h)
+    ∙ row_says (script_of p) line h (naming_of p) (replay p ws) (omega arith) (plan.short s) tells

@@ -11,25 +11,29 @@ use Rattle.redo_journal.specs.Plans.{PlanOf, IsPlan, script_of}
 use Rattle.redo_board.specs.Rows.{command}
 
 -- each command of a plan is of the plan's names
-pub command_below : (p : PlanOf) (s k : ℕ) → IsPlan p → IsBelow (length p.names) (command p s k)
-command_below p s k plan = at (script_of p s) k (plan.below s)
+pub command_below : (p : PlanOf) (s number : ℕ) → IsPlan p
+    → IsBelow (length p.names) (command p s number)
+command_below p s number plan = at (script_of p s) number (plan.below s)
   where
-    at : (xs : List (Item ℕ)) (k : ℕ)
+    at : (xs : List (Item ℕ)) (number : ℕ)
         → AllByRecursion (λ x. IsBelow (length p.names) x.command) xs
-        → IsBelow (length p.names) (get_or (commands_in xs) k Ood)
-    at [] k all = tt
+        → IsBelow (length p.names) (get_or (commands_in xs) number Ood)
+    at [] number all = tt
     at (x ∷ xs) zero all = all.0
-    at (x ∷ xs) (suc k) all = at xs k all.1
+    at (x ∷ xs) (suc number) all = at xs number all.1
 
 -- the command of a line of the code's script
-pub command_in : (items : List coded.Item) (script : List (Item ℕ)) (k : ℕ) (item : coded.Item)
-    → map item_of items ≡ script → k < length items → item ≡ get_or items k item
-    → command_of item.command ≡ get_or (commands_in script) k Ood
-command_in items script k item same within is =
-    let long : k < length (map item_of items) =
+pub command_in : (items : List coded.Item) (script : List (Item ℕ)) (number : ℕ)
+    (item : coded.Item)
+    → map item_of items ≡ script → number < length items → item ≡ get_or items number item
+    → command_of item.command ≡ get_or (commands_in script) number Ood
+command_in items script number item same within is =
+    let long : number < length (map item_of items) =
     let a = length-map items item_of in omega arith in
     let command : Item ℕ → _ = λ x. x.command in
-    subst (λ (xs : List (Item ℕ)). command_of item.command ≡ get_or (commands_in xs) k Ood) same
+    subst
+    (λ (xs : List (Item ℕ)). command_of item.command ≡ get_or (commands_in xs) number Ood)
+    same
     (ap (λ (x : coded.Item). command_of x.command) is
-    ∙ ap command (sym (get_or-map item_of items k item (item_of item) within))
-    ∙ sym (get_or-map command (map item_of items) k (item_of item) Ood long))
+    ∙ ap command (sym (get_or-map item_of items number item (item_of item) within))
+    ∙ sym (get_or-map command (map item_of items) number (item_of item) Ood long))

@@ -17,7 +17,7 @@ use Rattle.redo_board.specs.Views.{ViewOf}
 use Rattle.redo_board.specs.Rule.{Told}
 use Rattle.redo_board.specs.Kept.{Lags}
 use Rattle.redo_board.proofs.Orders.{same_records, replies_too}
-use Rattle.redo_joint.specs.Replayed.{session_in, flag_in, command_in}
+use Rattle.redo_joint.specs.RowWord.{decoded, session_of, holds_in, command_of, after_row}
 use Rattle.redo_board.proofs.Words.{replay-push}
 use Rattle.redo_board.proofs.Bounds.{words_name}
 use Rattle.redo_board.proofs.Totals.{few, few_rows}
@@ -71,21 +71,17 @@ module _ (p : PlanOf) (old new : Stored) (seen : List ℕ)
     (count : count_of new ≡ count_of old) (order : order_of new ≡ order_of old)
     (applied : applied_of new ≡ applied_of old + 1) where
   -- the pending word is applied
-  pub lags_caught : (n : ℕ) (x : Command ℕ) → Lags p old (Some n) seen
-      → x ≡ command_in (script_of p) n
-      → records_of new
-      ≡ records_after (naming_of old) (records_of old) (session_in n) (flag_in n) x
+  pub lags_caught : (n : ℕ) → Lags p old (Some n) seen
+      → records_of new ≡ after_row (naming_of old) (script_of p) (records_of old) (decoded n)
       → Lags p new None seen
-  lags_caught n x lags is after = record {
+  lags_caught n lags after = record {
     words = seen;
     behind = refl;
     records =
         after
-        ∙ same_records (order_of old) (rows.naming_of p).order (records_of old) (session_in n)
-        (flag_in n) x
-        ∙
-        (λ i. records_after (rows.naming_of p) (lags.records i) (session_in n) (flag_in n)
-        (is i))
+        ∙ same_records (order_of old) (rows.naming_of p).order (records_of old)
+        (session_of (decoded n)) (holds_in (decoded n)) (command_of (script_of p) (decoded n))
+        ∙ ap (λ r. after_row (rows.naming_of p) (script_of p) r (decoded n)) lags.records
         ∙ sym (replay-push p lags.words n)
         ∙ ap (replay p) (sym lags.behind);
     applied = let a = lags.applied in

@@ -1,25 +1,22 @@
 -- The database as the board runs it: one line after the other, each at its place.
-use Rattle.std.specs.Prelude.{◌≡◌, ℕ, ◌+◌, ◌-◌, ◌*◌, ◌<◌, ◌==◌, Bool, false, not, ◌&&◌, List, [], ◌∷◌, ◌++◌, length, Option, Some, None, cond, nat_lt}
-use Rattle.std.specs.Option.{unwrap_or}
+use Rattle.std.specs.Prelude.{◌≡◌, ℕ, ◌+◌, ◌-◌, ◌*◌, ◌<◌, ◌==◌, Bool, false, not, ◌&&◌, List, [], ◌∷◌, ◌++◌, length, Option, Some, None, cond}
 use Rattle.redo_model.specs.State.{State, Records, Locks, empty, target_state}
 use Rattle.redo_model.specs.Command.{Command, Lock, Unlock, target_of}
 use Rattle.redo_model.specs.Step.{Answers, after, holds_target, is_built_by}
 use Rattle.redo_model.specs.Renaming.{IsReplyBelow}
 use Rattle.redo_model.specs.Placed.{Place, Row, Granted, Busy, Released, PlacedLine}
 use Rattle.redo_model.specs.Journals.{next_of, numbered}
+use Rattle.redo_joint.specs.RowWord.{word_for}
 use Rattle.redo_joint.specs.Replayed.{no_records, replayed}
 use Rattle.redo_journal.specs.Plans.{PlanOf, script_of}
-use Rattle.redo_board.specs.Rows.{naming_of, command, bit}
+use Rattle.redo_board.specs.Rows.{naming_of}
 
 abbrev pub Line : Type 0
 Line = PlacedLine ℕ
 
--- the row word of the session s for its command with this number, whose target it holds or not: for
--- a line of its script, or for a closing command
+-- the row word of the session s for its command with this number, whose target it holds or not
 abbrev pub word : PlanOf → ℕ → ℕ → Command ℕ → Bool → ℕ
-word p s number x holds =
-    cond (nat_lt number (length (script_of p s))) (1 + 2 * (4096 * s + number) + bit holds)
-    (4294967296 + 65536 * s + unwrap_or (target_of x) 0)
+word p = word_for (script_of p)
 
 -- the records after the commands that the words name
 abbrev pub replay : PlanOf → List ℕ → Records ℕ

@@ -1,6 +1,6 @@
 -- The rows of a board: one for each line of the plan whose command isn't a lock, and one more for
 -- each start.
-use Rattle.std.specs.Prelude.{ℕ, ◌+◌, Bool, cond, List, [], ◌∷◌, slice_index_or}
+use Rattle.std.specs.Prelude.{ℕ, ◌+◌, List, [], ◌∷◌, slice_index_or}
 use Rattle.redo_model.specs.Names.{Naming}
 use Rattle.redo_model.specs.Command.{Command, Item, Lock, Start, Ood, commands_in}
 use Rattle.redo_store.specs.Orders.{by_text}
@@ -13,9 +13,6 @@ naming_of p = by_text p.names
 -- the command of the line with this number in the session's script
 abbrev pub command : PlanOf → ℕ → ℕ → Command ℕ
 command p s number = slice_index_or (commands_in (script_of p s)) number Ood
-
-abbrev pub bit : Bool → ℕ
-bit b = cond b 1 0
 
 -- the rows that a line may need: a lock none; a start one, and one more for a closing `failed`
 abbrev pub rows_for : Command ℕ → ℕ

@@ -23,7 +23,7 @@ pub fn the_rule_runs()
 /// The row words determine the records: two histories of a plan with the same row words leave the
 /// same records.
 #[tactic(auto, using(crate::proofs::Ended::words_fix))]
-pub fn words_fix_the_state()
+pub fn words_fix_the_records()
     ensures { (p : PlanOf) (one other : List Line) →
         IsPlan p → IsHistoryOf p one → IsHistoryOf p other →
         words_of p one ≡ words_of p other →

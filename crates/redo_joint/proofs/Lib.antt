@@ -7,7 +7,6 @@ pub mod Tied
 pub mod Answered
 pub mod Bridge
 pub mod Orders
-pub mod Replayed
 pub mod EndMore
 pub mod ByName
 pub mod FromName
@@ -15,6 +14,8 @@ pub mod Standing
 pub mod TwoSessions
 pub mod OneOrder
 pub mod Closed
+pub mod Decoding
+pub mod Replayed
 pub mod JournalByName
 pub mod OnlySo
 pub mod ByHand

@@ -1,68 +1,26 @@
 -- The row words determine the records.
-use Rattle.std.proofs.Common.{◌≡◌, ℕ, ◌+◌, ◌-◌, ◌*◌, ◌/◌, ◌%◌, ◌<◌, ◌≤◌, Bool, true, false, cond, not, eqb, List, [], ◌∷◌, ◌++◌, length, map, get_or, refl, sym, ap, ◌∙◌, subst, inl, inr, arith}
-use Rattle.std.specs.Prelude.{nat_lt}
-use Rattle.std.specs.Option.{unwrap_or}
+use Rattle.std.proofs.Common.{◌≡◌, ℕ, ◌<◌, ◌≤◌, true, List, [], ◌∷◌, ◌++◌, length, map, refl, sym, ap, ◌∙◌, subst, arith}
 use Rattle.std.specs.List.{AllByRecursion}
-use Rattle.std.proofs.lemmas.Bool.Decides.{Decides-ltb}
-use Rattle.std.proofs.lemmas.Bool.{false_from_ne_true}
 use mathlib.Core.Logic.{dite}
 use native.Mathlib.Decide.{ℕ_discrete, dec_lt}
 use Rattle.redo_model.specs.Names.{Naming}
 use Rattle.redo_model.specs.Inside.Names.{IsNaming}
 use Rattle.redo_model.specs.State.{State, Records, empty}
-use Rattle.redo_model.specs.Command.{Command, Item, Failed, Ood, commands_in, target_of}
+use Rattle.redo_model.specs.Command.{Item, target_of}
 use Rattle.redo_model.specs.Step.{after, records_after}
 use Rattle.redo_model.specs.History.{left_by, LegalFrom}
 use Rattle.redo_model.specs.Placed.{Place, Row, Granted, Busy, Released, PlacedLine, line_of, part_of, is_row, IsPlacedAfter}
 use Rattle.redo_model.specs.Inside.Placed.{holds_by}
-use Rattle.redo_joint.specs.Words.{word_before, script_word_of, closing_word_of, row_word_of, row_words_after, row_words_of}
+use Rattle.redo_joint.specs.Words.{word_before, row_word_of, row_words_after, row_words_of}
 use Rattle.redo_model.specs.Journals.{IsJournal}
 use Rattle.redo_joint.specs.ByRows.{records_by, records_left}
-use Rattle.redo_joint.specs.Replayed.{is_closing, session_in, number_in, flag_in, target_in, command_in, no_records, replayed, IsLegalOfPlan}
+use Rattle.redo_joint.specs.Replayed.{no_records, replayed, IsLegalOfPlan}
 use Rattle.redo_joint.proofs.Own.{part_of-own, part_of-other}
 use Rattle.redo_joint.proofs.Bridge.{tied_after}
 use Rattle.redo_joint.proofs.Answered.{from_answers}
-use Rattle.redo_joint.proofs.Closed.{IsScripted, IsFailing, RowTells, AllTell, all_tell}
+use Rattle.redo_joint.proofs.Closed.{RowTells, AllTell, all_tell}
+use Rattle.redo_joint.proofs.Decoding.{row_says}
 use Rattle.redo_joint.proofs.Tied.{Tied, tied_at_first}
-
-below_test : (m n : ℕ) → n ≤ m → nat_lt m n ≡ false
-below_test m n from =
-    false_from_ne_true (nat_lt m n)
-    (λ e. let less : m < n = (Decides-ltb m n).0 e in absurd (omega arith))
-
--- a word of a script's line
-script_word : (word : ℕ) → word < 4294967296 → is_closing word ≡ false
-script_word word below = ap not ((Decides-ltb word 4294967296).1 below)
-
-decoded_session : (word s k f : ℕ) → word ≡ 1 + 2 * (4096 * s + k) + f → s < 64 → k < 4096
-    → f < 2 → session_in word ≡ s
-decoded_session word s k f is few short flag =
-    ap (λ b. cond b ((word - 4294967296) / 65536) ((word - 1) / 8192))
-    (script_word word (omega arith))
-    ∙ (let e : (word - 1) / 8192 ≡ s = omega arith in e)
-
-decoded_number : (word s k f : ℕ) → word ≡ 1 + 2 * (4096 * s + k) + f → k < 4096 → f < 2
-    → number_in word ≡ k
-decoded_number word s k f is short flag = omega arith
-
-decoded_flag : (s k : ℕ) (b : Bool) → flag_in (1 + 2 * (4096 * s + k) + cond b 1 0) ≡ b
-decoded_flag s k true = let e : (1 + 2 * (4096 * s + k) + 1 - 1) % 2 ≡ 1 = omega arith in
-    ap (λ n. eqb n 1) e
-decoded_flag s k false = let e : (1 + 2 * (4096 * s + k) + 0 - 1) % 2 ≡ 0 = omega arith in
-    ap (λ n. eqb n 1) e
-
--- a word of a closing line
-closing_word : (s t : ℕ) → is_closing (4294967296 + 65536 * s + t) ≡ true
-closing_word s t = ap not (below_test (4294967296 + 65536 * s + t) 4294967296 (omega arith))
-
-closing_session : (s t : ℕ) → t < 65536 → session_in (4294967296 + 65536 * s + t) ≡ s
-closing_session s t below =
-    let word : ℕ = 4294967296 + 65536 * s + t in
-    ap (λ b. cond b ((word - 4294967296) / 65536) ((word - 1) / 8192)) (closing_word s t)
-    ∙ (let e : (4294967296 + 65536 * s + t - 4294967296) / 65536 ≡ s = omega arith in e)
-
-closing_target : (s t : ℕ) → t < 65536 → target_in (4294967296 + 65536 * s + t) ≡ t
-closing_target s t below = omega arith
 
 -- the sessions of the lines are among those that have scripts
 no_part : (naming : Naming ℕ) (s : ℕ) (script : List (Item ℕ)) (own : List (PlacedLine ℕ))
@@ -108,67 +66,6 @@ module _ {naming : Naming ℕ} (law : IsNaming naming) where
       ∙ ap (λ (d : State ℕ). rows_left d.records (before ++ line ∷ []) lines) step.1
 
   module _ (plan : ℕ → List (Item ℕ)) (short : (s : ℕ) → length (plan s) ≤ 4096) where
-    flag_below : (b : Bool) → cond b 1 0 < 2
-    flag_below true = omega arith
-    flag_below false = omega arith
-
-    -- the word of a row gives what the line does
-    abbrev Replays : Records ℕ → List (PlacedLine ℕ) → PlacedLine ℕ → ℕ → Type 0
-    Replays records own line word =
-        records_after naming records (session_in word) (flag_in word) (command_in plan word)
-        ≡ records_after naming records line.session
-        (holds_by naming own (target_of line.command)) line.command
-
-    at_script : (records : Records ℕ) (own : List (PlacedLine ℕ)) (line : PlacedLine ℕ)
-        → line.session < 64 → IsScripted plan line
-        → Replays records own line (script_word_of naming plan own line)
-    at_script records own line few is =
-        let b = holds_by naming own (target_of line.command) in
-        let word : ℕ = script_word_of naming plan own line in
-        let within = is.within in
-        let long = short line.session in
-        let k : line.number < 4096 = omega arith in
-        let f = flag_below b in
-        let ec = script_word word (omega arith) in
-        let es = decoded_session word line.session line.number (cond b 1 0) refl few k f in
-        let en = decoded_number word line.session line.number (cond b 1 0) refl k f in
-        let ef = decoded_flag line.session line.number b in
-        (λ i. records_after naming records (es i) (ef i)
-        (cond (ec i) (Failed (target_in word))
-        (get_or (commands_in (plan (es i))) (en i) Ood)))
-        ∙ (λ i. records_after naming records line.session b (is.command i))
-
-    at_closing : (records : Records ℕ) (own : List (PlacedLine ℕ)) (line : PlacedLine ℕ)
-        → IsFailing plan line → Replays records own line (closing_word_of naming plan line)
-    at_closing records own line is =
-        let s : ℕ = line.session in
-        let t : ℕ = is.target in
-        let word : ℕ = 4294967296 + 65536 * s + t in
-        let same : closing_word_of naming plan line ≡ word =
-        ap (λ (c : Command ℕ). 4294967296 + 65536 * s + unwrap_or (target_of c) 0) is.command in
-        let ec = closing_word s t in
-        let es = closing_session s t is.below in
-        let et = closing_target s t is.below in
-        subst (Replays records own line) (sym same)
-        ((λ i. records_after naming records (es i) (flag_in word)
-        (cond (ec i) (Failed (et i)) (get_or (commands_in (plan (es i))) (number_in word) Ood)))
-        ∙ ap (records_after naming records s (holds_by naming own (target_of line.command)))
-        (sym is.command))
-
-    row_replayed : (records : Records ℕ) (own : List (PlacedLine ℕ)) (line : PlacedLine ℕ)
-        → line.session < 64 → RowTells plan line
-        → Replays records own line (row_word_of naming plan own line)
-    row_replayed records own line few (inl is) =
-        subst (λ b. Replays records own line
-        (cond b (script_word_of naming plan own line) (closing_word_of naming plan line)))
-        (sym ((Decides-ltb line.number (length (plan line.session))).1 is.within))
-        (at_script records own line few is)
-    row_replayed records own line few (inr is) =
-        subst (λ b. Replays records own line
-        (cond b (script_word_of naming plan own line) (closing_word_of naming plan line)))
-        (sym (below_test line.number (length (plan line.session)) is.past))
-        (at_closing records own line is)
-
     at_place : (place : Place ℕ) (records : Records ℕ) (own : List (PlacedLine ℕ))
         (line : PlacedLine ℕ) (words : List ℕ) (rest : Records ℕ → Records ℕ)
         → line.session < 64 → (is_row place ≡ true → RowTells plan line)
@@ -178,7 +75,8 @@ module _ {naming : Naming ℕ} (law : IsNaming naming) where
         ≡ rest (records_by naming place records own line.session line.command)
     at_place (Row n) records own line words rest few tells same =
         ap (λ (d : Records ℕ). replayed naming plan d words)
-        (row_replayed records own line few (tells refl))
+        (row_says plan line (holds_by naming own (target_of line.command)) naming records few
+        (short line.session) (tells refl))
         ∙ same
         (records_after naming records line.session
         (holds_by naming own (target_of line.command))

@@ -1,4 +1,5 @@
 pub mod ByRows
+pub mod RowWord
 pub mod Words
 pub mod Replayed
 pub mod Events

@@ -1,40 +1,14 @@
 -- The records that the commands of the row words leave.
-use Rattle.std.specs.Prelude.{◌≡◌, ℕ, ◌-◌, ◌/◌, ◌%◌, ◌≤◌, Bool, cond, not, nat_lt, List, [], ◌∷◌, map, slice_index_or, ◌==◌}
+use Rattle.std.specs.Prelude.{◌≡◌, ℕ, ◌≤◌, List, [], ◌∷◌, map}
 use Rattle.std.specs.List.{AllByRecursion}
 use Rattle.redo_model.specs.Names.{Naming}
 use Rattle.redo_model.specs.State.{Records, empty}
-use Rattle.redo_model.specs.Command.{Command, Item, Failed, Ood, commands_in}
-use Rattle.redo_model.specs.Step.{records_after}
+use Rattle.redo_model.specs.Command.{Item}
 use Rattle.redo_model.specs.History.{Legal}
 use Rattle.redo_model.specs.Placed.{PlacedLine, line_of, IsPlaced}
 use Rattle.redo_model.specs.Renaming.{IsLineBelow}
 use Rattle.redo_model.specs.Inside.Journals.{IsOfPlan}
-
--- whether a row word is that of a closing line
-abbrev pub is_closing : ℕ → Bool
-is_closing word = not (nat_lt word 4294967296)
-
--- the session in a row word
-abbrev pub session_in : ℕ → ℕ
-session_in word = cond (is_closing word) ((word - 4294967296) / 65536) ((word - 1) / 8192)
-
--- the number of the command and the flag in the word of a script's line
-abbrev pub number_in : ℕ → ℕ
-number_in word = (word - 1) / 2 % 4096
-
-abbrev pub flag_in : ℕ → Bool
-flag_in word = (word - 1) % 2 == 1
-
--- the target in the word of a closing line
-abbrev pub target_in : ℕ → ℕ
-target_in word = (word - 4294967296) % 65536
-
--- the command of a row word: one of the script, or that the target's build failed
-abbrev pub command_in : (ℕ → List (Item ℕ)) → ℕ → Command ℕ
-command_in plan word =
-    let commands = commands_in (plan (session_in word)) in
-    cond (is_closing word) (Failed (target_in word))
-    (slice_index_or commands (number_in word) Ood)
+use Rattle.redo_joint.specs.RowWord.{decoded, after_row}
 
 -- the records of the empty state
 abbrev pub no_records : {N : Type 0} → Records N
@@ -44,9 +18,7 @@ module _ (naming : Naming ℕ) (plan : ℕ → List (Item ℕ)) where
   -- the records that the commands of the words leave
   abbrev pub replayed : Records ℕ → List ℕ → Records ℕ
   replayed records [] = records
-  replayed records (word ∷ words) =
-      let command = command_in plan word in
-      replayed (records_after naming records (session_in word) (flag_in word) command) words
+  replayed records (word ∷ words) = replayed (after_row naming plan records (decoded word)) words
 
   -- a legal placed history of the plan, which has scripts for at most 64 sessions, over at most
   -- 65,536 names

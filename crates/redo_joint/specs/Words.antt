@@ -1,10 +1,10 @@
 -- The words of the board that a placed history writes.
-use Rattle.std.specs.Prelude.{ℕ, ◌+◌, ◌*◌, cond, List, [], ◌∷◌, ◌++◌, length, nat_lt, ◌==◌}
-use Rattle.std.specs.Option.{unwrap_or}
+use Rattle.std.specs.Prelude.{ℕ, ◌+◌, ◌*◌, cond, List, [], ◌∷◌, ◌++◌, ◌==◌}
 use Rattle.redo_model.specs.Names.{Naming}
 use Rattle.redo_model.specs.Command.{Item, target_of}
 use Rattle.redo_model.specs.Placed.{Place, Row, Granted, Busy, Released, PlacedLine, part_of, grants_in, releases_in}
 use Rattle.redo_model.specs.Inside.Placed.{holds_by}
+use Rattle.redo_joint.specs.RowWord.{word_for}
 
 -- the words after the word of a line, if the line has a row
 abbrev pub word_before : {N : Type 0} → Place N → ℕ → List ℕ → List ℕ
@@ -14,22 +14,11 @@ word_before (Busy t g) word words = words
 word_before (Released t g) word words = words
 
 module _ (naming : Naming ℕ) (plan : ℕ → List (Item ℕ)) where
-  -- of a line of the script: which command of which session it is, and whether the session held the
-  -- command's target before, by its own lines
-  abbrev pub script_word_of : List (PlacedLine ℕ) → PlacedLine ℕ → ℕ
-  script_word_of own line =
-      let held = cond (holds_by naming own (target_of line.command)) 1 0 in
-      1 + 2 * (4096 * line.session + line.number) + held
-
-  -- of a closing line: the session, and the command's target
-  abbrev pub closing_word_of : PlacedLine ℕ → ℕ
-  closing_word_of line =
-      4294967296 + 65536 * line.session + unwrap_or (target_of line.command) 0
-
+  -- of a row's line, after these lines of its session
   abbrev pub row_word_of : List (PlacedLine ℕ) → PlacedLine ℕ → ℕ
   row_word_of own line =
-      cond (nat_lt line.number (length (plan line.session))) (script_word_of own line)
-      (closing_word_of line)
+      let held = holds_by naming own (target_of line.command) in
+      word_for plan line.session line.number line.command held
 
   abbrev pub row_words_after : List (PlacedLine ℕ) → List (PlacedLine ℕ) → List ℕ
   row_words_after before [] = []

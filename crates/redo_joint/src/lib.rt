@@ -6,5 +6,8 @@ pub mod events;
 pub mod histories;
 pub mod merging;
 pub mod renaming;
+mod row_word;
 pub mod words;
 pub mod worked;
+
+pub use row_word::RowWord;

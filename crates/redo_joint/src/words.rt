@@ -9,6 +9,8 @@ ghost use Rattle.redo_model.specs.Command.{Item};
 ghost use Rattle.redo_model.specs.Names.{Text, numbers, texts};
 ghost use Rattle.redo_model.specs.Placed.{IsPlaced, PlacedLine, part_of};
 ghost use Rattle.redo_model.specs.Inside.Names.{IsNaming};
+ghost use Rattle.redo_joint.specs.RowWord.{Fits, decoded, encoded};
+ghost use Rattle.redo_joint.specs.declared.row_word.RowWord.{RowWord};
 ghost use Rattle.redo_joint.specs.Words.{claim_word_of, row_word_of, row_words_of, word_before};
 
 /// The words after one line more, over numbers, and the claim words over texts too.
@@ -30,6 +32,12 @@ pub fn words_by_one_more()
         ≡ claim_word_of texts lines t + moved_by texts line.place t }
 {}
 
+/// Decoding a row word undoes encoding it.
+#[tactic(auto, using(crate::proofs::Decoding::undone))]
+pub fn decoding_undoes_encoding()
+    ensures { (row : RowWord) → Fits row → decoded (encoded row) ≡ row }
+{}
+
 /// A legal placed history leaves the records that the commands of its row words leave.
 pub fn records_by_words()
     ensures { (order : ℕ → ℕ → Ordering) (plan : ℕ → List (Item ℕ))
@@ -40,7 +48,7 @@ pub fn records_by_words()
 {}
 
 /// Two legal placed histories of one plan with the same row words leave the same records.
-pub fn words_fix_the_state()
+pub fn words_fix_the_records()
     ensures { (order : ℕ → ℕ → Ordering) (plan : ℕ → List (Item ℕ))
         (one other : List (PlacedLine ℕ)) → IsNaming (numbers order) →
         IsLegalOfPlan (numbers order) plan one → IsLegalOfPlan (numbers order) plan other →

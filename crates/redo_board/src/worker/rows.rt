@@ -2,11 +2,10 @@ ghost use Rattle.std.specs.Prelude.{◌≡◌, ◌+◌, ◌^◌, ◌<◌, true, 
 ghost use Rattle.std.specs.Prelude.{MatchBool, length};
 ghost use Rattle.redo_model.specs.Command.{asked_lock};
 ghost use Rattle.redo_model.specs.Renaming.{IsBelow};
-ghost use Rattle.redo_model.specs.Step.{records_after};
 ghost use Rattle.redo_terms.specs.Meaning.{command_of, reply_of};
 ghost use Rattle.redo_store.specs.Stored.{records_of, naming_of, order_of, applied_of, count_of};
 ghost use Rattle.redo_store.specs.Stored.{has_room_for, IsSameButRoom};
-ghost use Rattle.redo_joint.specs.Replayed.{session_in, flag_in, command_in};
+ghost use Rattle.redo_joint.specs.RowWord.{after_row, decoded};
 ghost use Rattle.redo_journal.specs.Plans.{IsPlan, script_of};
 ghost use Rattle.redo_board.specs.Rows.{rows_of};
 ghost use Rattle.redo_board.specs.Core.{row};
@@ -24,7 +23,8 @@ use crate::plan::command_at;
 use crate::rule::{Miss, Pass, Try};
 use crate::worker::Worker;
 use crate::worker::ways::holds_its_target;
-use crate::worker::words::{again, flag_of, is_closing, number_of, session_of, target_of, word_of};
+use crate::worker::words::{again, word_of};
+use redo_joint::RowWord;
 use redo_journal::{Entry, Next, Place, Plan};
 use redo_store::Store;
 use redo_terms::{Command, Reply};
@@ -35,20 +35,26 @@ fn apply_word(store: &mut Store, plan: &Plan, word: u64) -> Result<(), AllocErro
     requires word { IsPlan plan.now × IsWord plan.now word }
     requires names { count_of store.old ≡ length plan.now.names }
     requires applied { applied_of store.old + 1 < 2 ^ 32 }
-    ensures after { OnOk result (records_of store.new ≡ records_after (naming_of store.old)
-        (records_of store.old) (session_in word) (flag_in word)
-        (command_in (script_of plan.now) word)) }
+    ensures after { OnOk result (records_of store.new ≡ after_row (naming_of store.old)
+        (script_of plan.now) (records_of store.old) (decoded word)) }
     ensures applied { OnOk result (applied_of store.new ≡ applied_of store.old + 1) }
     ensures count { count_of store.new ≡ count_of store.old }
     ensures order { order_of store.new ≡ order_of store.old }
     ensures err { OnErr result (IsSameButRoom store.old store.new) }
 {
-    let session = session_of(word);
-    let holds = flag_of(word);
-    if is_closing(word) {
-        return store.apply(session, &Command::Failed(target_of(word)), holds);
+    match RowWord::decode(word) {
+        RowWord::Line {
+            session,
+            number,
+            holds,
+        } => {
+            let command = command_at(plan, session, number as usize);
+            store.apply(session, command, holds)
+        }
+        RowWord::Closing { session, target } => {
+            store.apply(session, &Command::Failed(target), false)
+        }
     }
-    store.apply(session, command_at(plan, session, number_of(word)), holds)
 }
 
 impl Worker {

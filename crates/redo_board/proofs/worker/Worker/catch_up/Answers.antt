@@ -1,6 +1,5 @@
-use Rattle.std.proofs.Common.{◌≡◌, ℕ, refl, ap, subst, Some}
-use Rattle.redo_joint.specs.Replayed.{command_in}
-use Rattle.redo_journal.specs.Plans.{PlanOf, script_of}
+use Rattle.std.proofs.Common.{◌≡◌, ℕ, ap, subst, Some}
+use Rattle.redo_journal.specs.Plans.{PlanOf}
 use Rattle.redo_board.specs.Inside.Core.{IsWord}
 use Rattle.redo_board.specs.Views.{ViewOf}
 use Rattle.redo_board.specs.Kept.{Works, Lags, view_of}
@@ -49,5 +48,5 @@ returns-clause-works c =
       spent = k.spent;
       lags =
           lags_caught p w.store c.apply_word.new.store (view_of w).seen f.count f.order e.applied n
-          (command_in (script_of p) n) (lags_at p w n k c.in-Some.is) refl e.after;
+          (lags_at p w n k c.in-Some.is) e.after;
     }
