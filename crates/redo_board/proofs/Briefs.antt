@@ -1,5 +1,5 @@
 -- A command whose reply lists no names has a reply, whatever the records are.
-use Rattle.std.proofs.Common.{◌≡◌, ℕ, Bool, false, Option, Some, None, refl, sym, subst}
+use Rattle.std.proofs.Common.{◌≡◌, ℕ, Bool, false, List, Option, Some, None, refl, sym, subst}
 use Rattle.std.specs.Prelude.{MatchOption}
 use Rattle.std.specs.declared.cmp.Ordering.{Ordering}
 use Rattle.redo_model.specs.Names.{numbers}
@@ -11,7 +11,8 @@ use Rattle.redo_model.specs.Renaming.{IsBelow, IsReplyBelow}
 use Rattle.redo_model.proofs.VerdictsByName.{RefusesBelow, verdict_below}
 use Rattle.redo_terms.specs.Meaning.{reply_of}
 use Rattle.redo_terms.specs.declared.reply.Reply as coded
-use Rattle.redo_store.specs.Stored.{count_of, order_of, records_of, lists_names}
+use Rattle.redo_store.specs.Orders.{by_place}
+use Rattle.redo_store.specs.Stored.{Stored, IsSameButRoom, count_of, order_of, records_of, lists_names}
 use Rattle.redo_board.specs.Inside.Own.{holds_its_target}
 use Rattle.redo_board.specs.Inside.Steps.{IsSaidBy, IsReadyBy}
 use Rattle.redo_board.specs.declared.worker.Worker.{Worker}
@@ -70,3 +71,15 @@ ready_said w x None a below ready =
     briefly (count_of w.store) (order_of w.store) (records_of w.store) w.session (holds_its_target w.own x) x a
     ready below in
     (y.0, record { replies = y.1; below = y.2 })
+
+-- what is ready stays so when memory is reserved
+pub ready_in_room : (w : Worker) (to : Stored) (x : Command ℕ) (list : Option coded.Reply)
+    → IsSameButRoom w.store to → IsReadyBy w x list → IsReadyBy (record w { store = to }) x list
+ready_in_room w to x None same ready = ready
+ready_in_room w to x (Some reply) same ready = record {
+  replies =
+      subst (λ (z : List ℕ × Records ℕ). Replies (numbers (by_place z.0)) z.1 w.session
+      (holds_its_target w.own x) x (reply_of reply))
+      (λ i. (sym same.sorted i, sym same.records i)) ready.replies;
+  below = subst (λ n. IsReplyBelow n (reply_of reply)) (sym same.count) ready.below;
+}

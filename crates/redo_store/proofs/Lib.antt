@@ -1,5 +1,6 @@
 pub mod Listed
 pub mod Sorting
+pub mod Stopped
 pub mod Places
 pub mod Ranked
 pub mod Kept

@@ -190,9 +190,7 @@ impl Worker {
             return false;
         }
         let reply = self.reply_to(alloc, command, list);
-        let Ok(()) = self.store.apply(self.session, command, holds) else {
-            unreachable!()
-        };
+        self.store.change(self.session, command, &reply);
         let entry = Entry {
             number: next.number,
             closing: again(&next.closing),

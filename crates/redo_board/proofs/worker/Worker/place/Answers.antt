@@ -8,6 +8,7 @@ use Rattle.redo_board.specs.Shown.{next_by}
 use Rattle.redo_board.specs.Kept.{Works}
 use Rattle.redo_board.specs.declared.worker.Worker.{Worker}
 use Rattle.redo_board.specs.Outcomes.{Waits}
+use Rattle.redo_board.proofs.Briefs.{ready_in_room}
 use Rattle.redo_board.proofs.NextSteps.{next_below}
 use Rattle.redo_board.proofs.Works.{waits-same}
 use Rattle.redo_board.proofs.worker.Worker.place.Goals as goal
@@ -78,3 +79,8 @@ returns-in_err-list-clause-err g c =
     still p w c.rows.self c.catch_up.new.self x c.rows.invariant.2 e.same.0 e.same.1 e.seat
     (c.pass_row.ensures.same c.if-pass_row.false) in
     search rules
+
+pub try_row-requires-clause-ready : goal.try_row-requires-clause-ready
+try_row-requires-clause-ready g c =
+    ready_in_room c.pass_row.new.self c.reserve.new.self (command_of c.args.command.now)
+    c.in_ok-list.list c.in_ok-reserve.ensures.same c.in_ok-list.ensures

@@ -88,8 +88,8 @@ returns-clause-row c =
     row_next c.args.plan.now c.args.self.now n c.requires.belongs.1.works c.requires.command.next
     c.requires.way
 
-pub apply-requires-clause-numbers : goal.apply-requires-clause-numbers
-apply-requires-clause-numbers c =
+pub change-requires-clause-numbers : goal.change-requires-clause-numbers
+change-requires-clause-numbers c =
     let p = c.args.plan.now in
     let w = c.args.self.now in
     let k = c.requires.belongs.1.works in
@@ -98,8 +98,14 @@ apply-requires-clause-numbers c =
     subst (λ m. IsBelow m n.command) (sym k.lags.count)
     (next_below p w n k c.requires.command.next)
 
-pub apply-requires-clause-applied : goal.apply-requires-clause-applied
-apply-requires-clause-applied c =
+pub change-requires-clause-replies : goal.change-requires-clause-replies
+change-requires-clause-replies c = (
+  holds_its_target c.args.self.now.own (command_of c.args.command.now),
+  c.reply_to-reply.ensures.replies,
+)
+
+pub change-requires-clause-applied : goal.change-requires-clause-applied
+change-requires-clause-applied c =
     let k = c.requires.belongs.1.works in
     lags_few c.args.plan.now (view_of c.args.self.now) c.args.self.now.store c.args.self.now.pending
     k.told k.lags
@@ -166,29 +172,29 @@ done c =
     let w₁ : Worker =
     record w {
       seat = c.compare_exchange-found.new.seat;
-      store = c.apply.new.self;
+      store = c.change.new.self;
       tries = w.tries + 1;
     } in
     let w' : Worker =
     record w₁ { entries = c.enter.new.self.entries; own = c.enter.new.self.own } in
-    let holds : c.holds_its_target-holds.result ≡ h = c.holds_its_target-holds.ensures ∙ own_has p w n k.works is-next in
+    let held : holds_its_target w.own x ≡ h = own_has p w n k.works is-next in
     let said : SaysRow (view p ((w.session, journal_of p w) ∷ []) (seen_by w) (view_of w).also)
     w.session (journal_of p w) x reply =
     says p w.store (seen_by w) w.session (holds_its_target w.own x) h x reply lags
-    (own_has p w n k.works is-next) r.replies r.below in
+    held r.replies r.below in
     let goes : Goes (view_of w) w.session (journal_of p w) (row_line (view_of w) w.session n reply)
     seen (view_of w') =
     won_goes p w.session (journal_of p w) (view_of w) (view_of w') n reply k.works.view
     (e.2.0 c.if-found-ne0.false) is-next said in
-    let won : Lags p c.apply.new.self None seen =
-    lags_won p w.store c.apply.new.self (seen_by w) c.apply.ensures.count c.apply.ensures.order
-    c.in-Ok.ensures.applied w.session (word p w.session c.args.next.now.number x h) h x lags
+    let won : Lags p c.change.new.self None seen =
+    lags_won p w.store c.change.new.self (seen_by w) c.change.ensures.count c.change.ensures.order
+    c.change.ensures.applied w.session (word p w.session c.args.next.now.number x h) h x lags
     (next_word p w.session (journal_of p w) n h (seen_by w) (plan_is p w k.works) k.works.session
     (lines_names p w k.works) is-next c.requires.way)
-    (c.in-Ok.ensures.after
+    (c.change.ensures.after (holds_its_target w.own x) r.replies
     ∙ ap
     (λ z. records_after (naming_of w.store) (records_of w.store) w.session z x)
-    holds) in
+    held) in
     let tried : w.tries + 1 ≡ length seen =
     let a = k.works.tries in
     let b = length_push (seen_by w) (word p w.session c.args.next.now.number x h) in
@@ -201,7 +207,7 @@ done c =
     refl c.again.ensures refl (ap Row k.works.tries))
     (cap.notes p.names) refl e.0 e.2.2
     (let m = cap.capacity in omega arith) tried (ap (λ m. m + 1) k.works.tries)
-    (subst (λ o. Lags p c.apply.new.self o seen) (sym c.requires.none) won)
+    (subst (λ o. Lags p c.change.new.self o seen) (sym c.requires.none) won)
     (word p w.session c.args.next.now.number x h ∷ [], refl))
 
 pub returns-clause-works : goal.returns-clause-works

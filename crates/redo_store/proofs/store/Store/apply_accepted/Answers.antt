@@ -5,12 +5,12 @@ use Rattle.redo_store.specs.Inside.Changes.{HasEffect}
 use Rattle.redo_store.specs.Stored.{Stored, naming_of, records_of}
 use Rattle.redo_store.proofs.store.Store.apply_accepted.Goals as goal
 
-pub change-requires-clause-accepted : goal.change-requires-clause-accepted
-change-requires-clause-accepted c =
+pub obey-requires-clause-accepted : goal.obey-requires-clause-accepted
+obey-requires-clause-accepted c =
     subst (λ (t : Stored). verdict_of (naming_of t) (records_of t) c.args.s true
     (command_of c.args.command.now) ≡ None) (sym c.count_applied.ensures.after) c.requires.accepted
 
 pub returns-clause-after : goal.returns-clause-after
 returns-clause-after c =
-    subst (λ (t : Stored). HasEffect t c.change.new.self c.args.s (command_of c.args.command.now))
-    c.count_applied.ensures.after c.change.ensures.after
+    subst (λ (t : Stored). HasEffect t c.obey.new.self c.args.s (command_of c.args.command.now))
+    c.count_applied.ensures.after c.obey.ensures.after
