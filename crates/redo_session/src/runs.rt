@@ -10,41 +10,9 @@ use crate::sessions::{Sessions, run_all};
 use redo_board::{Board, Gate, Plan};
 use redo_merge::merge;
 use redo_run_text::Outcome;
-use redo_text::TextFault;
-use std::alloc::{AllocError, AllocFailed, Global};
+use std::alloc::{AllocError, Global};
 use std::sync::Wait;
 use std::thread::Threads;
-use thiserror::Error;
-
-/// Why a run has no outcome.
-#[derive(Clone, Copy, Debug, PartialEq, Eq, Error)]
-pub enum RunFault {
-    /// A growth, or the start of a thread, was refused.
-    #[error("out of memory")]
-    Memory,
-}
-
-impl From<AllocError> for RunFault {
-    ghost use Rattle.std.specs.Prelude.{◌≡◌};
-    ghost use Rattle.redo_session.specs.declared.runs.RunFault.TheVariants.{Memory};
-
-    ghost from_gives = { λ _ fault. fault ≡ Memory };
-
-    fn from(_: AllocError) -> RunFault {
-        RunFault::Memory
-    }
-}
-
-impl From<RunFault> for TextFault {
-    ghost use Rattle.std.specs.Prelude.{◌≡◌};
-    ghost use Rattle.redo_text.specs.declared.fault.TextFault.TheVariants.{Memory};
-
-    ghost from_gives = { λ _ fault. fault ≡ Memory };
-
-    fn from(_: RunFault) -> TextFault {
-        TextFault::Memory
-    }
-}
 
 /// Runs the plan, each session on a thread of its own, one of them the caller's. It joins all
 /// threads before it returns.
@@ -53,7 +21,7 @@ pub fn run<G: Gate + Sync, R: Threads + Wait + Sync>(
     alloc: Global,
     plan: &Plan,
     gate: &G,
-) -> Result<Outcome, RunFault>
+) -> Result<Outcome, AllocError>
     // The journals of all sessions, in order, each with all that the session does.
     ensures journals { IfOk result (λ outcome. AreWhole plan.now outcome.journals.items) }
 

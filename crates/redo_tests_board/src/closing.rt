@@ -6,7 +6,6 @@ use crate::outcomes::{Run, check_runs, check_text};
 use crate::plans::plan_of;
 use crate::schedules::{MOST, lines_of_schedule};
 use redo_journal::{Place, Plan};
-use redo_session::RunFault;
 use redo_terms::Line;
 use std::alloc::{AllocError, Global};
 use std::process::Abort;
@@ -68,7 +67,7 @@ const CLOSING_ROW_IS_READ: Run = Run {
 };
 
 #[test]
-fn closing_commands(rt: HostRuntime) -> Result<(), RunFault> {
+fn closing_commands(rt: HostRuntime) -> Result<(), AllocError> {
     check_runs(&rt, rt.alloc(), &[SESSION_LETS_GO, CLOSING_ROW_IS_READ])
 }
 

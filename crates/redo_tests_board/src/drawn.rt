@@ -5,7 +5,7 @@ use crate::order::first_schedule;
 use crate::plans::plan_of;
 use crate::schedules::check_schedule;
 use redo_journal::Plan;
-use redo_session::{Outcome, RunFault, run};
+use redo_session::{Outcome, run};
 use redo_testing::Random;
 use std::alloc::{AllocError, Global};
 use std::process::Abort;
@@ -131,7 +131,7 @@ fn rows_of_run<R: Threads + Wait + Abort + Sync>(
     alloc: Global,
     plan: &Plan,
     gate: &Counts,
-) -> Result<u32, RunFault> {
+) -> Result<u32, AllocError> {
     let outcome = run(rt, alloc, plan, gate)?;
     Ok(check_outcome(rt, &outcome, gate))
 }
@@ -141,7 +141,7 @@ fn counted_run<R: Threads + Wait + Abort + Sync>(
     rt: &R,
     alloc: Global,
     plan: &Plan,
-) -> Result<(u32, u32), RunFault> {
+) -> Result<(u32, u32), AllocError> {
     let gate = Counts::new(alloc)?;
     let rows = rows_of_run(rt, alloc, plan, &gate)?;
     Ok((rows, gate.all()))
@@ -152,13 +152,13 @@ fn drawn_run<R: Threads + Wait + Abort + Sync>(
     rt: &R,
     alloc: Global,
     random: &mut Random,
-) -> Result<(u32, u32), RunFault> {
+) -> Result<(u32, u32), AllocError> {
     let plan = drawn_plan(rt, alloc, random, 4, 32)?;
     counted_run(rt, alloc, &plan)
 }
 
 #[test]
-fn drawn_runs(rt: HostRuntime) -> Result<(), RunFault> {
+fn drawn_runs(rt: HostRuntime) -> Result<(), AllocError> {
     let mut random = Random::new(2);
     let (mut rows, mut exchanges) = (0u32, 0u32);
     for _ in 0..100 {

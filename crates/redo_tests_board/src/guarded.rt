@@ -3,8 +3,8 @@ use crate::gates::{Moment, Pairs, Pauses};
 use crate::outcomes::{Run, check_runs, check_text};
 use crate::plans::plan_of;
 use redo_journal::{Place, Plan};
-use redo_session::{RunFault, run, run_text};
-use std::alloc::Global;
+use redo_session::{run, run_text};
+use std::alloc::{AllocError, Global};
 use std::process::Abort;
 use std::sync::Wait;
 use std::thread::Threads;
@@ -66,7 +66,7 @@ const GUARDED_AT_THE_END: Run = Run {
 };
 
 #[test]
-fn guarded_lines(rt: HostRuntime) -> Result<(), RunFault> {
+fn guarded_lines(rt: HostRuntime) -> Result<(), AllocError> {
     let runs = [SKIPPED_LINES, STALE_LETS_THROUGH, GUARDED_AT_THE_END];
     check_runs(&rt, rt.alloc(), &runs)
 }
@@ -111,7 +111,7 @@ fn text_under<R: Threads + Wait + Sync>(
     alloc: Global,
     plan: &Plan,
     gate: &Pauses,
-) -> Result<Vec<u8>, RunFault> {
+) -> Result<Vec<u8>, AllocError> {
     let outcome = run(rt, alloc, plan, gate)?;
     Ok(run_text(alloc, plan, &outcome)?)
 }
@@ -121,7 +121,7 @@ fn check_busy<R: Threads + Wait + Abort + Sync>(
     rt: &R,
     alloc: Global,
     plan: &Plan,
-) -> Result<(), RunFault> {
+) -> Result<(), AllocError> {
     let gate = Pauses::new(alloc, BUSY_PAIRS)?;
     let text = text_under(rt, alloc, plan, &gate)?;
     assert!(rt; gate.are_met());
@@ -130,7 +130,7 @@ fn check_busy<R: Threads + Wait + Abort + Sync>(
 }
 
 #[test]
-fn busy_of_another_session(rt: HostRuntime) -> Result<(), RunFault> {
+fn busy_of_another_session(rt: HostRuntime) -> Result<(), AllocError> {
     let plan = plan_of(&rt, rt.alloc(), &BUSY_FILES)?;
     check_busy(&rt, rt.alloc(), &plan)
 }

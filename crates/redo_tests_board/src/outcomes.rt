@@ -4,8 +4,8 @@ use crate::plans::plan_of;
 use redo_board::Gate;
 use redo_history::history_text;
 use redo_journal::{Entry, Journal, Place, Plan};
-use redo_session::{Outcome, RunFault, run};
-use std::alloc::Global;
+use redo_session::{Outcome, run};
+use std::alloc::{AllocError, Global};
 use std::process::Abort;
 use std::sync::Wait;
 use std::thread::Threads;
@@ -31,7 +31,7 @@ pub(crate) fn ran<G: Gate + Sync, R: Threads + Wait + Sync>(
     alloc: Global,
     plan: &Plan,
     gate: &G,
-) -> Result<(Outcome, Vec<u8>), RunFault> {
+) -> Result<(Outcome, Vec<u8>), AllocError> {
     let outcome = run(rt, alloc, plan, gate)?;
     let history = history_text(alloc, &outcome.history, plan.names())?;
     Ok((outcome, history))
@@ -105,7 +105,7 @@ fn check_under<R: Threads + Wait + Abort + Sync>(
     plan: &Plan,
     gate: &Pauses,
     run: &Run,
-) -> Result<(), RunFault> {
+) -> Result<(), AllocError> {
     let left = ran(rt, alloc, plan, gate)?;
     check_outcome(rt, &left.0, &left.1, run);
     check_gate(rt, gate, run);
@@ -118,7 +118,7 @@ fn check_planned<R: Threads + Wait + Abort + Sync>(
     alloc: Global,
     plan: &Plan,
     run: &Run,
-) -> Result<(), RunFault> {
+) -> Result<(), AllocError> {
     let gate = Pauses::new(alloc, run.pairs)?;
     check_under(rt, alloc, plan, &gate, run)
 }
@@ -128,7 +128,7 @@ fn check_run<R: Threads + Wait + Abort + Sync>(
     rt: &R,
     alloc: Global,
     run: &Run,
-) -> Result<(), RunFault> {
+) -> Result<(), AllocError> {
     let plan = plan_of(rt, alloc, run.files)?;
     check_planned(rt, alloc, &plan, run)
 }
@@ -138,7 +138,7 @@ pub(crate) fn check_runs<R: Threads + Wait + Abort + Sync>(
     rt: &R,
     alloc: Global,
     runs: &[Run],
-) -> Result<(), RunFault> {
+) -> Result<(), AllocError> {
     for run in runs {
         check_run(rt, alloc, run)?;
     }

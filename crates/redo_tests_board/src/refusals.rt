@@ -14,7 +14,7 @@ use crate::worked::{
 use crate::workers::{MOST_STEPS, work};
 use redo_board::{Board, Open, Seat};
 use redo_journal::{Journal, Plan};
-use redo_session::{Outcome, RunFault};
+use redo_session::Outcome;
 use redo_terms::Line;
 use redo_testing::tell;
 use std::alloc::{AllocError, Global};
@@ -208,10 +208,10 @@ fn ran_again<R: Threads + Wait + Sync>(
     rt: &R,
     alloc: Global,
     plan: &Plan,
-) -> Result<(Outcome, Vec<u8>), RunFault> {
+) -> Result<(Outcome, Vec<u8>), AllocError> {
     match ran(rt, alloc, plan, &Open) {
         Ok(both) => Ok(both),
-        Err(RunFault::Memory) => {
+        Err(AllocError) => {
             tell(alloc);
             ran(rt, alloc, plan, &Open)
         }
@@ -246,14 +246,14 @@ fn check_ran<R: Threads + Wait + Abort + Sync>(
     rt: &R,
     alloc: Global,
     plan: &Plan,
-) -> Result<(), RunFault> {
+) -> Result<(), AllocError> {
     let left = ran_again(rt, alloc, plan)?;
     let count = count_of(rt, &left.0.history);
     Ok(replays_again(rt, alloc, &left.1, count)?)
 }
 
 #[test]
-fn run_with_each_request_refused(rt: HostRuntime) -> Result<(), RunFault> {
+fn run_with_each_request_refused(rt: HostRuntime) -> Result<(), AllocError> {
     let plan = planned(&rt, rt.alloc(), &TWO_SESSIONS)?;
     check_ran(&rt, rt.alloc(), &plan)
 }
@@ -263,14 +263,14 @@ fn check_two<R: Threads + Wait + Abort + Sync>(
     rt: &R,
     alloc: Global,
     plan: &Plan,
-) -> Result<(), RunFault> {
+) -> Result<(), AllocError> {
     let left = ran_again(rt, alloc, plan)?;
     assert!(rt; left.0.history.len() == 2);
     Ok(replays_again(rt, alloc, &left.1, 2)?)
 }
 
 #[test]
-fn two_threads_with_each_request_refused(rt: HostRuntime) -> Result<(), RunFault> {
+fn two_threads_with_each_request_refused(rt: HostRuntime) -> Result<(), AllocError> {
     let plan = planned(&rt, rt.alloc(), &FILES)?;
     check_two(&rt, rt.alloc(), &plan)
 }

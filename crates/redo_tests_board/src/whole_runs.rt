@@ -6,8 +6,7 @@ use crate::plans::plan_of;
 use crate::worked::{COMMON_PATH, FILES, LOST_TRY};
 use redo_board::Open;
 use redo_journal::Plan;
-use redo_session::RunFault;
-use std::alloc::Global;
+use std::alloc::{AllocError, Global};
 use std::process::Abort;
 use std::sync::Wait;
 use std::thread::Threads;
@@ -148,7 +147,7 @@ const RUNS: [Run; 9] = [
 ];
 
 #[test]
-fn runs_under_gates(rt: HostRuntime) -> Result<(), RunFault> {
+fn runs_under_gates(rt: HostRuntime) -> Result<(), AllocError> {
     check_runs(&rt, rt.alloc(), &RUNS)
 }
 
@@ -160,7 +159,7 @@ fn check_most<R: Threads + Wait + Abort + Sync>(
     rt: &R,
     alloc: Global,
     plan: &Plan,
-) -> Result<(), RunFault> {
+) -> Result<(), AllocError> {
     let left = ran(rt, alloc, plan, &Open)?;
     assert!(rt; left.0.journals.len() == 64);
     Ok(replays(rt, alloc, &left.1, 448)?)
@@ -168,7 +167,7 @@ fn check_most<R: Threads + Wait + Abort + Sync>(
 
 /// As many sessions as a plan has at most.
 #[test]
-fn most_sessions(rt: HostRuntime) -> Result<(), RunFault> {
+fn most_sessions(rt: HostRuntime) -> Result<(), AllocError> {
     let plan = plan_of(&rt, rt.alloc(), &[BUILD; 64])?;
     check_most(&rt, rt.alloc(), &plan)
 }

@@ -10,7 +10,7 @@ use crate::told::again;
 use redo_board::Open;
 use redo_journal::Plan;
 use redo_names::Names;
-use redo_session::{Outcome, RunFault, TextFault, read_files, run, run_text, run_texts};
+use redo_session::{Outcome, TextFault, read_files, run, run_text, run_texts};
 use redo_terms::Script;
 use redo_whole::Watched;
 use std::alloc::{AllocError, Global};
@@ -77,7 +77,7 @@ fn check_run<R: Threads + Wait + Abort + Sync>(
     alloc: Global,
     plan: &Plan,
 ) -> Result<(), Fail> {
-    let outcome = again!(rt, alloc, RunFault::Memory, run(rt, alloc, plan, &Open));
+    let outcome = again!(rt, alloc, AllocError, run(rt, alloc, plan, &Open));
     Ok(check_outcome(rt, alloc, plan, &outcome)?)
 }
 
