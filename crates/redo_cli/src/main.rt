@@ -3,9 +3,10 @@
 
 ghost use Rattle.std.specs.Prelude.{◌≡◌, ◌⊎◌, ℕ, ◌<◌, length, IfOk, IfErr};
 
-use redo_job::{Fault, finish};
-use redo_replay::{ReplayFault, Verdict, replay_text};
-use redo_session::{TextFault, run_texts};
+use redo_job::finish;
+use redo_replay::{Verdict, replay_text};
+use redo_session::run_texts;
+use redo_text::Fault;
 use redo_whole::Watched;
 use redo_words::{Job, WordsFault, job};
 use std::io::Read;
@@ -18,10 +19,7 @@ use std::{env, fs, io};
 /// The words after the program's name.
 fn given_words<R: Env + AllocGlobal>(rt: &R) -> Result<Vec<String>, Fault> {
     match env::args(rt) {
-        Ok(all) => match all.skip(1).collect(rt.alloc()) {
-            Ok(words) => Ok(words),
-            Err(_) => Err(Fault::Memory),
-        },
+        Ok(all) => Ok(all.skip(1).collect(rt.alloc())?),
         Err(error) if error.kind() == io::ErrorKind::OutOfMemory => Err(Fault::Memory),
         Err(_) => Err(Fault::Usage),
     }
@@ -49,9 +47,7 @@ fn open_all<R: Files + AllocGlobal>(
 {
     let mut opened = Vec::new(rt.alloc());
     for (file, name) in names.iter().enumerate() {
-        if opened.push(open(rt, file, name)?).is_err() {
-            return Err(Fault::Memory);
-        }
+        opened.push(open(rt, file, name)?)?;
     }
     Ok(opened)
 }
@@ -65,7 +61,7 @@ fn run<I: Read, R: Threads + Wait + Sync + Print + AllocGlobal>(
     run_texts(rt, rt.alloc(), files, &mut out)?;
     match out.flush() {
         Ok(()) => Ok(()),
-        Err(_) => Err(Fault::Text(TextFault::Write)),
+        Err(_) => Err(Fault::Write),
     }
 }
 
@@ -78,7 +74,7 @@ fn replay<I: Read, R: Print + AllocGlobal>(
     let verdict = replay_text(rt.alloc(), input, &mut out)?;
     match out.flush() {
         Ok(()) => Ok(verdict),
-        Err(_) => Err(Fault::Replay(ReplayFault::Write)),
+        Err(_) => Err(Fault::Write),
     }
 }
 
@@ -90,9 +86,7 @@ fn done<R: Threads + Wait + Sync + Files + Input + Print + AllocGlobal>(
     match job {
         Job::Input => {
             let mut files = Vec::new(rt.alloc());
-            if files.push(Watched::new(rt.reader())).is_err() {
-                return Err(Fault::Memory);
-            }
+            files.push(Watched::new(rt.reader()))?;
             run(rt, &mut files)?;
             Ok(None)
         }

@@ -2,16 +2,10 @@
 use Rattle.std.specs.Prelude.{ℕ, List, ◌++◌, Option, Some, None, Result, Ok, Err, slice_get, codes, decimal, string_bytes, String}
 use Rattle.std.specs.declared.alloc.Global.{Global}
 use Rattle.redo_text.specs.Faults.{fault_word_of}
-use Rattle.redo_text.specs.declared.fault.TextFault.{TextFault}
-use Rattle.redo_text.specs.declared.fault.TextFault.TheVariants as texts
-use Rattle.redo_history.specs.declared.fault.HistoryFault.{HistoryFault}
-use Rattle.redo_history.specs.declared.fault.HistoryFault.TheVariants as histories
-use Rattle.redo_replay.specs.declared.fault.ReplayFault.{ReplayFault}
-use Rattle.redo_replay.specs.declared.fault.ReplayFault.TheVariants as replays
+use Rattle.redo_text.specs.declared.fault.Fault.{Fault}
+use Rattle.redo_text.specs.declared.fault.Fault.TheVariants.{Memory, Usage, CannotOpen, Read, TooLong, Line, BadHeader, Cut, BadSession, BadReply, NoSession, TooManySessions, Write}
 use Rattle.redo_replay.specs.declared.verdict.Verdict.{Verdict}
 use Rattle.redo_replay.specs.declared.verdict.Verdict.TheVariants.{Same, Differs}
-use Rattle.redo_job.specs.declared.fault.Fault.{Fault}
-use Rattle.redo_job.specs.declared.fault.Fault.TheVariants.{Memory, Usage, CannotOpen, Text, Replay}
 
 -- "-" means standard input
 abbrev pub name_or_dash : Option (String Global) → List ℕ
@@ -38,40 +32,21 @@ said_of_file files file text = said_of (file_name files file) text
 abbrev pub said_of_line : List (String Global) → ℕ → ℕ → List ℕ → List ℕ
 said_of_line files file line word = said_of_file files file (in_line line word)
 
--- the line for a run's fault
-abbrev pub text_line : List (String Global) → TextFault → List ℕ
-text_line files texts.Memory = said (codes "memory")
-text_line files (texts.Read file line fault) = said_of_line files file line (fault_word_of fault)
-text_line files texts.TooManySessions = said (codes "too many sessions")
-text_line files texts.NoSession = said (codes "no session")
-text_line files texts.Write = said (codes "write")
-text_line files (texts.Device file) = said_of_file files file (codes "read")
-text_line files (texts.TooLong file) = said_of_file files file (codes "too long")
-
--- the line for a history's fault: the history is the first file
-abbrev pub history_line : List (String Global) → HistoryFault → List ℕ
-history_line files histories.Memory = said (codes "memory")
-history_line files histories.BadHeader = said_of_file files 0 (codes "bad header")
-history_line files histories.Cut = said_of_file files 0 (codes "cut")
-history_line files (histories.BadSession line) = said_of_line files 0 line (codes "bad-session")
-history_line files (histories.BadLine line fault) = said_of_line files 0 line (fault_word_of fault)
-history_line files (histories.BadReply line) = said_of_line files 0 line (codes "bad-reply")
-
--- the line for a replay's fault
-abbrev pub replay_line : List (String Global) → ReplayFault → List ℕ
-replay_line files replays.Memory = said (codes "memory")
-replay_line files (replays.History fault) = history_line files fault
-replay_line files replays.Device = said_of_file files 0 (codes "read")
-replay_line files replays.TooLong = said_of_file files 0 (codes "too long")
-replay_line files replays.Write = said (codes "write")
-
--- the line on standard error
+-- the line on standard error; a history is the first file
 abbrev pub fault_line : List (String Global) → Fault → List ℕ
 fault_line files Memory = said (codes "memory")
 fault_line files Usage = said (codes "usage")
 fault_line files (CannotOpen file) = said_of_file files file (codes "cannot open")
-fault_line files (Text fault) = text_line files fault
-fault_line files (Replay fault) = replay_line files fault
+fault_line files (Read file) = said_of_file files file (codes "read")
+fault_line files (TooLong file) = said_of_file files file (codes "too long")
+fault_line files (Line file line fault) = said_of_line files file line (fault_word_of fault)
+fault_line files BadHeader = said_of_file files 0 (codes "bad header")
+fault_line files Cut = said_of_file files 0 (codes "cut")
+fault_line files (BadSession line) = said_of_line files 0 line (codes "bad-session")
+fault_line files (BadReply line) = said_of_line files 0 line (codes "bad-reply")
+fault_line files NoSession = said (codes "no session")
+fault_line files TooManySessions = said (codes "too many sessions")
+fault_line files Write = said (codes "write")
 
 -- 1 for a history that differs, 2 for a fault, and else 0
 abbrev pub status_of : Result (Option Verdict) Fault → ℕ

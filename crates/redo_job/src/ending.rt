@@ -2,13 +2,12 @@ ghost use Rattle.std.specs.Prelude.{◌≡◌, IfErr, IfSome, OnOk, OnErr, IsTru
 ghost use Rattle.std.specs.List.{flat_map};
 ghost use Rattle.redo_whole.specs.Watched.{has_failed};
 ghost use Rattle.redo_whole.specs.Devices.{Writes, WritesNothing};
-ghost use Rattle.redo_job.specs.Lines.{file_name, text_line, history_line, replay_line, fault_line, said, said_of, in_line, status_of};
+ghost use Rattle.redo_job.specs.Lines.{file_name, fault_line, said, said_of, in_line, status_of};
 
-use crate::fault::Fault;
 use arrayvec::ArrayVec;
 use itoa::Buffer;
-use redo_replay::{HistoryFault, ReplayFault, Verdict};
-use redo_text::{TextFault, fault_word};
+use redo_replay::Verdict;
+use redo_text::{Fault, fault_word};
 use redo_whole::{Watched, WriteFault, write_whole};
 use std::io::Write;
 
@@ -87,78 +86,27 @@ fn say_line<W: Write>(
     )
 }
 
-/// Writes the line of a run's fault.
-fn tell_text<W: Write>(
-    err: &mut Watched<W>,
-    files: &[String],
-    fault: &TextFault,
-) -> Result<(), WriteFault>
-    ensures line { OnOk result (Writes W.contents err.old err.new (text_line files.now fault.now)) }
-    ensures failed { OnErr result (IsTrue (has_failed err.old err.new)) }
-{
-    match fault {
-        TextFault::Memory => say(err, "memory"),
-        TextFault::Read { file, line, fault } => {
-            say_line(err, name(files, *file), *line, fault_word(*fault))
-        }
-        TextFault::TooManySessions => say(err, "too many sessions"),
-        TextFault::NoSession => say(err, "no session"),
-        TextFault::Write => say(err, "write"),
-        TextFault::Device { file } => say_of_file(err, name(files, *file), "read"),
-        TextFault::TooLong { file } => say_of_file(err, name(files, *file), "too long"),
-    }
-}
-
-/// Writes the line of a history's fault.
-fn tell_history<W: Write>(
-    err: &mut Watched<W>,
-    files: &[String],
-    fault: HistoryFault,
-) -> Result<(), WriteFault>
-    ensures line { OnOk result (Writes W.contents err.old err.new (history_line files.now fault)) }
-    ensures failed { OnErr result (IsTrue (has_failed err.old err.new)) }
-{
-    let name = name(files, 0);
-    match fault {
-        HistoryFault::Memory => say(err, "memory"),
-        HistoryFault::BadHeader => say_of_file(err, name, "bad header"),
-        HistoryFault::Cut => say_of_file(err, name, "cut"),
-        HistoryFault::BadSession(line) => say_line(err, name, line, "bad-session"),
-        HistoryFault::BadLine(line, fault) => say_line(err, name, line, fault_word(fault)),
-        HistoryFault::BadReply(line) => say_line(err, name, line, "bad-reply"),
-    }
-}
-
-/// Writes the line of a replay's fault.
-fn tell_replay<W: Write>(
-    err: &mut Watched<W>,
-    files: &[String],
-    fault: ReplayFault,
-) -> Result<(), WriteFault>
-    ensures line { OnOk result (Writes W.contents err.old err.new (replay_line files.now fault)) }
-    ensures failed { OnErr result (IsTrue (has_failed err.old err.new)) }
-{
-    match fault {
-        ReplayFault::Memory => say(err, "memory"),
-        ReplayFault::History(fault) => tell_history(err, files, fault),
-        ReplayFault::Device => say_of_file(err, name(files, 0), "read"),
-        ReplayFault::TooLong => say_of_file(err, name(files, 0), "too long"),
-        ReplayFault::Write => say(err, "write"),
-    }
-}
-
 /// Writes the fault's line.
-fn tell<W: Write>(err: &mut Watched<W>, files: &[String], fault: &Fault) -> Result<(), WriteFault>
-    ensures line { OnOk result
-        (Writes W.contents err.old err.new (fault_line files.now fault.now)) }
+fn tell<W: Write>(err: &mut Watched<W>, files: &[String], fault: Fault) -> Result<(), WriteFault>
+    ensures line { OnOk result (Writes W.contents err.old err.new (fault_line files.now fault)) }
     ensures failed { OnErr result (IsTrue (has_failed err.old err.new)) }
 {
     match fault {
         Fault::Memory => say(err, "memory"),
         Fault::Usage => say(err, "usage"),
-        Fault::CannotOpen { file } => say_of_file(err, name(files, *file), "cannot open"),
-        Fault::Text(fault) => tell_text(err, files, fault),
-        Fault::Replay(fault) => tell_replay(err, files, *fault),
+        Fault::CannotOpen { file } => say_of_file(err, name(files, file), "cannot open"),
+        Fault::Read { file } => say_of_file(err, name(files, file), "read"),
+        Fault::TooLong { file } => say_of_file(err, name(files, file), "too long"),
+        Fault::Line { file, line, fault } => {
+            say_line(err, name(files, file), line, fault_word(fault))
+        }
+        Fault::BadHeader => say_of_file(err, name(files, 0), "bad header"),
+        Fault::Cut => say_of_file(err, name(files, 0), "cut"),
+        Fault::BadSession { line } => say_line(err, name(files, 0), line, "bad-session"),
+        Fault::BadReply { line } => say_line(err, name(files, 0), line, "bad-reply"),
+        Fault::NoSession => say(err, "no session"),
+        Fault::TooManySessions => say(err, "too many sessions"),
+        Fault::Write => say(err, "write"),
     }
 }
 
@@ -181,7 +129,7 @@ pub fn finish<W: Write>(
         Ok(None | Some(Verdict::Same(_))) => 0,
         Ok(Some(Verdict::Differs { .. })) => 1,
         Err(fault) => {
-            let _ = tell(err, files, fault);
+            let _ = tell(err, files, *fault);
             2
         }
     }

@@ -1,8 +1,6 @@
-//! How the program ends: its faults with their lines, and its status.
+//! How the program ends: the lines of its faults, and its status.
 #![tactic(auto)]
 
 mod ending;
-mod fault;
 
 pub use ending::finish;
-pub use fault::Fault;

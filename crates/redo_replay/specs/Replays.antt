@@ -1,5 +1,5 @@
 -- What a replay reads and writes, and why it is refused.
-use Rattle.std.specs.Prelude.{◌≡◌, ◌≢◌, ◌<◌, ◌≤◌, Bool, List, ◌++◌, length, Option, Some, IfSome, IsTrue, ⊤}
+use Rattle.std.specs.Prelude.{◌≡◌, ◌<◌, ◌≤◌, Bool, List, ◌++◌, length, Option, Some, IfSome, IsTrue, ⊤}
 use Rattle.std.specs.Io.KnownBytes.{Appends}
 use Rattle.redo_model.specs.Names.{Text}
 use Rattle.redo_model.specs.History.{Line}
@@ -7,9 +7,10 @@ use Rattle.redo_replay.specs.Verdicts.{IsVerdict, verdict_at, verdict_text_of}
 use Rattle.redo_history.specs.HistoryTexts.{IsHistory}
 use Rattle.redo_history.specs.HistoryFaults.{IsHistoryFault}
 use Rattle.redo_replay.specs.declared.verdict.Verdict as declared
-use Rattle.redo_history.specs.declared.fault.HistoryFault.TheVariants as history_faults
-use Rattle.redo_replay.specs.declared.fault.ReplayFault.{ReplayFault}
-use Rattle.redo_replay.specs.declared.fault.ReplayFault.TheVariants.{Memory, History, Device, TooLong, Write}
+use Rattle.redo_history.specs.declared.fault.HistoryFault.{HistoryFault}
+use Rattle.redo_history.specs.declared.fault.HistoryFault.TheVariants as histories
+use Rattle.redo_text.specs.declared.fault.Fault.{Fault}
+use Rattle.redo_text.specs.declared.fault.Fault.TheVariants as faults
 
 -- the input is a history of these lines and names, and not too long
 abbrev pub IsReadAs : Text → List Text → List (Line Text) → Type 0
@@ -40,21 +41,25 @@ WritesReplayPart known before after =
     (verdict : declared.Verdict) × (sent : Text) × (rest : Text)
     × HasVerdict known verdict (sent ++ rest) × Appends before after sent
 
--- the cause of a fault: `known` are the input's bytes, if they are known, `failed` says whether a
--- read failed, and `out_failed` whether a write failed
-abbrev pub IsReplayCause : Option Text → Bool → Bool → ReplayFault → Type 0
-IsReplayCause known failed out_failed Memory = ⊤
-IsReplayCause known failed out_failed (History fault) =
-    (fault ≢ history_faults.Memory)
-    × IfSome known (λ input. (length input ≤ 1073741824) × IsHistoryFault input fault)
-IsReplayCause known failed out_failed Device = IsTrue failed
-IsReplayCause known failed out_failed TooLong = IfSome known (λ input. 1073741824 < length input)
-IsReplayCause known failed out_failed Write = IsTrue out_failed
+-- the input, if it is known, is not too long, and has this fault of a history
+abbrev pub HasFault : Option Text → HistoryFault → Type 0
+HasFault known fault =
+    IfSome known (λ input. (length input ≤ 1073741824) × IsHistoryFault input fault)
 
--- the fault is a device's: a read or a write failed
-abbrev pub IsReplayDeviceFault : ReplayFault → Type 0
-IsReplayDeviceFault Memory = ⊥
-IsReplayDeviceFault (History fault) = ⊥
-IsReplayDeviceFault Device = ⊤
-IsReplayDeviceFault TooLong = ⊥
-IsReplayDeviceFault Write = ⊤
+-- the cause of a replay's fault: `known` are the input's bytes, if they are known, `failed` says
+-- whether a read failed, and `out_failed` whether a write failed; the input is file 0
+abbrev pub IsReplayCause : Option Text → Bool → Bool → Fault → Type 0
+IsReplayCause known failed out_failed faults.Memory = ⊤
+IsReplayCause known failed out_failed (faults.Read file) = (file ≡ 0) × IsTrue failed
+IsReplayCause known failed out_failed (faults.TooLong file) =
+    (file ≡ 0) × IfSome known (λ input. 1073741824 < length input)
+IsReplayCause known failed out_failed (faults.Line file line fault) =
+    (file ≡ 0) × HasFault known (histories.BadLine line fault)
+IsReplayCause known failed out_failed faults.BadHeader = HasFault known histories.BadHeader
+IsReplayCause known failed out_failed faults.Cut = HasFault known histories.Cut
+IsReplayCause known failed out_failed (faults.BadSession line) =
+    HasFault known (histories.BadSession line)
+IsReplayCause known failed out_failed (faults.BadReply line) =
+    HasFault known (histories.BadReply line)
+IsReplayCause known failed out_failed faults.Write = IsTrue out_failed
+IsReplayCause known failed out_failed fault = ⊥

@@ -1,13 +1,11 @@
 //! Replays: whether the database gives the replies of a history.
 #![tactic(auto)]
 
-mod fault;
 mod laws;
 mod replays;
 mod texts;
 mod verdict;
 
-pub use fault::ReplayFault;
 pub use laws::{one_verdict, same_where_legal};
 pub use redo_history::{History, HistoryFault, read_history};
 pub use replays::replay;

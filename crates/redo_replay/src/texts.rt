@@ -1,16 +1,17 @@
-ghost use Rattle.std.specs.Prelude.{◌≡◌, ◌≢◌, ◌↔◌, ◌⊎◌, List, false, IfSome, IfOk, IfErr, IsErrOf, IsErrAnd, IsTrue};
+ghost use Rattle.std.specs.Prelude.{◌≡◌, ◌≢◌, ◌↔◌, ◌⊎◌, Bool, List, Option, false, IfSome, IfOk, IfErr, IsErrOf, IsErrAnd, IsTrue};
 ghost use Rattle.redo_model.specs.Names.{Text, texts};
 ghost use Rattle.redo_model.specs.History.{Line, Legal};
 ghost use Rattle.redo_whole.specs.Watched.{failures_of, has_failed};
 ghost use Rattle.redo_whole.specs.Devices.{known_in, WritesNothing};
+ghost use Rattle.redo_text.specs.Faults.{IsDeviceFault};
 ghost use Rattle.redo_history.specs.Inside.Recorded.{lines_of};
 ghost use Rattle.redo_replay.specs.Verdicts.{IsSame};
-ghost use Rattle.redo_replay.specs.Replays.{IsReadAs, IsKnownAs, HasVerdict, WritesVerdict, WritesReplayPart, IsReplayCause, IsReplayDeviceFault};
+ghost use Rattle.redo_replay.specs.Replays.{IsReadAs, IsKnownAs, HasVerdict, HasFault, WritesVerdict, WritesReplayPart, IsReplayCause};
 
-use crate::fault::ReplayFault;
 use crate::replays::replay;
 use crate::verdict::{Verdict, verdict_text};
-use redo_history::{History, read_history};
+use redo_history::{History, HistoryFault, read_history};
+use redo_text::Fault;
 use redo_whole::{Watched, WholeFault, WriteFault, read_whole, write_whole};
 use std::alloc::Global;
 use std::io::{Read, Write};
@@ -19,52 +20,75 @@ use std::io::{Read, Write};
 pub const INPUT_LIMIT: usize = 1_073_741_824;
 
 /// The replay's fault if its input has this one.
-fn whole_fault(fault: WholeFault) -> ReplayFault
-    ensures memory { (result ≡ ReplayFault.Memory) ↔ (fault ≡ WholeFault.Memory) }
-    ensures device { (result ≡ ReplayFault.Device) ↔ (fault ≡ WholeFault.Device) }
-    ensures too_long { (result ≡ ReplayFault.TooLong) ↔ (fault ≡ WholeFault.TooLong) }
+fn whole_fault(fault: WholeFault) -> Fault
+    ensures memory { (result ≡ Fault.Memory) ↔ (fault ≡ WholeFault.Memory) }
+    ensures device { (result ≡ Fault.Read 0) ↔ (fault ≡ WholeFault.Device) }
+    ensures too_long { (result ≡ Fault.TooLong 0) ↔ (fault ≡ WholeFault.TooLong) }
 {
     match fault {
-        WholeFault::Memory => ReplayFault::Memory,
-        WholeFault::Device => ReplayFault::Device,
-        WholeFault::TooLong => ReplayFault::TooLong,
+        WholeFault::Memory => Fault::Memory,
+        WholeFault::Device => Fault::Read { file: 0 },
+        WholeFault::TooLong => Fault::TooLong { file: 0 },
+    }
+}
+
+/// The replay's fault if its history has this one.
+fn history_fault(fault: HistoryFault) -> Fault
+    ensures memory { (result ≡ Fault.Memory) ↔ (fault ≡ HistoryFault.Memory) }
+    ensures cause { (known : Option Text) (failed out_failed : Bool) → HasFault known fault
+        → IsReplayCause known failed out_failed result }
+{
+    match fault {
+        HistoryFault::Memory => Fault::Memory,
+        HistoryFault::BadHeader => Fault::BadHeader,
+        HistoryFault::Cut => Fault::Cut,
+        HistoryFault::BadSession(line) => Fault::BadSession { line },
+        HistoryFault::BadLine(line, fault) => Fault::Line {
+            file: 0,
+            line,
+            fault,
+        },
+        HistoryFault::BadReply(line) => Fault::BadReply { line },
     }
 }
 
 /// Reads all of the input as a history.
-fn history_of<R: Read>(alloc: Global, input: &mut Watched<R>) -> Result<History, ReplayFault>
+fn history_of<R: Read>(alloc: Global, input: &mut Watched<R>) -> Result<History, Fault>
     ensures read { IfOk result (λ history. IfSome (known_in R.remaining input.old)
         (λ bytes. IsReadAs bytes history.names (lines_of history))) }
     ensures only { (lines : List (Line Text)) → IsKnownAs (known_in R.remaining input.old) lines
-        → IfErr result (λ fault. (fault ≡ ReplayFault.Memory) ⊎ IsReplayDeviceFault fault) }
+        → IfErr result (λ fault. (fault ≡ Fault.Memory) ⊎ IsDeviceFault fault) }
     ensures same { (lines : List (Line Text)) → IsKnownAs (known_in R.remaining input.old) lines
         → IfOk result (λ history. lines_of history ≡ lines) }
     ensures cause { IfErr result
         (IsReplayCause (known_in R.remaining input.old) (has_failed input.old input.new) false) }
-    ensures others { ¬ (IsErrAnd result IsReplayDeviceFault)
+    ensures others { ¬ (IsErrAnd result IsDeviceFault)
         → failures_of input.new ≡ failures_of input.old }
 {
     let bytes = match read_whole(alloc, input, INPUT_LIMIT) {
         Ok(bytes) => bytes,
         Err(fault) => return Err(whole_fault(fault)),
     };
-    Ok(read_history(alloc, &bytes)?)
+    match read_history(alloc, &bytes) {
+        Ok(history) => Ok(history),
+        Err(fault) => Err(history_fault(fault)),
+    }
 }
 
 /// The verdict on the input's lines, and its text.
 fn verdict_on_input<R: Read>(
     alloc: Global,
     input: &mut Watched<R>,
-) -> Result<(Verdict, Vec<u8>), ReplayFault>
+) -> Result<(Verdict, Vec<u8>), Fault>
     ensures verdict { IfOk result (λ judged.
         HasVerdict (known_in R.remaining input.old) judged.0 judged.1.items) }
     ensures only { (lines : List (Line Text)) → IsKnownAs (known_in R.remaining input.old) lines
-        → IfErr result (λ fault. (fault ≡ ReplayFault.Memory) ⊎ IsReplayDeviceFault fault) }
+        → IfErr result (λ fault. (fault ≡ Fault.Memory) ⊎ IsDeviceFault fault) }
     ensures same { (lines : List (Line Text)) → IsKnownAs (known_in R.remaining input.old) lines
         → IfOk result (λ judged. IsSame judged.0 ↔ Legal texts lines) }
     ensures cause { IfErr result
         (IsReplayCause (known_in R.remaining input.old) (has_failed input.old input.new) false) }
-    ensures others { ¬ (IsErrAnd result IsReplayDeviceFault)
+    ensures others { ¬ (IsErrAnd result IsDeviceFault)
         → failures_of input.new ≡ failures_of input.old }
 {
     let history = history_of(alloc, input)?;
@@ -79,7 +103,7 @@ pub fn replay_text<R: Read, W: Write>(
     alloc: Global,
     input: &mut Watched<R>,
     out: &mut Watched<W>,
-) -> Result<Verdict, ReplayFault>
+) -> Result<Verdict, Fault>
     // The input is a history, the verdict is the right one, and its text was written.
     ensures verdict { IfOk result (WritesVerdict (known_in R.remaining input.old)
         (known_in W.contents out.old) (known_in W.contents out.new)) }
@@ -87,26 +111,26 @@ pub fn replay_text<R: Read, W: Write>(
     // A history is refused only if memory runs out or a device fails, and is the same exactly if
     // its lines are legal.
     ensures only { (lines : List (Line Text)) → IsKnownAs (known_in R.remaining input.old) lines
-        → IfErr result (λ fault. (fault ≡ ReplayFault.Memory) ⊎ IsReplayDeviceFault fault) }
+        → IfErr result (λ fault. (fault ≡ Fault.Memory) ⊎ IsDeviceFault fault) }
     ensures same { (lines : List (Line Text)) → IsKnownAs (known_in R.remaining input.old) lines
         → IfOk result (λ verdict. IsSame verdict ↔ Legal texts lines) }
 
     // Each fault has its cause.
     ensures cause { IfErr result (IsReplayCause (known_in R.remaining input.old)
         (has_failed input.old input.new) (has_failed out.old out.new)) }
-    ensures nothing_written { IfErr result (λ fault. fault ≢ ReplayFault.Write
+    ensures nothing_written { IfErr result (λ fault. fault ≢ Fault.Write
         → WritesNothing W.contents out.old out.new) }
-    ensures part_written { IsErrOf result ReplayFault.Write
+    ensures part_written { IsErrOf result Fault.Write
         → WritesReplayPart (known_in R.remaining input.old)
         (known_in W.contents out.old) (known_in W.contents out.new) }
 
     // A device's fault is the result exactly if a read or a write of this call failed.
-    ensures device { IsErrAnd result IsReplayDeviceFault
+    ensures device { IsErrAnd result IsDeviceFault
         ↔ (IsTrue (has_failed input.old input.new) ⊎ IsTrue (has_failed out.old out.new)) }
 {
     let (verdict, text) = verdict_on_input(alloc, input)?;
     match write_whole(out, &text) {
         Ok(()) => Ok(verdict),
-        Err(WriteFault::Write) => Err(ReplayFault::Write),
+        Err(WriteFault::Write) => Err(Fault::Write),
     }
 }

@@ -9,10 +9,10 @@ use Rattle.redo_terms.specs.declared.script.Item.{Item}
 use Rattle.redo_terms.specs.Meaning.{command_of}
 use Rattle.redo_terms.specs.Inside.Meaning.{item_at}
 use Rattle.redo_text.proofs.Added.{command_at-Extends, IsBelow-Extends}
-use Rattle.redo_text.specs.declared.fault.TextFault.{TextFault}
-use Rattle.redo_text.specs.declared.fault.TextFault.TheVariants.{Memory, Read, TooManySessions, NoSession, Write, Device, TooLong}
+use Rattle.redo_text.specs.declared.fault.Fault.{Fault}
+use Rattle.redo_text.specs.declared.fault.Fault.TheVariants.{Memory, NoSession, TooManySessions}
 use Rattle.redo_run_text.specs.Files.{IsAccepted, AreAccepted}
-use Rattle.redo_run_text.specs.Faults.{IsTextCause}
+use Rattle.redo_run_text.specs.Faults.{IsRunCause}
 use Rattle.redo_run_text.specs.Inside.Files.{IsScriptBelow, AreScriptsBelow, scripts_at}
 use Rattle.redo_run_text.proofs.Causes.{shown_at}
 
@@ -121,23 +121,17 @@ files_more known initial files at d old new scripts script long within same x be
     script x below are accepted)
 
 -- the cause of a fault after the files are accepted
-pub IsTextCause-sessions : {X : Type 0} (result : Result X TextFault) (files : List (Option Text))
+pub IsRunCause-sessions : {X : Type 0} (result : Result X Fault) (files : List (Option Text))
     (failed : ℕ → Bool) (scripts : List (List (commands.Item Text))) (names : List Text)
     → AreAccepted [] files scripts names
     → (result ≡ Err TooManySessions → 64 < length scripts) → (result ≡ Err NoSession → scripts ≡ [])
     → IfErr result (λ fault. (fault ≡ Memory) ⊎ (fault ≡ NoSession) ⊎ (fault ≡ TooManySessions))
-    → IfErr result (IsTextCause files failed false)
-IsTextCause-sessions (Ok x) files failed scripts names are many none others = tt
-IsTextCause-sessions (Err Memory) files failed scripts names are many none others = tt
-IsTextCause-sessions (Err TooManySessions) files failed scripts names are many none others =
+    → IfErr result (IsRunCause files failed false)
+IsRunCause-sessions (Ok x) files failed scripts names are many none others = tt
+IsRunCause-sessions (Err Memory) files failed scripts names are many none others = tt
+IsRunCause-sessions (Err TooManySessions) files failed scripts names are many none others =
     (rw (AreAccepted-length [] files scripts names are) (many refl), (scripts, names, are))
-IsTextCause-sessions (Err NoSession) files failed scripts names are many none others =
+IsRunCause-sessions (Err NoSession) files failed scripts names are many none others =
     nil_from_length files (AreAccepted-length [] files scripts names are ∙ ap length (none refl))
-IsTextCause-sessions (Err (Read file line fault)) files failed scripts names are many none others =
-    absurd (elim others [ inl e ↦ cc | inr (inl e) ↦ cc | inr (inr e) ↦ cc ])
-IsTextCause-sessions (Err Write) files failed scripts names are many none others =
-    absurd (elim others [ inl e ↦ cc | inr (inl e) ↦ cc | inr (inr e) ↦ cc ])
-IsTextCause-sessions (Err (Device file)) files failed scripts names are many none others =
-    absurd (elim others [ inl e ↦ cc | inr (inl e) ↦ cc | inr (inr e) ↦ cc ])
-IsTextCause-sessions (Err (TooLong file)) files failed scripts names are many none others =
+IsRunCause-sessions (Err fault) files failed scripts names are many none others =
     absurd (elim others [ inl e ↦ cc | inr (inl e) ↦ cc | inr (inr e) ↦ cc ])

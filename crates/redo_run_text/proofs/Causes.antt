@@ -4,40 +4,38 @@ use Rattle.std.specs.Prelude.{IsTrue, slice_index_or, IfSome}
 use Rattle.std.proofs.lemmas.List.{get_or-map, length-map, get_or-set_same, get_or-set_other, map-set}
 use Rattle.redo_model.specs.Names.{Text}
 use Rattle.redo_model.specs.Command.{Item}
-use Rattle.redo_text.specs.declared.fault.TextFault.{TextFault}
-use Rattle.redo_text.specs.declared.fault.TextFault.TheVariants.{Memory, Read, TooManySessions, NoSession, Write, Device, TooLong}
+use Rattle.redo_text.specs.declared.fault.Fault.{Fault}
+use Rattle.redo_text.specs.declared.fault.Fault.TheVariants.{Memory, Read, TooLong, Line}
 use Rattle.redo_text.specs.Faults.{IsFirstFault}
 use Rattle.redo_run_text.specs.Files.{AreAccepted, failed_at}
-use Rattle.redo_run_text.specs.Faults.{IsTextCause, FilesBefore}
+use Rattle.redo_run_text.specs.Faults.{IsRunCause, FilesBefore}
 use Rattle.redo_run_text.specs.Inside.Faults.{IsFileCause}
 
 -- the fault of a file after those that are accepted
-pub IsTextCause-file : (files : List (Option Text)) (failed : ℕ → Bool) (out : Bool) (at : ℕ)
-    (names : List Text) (fault : TextFault)
+pub IsRunCause-file : (files : List (Option Text)) (failed : ℕ → Bool) (out : Bool) (at : ℕ)
+    (names : List Text) (fault : Fault)
     → FilesBefore files at names
     → IsFileCause names (slice_index_or files at None) (failed at) at fault
-    → IsTextCause files failed out fault
-IsTextCause-file files failed out at names Memory before cause = tt
-IsTextCause-file files failed out at names (Read file line fault) before cause = (
-  names,
-  subst (λ (n : ℕ). FilesBefore files n names) (sym cause.0) before,
-  subst (λ (n : ℕ). IfSome (slice_index_or files n None) (λ bytes. (length bytes ≤ 67108864)
-      × IsFirstFault names bytes line fault)) (sym cause.0) cause.1,
-)
-IsTextCause-file files failed out at names TooManySessions before cause = absurd cause
-IsTextCause-file files failed out at names NoSession before cause = absurd cause
-IsTextCause-file files failed out at names Write before cause = absurd cause
-IsTextCause-file files failed out at names (Device file) before cause = (
+    → IsRunCause files failed out fault
+IsRunCause-file files failed out at names Memory before cause = tt
+IsRunCause-file files failed out at names (Read file) before cause = (
   names,
   subst (λ (n : ℕ). FilesBefore files n names) (sym cause.0) before,
   subst (λ (n : ℕ). IsTrue (failed n)) (sym cause.0) cause.1,
 )
-IsTextCause-file files failed out at names (TooLong file) before cause = (
+IsRunCause-file files failed out at names (TooLong file) before cause = (
   names,
   subst (λ (n : ℕ). FilesBefore files n names) (sym cause.0) before,
   subst (λ (n : ℕ). IfSome (slice_index_or files n None) (λ bytes. 67108864 < length bytes))
       (sym cause.0) cause.1,
 )
+IsRunCause-file files failed out at names (Line file line fault) before cause = (
+  names,
+  subst (λ (n : ℕ). FilesBefore files n names) (sym cause.0) before,
+  subst (λ (n : ℕ). IfSome (slice_index_or files n None) (λ bytes. (length bytes ≤ 67108864)
+      × IsFirstFault names bytes line fault)) (sym cause.0) cause.1,
+)
+IsRunCause-file files failed out at names fault before cause = absurd cause
 
 -- an element's value, if it has its first value
 pub shown_at : {X : Type 0} (known : X → Option Text) (files initial : List X) (at : ℕ) (d : X)
@@ -77,20 +75,20 @@ failed_there count initial files at d file within same =
     ∙ ap (λ (n : ℕ). not (get_or (map count (set files at file)) at 0 == n)) before
 
 -- the fault of the file that is read, if those before it are accepted
-pub IsTextCause-read : {X : Type 0} (known : X → Option Text) (count : X
+pub IsRunCause-read : {X : Type 0} (known : X → Option Text) (count : X
     → ℕ) (initial files : List X)
     (at : ℕ) (d file : X) (names : List Text) (scripts : List (List (Item Text)))
-    (fault : TextFault)
+    (fault : Fault)
     → length files ≡ length initial → at < length initial
     → AreAccepted [] (take at (map known initial)) scripts names
     → get_or (map known files) at None ≡ get_or (map known initial) at None
     → map count files ≡ map count initial
     → IsFileCause names (known (get_or files at d)) (not (count file == count (get_or files at d)))
     at fault
-    → IsTextCause (map known initial)
+    → IsRunCause (map known initial)
     (failed_at (map count initial) (map count (set files at file)))
     false fault
-IsTextCause-read known count initial files at d file names scripts fault long within are same counts
+IsRunCause-read known count initial files at d file names scripts fault long within are same counts
     cause =
     let here : at < length files = omega arith in
     let cause_1 = subst (λ (bytes : Option Text). IsFileCause names bytes
@@ -98,6 +96,6 @@ IsTextCause-read known count initial files at d file names scripts fault long wi
     (shown_at known files initial at d here same) cause in
     let cause_2 = subst (λ (failed : Bool). IsFileCause names (get_or (map known initial) at None)
     failed at fault) (failed_there count initial files at d file here counts) cause_1 in
-    IsTextCause-file (map known initial)
+    IsRunCause-file (map known initial)
     (failed_at (map count initial) (map count (set files at file))) false at names fault
     (omega (arith, length-map initial known), (scripts, are)) cause_2

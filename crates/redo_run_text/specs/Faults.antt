@@ -5,8 +5,8 @@ use Rattle.redo_model.specs.Command.{Item}
 use Rattle.redo_text.specs.Faults.{IsFirstFault}
 use Rattle.redo_run_text.specs.Files.{AreAccepted, AreSessions}
 use Rattle.redo_text.specs.declared.fault.LineFault.{LineFault}
-use Rattle.redo_text.specs.declared.fault.TextFault.{TextFault}
-use Rattle.redo_text.specs.declared.fault.TextFault.TheVariants.{Memory, Read, TooManySessions, NoSession, Write, Device, TooLong}
+use Rattle.redo_text.specs.declared.fault.Fault.{Fault}
+use Rattle.redo_text.specs.declared.fault.Fault.TheVariants.{Memory, Read, TooLong, Line, NoSession, TooManySessions, Write}
 
 -- the files before this one are accepted, and leave these names
 abbrev pub FilesBefore : List (Option Text) → ℕ → List Text → Type 0
@@ -22,32 +22,23 @@ HasFaultyLine names line fault bytes =
 abbrev pub AreTooLong : Text → Type 0
 AreTooLong bytes = 67108864 < length bytes
 
--- the cause of a fault: `files` are the files' bytes, if they are known, `failed` says which files
--- had a failed read, and `out_failed` whether a write failed
-abbrev pub IsTextCause : List (Option Text) → (ℕ → Bool) → Bool → TextFault → Type 0
-IsTextCause files failed out_failed Memory = ⊤
-IsTextCause files failed out_failed (Read file line fault) =
+-- the cause of a run's fault: `files` are the files' bytes, if they are known, `failed` says which
+-- files had a failed read, and `out_failed` whether a write failed
+abbrev pub IsRunCause : List (Option Text) → (ℕ → Bool) → Bool → Fault → Type 0
+IsRunCause files failed out_failed Memory = ⊤
+IsRunCause files failed out_failed (Read file) =
+    (names : List Text) × FilesBefore files file names × IsTrue (failed file)
+IsRunCause files failed out_failed (TooLong file) =
+    (names : List Text) × FilesBefore files file names
+    × IfSome (slice_index_or files file None) AreTooLong
+IsRunCause files failed out_failed (Line file line fault) =
     (names : List Text) × FilesBefore files file names
     × IfSome (slice_index_or files file None) (HasFaultyLine names line fault)
-IsTextCause files failed out_failed TooManySessions =
+IsRunCause files failed out_failed NoSession = files ≡ []
+IsRunCause files failed out_failed TooManySessions =
     (64 < length files)
     × ((scripts : List (List (Item Text))) × (names : List Text)
     × AreAccepted [] files scripts names)
-IsTextCause files failed out_failed NoSession = files ≡ []
-IsTextCause files failed out_failed Write =
+IsRunCause files failed out_failed Write =
     ((scripts : List (List (Item Text))) × AreSessions files scripts) × IsTrue out_failed
-IsTextCause files failed out_failed (Device file) =
-    (names : List Text) × FilesBefore files file names × IsTrue (failed file)
-IsTextCause files failed out_failed (TooLong file) =
-    (names : List Text) × FilesBefore files file names
-    × IfSome (slice_index_or files file None) AreTooLong
-
--- the fault is a device's: a read or a write failed
-abbrev pub IsTextDeviceFault : TextFault → Type 0
-IsTextDeviceFault Memory = ⊥
-IsTextDeviceFault (Read file line fault) = ⊥
-IsTextDeviceFault TooManySessions = ⊥
-IsTextDeviceFault NoSession = ⊥
-IsTextDeviceFault Write = ⊤
-IsTextDeviceFault (Device file) = ⊤
-IsTextDeviceFault (TooLong file) = ⊥
+IsRunCause files failed out_failed fault = ⊥

@@ -6,12 +6,13 @@ ghost use Rattle.redo_whole.specs.Devices.{known_in};
 ghost use Rattle.redo_run_text.specs.Files.{IsAccepted, AreAccepted};
 ghost use Rattle.redo_run_text.specs.Files.{bytes_of_files, failures_of_files, failed_files};
 ghost use Rattle.redo_run_text.specs.Inside.Files.{scripts_at, IsScriptBelow, AreScriptsBelow};
-ghost use Rattle.redo_run_text.specs.Faults.{IsTextCause, IsTextDeviceFault};
+ghost use Rattle.redo_text.specs.Faults.{IsDeviceFault};
+ghost use Rattle.redo_run_text.specs.Faults.{IsRunCause};
 ghost use Rattle.redo_run_text.specs.Inside.Faults.{IsFileCause};
 
 use redo_names::Names;
 use redo_terms::Script;
-use redo_text::{LineFault, ReadFault, TextFault, read_script};
+use redo_text::{Fault, LineFault, ReadFault, read_script};
 use redo_whole::{Watched, WholeFault, read_whole};
 use std::alloc::Global;
 use std::io::Read;
@@ -20,27 +21,27 @@ use std::io::Read;
 pub const FILE_LIMIT: usize = 67_108_864;
 
 /// The run's fault if the bytes of this file have this one.
-fn whole_fault(file: usize, fault: WholeFault) -> TextFault
-    ensures memory { (result ≡ TextFault.Memory) ↔ (fault ≡ WholeFault.Memory) }
-    ensures device { fault ≡ WholeFault.Device → result ≡ TextFault.Device file }
-    ensures too_long { fault ≡ WholeFault.TooLong → result ≡ TextFault.TooLong file }
+fn whole_fault(file: usize, fault: WholeFault) -> Fault
+    ensures memory { (result ≡ Fault.Memory) ↔ (fault ≡ WholeFault.Memory) }
+    ensures device { fault ≡ WholeFault.Device → result ≡ Fault.Read file }
+    ensures too_long { fault ≡ WholeFault.TooLong → result ≡ Fault.TooLong file }
 {
     match fault {
-        WholeFault::Memory => TextFault::Memory,
-        WholeFault::Device => TextFault::Device { file },
-        WholeFault::TooLong => TextFault::TooLong { file },
+        WholeFault::Memory => Fault::Memory,
+        WholeFault::Device => Fault::Read { file },
+        WholeFault::TooLong => Fault::TooLong { file },
     }
 }
 
 /// The run's fault if the commands of this file have this one.
-fn read_fault(file: usize, fault: ReadFault) -> TextFault
-    ensures memory { (result ≡ TextFault.Memory) ↔ (fault ≡ ReadFault.Memory) }
+fn read_fault(file: usize, fault: ReadFault) -> Fault
+    ensures memory { (result ≡ Fault.Memory) ↔ (fault ≡ ReadFault.Memory) }
     ensures line { (line : ℕ) (own : LineFault) → fault ≡ ReadFault.Line line own
-        → result ≡ TextFault.Read file line own }
+        → result ≡ Fault.Line file line own }
 {
     match fault {
-        ReadFault::Memory => TextFault::Memory,
-        ReadFault::Line { line, fault } => TextFault::Read { file, line, fault },
+        ReadFault::Memory => Fault::Memory,
+        ReadFault::Line { line, fault } => Fault::Line { file, line, fault },
     }
 }
 
@@ -50,14 +51,14 @@ fn read_file<R: Read>(
     at: usize,
     file: &mut Watched<R>,
     names: &mut Names,
-) -> Result<Script, TextFault>
+) -> Result<Script, Fault>
     ensures accepted { IfOk result (λ script. IsAccepted names.old
         (known_in R.remaining file.old) (map (item_at names.new) script) names.new) }
     ensures below { IfOk result (IsScriptBelow names.new) }
     ensures kept { Extends names.old names.new }
     ensures cause { IfErr result (IsFileCause names.old
         (known_in R.remaining file.old) (has_failed file.old file.new) at) }
-    ensures others { ¬ (IsErrAnd result IsTextDeviceFault)
+    ensures others { ¬ (IsErrAnd result IsDeviceFault)
         → failures_of file.new ≡ failures_of file.old }
 {
     let text = match read_whole(alloc, file, FILE_LIMIT) {
@@ -76,7 +77,7 @@ pub fn read_files<R: Read>(
     alloc: Global,
     files: &mut [Watched<R>],
     names: &mut Names,
-) -> Result<Vec<Script>, TextFault>
+) -> Result<Vec<Script>, Fault>
     requires { names.old ≡ [] }
 
     // Each file is a script, and the result is their commands.
@@ -85,12 +86,12 @@ pub fn read_files<R: Read>(
     ensures below { IfOk result (λ scripts. AreScriptsBelow names.new scripts.items) }
 
     // Each fault has its cause; without a file there is none.
-    ensures cause { IfErr result (IsTextCause
+    ensures cause { IfErr result (IsRunCause
         (bytes_of_files R.remaining files.old) (failed_files files.old files.new) false) }
     ensures some { OnErr result (0 < length files.old) }
 
     // A file counts one failure more only if a device failed.
-    ensures others { ¬ (IsErrAnd result IsTextDeviceFault)
+    ensures others { ¬ (IsErrAnd result IsDeviceFault)
         → failures_of_files files.new ≡ failures_of_files files.old }
 {
     let mut scripts = Vec::new(alloc);

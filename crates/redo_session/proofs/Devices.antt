@@ -3,10 +3,11 @@ use Rattle.std.proofs.Common.{◌≡◌, ℕ, Bool, false, not, ◌==◌, Option
 use Rattle.std.specs.Prelude.{IsTrue, ◌↔◌}
 use Rattle.std.proofs.lemmas.Bool.{both_ways, not_from_true}
 use Rattle.redo_model.specs.Names.{Text}
-use Rattle.redo_text.specs.declared.fault.TextFault.{TextFault}
-use Rattle.redo_text.specs.declared.fault.TextFault.TheVariants.{Memory, Read, TooManySessions, NoSession, Write, Device, TooLong}
+use Rattle.redo_text.specs.declared.fault.Fault.{Fault}
+use Rattle.redo_text.specs.declared.fault.Fault.TheVariants.{Read, Write}
 use Rattle.redo_run_text.specs.Files.{failed_at}
-use Rattle.redo_run_text.specs.Faults.{IsTextCause, IsTextDeviceFault}
+use Rattle.redo_text.specs.Faults.{IsDeviceFault}
+use Rattle.redo_run_text.specs.Faults.{IsRunCause}
 
 -- a count that stays the same isn't another
 pub is_same : (n : ℕ) → not (n == n) ≡ false
@@ -22,25 +23,21 @@ none_failed before after same (file, failed) =
 
 -- if no write was tried, a device's fault is the result exactly if a file's count has changed
 pub device_read : (known : List (Option Text)) (before after : List ℕ) (out : Bool)
-    (fault : TextFault)
-    → IsTextCause known (failed_at before after) false fault
-    → (¬ (IsTextDeviceFault fault) → after ≡ before)
+    (fault : Fault)
+    → IsRunCause known (failed_at before after) false fault
+    → (¬ (IsDeviceFault fault) → after ≡ before)
     → out ≡ false
-    → IsTextDeviceFault fault ↔ (((file : ℕ) × IsTrue (failed_at before after file)) ⊎ IsTrue out)
+    → IsDeviceFault fault ↔ (((file : ℕ) × IsTrue (failed_at before after file)) ⊎ IsTrue out)
 device_read known before after out fault cause quiet out_down = by fault cause quiet
   where
     none : after ≡ before → ((file : ℕ) × IsTrue (failed_at before after file)) ⊎ IsTrue out → ⊥
     none same (inl failed) = none_failed before after same failed
     none same (inr out_failed) = both_ways out out_down out_failed
 
-    by : (fault : TextFault) → IsTextCause known (failed_at before after) false fault
-        → (¬ (IsTextDeviceFault fault) → after ≡ before)
-        → IsTextDeviceFault fault ↔ (((file : ℕ) × IsTrue (failed_at before after file))
+    by : (fault : Fault) → IsRunCause known (failed_at before after) false fault
+        → (¬ (IsDeviceFault fault) → after ≡ before)
+        → IsDeviceFault fault ↔ (((file : ℕ) × IsTrue (failed_at before after file))
         ⊎ IsTrue out)
-    by Memory cause quiet = (λ no. absurd no, none (quiet (λ no. no)))
-    by (Read file line f) cause quiet = (λ no. absurd no, none (quiet (λ no. no)))
-    by TooManySessions cause quiet = (λ no. absurd no, none (quiet (λ no. no)))
-    by NoSession cause quiet = (λ no. absurd no, none (quiet (λ no. no)))
+    by (Read file) cause quiet = (λ yes. inl (file, cause.2), λ any. tt)
     by Write cause quiet = absurd cc
-    by (Device file) cause quiet = (λ yes. inl (file, cause.2), λ any. tt)
-    by (TooLong file) cause quiet = (λ no. absurd no, none (quiet (λ no. no)))
+    by fault cause quiet = (λ no. absurd no, none (quiet (λ no. no)))

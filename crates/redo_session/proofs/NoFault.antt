@@ -5,14 +5,14 @@ use Rattle.redo_model.specs.Names.{Text}
 use Rattle.redo_model.specs.Command.{Item}
 use Rattle.redo_text.specs.declared.fault.LineFault.{LineFault}
 use Rattle.redo_text.specs.Grammar.{IsScript}
-use Rattle.redo_text.specs.Faults.{IsFirstFault}
+use Rattle.redo_text.specs.Faults.{IsFirstFault, IsDeviceFault}
 use Rattle.redo_text.proofs.ScriptLaws.{one_script}
 use Rattle.redo_text.proofs.ScriptSteps.{no_first_fault}
-use Rattle.redo_text.specs.declared.fault.TextFault.{TextFault}
-use Rattle.redo_text.specs.declared.fault.TextFault.TheVariants.{Memory, Read, TooManySessions, NoSession, Write, Device, TooLong}
+use Rattle.redo_text.specs.declared.fault.Fault.{Fault}
+use Rattle.redo_text.specs.declared.fault.Fault.TheVariants.{Memory, Read, TooLong, Line, NoSession, TooManySessions, Write}
 use Rattle.redo_session.specs.Runs.{AreKnownSessions}
 use Rattle.redo_run_text.specs.Files.{AreAccepted}
-use Rattle.redo_run_text.specs.Faults.{IsTextCause, IsTextDeviceFault}
+use Rattle.redo_run_text.specs.Faults.{IsRunCause}
 
 -- a script leaves one list of names
 one_after : (names : List Text) (text : Text) (a b : List (Item Text)) (m n : List Text)
@@ -49,32 +49,33 @@ no_read names (t ∷ ts) (s ∷ scripts) after (m, is, are) (suc k) less (b ∷ 
 module _ (texts : List Text) (scripts : List (List (Item Text))) (names : List Text)
     (some : 1 ≤ length (map Some texts)) (few : length (map Some texts) ≤ 64)
     (are : AreAccepted [] (map Some texts) scripts names) where
-  only_for : (failed : ℕ → Bool) (out : Bool) (fault : TextFault)
-      → IsTextCause (map Some texts) failed out fault → (fault ≡ Memory) ⊎ IsTextDeviceFault fault
+  only_for : (failed : ℕ → Bool) (out : Bool) (fault : Fault)
+      → IsRunCause (map Some texts) failed out fault → (fault ≡ Memory) ⊎ IsDeviceFault fault
   only_for failed out Memory cause = inl refl
-  only_for failed out (Read file line fault) (middle, (less, (before, prefix)), cause) =
-      let no = no_read [] texts scripts names are file less before middle prefix in
-      let first =
-      subst
-      (λ (o : Option Text). IfSome o (λ bytes. (length bytes ≤ 67108864)
-      × IsFirstFault middle bytes line fault)) no.1 cause in
-      absurd (no.3 line fault first.1)
-  only_for failed out TooManySessions cause = let many = cause.0 in absurd (omega arith)
-  only_for failed out NoSession cause = let none = ap length cause in absurd (omega arith)
-  only_for failed out Write cause = inr tt
-  only_for failed out (Device file) cause = inr tt
+  only_for failed out (Read file) cause = inr tt
   only_for failed out (TooLong file) (middle, (less, (before, prefix)), cause) =
       let no = no_read [] texts scripts names are file less before middle prefix in
       let long =
       subst (λ (o : Option Text). IfSome o (λ bytes. 67108864 < length bytes)) no.1 cause in
       let short = no.2 in
       absurd (omega arith)
+  only_for failed out (Line file line fault) (middle, (less, (before, prefix)), cause) =
+      let no = no_read [] texts scripts names are file less before middle prefix in
+      let first =
+      subst
+      (λ (o : Option Text). IfSome o (λ bytes. (length bytes ≤ 67108864)
+      × IsFirstFault middle bytes line fault)) no.1 cause in
+      absurd (no.3 line fault first.1)
+  only_for failed out NoSession cause = let none = ap length cause in absurd (omega arith)
+  only_for failed out TooManySessions cause = let many = cause.0 in absurd (omega arith)
+  only_for failed out Write cause = inr tt
+  only_for failed out fault cause = absurd cause
 
 pub refused_only : (files : List (Option Text)) (failed : ℕ → Bool) (out : Bool)
-    (fault : TextFault) → AreKnownSessions files → IsTextCause files failed out fault
-    → (fault ≡ Memory) ⊎ IsTextDeviceFault fault
+    (fault : Fault) → AreKnownSessions files → IsRunCause files failed out fault
+    → (fault ≡ Memory) ⊎ IsDeviceFault fault
 refused_only files failed out fault (texts, same, (scripts, (some, few, (names, are)))) cause =
     only_for texts scripts names (subst (λ (fs : List (Option Text)). 1 ≤ length fs) same some)
     (subst (λ (fs : List (Option Text)). length fs ≤ 64) same few)
     (subst (λ (fs : List (Option Text)). AreAccepted [] fs scripts names) same are) failed out fault
-    (subst (λ (fs : List (Option Text)). IsTextCause fs failed out fault) same cause)
+    (subst (λ (fs : List (Option Text)). IsRunCause fs failed out fault) same cause)

@@ -16,8 +16,8 @@ use Rattle.redo_terms.specs.Meaning.{line_at}
 use Rattle.redo_terms.specs.Inside.Meaning.{item_at, item_of}
 use Rattle.redo_terms.specs.declared.reply.Line as coded
 use Rattle.redo_journal.specs.Plans.{PlanOf, scripts_of}
-use Rattle.redo_text.specs.declared.fault.TextFault.{TextFault}
-use Rattle.redo_text.specs.declared.fault.TextFault.TheVariants.{NoSession}
+use Rattle.redo_text.specs.declared.fault.Fault.{Fault}
+use Rattle.redo_text.specs.declared.fault.Fault.TheVariants.{NoSession}
 use Rattle.redo_session.specs.Runs.{IsRun, IsRunText, RunsAs}
 use Rattle.redo_run_text.specs.Files.{AreAccepted}
 use Rattle.redo_run_text.proofs.Accepted.{AreAccepted-length}
@@ -56,7 +56,7 @@ run_text_here p names scripts history text same run is =
     )
 
 -- the text of accepted files, which are neither none nor too many
-pub runs_as : {A : Type 0} (result : Result (Vec ℕ A) TextFault) (files : List (Option Text))
+pub runs_as : {A : Type 0} (result : Result (Vec ℕ A) Fault) (files : List (Option Text))
     (scripts : List (List Item)) (names : List Text)
     → AreAccepted [] files (scripts_at names scripts) names
     → IfOk result (λ text. IsRunText (scripts_at names scripts) text.items)

@@ -8,6 +8,5 @@ mod texts;
 
 pub use laws::{one_run, run_lets_go, run_replays};
 pub use redo_run_text::{Outcome, read_files, run_text};
-pub use redo_text::TextFault;
 pub use runs::run;
 pub use texts::run_texts;

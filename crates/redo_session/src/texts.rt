@@ -4,7 +4,8 @@ ghost use Rattle.redo_whole.specs.Devices.{known_in, WritesNothing};
 ghost use Rattle.redo_session.specs.Runs.{IsRunText, RunsAs, WritesRun, WritesPart, AreKnownSessions};
 ghost use Rattle.redo_run_text.specs.Files.{bytes_of_files, failures_of_files, failed_files};
 ghost use Rattle.redo_run_text.specs.Inside.Files.{scripts_at, AreScriptsBelow};
-ghost use Rattle.redo_run_text.specs.Faults.{IsTextCause, IsTextDeviceFault};
+ghost use Rattle.redo_text.specs.Faults.{IsDeviceFault};
+ghost use Rattle.redo_run_text.specs.Faults.{IsRunCause};
 
 use crate::runs::run;
 use redo_board::{Open, Plan};
@@ -12,7 +13,7 @@ use redo_journal::PlanFault;
 use redo_names::Names;
 use redo_run_text::{read_files, run_text};
 use redo_terms::Script;
-use redo_text::TextFault;
+use redo_text::Fault;
 use redo_whole::{Watched, WriteFault, write_whole};
 use std::alloc::Global;
 use std::io::{Read, Write};
@@ -20,13 +21,13 @@ use std::sync::Wait;
 use std::thread::Threads;
 
 /// The run's fault if its plan has this one.
-fn plan_fault(fault: PlanFault) -> TextFault
-    ensures none { (result ≡ TextFault.NoSession) ↔ (fault ≡ PlanFault.NoSession) }
-    ensures many { (result ≡ TextFault.TooManySessions) ↔ (fault ≡ PlanFault.TooManySessions) }
+fn plan_fault(fault: PlanFault) -> Fault
+    ensures none { (result ≡ Fault.NoSession) ↔ (fault ≡ PlanFault.NoSession) }
+    ensures many { (result ≡ Fault.TooManySessions) ↔ (fault ≡ PlanFault.TooManySessions) }
 {
     match fault {
-        PlanFault::NoSession => TextFault::NoSession,
-        PlanFault::TooManySessions => TextFault::TooManySessions,
+        PlanFault::NoSession => Fault::NoSession,
+        PlanFault::TooManySessions => Fault::TooManySessions,
     }
 }
 
@@ -36,14 +37,14 @@ fn text_of_scripts<T: Threads + Wait + Sync>(
     alloc: Global,
     scripts: Vec<Script>,
     names: Names,
-) -> Result<Vec<u8>, TextFault>
+) -> Result<Vec<u8>, Fault>
     requires { AreScriptsBelow names scripts.items }
     ensures text { IfOk result (λ text. IsRunText (scripts_at names scripts.items) text.items) }
     ensures few { OnOk result (length scripts.items ≤ 64) }
-    ensures none { IsErrOf result TextFault.NoSession ↔ (length scripts.items ≡ 0) }
-    ensures many { IsErrOf result TextFault.TooManySessions ↔ (64 < length scripts.items) }
-    ensures others { IfErr result (λ fault. (fault ≡ TextFault.Memory)
-        ⊎ (fault ≡ TextFault.NoSession) ⊎ (fault ≡ TextFault.TooManySessions)) }
+    ensures none { IsErrOf result Fault.NoSession ↔ (length scripts.items ≡ 0) }
+    ensures many { IsErrOf result Fault.TooManySessions ↔ (64 < length scripts.items) }
+    ensures others { IfErr result (λ fault. (fault ≡ Fault.Memory)
+        ⊎ (fault ≡ Fault.NoSession) ⊎ (fault ≡ Fault.TooManySessions)) }
 {
     let plan = match Plan::new(scripts, names) {
         Ok(plan) => plan,
@@ -58,13 +59,13 @@ fn text_of_files<R: Read, T: Threads + Wait + Sync>(
     rt: &T,
     alloc: Global,
     files: &mut [Watched<R>],
-) -> Result<Vec<u8>, TextFault>
+) -> Result<Vec<u8>, Fault>
     ensures text { IfOk result (λ text. RunsAs
         (bytes_of_files R.remaining files.old) text.items) }
-    ensures cause { IfErr result (IsTextCause
+    ensures cause { IfErr result (IsRunCause
         (bytes_of_files R.remaining files.old) (failed_files files.old files.new) false) }
-    ensures none { files.old ≡ [] → IsErrOf result TextFault.NoSession }
-    ensures others { ¬ (IsErrAnd result IsTextDeviceFault)
+    ensures none { files.old ≡ [] → IsErrOf result Fault.NoSession }
+    ensures others { ¬ (IsErrAnd result IsDeviceFault)
         → failures_of_files files.new ≡ failures_of_files files.old }
 {
     let mut names = Names::new(alloc);
@@ -79,36 +80,36 @@ pub fn run_texts<R: Read, W: Write, T: Threads + Wait + Sync>(
     alloc: Global,
     files: &mut [Watched<R>],
     out: &mut Watched<W>,
-) -> Result<(), TextFault>
+) -> Result<(), Fault>
     // The files are accepted, 1 to 64 of them, and what was written is the run text of one legal
     // history of their commands.
     ensures run { OnOk result (WritesRun (bytes_of_files R.remaining files.old)
         (known_in W.contents out.old) (known_in W.contents out.new)) }
 
     // Without a file there is no session.
-    ensures none { files.old ≡ [] → IsErrOf result TextFault.NoSession }
+    ensures none { files.old ≡ [] → IsErrOf result Fault.NoSession }
 
     // Each fault has its cause, in the order of the work.
-    ensures cause { IfErr result (IsTextCause (bytes_of_files R.remaining files.old)
+    ensures cause { IfErr result (IsRunCause (bytes_of_files R.remaining files.old)
         (failed_files files.old files.new) (has_failed out.old out.new)) }
-    ensures nothing_written { IfErr result (λ fault. fault ≢ TextFault.Write
+    ensures nothing_written { IfErr result (λ fault. fault ≢ Fault.Write
         → WritesNothing W.contents out.old out.new) }
-    ensures part_written { IsErrOf result TextFault.Write
+    ensures part_written { IsErrOf result Fault.Write
         → WritesPart (bytes_of_files R.remaining files.old)
         (known_in W.contents out.old) (known_in W.contents out.new) }
 
     // If the files' bytes are known and accepted, only memory and devices refuse the run.
     ensures only { AreKnownSessions (bytes_of_files R.remaining files.old)
-        → IfErr result (λ fault. (fault ≡ TextFault.Memory) ⊎ IsTextDeviceFault fault) }
+        → IfErr result (λ fault. (fault ≡ Fault.Memory) ⊎ IsDeviceFault fault) }
 
     // A device's fault is the result exactly if a read or a write of this call failed.
-    ensures device { IsErrAnd result IsTextDeviceFault
+    ensures device { IsErrAnd result IsDeviceFault
         ↔ (((file : ℕ) × IsTrue (failed_files files.old files.new file))
         ⊎ IsTrue (has_failed out.old out.new)) }
 {
     let text = text_of_files(rt, alloc, files)?;
     match write_whole(out, &text) {
         Ok(()) => Ok(()),
-        Err(WriteFault::Write) => Err(TextFault::Write),
+        Err(WriteFault::Write) => Err(Fault::Write),
     }
 }

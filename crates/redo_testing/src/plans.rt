@@ -1,7 +1,7 @@
 use redo_journal::Plan;
 use redo_names::Names;
 use redo_run_text::read_files;
-use redo_text::TextFault;
+use redo_text::Fault;
 use redo_whole::Watched;
 use std::alloc::{AllocError, Global};
 
@@ -20,7 +20,7 @@ pub fn planned(alloc: Global, files: &[&str]) -> Result<Option<Plan>, AllocError
     let mut names = Names::new(alloc);
     match read_files(alloc, &mut readers, &mut names) {
         Ok(scripts) => Ok(Plan::new(scripts, names).ok()),
-        Err(TextFault::Memory) => Err(AllocError),
+        Err(Fault::Memory) => Err(AllocError),
         Err(_) => Ok(None),
     }
 }

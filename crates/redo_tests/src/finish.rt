@@ -1,10 +1,9 @@
 //! What the program reports of a fault, and its status.
 use crate::devices::FailingWriter;
-use redo_job::{Fault, finish};
-use redo_replay::{HistoryFault, ReplayFault, Verdict};
-use redo_session::TextFault;
+use redo_job::finish;
+use redo_replay::Verdict;
 use redo_terms::Reply;
-use redo_text::LineFault;
+use redo_text::{Fault, LineFault};
 use redo_whole::Watched;
 use std::alloc::{AllocError, Global};
 use std::process::Abort;
@@ -31,29 +30,6 @@ const LINES: &[(LineFault, &str)] = &[
     ),
 ];
 
-/// What is reported of the history `a`.
-const HISTORIES: &[(HistoryFault, &str)] = &[
-    (HistoryFault::BadHeader, "redodb: a: bad header\n"),
-    (HistoryFault::Cut, "redodb: a: cut\n"),
-    (
-        HistoryFault::BadSession(7),
-        "redodb: a: line 7: bad-session\n",
-    ),
-    (
-        HistoryFault::BadLine(3, LineFault::WrongWords),
-        "redodb: a: line 3: wrong-words\n",
-    ),
-    (
-        HistoryFault::BadReply(12),
-        "redodb: a: line 12: bad-reply\n",
-    ),
-];
-
-/// The fault of a line of a run's file.
-fn in_run(file: usize, line: usize, fault: LineFault) -> TextFault {
-    TextFault::Read { file, line, fault }
-}
-
 fn files_of(alloc: Global, names: &[&str]) -> Result<Vec<String>, AllocError> {
     let mut files = Vec::new(alloc);
     for name in names {
@@ -77,59 +53,58 @@ fn check(
 }
 
 /// What is reported if the files are `a` and `b`.
+const FAULTS: &[(Fault, &str)] = &[
+    (Fault::Memory, "redodb: memory\n"),
+    (Fault::Usage, "redodb: usage\n"),
+    (Fault::CannotOpen { file: 0 }, "redodb: a: cannot open\n"),
+    (Fault::CannotOpen { file: 1 }, "redodb: b: cannot open\n"),
+    (Fault::CannotOpen { file: 2 }, "redodb: -: cannot open\n"),
+    (Fault::Read { file: 0 }, "redodb: a: read\n"),
+    (Fault::Read { file: 1 }, "redodb: b: read\n"),
+    (Fault::TooLong { file: 0 }, "redodb: a: too long\n"),
+    (
+        Fault::Line {
+            file: 1,
+            line: 30,
+            fault: LineFault::BadByte,
+        },
+        "redodb: b: line 30: bad-byte\n",
+    ),
+    (
+        Fault::Line {
+            file: 0,
+            line: 3,
+            fault: LineFault::WrongWords,
+        },
+        "redodb: a: line 3: wrong-words\n",
+    ),
+    (Fault::BadHeader, "redodb: a: bad header\n"),
+    (Fault::Cut, "redodb: a: cut\n"),
+    (
+        Fault::BadSession { line: 7 },
+        "redodb: a: line 7: bad-session\n",
+    ),
+    (
+        Fault::BadReply { line: 12 },
+        "redodb: a: line 12: bad-reply\n",
+    ),
+    (Fault::NoSession, "redodb: no session\n"),
+    (Fault::TooManySessions, "redodb: too many sessions\n"),
+    (Fault::Write, "redodb: write\n"),
+];
+
 #[test]
 fn faults(rt: HostRuntime) -> Result<(), AllocError> {
     let files = files_of(rt.alloc(), &["a", "b"])?;
-    for (fault, want) in [
-        (Fault::Memory, "redodb: memory\n"),
-        (Fault::Usage, "redodb: usage\n"),
-        (Fault::CannotOpen { file: 0 }, "redodb: a: cannot open\n"),
-        (Fault::CannotOpen { file: 1 }, "redodb: b: cannot open\n"),
-        (Fault::CannotOpen { file: 2 }, "redodb: -: cannot open\n"),
-        (Fault::Replay(ReplayFault::Memory), "redodb: memory\n"),
-        (Fault::Replay(ReplayFault::Device), "redodb: a: read\n"),
-        (Fault::Replay(ReplayFault::TooLong), "redodb: a: too long\n"),
-        (Fault::Replay(ReplayFault::Write), "redodb: write\n"),
-    ] {
-        check(&rt, rt.alloc(), &Err(fault), &files, (2, want));
-    }
-    Ok(())
-}
-
-#[test]
-fn faults_of_runs(rt: HostRuntime) -> Result<(), AllocError> {
-    let files = files_of(rt.alloc(), &["a", "b"])?;
-    for (fault, want) in [
-        (TextFault::Memory, "redodb: memory\n"),
-        (
-            in_run(1, 30, LineFault::BadByte),
-            "redodb: b: line 30: bad-byte\n",
-        ),
-        (TextFault::TooManySessions, "redodb: too many sessions\n"),
-        (TextFault::NoSession, "redodb: no session\n"),
-        (TextFault::Write, "redodb: write\n"),
-        (TextFault::Device { file: 1 }, "redodb: b: read\n"),
-        (TextFault::TooLong { file: 0 }, "redodb: a: too long\n"),
-    ] {
-        check(&rt, rt.alloc(), &Err(Fault::Text(fault)), &files, (2, want));
+    for (fault, want) in FAULTS {
+        check(&rt, rt.alloc(), &Err(*fault), &files, (2, want));
     }
     for (fault, want) in LINES {
-        let answer = Err(Fault::Text(in_run(0, 1, *fault)));
-        check(&rt, rt.alloc(), &answer, &files, (2, want));
-    }
-    Ok(())
-}
-
-#[test]
-fn faults_of_histories(rt: HostRuntime) -> Result<(), AllocError> {
-    let files = files_of(rt.alloc(), &["a", "b"])?;
-    for (fault, want) in HISTORIES {
-        let answer = Err(Fault::Replay(ReplayFault::History(*fault)));
-        check(&rt, rt.alloc(), &answer, &files, (2, want));
-    }
-    for (fault, want) in LINES {
-        let history = HistoryFault::BadLine(1, *fault);
-        let answer = Err(Fault::Replay(ReplayFault::History(history)));
+        let answer = Err(Fault::Line {
+            file: 0,
+            line: 1,
+            fault: *fault,
+        });
         check(&rt, rt.alloc(), &answer, &files, (2, want));
     }
     Ok(())

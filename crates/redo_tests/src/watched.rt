@@ -1,8 +1,9 @@
 //! Readers and writers that fail once and then work: what is returned, what is noted, and that no
 //! call is tried again.
 use crate::devices::{FailingReader, FailingWriter};
-use redo_replay::{ReplayFault, replay_text};
-use redo_session::{TextFault, run_texts};
+use redo_replay::replay_text;
+use redo_session::run_texts;
+use redo_text::Fault;
 use redo_whole::{Watched, WholeFault, read_whole, write_whole};
 use std::alloc::{AllocError, Global};
 use std::io::{Read, Write};
@@ -136,7 +137,7 @@ fn run_fault<T: Threads + Wait + Sync, R: Read, W: Write>(
     alloc: Global,
     files: &mut [Watched<R>],
     out: &mut Watched<W>,
-) -> Option<TextFault> {
+) -> Option<Fault> {
     run_texts(rt, alloc, files, out).err()
 }
 
@@ -151,7 +152,7 @@ fn is_run<T: Threads + Wait + Sync>(
     let mut out = Watched::new(device);
     let is_right = match run_fault(rt, alloc, files, &mut out) {
         None => !fails,
-        Some(TextFault::Write) => fails,
+        Some(Fault::Write) => fails,
         Some(_) => false,
     };
     is_right && out.faulted() == fails && !files.iter().any(|file| file.faulted())
@@ -191,7 +192,7 @@ fn runs_by_a_failing_reader(rt: HostRuntime) {
         Watched::new(&mut third),
     ];
     let fault = run_fault(&rt, rt.alloc(), &mut files, &mut out);
-    assert!(rt; matches!(fault, Some(TextFault::Device { file: 1 })));
+    assert!(rt; matches!(fault, Some(Fault::Read { file: 1 })));
     assert!(rt; !files[0].faulted() && files[1].faulted() && !files[2].faulted());
     assert!(rt; !out.faulted());
     assert!(rt; first.reads == 1 && second.reads == 2 && third.reads == 0);
@@ -203,7 +204,7 @@ fn no_file(rt: HostRuntime) {
     let mut bytes = Vec::new(rt.alloc());
     let mut files: [Watched<&[u8]>; 0] = [];
     let fault = run_fault(&rt, rt.alloc(), &mut files, &mut Watched::new(&mut bytes));
-    assert!(rt; matches!(fault, Some(TextFault::NoSession)));
+    assert!(rt; matches!(fault, Some(Fault::NoSession)));
     assert!(rt; bytes.is_empty());
 }
 
@@ -211,7 +212,7 @@ fn replay_fault<R: Read, W: Write>(
     alloc: Global,
     input: &mut Watched<R>,
     out: &mut Watched<W>,
-) -> Option<ReplayFault> {
+) -> Option<Fault> {
     replay_text(alloc, input, out).err()
 }
 
@@ -223,11 +224,11 @@ fn replays_by_failing_devices(rt: HostRuntime) {
     let mut input = Watched::new(&mut source);
     let mut out = Watched::new(&mut device);
     let fault = replay_fault(rt.alloc(), &mut input, &mut out);
-    assert!(rt; fault == Some(ReplayFault::Device));
+    assert!(rt; fault == Some(Fault::Read { file: 0 }));
     assert!(rt; input.faulted() && !out.faulted());
     let mut history = Watched::new(b"history 0\n".as_slice());
     let fault = replay_fault(rt.alloc(), &mut history, &mut out);
-    assert!(rt; fault == Some(ReplayFault::Write));
+    assert!(rt; fault == Some(Fault::Write));
     assert!(rt; !history.faulted() && out.faulted());
     assert!(rt; source.reads == 2 && device.writes == 2);
     assert!(rt; device.taken.as_slice() == b"sam".as_slice());

@@ -1,8 +1,9 @@
 //! Compares the program with the plain reader.
 use crate::tally::{Tally, index_of};
-use redo_plain::{Fault, run_of, verdict_of};
-use redo_replay::{HistoryFault, ReplayFault, replay_text};
-use redo_session::{TextFault, run_texts};
+use redo_plain::{Fault as PlainFault, run_of, verdict_of};
+use redo_replay::replay_text;
+use redo_session::run_texts;
+use redo_text::Fault;
 use redo_whole::Watched;
 use std::alloc::{AllocError, Global};
 use std::process::Abort;
@@ -11,7 +12,33 @@ use std::test::Fail;
 use std::thread::Threads;
 
 /// What the program writes for a text, or the text's fault; none for any other fault.
-type Said = Result<Vec<u8>, Option<Fault>>;
+type Said = Result<Vec<u8>, Option<PlainFault>>;
+
+/// The plain reader's value for the same fault; none for one that no text has.
+fn plain_fault(fault: Fault) -> Option<PlainFault> {
+    match fault {
+        Fault::Line {
+            file: 0,
+            line,
+            fault,
+        } => Some(PlainFault::Line(line, fault)),
+        Fault::BadHeader => Some(PlainFault::BadHeader),
+        Fault::Cut => Some(PlainFault::Cut),
+        Fault::BadSession { line } => Some(PlainFault::BadSession(line)),
+        Fault::BadReply { line } => Some(PlainFault::BadReply(line)),
+        _ => None,
+    }
+}
+
+/// The result for this answer, if this was written.
+fn said<T: Drop>(answer: Result<T, Fault>, out: Vec<u8>) -> Result<Said, AllocError> {
+    match answer {
+        Ok(_) => Ok(Ok(out)),
+        Err(Fault::Memory) => Err(AllocError),
+        Err(fault) if out.is_empty() => Ok(Err(plain_fault(fault))),
+        Err(_) => Ok(Err(None)),
+    }
+}
 
 /// The result of a run of one session file.
 pub(crate) fn ran<R: Threads + Wait + Sync + AllocGlobal>(
@@ -21,46 +48,20 @@ pub(crate) fn ran<R: Threads + Wait + Sync + AllocGlobal>(
     let alloc = rt.alloc();
     let mut out = Vec::new(alloc);
     let mut files = [Watched::new(file)];
-    match run_texts(rt, alloc, &mut files, &mut Watched::new(&mut out)) {
-        Ok(()) => Ok(Ok(out)),
-        Err(TextFault::Memory) => Err(AllocError),
-        Err(
-            TextFault::Read {
-                file: 0,
-                line,
-                fault,
-            },
-        ) if out.is_empty() => Ok(Err(Some(Fault::Line(line, fault)))),
-        Err(_) => Ok(Err(None)),
-    }
-}
-
-/// The plain reader's value for the same fault.
-fn plain_fault(fault: HistoryFault) -> Fault {
-    match fault {
-        HistoryFault::Memory => Fault::Memory,
-        HistoryFault::BadHeader => Fault::BadHeader,
-        HistoryFault::Cut => Fault::Cut,
-        HistoryFault::BadSession(line) => Fault::BadSession(line),
-        HistoryFault::BadLine(line, fault) => Fault::Line(line, fault),
-        HistoryFault::BadReply(line) => Fault::BadReply(line),
-    }
+    let answer = run_texts(rt, alloc, &mut files, &mut Watched::new(&mut out));
+    said(answer, out)
 }
 
 /// The result of a replay.
 fn replayed(alloc: Global, history: &[u8]) -> Result<Said, AllocError> {
     let mut out = Vec::new(alloc);
     let mut input = Watched::new(history);
-    match replay_text(alloc, &mut input, &mut Watched::new(&mut out)) {
-        Ok(_) => Ok(Ok(out)),
-        Err(ReplayFault::Memory) => Err(AllocError),
-        Err(ReplayFault::History(fault)) if out.is_empty() => Ok(Err(Some(plain_fault(fault)))),
-        Err(_) => Ok(Err(None)),
-    }
+    let answer = replay_text(alloc, &mut input, &mut Watched::new(&mut out));
+    said(answer, out)
 }
 
-/// The program gives what the plain reader gives.
-fn agree(rt: &impl Abort, text: &[u8], said: &Said, plain: &Result<Vec<u8>, Fault>) {
+/// The program says what the plain reader says.
+fn agree(rt: &impl Abort, text: &[u8], said: &Said, plain: &Result<Vec<u8>, PlainFault>) {
     let is_same = match (said, plain) {
         (Ok(said), Ok(plain)) => said.as_slice() == plain.as_slice(),
         (Err(said), Err(plain)) => *said == Some(*plain),

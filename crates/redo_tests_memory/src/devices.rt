@@ -4,7 +4,7 @@ use std::io::{Error, ErrorKind, Read, Write};
 
 /// At which call, counted from 0, a device begins to fail, and how.
 #[derive(Clone, Copy)]
-pub(crate) struct Fault {
+pub(crate) struct DeviceFault {
     pub at: usize,
     /// Whether the calls after it succeed.
     pub is_once: bool,
@@ -12,7 +12,7 @@ pub(crate) struct Fault {
     pub takes_none: bool,
 }
 
-impl Fault {
+impl DeviceFault {
     fn is_met(&self, call: usize) -> bool {
         if self.is_once {
             call == self.at
@@ -28,7 +28,7 @@ pub(crate) struct FaultyReader<'a> {
     pub bytes: &'a [u8],
     pub most: usize,
     pub calls: usize,
-    pub fault: Fault,
+    pub fault: DeviceFault,
 }
 
 impl Read for FaultyReader<'_> {
@@ -49,7 +49,7 @@ pub(crate) struct FaultyWriter {
     pub taken: Vec<u8>,
     pub most: usize,
     pub calls: usize,
-    pub fault: Fault,
+    pub fault: DeviceFault,
 }
 
 impl Write for FaultyWriter {

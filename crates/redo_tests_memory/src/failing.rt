@@ -1,7 +1,8 @@
 //! Replays and runs over devices that fail at each call in turn.
-use crate::devices::{Fault, FaultyReader, FaultyWriter};
-use redo_replay::{ReplayFault, replay_text};
-use redo_session::{TextFault, run_texts};
+use crate::devices::{DeviceFault, FaultyReader, FaultyWriter};
+use redo_replay::replay_text;
+use redo_session::run_texts;
+use redo_text::Fault;
 use redo_whole::Watched;
 use std::alloc::Global;
 use std::process::Abort;
@@ -9,8 +10,8 @@ use std::sync::Wait;
 use std::thread::Threads;
 
 /// The fault of this number: four are at call 0, the next four at call 1, and so on.
-fn fault(number: usize) -> Fault {
-    Fault {
+fn fault(number: usize) -> DeviceFault {
+    DeviceFault {
         at: number / 4,
         is_once: number % 2 == 1,
         takes_none: number % 4 > 1,
@@ -18,7 +19,7 @@ fn fault(number: usize) -> Fault {
 }
 
 /// A fault at a call that no test makes.
-pub(crate) const NEVER: Fault = Fault {
+pub(crate) const NEVER: DeviceFault = DeviceFault {
     at: 1_000_000,
     is_once: false,
     takes_none: false,
@@ -27,7 +28,7 @@ pub(crate) const NEVER: Fault = Fault {
 /// More bytes than any text of these tests has.
 pub(crate) const ALL: usize = 9_999;
 
-fn reader(bytes: &[u8], most: usize, fault: Fault) -> Watched<FaultyReader<'_>> {
+fn reader(bytes: &[u8], most: usize, fault: DeviceFault) -> Watched<FaultyReader<'_>> {
     Watched::new(FaultyReader {
         bytes,
         most,
@@ -36,7 +37,7 @@ fn reader(bytes: &[u8], most: usize, fault: Fault) -> Watched<FaultyReader<'_>> 
     })
 }
 
-pub(crate) fn writer(alloc: Global, most: usize, fault: Fault) -> FaultyWriter {
+pub(crate) fn writer(alloc: Global, most: usize, fault: DeviceFault) -> FaultyWriter {
     FaultyWriter {
         taken: Vec::new(alloc),
         most,
@@ -58,7 +59,7 @@ fn count_of_faults(calls: usize) -> usize {
 /// The fault of a replay, and its devices after it.
 #[derive(Drop)]
 struct Replayed {
-    fault: Option<ReplayFault>,
+    fault: Option<Fault>,
     input_faulted: bool,
     output_faulted: bool,
     writer: FaultyWriter,
@@ -80,33 +81,30 @@ fn replay_with(alloc: Global, reader: Watched<FaultyReader<'_>>, writer: FaultyW
 
 /// Whether the replay failed by its reader alone if `fails`, and else wrote the verdict.
 fn is_replay_read(done: &Replayed, fails: bool) -> bool {
-    let is_device = matches!(done.fault, Some(ReplayFault::Device));
+    let fault = fails.then_some(Fault::Read { file: 0 });
     let want = if fails { b"".as_slice() } else { VERDICT };
     done.input_faulted == fails
         && !done.output_faulted
-        && is_device == fails
-        && done.fault.is_some() == fails
+        && done.fault == fault
         && done.writer.taken.as_slice() == want
 }
 
 /// Whether the replay failed by its writer alone if `fails`, else not, and wrote these bytes.
 fn is_replay_written(done: &Replayed, fails: bool, want: &[u8]) -> bool {
-    let is_write = matches!(done.fault, Some(ReplayFault::Write));
     done.output_faulted == fails
         && !done.input_faulted
-        && is_write == fails
-        && done.fault.is_some() == fails
+        && done.fault == fails.then_some(Fault::Write)
         && done.writer.taken.as_slice() == want
 }
 
 /// A replay with reads of at most `most` bytes fails exactly if one of its `reads` has the fault.
-fn replay_read(rt: &impl Abort, alloc: Global, most: usize, reads: usize, fault: Fault) {
+fn replay_read(rt: &impl Abort, alloc: Global, most: usize, reads: usize, fault: DeviceFault) {
     let done = replay_with(alloc, reader(HISTORY, most, fault), writer(alloc, 1, NEVER));
     assert!(rt; is_replay_read(&done, fault.at < reads));
 }
 
 /// A replay with writes of at most `most` bytes fails exactly if one of its `writes` has the fault.
-fn replay_written(rt: &impl Abort, alloc: Global, most: usize, writes: usize, fault: Fault) {
+fn replay_written(rt: &impl Abort, alloc: Global, most: usize, writes: usize, fault: DeviceFault) {
     let done = replay_with(alloc, reader(HISTORY, 1, NEVER), writer(alloc, most, fault));
     let want = prefix(VERDICT, fault.at, most);
     assert!(rt; is_replay_written(&done, fault.at < writes, want));
@@ -156,7 +154,7 @@ const SECOND_TEXT: &[u8] = b"history 2\n2 file a 1 => ok\n2 ood => ood\n\
 /// The fault of a run, and its devices after it.
 #[derive(Drop)]
 struct Ran {
-    fault: Option<TextFault>,
+    fault: Option<Fault>,
     first_faulted: bool,
     second_faulted: bool,
     output_faulted: bool,
@@ -223,7 +221,7 @@ fn run_over<R: Threads + Wait + Sync>(
     alloc: Global,
     given: &Given,
     most: usize,
-    fault: Fault,
+    fault: DeviceFault,
 ) -> Ran {
     let faulty = reader(given.bytes, most, fault);
     let other = reader(b"", 1, NEVER);
@@ -235,19 +233,15 @@ fn run_over<R: Threads + Wait + Sync>(
     }
 }
 
-fn is_device(fault: &Option<TextFault>, file: usize) -> bool {
-    matches!(fault, Some(TextFault::Device { file: at }) if *at == file)
-}
-
 /// Whether the run failed by this file's reader alone if `fails`, and else wrote the run text.
 fn is_run_read(done: &Ran, given: &Given, fails: bool) -> bool {
     let is_first = given.file == 0;
+    let fault = fails.then_some(Fault::Read { file: given.file });
     let want = if fails { b"".as_slice() } else { given.text };
     done.first_faulted == (fails && is_first)
         && done.second_faulted == (fails && !is_first)
         && !done.output_faulted
-        && done.fault.is_some() == fails
-        && is_device(&done.fault, given.file) == fails
+        && done.fault == fault
         && done.writer.taken.as_slice() == want
 }
 
@@ -268,12 +262,10 @@ fn run_reads<R: Threads + Wait + Abort + Sync>(
 
 /// Whether the run failed by its writer alone if `fails`, else not, and wrote these bytes.
 fn is_run_written(done: &Ran, fails: bool, want: &[u8]) -> bool {
-    let is_write = matches!(&done.fault, Some(TextFault::Write));
     done.output_faulted == fails
-        && done.fault.is_some() == fails
         && !done.first_faulted
         && !done.second_faulted
-        && is_write == fails
+        && done.fault == fails.then_some(Fault::Write)
         && done.writer.taken.as_slice() == want
 }
 

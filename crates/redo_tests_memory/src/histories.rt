@@ -7,8 +7,8 @@ use crate::failing::{ALL, NEVER, writer};
 use crate::told::again;
 use redo_history::{History, HistoryFault, history_text, read_history};
 use redo_names::Names;
-use redo_replay::{ReplayFault, Verdict, replay, replay_text, verdict_text};
-use redo_text::LineFault;
+use redo_replay::{Verdict, replay, replay_text, verdict_text};
+use redo_text::{Fault, LineFault};
 use redo_whole::Watched;
 use std::alloc::{AllocError, Global};
 use std::process::Abort;
@@ -127,11 +127,11 @@ fn check_written(
     text: &str,
     want: &str,
     writer: &mut FaultyWriter,
-) -> Result<(), ReplayFault> {
+) -> Result<(), Fault> {
     again!(
         rt,
         alloc,
-        ReplayFault::Memory,
+        Fault::Memory,
         replayed(alloc, text, writer),
         writer.taken.is_empty()
     );
@@ -145,8 +145,8 @@ fn check_replay(rt: &impl Abort, alloc: Global, text: &str, want: &str) -> Resul
     Ok(check_written(rt, alloc, text, want, &mut writer)?)
 }
 
-/// Replays the text to the writer.
-fn replayed(alloc: Global, text: &str, writer: &mut FaultyWriter) -> Result<(), ReplayFault> {
+/// A replay of the text.
+fn replayed(alloc: Global, text: &str, writer: &mut FaultyWriter) -> Result<(), Fault> {
     let mut input = Watched::new(text.as_bytes());
     match replay_text(alloc, &mut input, &mut Watched::new(writer)) {
         Ok(_) => Ok(()),

@@ -10,8 +10,9 @@ use crate::told::again;
 use redo_board::Open;
 use redo_journal::Plan;
 use redo_names::Names;
-use redo_session::{Outcome, TextFault, read_files, run, run_text, run_texts};
+use redo_session::{Outcome, read_files, run, run_text, run_texts};
 use redo_terms::Script;
+use redo_text::Fault;
 use redo_whole::Watched;
 use std::alloc::{AllocError, Global};
 use std::process::Abort;
@@ -42,7 +43,7 @@ fn readers<'a>(alloc: Global, files: &[&'a str]) -> Result<Vec<Watched<&'a [u8]>
     Ok(readers)
 }
 
-fn scripts_of(alloc: Global, files: &[&str], names: &mut Names) -> Result<Vec<Script>, TextFault>
+fn scripts_of(alloc: Global, files: &[&str], names: &mut Names) -> Result<Vec<Script>, Fault>
     requires { names.old ≡ [] }
     ensures { IfOk result (λ scripts. AreScriptsBelow names.new scripts.items) }
 {
@@ -51,7 +52,7 @@ fn scripts_of(alloc: Global, files: &[&str], names: &mut Names) -> Result<Vec<Sc
 }
 
 /// The plan of these files.
-fn planned(rt: &impl Abort, alloc: Global, files: &[&str]) -> Result<Plan, TextFault> {
+fn planned(rt: &impl Abort, alloc: Global, files: &[&str]) -> Result<Plan, Fault> {
     let mut names = Names::new(alloc);
     let scripts = scripts_of(alloc, files, &mut names)?;
     Ok(Plan::new(scripts, names).expect(rt, "a plan"))
@@ -85,7 +86,7 @@ fn check_run<R: Threads + Wait + Abort + Sync>(
 fn one_run(rt: HostRuntime) -> Result<(), Fail> {
     let alloc = rt.alloc();
     let files = [FILE];
-    let plan = again!(&rt, alloc, TextFault::Memory, planned(&rt, alloc, &files));
+    let plan = again!(&rt, alloc, Fault::Memory, planned(&rt, alloc, &files));
     check_run(&rt, alloc, &plan)
 }
 
@@ -95,7 +96,7 @@ fn written<R: Threads + Wait + Sync>(
     alloc: Global,
     files: &[&str],
     writer: &mut FaultyWriter,
-) -> Result<(), TextFault> {
+) -> Result<(), Fault> {
     let mut readers = readers(alloc, files)?;
     run_texts(rt, alloc, &mut readers, &mut Watched::new(writer))
 }
@@ -106,11 +107,11 @@ fn write_run<R: Threads + Wait + Abort + Sync>(
     alloc: Global,
     files: &[&str],
     writer: &mut FaultyWriter,
-) -> Result<(), TextFault> {
+) -> Result<(), Fault> {
     again!(
         rt,
         alloc,
-        TextFault::Memory,
+        Fault::Memory,
         written(rt, alloc, files, writer),
         writer.taken.is_empty()
     );

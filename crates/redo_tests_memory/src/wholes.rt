@@ -1,5 +1,5 @@
 //! Whole reads.
-use crate::devices::{Fault, FaultyReader};
+use crate::devices::{DeviceFault, FaultyReader};
 use crate::told::again;
 use redo_whole::{Watched, WholeFault, read_whole};
 use std::alloc::{AllocError, Global};
@@ -19,7 +19,7 @@ fn read(
         bytes,
         most: 9_999,
         calls: 0,
-        fault: Fault {
+        fault: DeviceFault {
             at: fails_at,
             is_once: true,
             takes_none: false,

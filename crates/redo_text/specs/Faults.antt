@@ -1,9 +1,11 @@
 -- Why a line is not read as a command, and a text not as a session file.
-use Rattle.std.specs.Prelude.{◌≡◌, ℕ, ◌+◌, List, ◌∷◌, ◌++◌, length, Some, codes}
+use Rattle.std.specs.Prelude.{◌≡◌, ℕ, ◌+◌, List, ◌∷◌, ◌++◌, length, Some, codes, ⊤}
 use Rattle.redo_model.specs.Names.{Text}
 use Rattle.redo_model.specs.Command.{Item}
 use Rattle.redo_text.specs.declared.fault.LineFault.{LineFault}
 use Rattle.redo_text.specs.declared.fault.LineFault.TheVariants.{LineTooLong, BadByte, UnknownCommand, WrongWords, BadName, BadStamp, BadHex, TooManyLines, TooManyNames}
+use Rattle.redo_text.specs.declared.fault.Fault.{Fault}
+use Rattle.redo_text.specs.declared.fault.Fault.TheVariants.{Read, Write}
 use Rattle.redo_text.specs.Grammar.{lines_of, AreScriptLines}
 use Rattle.redo_text.specs.Questions.{file_line_fault}
 
@@ -36,3 +38,9 @@ pub record IsFirstFault (names : List Text) (text : Text) (number : ℕ)
   pub lines : lines_of text ≡ before ++ line ∷ rest
   pub counted : number ≡ length before + 1
   pub fails : FailsAfter names before line fault
+
+-- the fault is a device's: a read or a write failed
+abbrev pub IsDeviceFault : Fault → Type 0
+IsDeviceFault (Read file) = ⊤
+IsDeviceFault Write = ⊤
+IsDeviceFault fault = ⊥

@@ -75,52 +75,71 @@ impl<T: Drop> From<AllocFailed<T>> for ReadFault {
     }
 }
 
-/// Why a run is refused. Files are counted from 0, lines from 1.
-#[derive(Debug, Drop, Error)]
-pub enum TextFault {
+/// Why a run or a replay is refused, or the program fails. Files are counted from 0, lines from 1. A
+/// replay's history is file 0, and its lines are counted without the header.
+#[derive(Clone, Copy, Debug, PartialEq, Eq, Error)]
+pub enum Fault {
     #[error("out of memory")]
     Memory,
-    #[error("file {file}: line {line}: {fault}")]
-    Read {
+    #[error("words that ask for nothing")]
+    Usage,
+    #[error("file {file}: cannot open")]
+    CannotOpen {
         file: usize,
-        line: usize,
-        fault: LineFault,
     },
-    #[error("too many sessions")]
-    TooManySessions,
-    #[error("no session")]
-    NoSession,
-    #[error("a write failed")]
-    Write,
     #[error("file {file}: a read failed")]
-    Device {
+    Read {
         file: usize,
     },
     #[error("file {file}: too long")]
     TooLong {
         file: usize,
     },
+    #[error("file {file}: line {line}: {fault}")]
+    Line {
+        file: usize,
+        line: usize,
+        fault: LineFault,
+    },
+    #[error("bad header")]
+    BadHeader,
+    #[error("cut")]
+    Cut,
+    #[error("line {line}: no session")]
+    BadSession {
+        line: usize,
+    },
+    #[error("line {line}: no reply")]
+    BadReply {
+        line: usize,
+    },
+    #[error("no session")]
+    NoSession,
+    #[error("too many sessions")]
+    TooManySessions,
+    #[error("a write failed")]
+    Write,
 }
 
-impl From<AllocError> for TextFault {
+impl From<AllocError> for Fault {
     ghost use Rattle.std.specs.Prelude.{◌≡◌};
-    ghost use Rattle.redo_text.specs.declared.fault.TextFault.TheVariants.{Memory};
+    ghost use Rattle.redo_text.specs.declared.fault.Fault.TheVariants.{Memory};
 
     ghost from_gives = { λ _ fault. fault ≡ Memory };
 
-    fn from(_: AllocError) -> TextFault {
-        TextFault::Memory
+    fn from(_: AllocError) -> Fault {
+        Fault::Memory
     }
 }
 
-impl<T: Drop> From<AllocFailed<T>> for TextFault {
+impl<T: Drop> From<AllocFailed<T>> for Fault {
     ghost use Rattle.std.specs.Prelude.{◌≡◌};
-    ghost use Rattle.redo_text.specs.declared.fault.TextFault.TheVariants.{Memory};
+    ghost use Rattle.redo_text.specs.declared.fault.Fault.TheVariants.{Memory};
 
     ghost from_gives = { λ _ fault. fault ≡ Memory };
 
-    fn from(_: AllocFailed<T>) -> TextFault {
-        TextFault::Memory
+    fn from(_: AllocFailed<T>) -> Fault {
+        Fault::Memory
     }
 }
 

@@ -19,7 +19,7 @@ mod session_file;
 mod text;
 mod words;
 
-pub use fault::{LineFault, ReadFault, ReplyFault, TextFault, fault_word};
+pub use fault::{Fault, LineFault, ReadFault, ReplyFault, fault_word};
 pub use inquiries::{Inquiry, read_inquiry};
 pub use laws::{
     command_reads_back, fault_or_command, fault_or_script, line_reads_back, no_read_fault,

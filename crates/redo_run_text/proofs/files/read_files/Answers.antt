@@ -2,7 +2,7 @@ use Rattle.std.proofs.Common.{◌∙◌, arith}
 use Rattle.std.proofs.lemmas.Result.{err_from_is_err_and}
 use Rattle.std.proofs.Math.Seq.{map-set_same}
 use Rattle.redo_whole.specs.Watched.{failures_of, inner_of}
-use Rattle.redo_run_text.proofs.Causes.{IsTextCause-read, shown_after}
+use Rattle.redo_run_text.proofs.Causes.{IsRunCause-read, shown_after}
 use Rattle.redo_run_text.specs.Inside.Files.{scripts_at}
 use Rattle.redo_run_text.proofs.Accepted.{AreScriptsBelow-append, files_more}
 use Rattle.redo_run_text.proofs.files.read_files.Goals as goal
@@ -11,7 +11,7 @@ pub returns-in_err-script-clause-cause : goal.returns-in_err-script-clause-cause
 returns-in_err-script-clause-cause g c =
     let at = c.loop-at.at in
     let same = c.loop-at.invariant.later at (omega arith) in
-    let cause = IsTextCause-read (λ file. g.R.Read.remaining (inner_of file))
+    let cause = IsRunCause-read (λ file. g.R.Read.remaining (inner_of file))
     (λ file. failures_of file)
     c.args.files.now c.loop-at.files at c.index-files-at.result c.read_file.new.file
     c.loop-at.names (scripts_at c.loop-at.names c.loop-at.scripts.items) c.in_err-script.field-0.0

@@ -4,7 +4,7 @@ use Rattle.redo_terms.specs.Inside.Meaning.{item_at}
 use Rattle.redo_whole.specs.Watched.{inner_of}
 use Rattle.redo_run_text.specs.Files.{bytes_of_files, failed_files}
 use Rattle.redo_run_text.specs.Inside.Files.{scripts_at}
-use Rattle.redo_run_text.proofs.Accepted.{IsTextCause-sessions, AreAccepted-length}
+use Rattle.redo_run_text.proofs.Accepted.{IsRunCause-sessions, AreAccepted-length}
 use Rattle.redo_session.proofs.RunTexts.{runs_as}
 use Rattle.redo_session.proofs.texts.text_of_files.Goals as goal
 
@@ -22,7 +22,7 @@ returns g c =
     record {
       text = runs_as c.text_of_scripts.result files scripts names are told.text told.few
           told.none.1;
-      cause = IsTextCause-sessions c.text_of_scripts.result files
+      cause = IsRunCause-sessions c.text_of_scripts.result files
           (failed_files c.args.files.now c.read_files.new.files)
           (scripts_at names scripts) names are
           (λ is. rw length-map (told.many.0 is))
