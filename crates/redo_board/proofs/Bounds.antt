@@ -18,7 +18,7 @@ use Rattle.redo_joint.specs.Replayed.{IsLegalOfPlan}
 use Rattle.redo_joint.proofs.Closed.{LineTells, AllTell, all_tell}
 use Rattle.redo_joint.proofs.Replayed as joint
 use Rattle.redo_journal.specs.Plans.{PlanOf, IsPlan, script_of}
-use Rattle.redo_board.specs.Rows.{naming_of, command}
+use Rattle.redo_board.specs.Rows.{naming_of}
 use Rattle.redo_board.specs.Core.{Core, start, Line, Way, row, claim, free, rows_then, place_at, holds_at, way_at, done, IsNext, IsLegal, after_all, row_words, word, replay}
 use Rattle.redo_board.specs.Inside.Core.{IsRow, IsWord}
 use Rattle.redo_board.proofs.Bridge.{legal_from, below_told, of_plan_told, placed_told}
