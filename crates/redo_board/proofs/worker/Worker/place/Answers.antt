@@ -84,3 +84,6 @@ pub try_row-requires-clause-ready : goal.try_row-requires-clause-ready
 try_row-requires-clause-ready g c =
     ready_in_room c.pass_row.new.self c.reserve.new.self (command_of c.args.command.now)
     c.in_ok-list.list c.in_ok-reserve.ensures.same c.in_ok-list.ensures
+
+pub try_row-requires-clause-room : goal.try_row-requires-clause-room
+try_row-requires-clause-room g c = c.in_ok-reserve.ensures.made
