@@ -17,7 +17,7 @@ pub enum Fault {
     #[error("write")]
     Write,
     #[error("{0}")]
-    Log(LogFault),
+    Log(#[from] LogFault),
 }
 
 /// Why the log can't be used. Its text follows the name of the log.
@@ -50,12 +50,6 @@ pub enum LogFault {
 impl From<AllocError> for Fault {
     fn from(_: AllocError) -> Fault {
         Fault::Memory
-    }
-}
-
-impl From<LogFault> for Fault {
-    fn from(fault: LogFault) -> Fault {
-        Fault::Log(fault)
     }
 }
 
