@@ -1,4 +1,4 @@
-use Rattle.std.proofs.Common.{◌≡◌, ◌+◌, ◌^◌, ◌<◌, ◌++◌, List, length, map, sym, ap, ◌∙◌, subst, arith, rules, vec_len}
+use Rattle.std.proofs.Common.{◌≡◌, ◌+◌, ◌^◌, ◌<◌, ◌++◌, List, length, length-append, map, sym, ap, ◌∙◌, subst, arith, rules, vec_len}
 use Rattle.std.specs.List.{AllByRecursion, flat_map}
 use Rattle.redo_model.specs.Names.{Text}
 use Rattle.redo_model.specs.History.{LegalFrom, left_by}
@@ -145,3 +145,12 @@ returns-then-size-most-clause-cause c =
           (would_end names c.len.ensures.names tables c.self.invariant.state c.args.session lines
           closing)),
     )
+
+pub returns-clause-fits : goal.returns-clause-fits
+returns-clause-fits c =
+    let said = c.args.said.now.items in
+    let text = c.in_ok-text.text in
+    let counted : vec_len text ≡ length text.items = search rules in
+    let told = ap length (c.in_ok-tell.ensures.said
+    ∙ ap (λ (t : Text). said ++ t) c.deref-3.ensures.value) in
+    omega (arith, told, length-append said text.items, c.len-size.ensures ∙ counted)
