@@ -1,5 +1,5 @@
-use Rattle.std.proofs.Common.{ℕ, List, sym, subst, arith}
-use Rattle.redo_ood.specs.NameSet.{IsQueue}
+use Rattle.std.proofs.Common.{◌∙◌, ℕ, Bool, false, List, slice_index_or, ap, sym, subst, arith}
+use Rattle.redo_ood.specs.NameSet.{Marked, IsQueue}
 use Rattle.redo_ood.proofs.Marking.{queue_emptied}
 use Rattle.redo_ood.proofs.name_set.NameSet.grown.Goals as goal
 
@@ -12,3 +12,8 @@ invariant_of-result c =
           (queue_emptied marks (omega (arith, c.in_ok-marks.ensures.count)));
       room = omega (arith, c.in_ok-marks.ensures.count, c.in_ok-queue.ensures.capacity);
     }
+
+pub returns-clause-same : goal.returns-clause-same
+returns-clause-same c = λ t. c.in_ok-marks.ensures.same t
+    ∙ ap (λ (marks : List Bool). slice_index_or marks t false)
+    (c.deref.ensures.value ∙ ap (λ (m : Marked). m.marks) c.self.view_is)

@@ -6,6 +6,12 @@ use Rattle.redo_ood.proofs.Marking.{marked_below}
 use Rattle.redo_ood.proofs.Listing.{listed_more, listed_all, each_below}
 use Rattle.redo_ood.proofs.ood.Ood.list.Goals as goal
 
+pub loop-t-init : goal.loop-t-init
+loop-t-init c = rw c.new-targets.ensures.items (
+  λ i j d less in'. absurd (omega (arith, in')),
+  λ t. (λ has. absurd (omega (arith, has.1)), λ is. absurd (omega (arith, is.0))),
+)
+
 pub loop-t-preserved : goal.loop-t-preserved
 loop-t-preserved c =
     let IsOut : ℕ → Type 0 = λ t. IsTrue (is_out c.args.self.now t) in
