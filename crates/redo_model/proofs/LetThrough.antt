@@ -1,43 +1,20 @@
 -- A command is accepted if its reply lets a guarded line through, and else changes nothing.
-use Rattle.std.proofs.Common.{◌≡◌, ℕ, Bool, true, false, List, [], ◌∷◌, Option, Some, None, refl, sym, ap, ◌∙◌, subst, arith}
+use Rattle.std.proofs.Common.{◌≡◌, ℕ, Bool, true, false, Option, Some, None, refl, sym, ap, ◌∙◌, subst, arith}
 use Rattle.std.specs.Prelude.{MatchOption}
 use Rattle.std.proofs.lemmas.Bool.{false≢true}
 use Rattle.redo_model.specs.Names.{Naming}
 use Rattle.redo_model.specs.State.{State, Records}
-use Rattle.redo_model.specs.Command.{Command, File, Gone, Lock, Unlock, Start, IfChange, IfCreate, Always, Stamp, Done, Failed, Ood, Targets, Sources, asked_lock}
+use Rattle.redo_model.specs.Command.{Command, Lock, asked_lock}
 use Rattle.redo_model.specs.Reply.{Refusal, Reply, Refused, lets_through}
-use Rattle.redo_model.specs.Step.{Tells, Replies, Answers, after, verdict_of, holds_target, stale_reply, lock_reply, locks_granted}
-use Rattle.redo_model.proofs.Refused.{refused_same}
+use Rattle.redo_model.specs.Step.{Tells, Replies, Answers, after, records_after, unless_refused, effect_of, verdict_of, holds_target, lock_reply, locks_granted}
+use Rattle.redo_model.proofs.Refused.{tells_through, refused_same}
 
 -- only a `lock` locks
 pub lock_asked : {N : Type 0} (command : Command N) (t : N) → asked_lock command ≡ Some t
     → command ≡ Lock t
 lock_asked command t h = grind arith
 
-stale_through : {N : Type 0} (names : List N) → lets_through (stale_reply names) ≡ true
-stale_through [] = refl
-stale_through (n ∷ names) = refl
-
 module _ {N : Type 0} (naming : Naming N) where
-  -- the reply to an accepted command lets a guarded line through
-  tells_through : (r : Records N) (command : Command N) (reply : Reply N)
-      → Tells naming r command reply → lets_through reply ≡ true
-  tells_through r (File n stamp) reply told = ap lets_through told
-  tells_through r (Gone n) reply told = ap lets_through told
-  tells_through r (Lock t) reply told = absurd told
-  tells_through r (Unlock t) reply told = ap lets_through told
-  tells_through r (Start t) reply told = ap lets_through told
-  tells_through r (IfChange t ns) reply (names, listed, is) =
-      ap lets_through is ∙ stale_through names
-  tells_through r (IfCreate t ns) reply told = ap lets_through told
-  tells_through r (Always t) reply told = ap lets_through told
-  tells_through r (Stamp t content) reply told = ap lets_through told
-  tells_through r (Done t stamp) reply told = ap lets_through told
-  tells_through r (Failed t) reply told = ap lets_through told
-  tells_through r Ood reply (names, listed, is) = ap lets_through is
-  tells_through r Targets reply (names, listed, is) = ap lets_through is
-  tells_through r Sources reply (names, listed, is) = ap lets_through is
-
   accepted_by : (v : Option (Refusal N)) (r : Records N) (command : Command N) (reply : Reply N)
       → MatchOption v (Tells naming r command reply) (λ refusal. reply ≡ Refused refusal)
       → lets_through reply ≡ true → v ≡ None
@@ -80,8 +57,23 @@ module _ {N : Type 0} (naming : Naming N) where
       → MatchOption v (Tells naming r command reply) (λ refusal. reply ≡ Refused refusal)
       → lets_through reply ≡ false → (refusal : Refusal N) × (reply ≡ Refused refusal)
   refused_by None r command reply told e =
-      absurd (false≢true (sym e ∙ tells_through r command reply told))
+      absurd (false≢true (sym e ∙ tells_through naming r command reply told))
   refused_by (Some refusal) r command reply told e = (refusal, told)
+
+  records_by : (v : Option (Refusal N)) (r to : Records N) (command : Command N) (reply : Reply N)
+      → MatchOption v (Tells naming r command reply) (λ refusal. reply ≡ Refused refusal)
+      → lets_through reply ≡ false → unless_refused v r to ≡ r
+  records_by None r to command reply told e =
+      absurd (false≢true (sym e ∙ tells_through naming r command reply told))
+  records_by (Some refusal) r to command reply told e = refl
+
+  -- a command whose reply lets no guarded line through leaves the records
+  pub stopped_records : (r : Records N) (s : ℕ) (holds : Bool) (command : Command N)
+      (reply : Reply N) → Replies naming r s holds command reply → lets_through reply ≡ false
+      → records_after naming r s holds command ≡ r
+  stopped_records r s holds command reply told e =
+      records_by (verdict_of naming r s holds command) r (effect_of naming r s command) command
+      reply told e
 
   lock_stopped : (o : Option ℕ) (st : State N) (s : ℕ) (t : N) (reply : Reply N)
       → reply ≡ lock_reply o (st.locks.grants t) → lets_through reply ≡ false

@@ -1,16 +1,16 @@
 -- A refused command changes nothing.
-use Rattle.std.proofs.Common.{◌≡◌, ℕ, List, [], ◌∷◌, Option, Some, None, refl}
+use Rattle.std.proofs.Common.{◌≡◌, ℕ, true, List, [], ◌∷◌, Option, Some, None, refl, ap, ◌∙◌}
 use Rattle.std.specs.Prelude.{MatchOption}
+use Rattle.std.proofs.lemmas.Bool.{false≢true}
 use Rattle.redo_model.specs.Names.{Naming}
 use Rattle.redo_model.specs.State.{State, Records}
 use Rattle.redo_model.specs.Command.{Command, File, Gone, Lock, Unlock, Start, IfChange, IfCreate, Always, Stamp, Done, Failed, Ood, Targets, Sources}
-use Rattle.redo_model.specs.Reply.{Refusal, Refused}
+use Rattle.redo_model.specs.Reply.{Refusal, Reply, Refused, lets_through}
 use Rattle.redo_model.specs.Step.{Tells, Replies, Answers, stale_reply, lock_reply, verdict_of, holds_target, effect_of, unless_refused, locks_after, after}
 
-not_stale : {N : Type 0} (names : List N) (refusal : Refusal N)
-    → Refused refusal ≡ stale_reply names → ⊥
-not_stale [] refusal e = cc
-not_stale (n ∷ ns) refusal e = cc
+stale_through : {N : Type 0} (names : List N) → lets_through (stale_reply names) ≡ true
+stale_through [] = refl
+stale_through (n ∷ names) = refl
 
 not_lock : {N : Type 0} (holder : Option ℕ) (grants : ℕ) (refusal : Refusal N)
     → Refused refusal ≡ lock_reply holder grants → ⊥
@@ -37,23 +37,16 @@ module _ {N : Type 0} (naming : Naming N) where
   refused_locks st s Targets refusal v = refl
   refused_locks st s Sources refusal v = refl
 
-  -- the reply to an accepted command is no refusal
-  not_told : (r : Records N) (command : Command N) (refusal : Refusal N)
-      → Tells naming r command (Refused refusal) → ⊥
-  not_told r (File n stamp) refusal e = cc
-  not_told r (Gone n) refusal e = cc
-  not_told r (Lock t) refusal e = e
-  not_told r (Unlock t) refusal e = cc
-  not_told r (Start t) refusal e = cc
-  not_told r (IfChange t ns) refusal (names, listed, e) = not_stale names refusal e
-  not_told r (IfCreate t ns) refusal e = cc
-  not_told r (Always t) refusal e = cc
-  not_told r (Stamp t content) refusal e = cc
-  not_told r (Done t stamp) refusal e = cc
-  not_told r (Failed t) refusal e = cc
-  not_told r Ood refusal (names, listed, e) = cc
-  not_told r Targets refusal (names, listed, e) = cc
-  not_told r Sources refusal (names, listed, e) = cc
+  -- the reply to an accepted command lets a guarded line through
+  pub tells_through : (r : Records N) (command : Command N) (reply : Reply N)
+      → Tells naming r command reply → lets_through reply ≡ true
+  tells_through r (Lock t) reply told = absurd told
+  tells_through r (IfChange t ns) reply (names, listed, is) =
+      ap lets_through is ∙ stale_through names
+  tells_through r Ood reply (names, listed, is) = ap lets_through is
+  tells_through r Targets reply (names, listed, is) = ap lets_through is
+  tells_through r Sources reply (names, listed, is) = ap lets_through is
+  tells_through r command reply told = ap lets_through told
 
   by_verdict : (v : Option (Refusal N)) (st : State N) (s : ℕ) (command : Command N)
       (refusal : Refusal N)
@@ -63,7 +56,8 @@ module _ {N : Type 0} (naming : Naming N) where
         records = unless_refused v st.records (effect_of naming st.records s command);
         locks = locks_after naming st.locks s v command;
       } ≡ st
-  by_verdict None st s command refusal is told = absurd (not_told st.records command refusal told)
+  by_verdict None st s command refusal is told =
+      absurd (false≢true (tells_through st.records command (Refused refusal) told))
   by_verdict (Some given) st s command refusal is told =
       λ i. record { records = st.records; locks = refused_locks st s command given is i }
 

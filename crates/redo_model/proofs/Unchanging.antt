@@ -1,19 +1,19 @@
 -- Lines that change nothing can be left out of a history.
 use Rattle.std.proofs.Common.{◌≡◌, ℕ, Bool, true, false, cond, not, List, [], ◌∷◌, ◌++◌, Option, Some, None, refl, sym, ap, ◌∙◌, subst, append_assoc, inl, inr}
-use Rattle.std.specs.Prelude.{MatchOption, is_some, bytes_eq}
+use Rattle.std.specs.Prelude.{is_some, bytes_eq}
 use Rattle.std.specs.Cmp.Lexicographic.{bytes_decides}
-use Rattle.std.proofs.lemmas.Bool.{cases_Bool, false≢true}
+use Rattle.std.proofs.lemmas.Bool.{cases_Bool}
 use Rattle.std.proofs.Math.Path.{fun_ext}
 use Rattle.redo_model.specs.Names.{Text, Naming, put}
 use Rattle.redo_model.specs.Inside.Names.{IsNaming}
-use Rattle.redo_model.specs.State.{State, Records, Cell}
-use Rattle.redo_model.specs.Command.{Command, File, Gone, Lock, IfChange, Ood, Targets, Sources}
-use Rattle.redo_model.specs.Reply.{Refusal, Reply, Refused, lets_through}
-use Rattle.redo_model.specs.Step.{Tells, Replies, Answers, after, verdict_of, holds_target, stale_reply, lock_reply, locks_granted}
+use Rattle.redo_model.specs.State.{State, Cell}
+use Rattle.redo_model.specs.Command.{Command, File, Gone, Ood, Targets, Sources}
+use Rattle.redo_model.specs.Reply.{Reply}
+use Rattle.redo_model.specs.Step.{Answers, after}
 use Rattle.redo_model.specs.History.{Line, LegalFrom, left_by}
 use Rattle.redo_model.specs.Changes.{is_stamp_of, changes, changing_from}
 use Rattle.redo_model.proofs.Held.{to_put}
-use Rattle.redo_model.proofs.Refused.{refused_same}
+use Rattle.redo_model.proofs.LetThrough.{stopped_same}
 
 own_stamp : (o : Option Text) (stamp : Text) → not (is_stamp_of o stamp) ≡ false → o ≡ Some stamp
 own_stamp None stamp e = absurd (cc)
@@ -26,46 +26,7 @@ no_stamp : (o : Option Text) → is_some o ≡ false → o ≡ None
 no_stamp None e = refl
 no_stamp (Some own) e = absurd (cc)
 
-stale_through : {N : Type 0} (names : List N) → lets_through (stale_reply names) ≡ true
-stale_through [] = refl
-stale_through (n ∷ names) = refl
-
 module _ {N : Type 0} (naming : Naming N) where
-  -- the reply to an accepted command lets a guarded line through
-  tells_through : (r : Records N) (command : Command N) (reply : Reply N)
-      → Tells naming r command reply → lets_through reply ≡ true
-  tells_through r (Lock t) reply told = absurd told
-  tells_through r (IfChange t ns) reply (names, listed, is) =
-      ap lets_through is ∙ stale_through names
-  tells_through r Ood reply (names, listed, is) = ap lets_through is
-  tells_through r Targets reply (names, listed, is) = ap lets_through is
-  tells_through r Sources reply (names, listed, is) = ap lets_through is
-  tells_through r command reply told = ap lets_through told
-
-  stopped_refused : (v : Option (Refusal N)) (r : Records N) (command : Command N)
-      (reply : Reply N)
-      → MatchOption v (Tells naming r command reply) (λ refusal. reply ≡ Refused refusal)
-      → lets_through reply ≡ false → (refusal : Refusal N) × (reply ≡ Refused refusal)
-  stopped_refused None r command reply told e =
-      absurd (false≢true (sym e ∙ tells_through r command reply told))
-  stopped_refused (Some refusal) r command reply told e = (refusal, told)
-
-  stopped : (st : State N) (s : ℕ) (command : Command N) (reply : Reply N)
-      → Replies naming st.records s (holds_target st.locks s command) command reply
-      → Answers naming st s command reply → lets_through reply ≡ false
-      → after naming st s command ≡ st
-  stopped st s command reply replies told e =
-      let (refusal, is) =
-      stopped_refused (verdict_of naming st.records s (holds_target st.locks s command) command)
-      st.records command reply replies e in
-      refused_same naming st s command refusal (subst (Answers naming st s command) is told)
-
-  lock_stopped : (o : Option ℕ) (st : State N) (s : ℕ) (t : N) (reply : Reply N)
-      → reply ≡ lock_reply o (st.locks.grants t) → lets_through reply ≡ false
-      → locks_granted naming o st.locks s t ≡ st.locks
-  lock_stopped None st s t reply is e = absurd (false≢true (sym e ∙ ap lets_through is))
-  lock_stopped (Some holder) st s t reply is e = refl
-
   pub changing_from-append : (st : State N) (lines more : List (Line N))
       → changing_from naming st (lines ++ more)
       ≡ changing_from naming st lines ++ changing_from naming (left_by naming st lines) more
@@ -99,13 +60,10 @@ module _ {N : Type 0} {naming : Naming N} (law : IsNaming naming) where
   unchanging_same st s (Gone n) reply told e =
       let cells = same_file st n None (no_stamp (st.records.cell n).file e) in
       λ i. record { records = record st.records { cell = cells i }; locks = st.locks }
-  unchanging_same st s (Lock t) reply told e =
-      let locks = lock_stopped naming (st.locks.holder t) st s t reply told e in
-      λ i. record { records = st.records; locks = locks i }
   unchanging_same st s Ood reply told e = refl
   unchanging_same st s Targets reply told e = refl
   unchanging_same st s Sources reply told e = refl
-  unchanging_same st s command reply told e = stopped naming st s command reply told told e
+  unchanging_same st s command reply told e = stopped_same naming st s command reply told e
 
   changing_first : (b : Bool) (st : State N) (line : Line N) (rest : List (Line N))
       → changes st.records line.command line.reply ≡ b

@@ -1,6 +1,5 @@
 pub mod Listed
 pub mod Sorting
-pub mod Stopped
 pub mod Places
 pub mod Ranked
 pub mod Kept

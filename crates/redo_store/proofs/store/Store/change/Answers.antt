@@ -1,9 +1,8 @@
 use Rattle.std.proofs.Common.{◌∙◌, ap, sym}
-use Rattle.redo_model.proofs.LetThrough.{accepted_through}
+use Rattle.redo_model.proofs.LetThrough.{accepted_through, stopped_records}
 use Rattle.redo_terms.specs.Meaning.{command_of, reply_of}
 use Rattle.redo_store.specs.Stored.{Stored, naming_of, records_of}
 use Rattle.redo_store.proofs.Rooms.{accepted_of_holder, changed_accepted}
-use Rattle.redo_store.proofs.Stopped.{stopped_records}
 use Rattle.redo_store.proofs.store.Store.change.Goals as goal
 
 pub apply_accepted-requires-clause-accepted : goal.apply_accepted-requires-clause-accepted
