@@ -1,11 +1,12 @@
 -- The first place of a byte.
-use Rattle.std.proofs.Common.{◌≡◌, ℕ, ◌+◌, ◌<◌, ◌≤◌, inl, inr, Bool, true, false, cond, List, length, get_or, Some, None, refl, ap, ◌∙◌, arith, ltb, position}
+use Rattle.std.proofs.Common.{◌≡◌, ℕ, ◌<◌, ◌≤◌, Bool, true, false, cond, List, length, get_or, Option, Some, None, refl, sym, ap, ◌∙◌, arith, ltb, position}
 use Rattle.std.specs.List.{position_or_len}
-use Rattle.std.proofs.lemmas.Bool.{cases_lt, lt-ltb, le-ltb, ltb-false}
+use Rattle.std.proofs.lemmas.Bool.{lt-ltb, le-ltb, ltb-false}
+use Rattle.memchr.specs.Find.{IsFirst}
 use Rattle.std.proofs.lemmas.List.Sums.{position_or_len_is, fails_before_first}
 
 -- a place that passes, after places that don't
-pub place_is : (p : ℕ → Bool) (xs : List ℕ) (i : ℕ) → i < length xs
+place_is : (p : ℕ → Bool) (xs : List ℕ) (i : ℕ) → i < length xs
     → ((k : ℕ) → k < i → p (get_or xs k 0) ≡ false) → p (get_or xs i 0) ≡ true
     → position p xs ≡ Some i
 place_is p xs i lt before here =
@@ -16,7 +17,7 @@ place_is p xs i lt before here =
     ∙ ap (λ (b : Bool). cond b (Some i) None) within
 
 -- no place passes
-pub no_place : (p : ℕ → Bool) (xs : List ℕ) → ((k : ℕ) → k < length xs → p (get_or xs k 0) ≡ false)
+no_place : (p : ℕ → Bool) (xs : List ℕ) → ((k : ℕ) → k < length xs → p (get_or xs k 0) ≡ false)
     → position p xs ≡ None
 no_place p xs none =
     let first : position_or_len p xs ≡ length xs =
@@ -25,13 +26,17 @@ no_place p xs none =
     ap (λ (n : ℕ). cond (ltb n (length xs)) (Some n) None) first
     ∙ ap (λ (b : Bool). cond b (Some (length xs)) None) past
 
--- none before a block, and none before this place in it
-pub none_then_block : (p : ℕ → Bool) (xs : List ℕ) (at before : ℕ)
-    → ((k : ℕ) → k < at → p (get_or xs k 0) ≡ false)
-    → ((k : ℕ) → at ≤ k → k < at + before → p (get_or xs k 0) ≡ false)
-    → (k : ℕ) → k < at + before → p (get_or xs k 0) ≡ false
-none_then_block p xs at before prefix block k lt =
-    elim (cases_lt k at) [ inl below ↦ prefix k below | inr from ↦ block k from lt ]
+not_true : (b : Bool) → ¬ (b ≡ true) → b ≡ false
+not_true true fails = absurd (fails refl)
+not_true false _ = refl
+
+-- what a search for the first place answers
+pub first_place : (p : ℕ → Bool) (xs : List ℕ) (r : Option ℕ)
+    → IsFirst (λ k. p (get_or xs k 0) ≡ true) 0 (length xs) r → r ≡ position p xs
+first_place p xs None none = sym (no_place p xs (λ k lt. not_true _ (none k (omega arith) lt)))
+first_place p xs (Some i) first =
+    let before = λ (k : ℕ) (lt : k < i). not_true _ (first.0.before k (omega arith) lt) in
+    sym (place_is p xs i first.0.high before first.1)
 
 -- if there is no first place, none passes
 pub none_passes : (p : ℕ → Bool) (xs : List ℕ) → position p xs ≡ None → (k : ℕ) → k < length xs
