@@ -1,6 +1,6 @@
 //! A case: the journals are merged to what the search finds.
 use crate::orders::first_order;
-use crate::told::{Told, Wanted, are_lines, are_wanted, journals_of};
+use crate::told::{Told, are_lines, journals_of};
 use redo_journal::{Journal, Plan, are_journals};
 use redo_merge::merge;
 use redo_terms::Line;
@@ -78,37 +78,4 @@ pub(crate) fn check(
     assert!(rt; agrees(rt, alloc, plan, told, &order)?);
     tally.count(order.is_some());
     Ok(order)
-}
-
-/// Whether there are lines, and they are these.
-fn are_these(lines: &Option<Vec<Line>>, want: &[Wanted]) -> bool {
-    match lines {
-        Some(lines) => are_wanted(lines, want),
-        None => false,
-    }
-}
-
-/// The journals are merged to these lines.
-pub(crate) fn check_merged(
-    rt: &impl Abort,
-    alloc: Global,
-    plan: &Plan,
-    journals: &[Journal],
-    want: &[Wanted],
-) -> Result<(), AllocError> {
-    let lines = merged(rt, alloc, plan, journals)?;
-    assert!(rt; are_these(&lines, want));
-    Ok(())
-}
-
-/// The journals have no joint order.
-pub(crate) fn check_unmerged(
-    rt: &impl Abort,
-    alloc: Global,
-    plan: &Plan,
-    journals: &[Journal],
-) -> Result<(), AllocError> {
-    let lines = merged(rt, alloc, plan, journals)?;
-    assert!(rt; lines.is_none());
-    Ok(())
 }

@@ -1,5 +1,6 @@
-//! Journals with changed places.
-use crate::told::{Answer, Told, copied};
+//! Journals with other places.
+use crate::drawn::Drawn;
+use crate::told::{Answer, Told, copied, count_of};
 use redo_journal::Place;
 use redo_testing::Random;
 use std::alloc::{AllocError, Global};
@@ -84,8 +85,8 @@ fn set(told: &mut [Vec<Told>], session: usize, number: usize, one: Told) {
     }
 }
 
-/// Exchanges the places of two lines and, unless both are rows, their answers, too.
-pub(crate) fn exchange(told: &mut [Vec<Told>], one: (usize, usize), two: (usize, usize)) {
+/// Exchanges what was told at two lines: of two rows the places, and else the answers too.
+fn exchange(told: &mut [Vec<Told>], one: (usize, usize), two: (usize, usize)) {
     let (Some(first), Some(second)) = (get(told, one.0, one.1), get(told, two.0, two.1)) else {
         return;
     };
@@ -113,35 +114,58 @@ fn drawn_line(random: &mut Random, told: &[Vec<Told>]) -> (usize, usize) {
     }
 }
 
-/// A copy in which one line is changed, or two are exchanged.
-pub(crate) fn with_change(
-    alloc: Global,
-    random: &mut Random,
-    told: &[Vec<Told>],
-) -> Result<Vec<Vec<Told>>, AllocError> {
-    let mut copy = copied(alloc, told)?;
+/// A line is changed, or two are exchanged, as it is drawn.
+fn change_line(random: &mut Random, told: &mut [Vec<Told>]) {
     let (session, line) = drawn_line(random, told);
     let way = random.below(WAYS + 2);
     if way >= WAYS {
         let other = drawn_line(random, told);
-        exchange(&mut copy, (session, line), other);
+        exchange(told, (session, line), other);
     } else if let Some(one) = get(told, session, line) {
-        set(&mut copy, session, line, changed(one, way));
+        set(told, session, line, changed(one, way));
     }
-    Ok(copy)
 }
 
-/// A copy in which each journal, as drawn, is cut short or whole.
-pub(crate) fn with_prefixes(
-    alloc: Global,
-    random: &mut Random,
-    told: &[Vec<Told>],
-) -> Result<Vec<Vec<Told>>, AllocError> {
-    let mut copy = copied(alloc, told)?;
-    for own in copy.iter_mut() {
+/// Each journal is cut short anywhere, or stays.
+fn cut(random: &mut Random, told: &mut [Vec<Told>]) {
+    for own in told.iter_mut() {
         if random.below(2) == 0 {
             own.truncate(random.below(5));
         }
     }
-    Ok(copy)
+}
+
+/// The line at this place of the order and the one before it, which are of one session, exchange
+/// what was told.
+fn move_line(told: &mut [Vec<Told>], order: &[u8], at: usize) {
+    if let Some(session) = order.get(at) {
+        let own = *session as usize;
+        let number = count_of(&order[..at], *session);
+        exchange(told, (own, number.wrapping_sub(1)), (own, number));
+    }
+}
+
+/// How journals are changed.
+#[derive(Clone, Copy)]
+pub(crate) enum Change {
+    Drawn,
+    Cut,
+    /// The line at this place of the order is moved one place forward.
+    Moved(usize),
+}
+
+/// A changed copy of what was told.
+pub(crate) fn with_change(
+    alloc: Global,
+    random: &mut Random,
+    drawn: &Drawn,
+    how: Change,
+) -> Result<Vec<Vec<Told>>, AllocError> {
+    let mut told = copied(alloc, &drawn.told)?;
+    match how {
+        Change::Drawn => change_line(random, &mut told),
+        Change::Cut => cut(random, &mut told),
+        Change::Moved(at) => move_line(&mut told, &drawn.order, at),
+    }
+    Ok(told)
 }

@@ -1,163 +1,230 @@
-//! How sessions may close at their end, and how not.
-use crate::told::Answer;
+//! What sessions may close by at their end, and what not.
+use crate::merging::{Act, Case, Closing, Made, Want};
+use crate::told::{Answer, Wanted};
+use Answer::{Busy, Granted, NotLocked, Okay};
+use Closing::{Failed, Unlock};
+use Want::{Journals, Merged, NoJournals, Unmerged};
+use redo_journal::Place;
+use redo_terms::Kind;
 
-/// A closing command, of the name with this number.
-#[derive(Clone, Copy)]
-pub(crate) enum Closing {
-    Failed(u32),
-    Unlock(u32),
-}
+/// A place that isn't looked at. Names have numbers in the order in which they come.
+const ANY: Place = Place::Row(0);
 
-/// Closing commands, each with its number.
-pub(crate) type Closings = &'static [(u32, Closing)];
+const GRANTED: Act = (None, Granted(1), ANY);
 
-/// A session: its file, the answers to its lines, and how it may and may not close after these.
-/// Names have numbers in the order in which they come.
-#[derive(Clone, Copy)]
-pub(crate) struct Case {
-    pub(crate) text: &'static str,
-    pub(crate) told: &'static [(u32, Answer)],
-    pub(crate) may: &'static [Closings],
-    pub(crate) may_not: &'static [Closings],
-}
+const GRANTED_AGAIN: Act = (None, Granted(2), ANY);
+
+const OKAY: Act = (None, Okay, ANY);
+
+const BUSY: Act = (None, Busy(1), ANY);
+
+const REFUSED: Act = (None, NotLocked, ANY);
+
+const FAILED: Act = (Some(Failed(0)), Okay, ANY);
+
+const FAILED_1: Act = (Some(Failed(1)), Okay, ANY);
+
+const UNLOCK: Act = (Some(Unlock(0)), Okay, ANY);
+
+const UNLOCK_1: Act = (Some(Unlock(1)), Okay, ANY);
+
+const UNLOCK_2: Act = (Some(Unlock(2)), Okay, ANY);
 
 const BUILDS: Case = Case {
-    text: "lock t\nstart t\n",
-    told: &[(0, Answer::Granted(1)), (1, Answer::Okay)],
-    may: &[
-        &[],
-        &[(2, Closing::Failed(0))],
-        &[(2, Closing::Failed(0)), (3, Closing::Unlock(0))],
-    ],
-    may_not: &[
+    files: &["lock t\nstart t\n"],
+    made: &[&[(0, GRANTED), (1, OKAY)]],
+    goes_on: 0,
+    ways: &[
+        (&[], Journals),
+        (&[(2, FAILED)], Journals),
+        (&[(2, FAILED), (3, UNLOCK)], Journals),
         // It is building.
-        &[(2, Closing::Unlock(0))],
+        (&[(2, UNLOCK)], NoJournals),
         // It has failed already.
-        &[(2, Closing::Failed(0)), (3, Closing::Failed(0))],
+        (&[(2, FAILED), (3, FAILED)], NoJournals),
         // Nothing is held any more.
-        &[
-            (2, Closing::Failed(0)),
-            (3, Closing::Unlock(0)),
-            (4, Closing::Unlock(0)),
-        ],
+        (&[(2, FAILED), (3, UNLOCK), (4, UNLOCK)], NoJournals),
     ],
 };
 
 const HAS_BUILT: Case = Case {
-    text: "lock t\nstart t\ndone t 5\n",
-    told: &[
-        (0, Answer::Granted(1)),
-        (1, Answer::Okay),
-        (2, Answer::Okay),
-    ],
-    may: &[&[(3, Closing::Unlock(0))]],
-    may_not: &[&[(3, Closing::Failed(0))]],
+    files: &["lock t\nstart t\ndone t 5\n"],
+    made: &[&[(0, GRANTED), (1, OKAY), (2, OKAY)]],
+    goes_on: 0,
+    ways: &[(&[(3, UNLOCK)], Journals), (&[(3, FAILED)], NoJournals)],
 };
 
 /// The least name by bytes comes first, not the one that was locked first.
 const HOLDS_TWO: Case = Case {
-    text: "lock b\nlock a\n",
-    told: &[(0, Answer::Granted(1)), (1, Answer::Granted(1))],
-    may: &[
-        &[(2, Closing::Unlock(1))],
-        &[(2, Closing::Unlock(1)), (3, Closing::Unlock(0))],
-    ],
-    may_not: &[
-        &[(2, Closing::Unlock(0))],
+    files: &["lock b\nlock a\n"],
+    made: &[&[(0, GRANTED), (1, GRANTED)]],
+    goes_on: 0,
+    ways: &[
+        (&[(2, UNLOCK_1)], Journals),
+        (&[(2, UNLOCK_1), (3, UNLOCK)], Journals),
+        (&[(2, UNLOCK)], NoJournals),
         // The numbers aren't the next.
-        &[(1, Closing::Unlock(1))],
-        &[(3, Closing::Unlock(1))],
-        &[(2, Closing::Unlock(1)), (2, Closing::Unlock(0))],
+        (&[(1, UNLOCK_1)], NoJournals),
+        (&[(3, UNLOCK_1)], NoJournals),
+        (&[(2, UNLOCK_1), (2, UNLOCK)], NoJournals),
     ],
 };
 
 const HOLDS_THREE: Case = Case {
-    text: "lock top\nlock all\nlock a.o\n",
-    told: &[
-        (0, Answer::Granted(1)),
-        (1, Answer::Granted(1)),
-        (2, Answer::Granted(1)),
+    files: &["lock top\nlock all\nlock a.o\n"],
+    made: &[&[(0, GRANTED), (1, GRANTED), (2, GRANTED)]],
+    goes_on: 0,
+    ways: &[
+        (&[(3, UNLOCK_2), (4, UNLOCK_1), (5, UNLOCK)], Journals),
+        (&[(3, UNLOCK_2), (4, UNLOCK)], NoJournals),
     ],
-    may: &[&[
-        (3, Closing::Unlock(2)),
-        (4, Closing::Unlock(1)),
-        (5, Closing::Unlock(0)),
-    ]],
-    may_not: &[&[(3, Closing::Unlock(2)), (4, Closing::Unlock(0))]],
 };
 
 /// Only a target that is building is failed.
 const BUILDS_ONE: Case = Case {
-    text: "lock b\nlock a\nstart b\n",
-    told: &[
-        (0, Answer::Granted(1)),
-        (1, Answer::Granted(1)),
-        (2, Answer::Okay),
+    files: &["lock b\nlock a\nstart b\n"],
+    made: &[&[(0, GRANTED), (1, GRANTED), (2, OKAY)]],
+    goes_on: 0,
+    ways: &[
+        (&[(3, UNLOCK_1), (4, FAILED), (5, UNLOCK)], Journals),
+        (&[(3, FAILED)], NoJournals),
+        (&[(3, FAILED_1)], NoJournals),
     ],
-    may: &[&[
-        (3, Closing::Unlock(1)),
-        (4, Closing::Failed(0)),
-        (5, Closing::Unlock(0)),
-    ]],
-    may_not: &[&[(3, Closing::Failed(0))], &[(3, Closing::Failed(1))]],
 };
 
 /// A session doesn't close what another one holds.
 const FINDS_IT_BUSY: Case = Case {
-    text: "lock t\n",
-    told: &[(0, Answer::Busy(1))],
-    may: &[&[]],
-    may_not: &[&[(1, Closing::Unlock(0))]],
+    files: &["lock t\n"],
+    made: &[&[(0, BUSY)]],
+    goes_on: 0,
+    ways: &[(&[], Journals), (&[(1, UNLOCK)], NoJournals)],
 };
 
 const HAS_UNLOCKED: Case = Case {
-    text: "lock t\nunlock t\n",
-    told: &[(0, Answer::Granted(1)), (1, Answer::Okay)],
-    may: &[&[]],
-    may_not: &[&[(2, Closing::Unlock(0))]],
+    files: &["lock t\nunlock t\n"],
+    made: &[&[(0, GRANTED), (1, OKAY)]],
+    goes_on: 0,
+    ways: &[(&[], Journals), (&[(2, UNLOCK)], NoJournals)],
 };
 
-pub(crate) const HAS_LOCKED_AGAIN: Case = Case {
-    text: "lock t\nunlock t\nlock t\n",
-    told: &[
-        (0, Answer::Granted(1)),
-        (1, Answer::Okay),
-        (2, Answer::Granted(2)),
+const HAS_LOCKED_AGAIN: Case = Case {
+    files: &["lock t\nunlock t\nlock t\n"],
+    made: &[&[(0, GRANTED), (1, OKAY), (2, GRANTED_AGAIN)]],
+    goes_on: 0,
+    ways: &[
+        (&[(3, UNLOCK)], Journals),
+        (&[(3, FAILED)], NoJournals),
+        // An entry says that its command is a closing one exactly where no line has its number.
+        (&[(3, OKAY)], NoJournals),
     ],
-    may: &[&[(3, Closing::Unlock(0))]],
-    may_not: &[&[(3, Closing::Failed(0))]],
 };
 
 /// A refused start begins no build.
 const STARTS_TOO_LATE: Case = Case {
-    text: "lock a\nlock b\nunlock a\nstart a\n",
-    told: &[
-        (0, Answer::Granted(1)),
-        (1, Answer::Granted(1)),
-        (2, Answer::Okay),
-        (3, Answer::NotLocked),
+    files: &["lock a\nlock b\nunlock a\nstart a\n"],
+    made: &[&[(0, GRANTED), (1, GRANTED), (2, OKAY), (3, REFUSED)]],
+    goes_on: 0,
+    ways: &[
+        (&[(4, UNLOCK_1)], Journals),
+        (&[(4, FAILED)], NoJournals),
+        (&[(4, UNLOCK)], NoJournals),
     ],
-    may: &[&[(4, Closing::Unlock(1))]],
-    may_not: &[&[(4, Closing::Failed(0))], &[(4, Closing::Unlock(0))]],
 };
 
 /// Closing commands come after all lines of the file.
 const HAS_A_LINE_LEFT: Case = Case {
-    text: "lock t\ntargets\n",
-    told: &[(0, Answer::Granted(1))],
-    may: &[&[]],
-    may_not: &[&[(1, Closing::Unlock(0))], &[(2, Closing::Unlock(0))]],
+    files: &["lock t\ntargets\n"],
+    made: &[&[(0, GRANTED)]],
+    goes_on: 0,
+    ways: &[
+        (&[], Journals),
+        (&[(1, UNLOCK)], NoJournals),
+        (&[(2, UNLOCK)], NoJournals),
+    ],
 };
 
 /// Skipped lines are counted, too.
 const SKIPS_A_LINE: Case = Case {
-    text: "lock a\nlock b\n? start b\n",
-    told: &[(0, Answer::Granted(1)), (1, Answer::Busy(1))],
-    may: &[&[(3, Closing::Unlock(0))]],
-    may_not: &[&[(2, Closing::Unlock(0))]],
+    files: &["lock a\nlock b\n? start b\n"],
+    made: &[&[(0, GRANTED), (1, BUSY)]],
+    goes_on: 0,
+    ways: &[(&[(3, UNLOCK)], Journals), (&[(2, UNLOCK)], NoJournals)],
 };
 
-pub(crate) const CASES: [Case; 11] = [
+/// An entry of a line says that its command is a closing one.
+const MARKS_A_LINE: Case = Case {
+    files: &["lock t\nunlock t\nlock t\n"],
+    made: &[&[]],
+    goes_on: 0,
+    ways: &[
+        (
+            &[(0, GRANTED), (1, OKAY), (2, GRANTED_AGAIN), (3, UNLOCK)],
+            Journals,
+        ),
+        (
+            &[
+                (0, (Some(Unlock(0)), Granted(1), ANY)),
+                (1, OKAY),
+                (2, GRANTED_AGAIN),
+                (3, UNLOCK),
+            ],
+            NoJournals,
+        ),
+        (
+            &[(0, GRANTED), (1, UNLOCK), (2, GRANTED_AGAIN), (3, UNLOCK)],
+            NoJournals,
+        ),
+        (
+            &[
+                (0, GRANTED),
+                (1, OKAY),
+                (2, (Some(Unlock(0)), Granted(2), ANY)),
+                (3, UNLOCK),
+            ],
+            NoJournals,
+        ),
+    ],
+};
+
+/// The first session breaks off in a build, and the second has the target after it. `T` is name 0. Where the first was
+/// left before it let go of `T`, the second can't have it. Closing commands are merged as others are.
+const ONE_AFTER_THE_OTHER: Case = Case {
+    files: &["lock T\nlock a\nstart T\n", "lock T\n"],
+    made: &[
+        &[
+            (0, (None, Granted(1), Place::Granted(0, 1))),
+            (1, (None, Granted(1), Place::Granted(1, 1))),
+            (2, (None, Okay, Place::Row(0))),
+            (3, (Some(Failed(0)), Okay, Place::Row(1))),
+        ],
+        &[
+            (0, (None, Granted(2), Place::Granted(0, 2))),
+            (1, (Some(Unlock(0)), Okay, Place::Released(0, 2))),
+        ],
+    ],
+    goes_on: 0,
+    ways: &[(LETS_GO, Merged(MERGED)), (&[], Unmerged)],
+};
+
+/// The first session lets go of `T`, and of `a` after it.
+const LETS_GO: &[Made] = &[
+    (4, (Some(Unlock(0)), Okay, Place::Released(0, 1))),
+    (5, (Some(Unlock(1)), Okay, Place::Released(1, 1))),
+];
+
+/// The lines of their history.
+const MERGED: &[Wanted] = &[
+    (0, Kind::Lock, 0, Granted(1)),
+    (0, Kind::Lock, 1, Granted(1)),
+    (0, Kind::Start, 0, Okay),
+    (0, Kind::Failed, 0, Okay),
+    (0, Kind::Unlock, 0, Okay),
+    (0, Kind::Unlock, 1, Okay),
+    (1, Kind::Lock, 0, Granted(2)),
+    (1, Kind::Unlock, 0, Okay),
+];
+
+pub(crate) const CLOSINGS: &[Case] = &[
     BUILDS,
     HAS_BUILT,
     HOLDS_TWO,
@@ -169,4 +236,6 @@ pub(crate) const CASES: [Case; 11] = [
     STARTS_TOO_LATE,
     HAS_A_LINE_LEFT,
     SKIPS_A_LINE,
+    MARKS_A_LINE,
+    ONE_AFTER_THE_OTHER,
 ];

@@ -1,8 +1,7 @@
 //! Plans that are drawn at random, and what their sessions are answered in a drawn order.
 ghost use Rattle.std.specs.Prelude.{◌<◌};
 
-use crate::commands::command_at;
-use crate::plans::plan_of;
+use crate::plans::{command_at, plan_of};
 use crate::told::{Answer, Told};
 use redo_journal::{Place, Plan};
 use redo_terms::Command;
@@ -16,13 +15,6 @@ pub(crate) struct Drawn {
     pub(crate) plan: Plan,
     pub(crate) order: Vec<u8>,
     pub(crate) told: Vec<Vec<Told>>,
-}
-
-/// How many lines a session has at most: two of four sessions have few, to keep the orders few.
-fn most_lines(sessions: usize, session: usize) -> usize
-    ensures { 0 < result }
-{
-    if sessions == 4 && session >= 2 { 2 } else { 4 }
 }
 
 /// A session file of so many lines.
@@ -40,12 +32,13 @@ fn text_of(alloc: Global, random: &mut Random, lines: usize) -> Result<String, A
     Ok(text)
 }
 
-/// The files of one to four sessions.
+/// The files of one to four sessions. Two of four have few lines, so that the orders are few.
 fn texts_of(alloc: Global, random: &mut Random) -> Result<Vec<String>, AllocError> {
     let sessions = random.below(4) + 1;
     let mut texts = Vec::new(alloc);
     for session in 0..sessions {
-        let lines = random.below(most_lines(sessions, session)) + 1;
+        let most = if sessions == 4 && session >= 2 { 2 } else { 4 };
+        let lines = random.below(most) + 1;
         texts.push(text_of(alloc, random, lines)?)?;
     }
     Ok(texts)

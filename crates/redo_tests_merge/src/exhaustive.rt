@@ -2,10 +2,9 @@
 ghost use Rattle.std.specs.Prelude.{◌<◌, length};
 
 use crate::cases::{Tally, check};
-use crate::changed::{exchange, with_change, with_prefixes};
+use crate::changed::{Change, with_change};
 use crate::drawn::{Drawn, draw};
 use crate::rules::{Standing, is_placed};
-use crate::told::{copied, count_of};
 use redo_testing::Random;
 use std::alloc::{AllocError, Global};
 use std::process::Abort;
@@ -13,25 +12,32 @@ use std::process::Abort;
 /// How many histories are drawn.
 const HISTORIES: u32 = 2000;
 
-/// How many changes of each history's journals are drawn.
-const CHANGES: u32 = 12;
-
-/// Exchanges the answers of the line at this place and of the one before it, of the same session.
-fn check_exchanged(
+/// A history's journals, changed so.
+fn check_changed(
     rt: &impl Abort,
     alloc: Global,
+    random: &mut Random,
     drawn: &Drawn,
-    at: usize,
+    change: Change,
     tally: &mut Tally,
-) -> Result<(), AllocError>
-    requires { at < length drawn.now.order.items }
-{
-    let session = drawn.order[at];
-    let number = count_of(&drawn.order[..at], session);
-    let own = session as usize;
-    let mut told = copied(alloc, &drawn.told)?;
-    exchange(&mut told, (own, number.wrapping_sub(1)), (own, number));
+) -> Result<(), AllocError> {
+    let told = with_change(alloc, random, drawn, change)?;
     check(rt, alloc, &drawn.plan, &told, tally)?;
+    Ok(())
+}
+
+/// The same, so many times.
+fn check_changes(
+    rt: &impl Abort,
+    alloc: Global,
+    random: &mut Random,
+    drawn: &Drawn,
+    (change, count): (Change, u32),
+    tally: &mut Tally,
+) -> Result<(), AllocError> {
+    for _ in 0..count {
+        check_changed(rt, alloc, random, drawn, change, tally)?;
+    }
     Ok(())
 }
 
@@ -59,176 +65,128 @@ fn check_swapped(
     Ok(())
 }
 
-/// Moves the line at this place one place forward: past another session's line that is one more
-/// order of the same lines, and past its own session's it changes answers.
-fn check_moved(
-    rt: &impl Abort,
-    alloc: Global,
-    drawn: &Drawn,
-    first: &[u8],
-    at: usize,
-    tally: &mut Tally,
-) -> Result<(), AllocError>
-    requires { at < length drawn.now.order.items }
-{
-    if drawn.order[at.saturating_sub(1)] == drawn.order[at] {
-        check_exchanged(rt, alloc, drawn, at, tally)
-    } else {
-        check_swapped(rt, alloc, drawn, first, at)
-    }
-}
-
-/// Moves each line of the history one place forward, one at a time.
+/// The history with each line moved one place forward: of another session it is one more order of
+/// the same lines, and else two lines of one session exchange what was told.
 fn check_moves(
     rt: &impl Abort,
     alloc: Global,
+    random: &mut Random,
     drawn: &Drawn,
     first: &[u8],
     tally: &mut Tally,
 ) -> Result<(), AllocError> {
-    assert!(rt; first <= drawn.order.as_slice());
     for at in 1..drawn.order.len() {
-        check_moved(rt, alloc, drawn, first, at, tally)?;
+        if drawn.order[at - 1] == drawn.order[at] {
+            check_changed(rt, alloc, random, drawn, Change::Moved(at), tally)?;
+        } else {
+            check_swapped(rt, alloc, drawn, first, at)?;
+        }
     }
     Ok(())
 }
 
-/// The journals of a history with a drawn change.
-fn check_change(
-    rt: &impl Abort,
-    alloc: Global,
-    random: &mut Random,
-    drawn: &Drawn,
-    tally: &mut Tally,
-) -> Result<(), AllocError> {
-    let told = with_change(alloc, random, &drawn.told)?;
-    check(rt, alloc, &drawn.plan, &told, tally)?;
-    Ok(())
+/// What is done with each history that is drawn from a seed.
+#[derive(Clone, Copy)]
+struct Search {
+    seed: u64,
+    /// Whether the journals themselves are merged, and whether each line is moved too.
+    is_merged: bool,
+    is_moved: bool,
+    /// How the journals are changed, and how often.
+    changes: (Change, u32),
 }
 
-/// The journals of a history with some drawn changes, one at a time.
-fn check_changes(
-    rt: &impl Abort,
-    alloc: Global,
-    random: &mut Random,
-    drawn: &Drawn,
-    tally: &mut Tally,
-) -> Result<(), AllocError> {
-    for _ in 0..CHANGES {
-        check_change(rt, alloc, random, drawn, tally)?;
-    }
-    Ok(())
-}
-
-/// The journals of a history, as they are and with each line moved.
+/// The first order of a history's journals, which aren't after its own. Whether it is its own.
 fn check_history(
     rt: &impl Abort,
     alloc: Global,
+    random: &mut Random,
     drawn: &Drawn,
+    is_moved: bool,
     tally: &mut Tally,
-) -> Result<(), AllocError> {
+) -> Result<bool, AllocError> {
     let first = check(rt, alloc, &drawn.plan, &drawn.told, tally)?.expect(rt, "an order");
-    check_moves(rt, alloc, drawn, &first, tally)
+    assert!(rt; first.as_slice() <= drawn.order.as_slice());
+    if is_moved {
+        check_moves(rt, alloc, random, drawn, &first, tally)?;
+    }
+    Ok(first.as_slice() == drawn.order.as_slice())
 }
 
-/// A drawn history, with moves and with changes.
+/// A history that is drawn, moved and changed. Whether its order is found to be the first.
 fn check_drawn(
     rt: &impl Abort,
     alloc: Global,
     random: &mut Random,
+    search: Search,
     tally: &mut Tally,
-) -> Result<(), AllocError> {
+) -> Result<bool, AllocError> {
     let drawn = draw(rt, alloc, random)?;
-    check_history(rt, alloc, &drawn, tally)?;
-    check_changes(rt, alloc, random, &drawn, tally)
+    let is_first = search.is_merged
+        && check_history(rt, alloc, random, &drawn, search.is_moved, tally)?;
+    check_changes(rt, alloc, random, &drawn, search.changes, tally)?;
+    Ok(is_first)
+}
+
+/// What is counted in all histories, and how many have the first order.
+fn searched(rt: &impl Abort, alloc: Global, search: Search) -> Result<(u32, u32, u32), AllocError> {
+    let mut random = Random::new(search.seed);
+    let mut tally = Tally::new();
+    let mut firsts: u32 = 0;
+    for _ in 0..HISTORIES {
+        if check_drawn(rt, alloc, &mut random, search, &mut tally)? {
+            firsts = firsts.wrapping_add(1);
+        }
+    }
+    Ok((tally.some, tally.none, firsts))
 }
 
 #[test]
 fn every_order(rt: HostRuntime) -> Result<(), AllocError> {
-    let mut random = Random::new(12);
-    let mut tally = Tally::new();
-    for _ in 0..HISTORIES {
-        check_drawn(&rt, rt.alloc(), &mut random, &mut tally)?;
-    }
-    assert!(rt; tally.some >= 5000 && tally.none >= 5000);
-    assert!(rt; tally.some.wrapping_add(tally.none) >= 20000);
+    let (some, none, _) = searched(
+        &rt,
+        rt.alloc(),
+        Search {
+            seed: 12,
+            is_merged: true,
+            is_moved: true,
+            changes: (Change::Drawn, 12),
+        },
+    )?;
+    assert!(rt; some >= 5000 && none >= 5000 && some.wrapping_add(none) >= 20000);
     Ok(())
 }
 
-/// Whether the history's order is the first of its journals.
-fn is_found(
-    rt: &impl Abort,
-    alloc: Global,
-    drawn: &Drawn,
-    tally: &mut Tally,
-) -> Result<bool, AllocError> {
-    match check(rt, alloc, &drawn.plan, &drawn.told, tally)? {
-        Some(first) => Ok(first.as_slice() == drawn.order.as_slice()),
-        None => Ok(false),
-    }
-}
-
-/// The same of a drawn history.
-fn is_first(
-    rt: &impl Abort,
-    alloc: Global,
-    random: &mut Random,
-    tally: &mut Tally,
-) -> Result<bool, AllocError> {
-    let drawn = draw(rt, alloc, random)?;
-    is_found(rt, alloc, &drawn, tally)
-}
-
-/// If a history's order is the first, its journals are merged to it.
+/// A history whose order is the first is what its parts merge to.
 #[test]
 fn first_order(rt: HostRuntime) -> Result<(), AllocError> {
-    let mut random = Random::new(2026);
-    let mut tally = Tally::new();
-    let mut firsts: u32 = 0;
-    for _ in 0..HISTORIES {
-        if is_first(&rt, rt.alloc(), &mut random, &mut tally)? {
-            firsts = firsts.wrapping_add(1);
-        }
-    }
-    assert!(rt; tally.some == HISTORIES && firsts >= 500 && firsts < HISTORIES);
-    Ok(())
-}
-
-/// The journals of a history, cut short as drawn.
-fn check_prefix(
-    rt: &impl Abort,
-    alloc: Global,
-    random: &mut Random,
-    drawn: &Drawn,
-    tally: &mut Tally,
-) -> Result<(), AllocError> {
-    let told = with_prefixes(alloc, random, &drawn.told)?;
-    check(rt, alloc, &drawn.plan, &told, tally)?;
-    Ok(())
-}
-
-/// The journals of a drawn history, cut short in three ways.
-fn check_prefixes(
-    rt: &impl Abort,
-    alloc: Global,
-    random: &mut Random,
-    tally: &mut Tally,
-) -> Result<(), AllocError> {
-    let drawn = draw(rt, alloc, random)?;
-    for _ in 0..3 {
-        check_prefix(rt, alloc, random, &drawn, tally)?;
-    }
+    let (some, _, firsts) = searched(
+        &rt,
+        rt.alloc(),
+        Search {
+            seed: 2026,
+            is_merged: true,
+            is_moved: false,
+            changes: (Change::Drawn, 0),
+        },
+    )?;
+    assert!(rt; some == HISTORIES && firsts >= 500 && firsts < HISTORIES);
     Ok(())
 }
 
 /// Journals that are cut short.
 #[test]
 fn whole_journals(rt: HostRuntime) -> Result<(), AllocError> {
-    let mut random = Random::new(42);
-    let mut tally = Tally::new();
-    for _ in 0..HISTORIES {
-        check_prefixes(&rt, rt.alloc(), &mut random, &mut tally)?;
-    }
-    assert!(rt; tally.some >= 500 && tally.none >= 500);
+    let (some, none, _) = searched(
+        &rt,
+        rt.alloc(),
+        Search {
+            seed: 42,
+            is_merged: false,
+            is_moved: false,
+            changes: (Change::Cut, 3),
+        },
+    )?;
+    assert!(rt; some >= 500 && none >= 500);
     Ok(())
 }

@@ -6,11 +6,7 @@ mod cases;
 #[cfg(test)]
 mod changed;
 #[cfg(test)]
-mod closing;
-#[cfg(test)]
 mod closings;
-#[cfg(test)]
-mod commands;
 #[cfg(test)]
 mod drawn;
 #[cfg(test)]

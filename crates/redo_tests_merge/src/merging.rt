@@ -1,104 +1,205 @@
-//! The joint order of two sessions.
-use crate::cases::{check_merged, check_unmerged};
+//! Journals by hand: whether they are journals of their scripts, and their joint order.
+use crate::closings::CLOSINGS;
+use crate::guarded::GUARDED;
 use crate::plans::plan_of;
-use crate::told::{Answer, Told, Wanted, journal_of};
-use redo_journal::{Journal, Place, Plan};
-use redo_terms::Kind;
+use crate::told::{Answer, Told, Wanted, are_wanted, entry_of};
+use redo_journal::{Entry, Journal, Place, Plan, are_journals};
+use redo_merge::merge;
+use redo_terms::{Command, Kind, Line};
 use std::alloc::{AllocError, Global};
 use std::process::Abort;
 
-/// The two session files.
-const TEXTS: [&str; 2] = ["lock t\nunlock t\n", "lock t\nlock t\n"];
+/// A closing command, of the name with this number.
+#[derive(Clone, Copy)]
+pub(crate) enum Closing {
+    Failed(u32),
+    Unlock(u32),
+}
+
+/// A line, or a command to close after the lines, and what was answered where.
+pub(crate) type Act = (Option<Closing>, Answer, Place);
+
+/// The number of a line or of a closing command, and what was done with it.
+pub(crate) type Made = (u32, Act);
+
+/// What journals are.
+#[derive(Clone, Copy)]
+pub(crate) enum Want {
+    NoJournals,
+    Journals,
+    /// Journals that have no joint order.
+    Unmerged,
+    /// Journals that are merged to these lines.
+    Merged(&'static [Wanted]),
+}
+
+/// Sessions: their files, what each does, and what one of them goes on to do, with what the journals
+/// are then.
+#[derive(Clone, Copy)]
+pub(crate) struct Case {
+    pub(crate) files: &'static [&'static str],
+    pub(crate) made: &'static [&'static [Made]],
+    pub(crate) goes_on: u8,
+    pub(crate) ways: &'static [(&'static [Made], Want)],
+}
 
 /// One session locks and unlocks.
-const FIRST: [Told; 2] = [
-    Told {
-        answer: Answer::Granted(1),
-        place: Place::Granted(0, 1),
-    },
-    Told {
-        answer: Answer::Okay,
-        place: Place::Released(0, 1),
-    },
+pub(crate) const FIRST: &[Made] = &[
+    (0, (None, Answer::Granted(1), Place::Granted(0, 1))),
+    (1, (None, Answer::Okay, Place::Released(0, 1))),
 ];
 
-/// The other gets `busy` by this grant, and gets the lock later.
-fn second(busy: u32) -> [Told; 2] {
-    [
-        Told {
-            answer: Answer::Busy(busy),
-            place: Place::Busy(0, busy),
-        },
-        Told {
-            answer: Answer::Granted(2),
-            place: Place::Granted(0, 2),
-        },
-    ]
+const GRANTED: Made = (1, (None, Answer::Granted(2), Place::Granted(0, 2)));
+
+/// The other finds it busy by the first one's grant, or by one that nobody has, and has it later.
+const MERGING: Case = Case {
+    files: &["lock t\nunlock t\n", "lock t\nlock t\n"],
+    made: &[FIRST, &[]],
+    goes_on: 1,
+    ways: &[
+        (
+            &[(0, (None, Answer::Busy(1), Place::Busy(0, 1))), GRANTED],
+            Want::Merged(&[
+                (0, Kind::Lock, 0, Answer::Granted(1)),
+                (1, Kind::Lock, 0, Answer::Busy(1)),
+                (0, Kind::Unlock, 0, Answer::Okay),
+                (1, Kind::Lock, 0, Answer::Granted(2)),
+            ]),
+        ),
+        (
+            &[(0, (None, Answer::Busy(3), Place::Busy(0, 3))), GRANTED],
+            Want::Unmerged,
+        ),
+    ],
+};
+
+fn command_of(closing: Option<Closing>) -> Option<Command> {
+    match closing {
+        Some(Closing::Failed(name)) => Some(Command::Failed(name)),
+        Some(Closing::Unlock(name)) => Some(Command::Unlock(name)),
+        None => None,
+    }
 }
 
-/// The journals of both.
-fn two_sessions(alloc: Global, busy: u32) -> Result<Vec<Journal>, AllocError> {
-    let first = journal_of(alloc, 0, &FIRST)?;
-    let second = journal_of(alloc, 1, &second(busy))?;
-    Ok(vec![in alloc; first, second]?)
+fn push_all(entries: &mut Vec<Entry>, made: &[Made]) -> Result<(), AllocError> {
+    for one in made {
+        let (closing, answer, place) = one.1;
+        let told = Told { answer, place };
+        entries.push(entry_of(one.0, command_of(closing), told))?;
+    }
+    Ok(())
 }
 
-/// The lines of their history, if the second gets `busy` by the first one's grant.
-const MERGED: [Wanted; 4] = [
-    (0, Kind::Lock, 0, Answer::Granted(1)),
-    (1, Kind::Lock, 0, Answer::Busy(1)),
-    (0, Kind::Unlock, 0, Answer::Okay),
-    (1, Kind::Lock, 0, Answer::Granted(2)),
-];
-
-/// The journals are merged to `MERGED`.
-fn check_first(rt: &impl Abort, alloc: Global, plan: &Plan) -> Result<(), AllocError> {
-    let journals = two_sessions(alloc, 1)?;
-    check_merged(rt, alloc, plan, &journals, &MERGED)
+/// The journal of the session that did this, and went on so.
+fn journal_of(
+    alloc: Global,
+    session: u8,
+    made: &[Made],
+    more: &[Made],
+) -> Result<Journal, AllocError> {
+    let mut entries = Vec::new(alloc);
+    push_all(&mut entries, made)?;
+    push_all(&mut entries, more)?;
+    Ok(Journal {
+        session,
+        entries,
+        tries: 0,
+    })
 }
 
-/// If the second gets `busy` by a grant that nobody has, there is no order.
-fn check_no_grant(rt: &impl Abort, alloc: Global, plan: &Plan) -> Result<(), AllocError> {
-    let journals = two_sessions(alloc, 3)?;
-    check_unmerged(rt, alloc, plan, &journals)
+/// The journals of the case, of which one goes on so.
+fn journals_of(alloc: Global, case: &Case, more: &[Made]) -> Result<Vec<Journal>, AllocError> {
+    let mut journals = Vec::new(alloc);
+    let mut session: u8 = 0;
+    for made in case.made {
+        let rest = if session == case.goes_on { more } else { &[] };
+        journals.push(journal_of(alloc, session, made, rest)?)?;
+        session = session.wrapping_add(1);
+    }
+    Ok(journals)
 }
 
-#[test]
-fn merging(rt: HostRuntime) -> Result<(), AllocError> {
-    let plan = plan_of(&rt, rt.alloc(), &TEXTS)?;
-    check_first(&rt, rt.alloc(), &plan)?;
-    check_no_grant(&rt, rt.alloc(), &plan)
+/// Whether the lines are these, where there are any.
+fn are_these(lines: &Option<Vec<Line>>, want: &[Wanted]) -> bool {
+    match lines {
+        Some(lines) => are_wanted(lines, want),
+        None => false,
+    }
 }
 
-/// The plan. If memory is refused, the next try succeeds.
-fn planned(rt: &impl Abort, alloc: Global) -> Result<Plan, AllocError> {
-    match plan_of(rt, alloc, &TEXTS) {
+/// Whether this is what they are.
+fn are(alloc: Global, plan: &Plan, journals: &[Journal], want: Want) -> Result<bool, AllocError> {
+    if !are_journals(alloc, plan, journals)? {
+        return Ok(matches!(want, Want::NoJournals));
+    }
+    match want {
+        Want::NoJournals => Ok(false),
+        Want::Journals => Ok(true),
+        Want::Unmerged => Ok(merge(alloc, plan, journals)?.is_none()),
+        Want::Merged(lines) => Ok(are_these(&merge(alloc, plan, journals)?, lines)),
+    }
+}
+
+/// The plan. Where a request is refused, the next try succeeds.
+fn plan_again(rt: &impl Abort, alloc: Global, files: &[&str]) -> Result<Plan, AllocError> {
+    match plan_of(rt, alloc, files) {
         Ok(plan) => Ok(plan),
-        Err(AllocError) => plan_of(rt, alloc, &TEXTS),
+        Err(AllocError) => plan_of(rt, alloc, files),
     }
 }
 
-/// The journals. If memory is refused, the next try succeeds.
-fn journals_again(alloc: Global) -> Result<Vec<Journal>, AllocError> {
-    match two_sessions(alloc, 1) {
+/// The same of the journals.
+fn journals_again(alloc: Global, case: &Case, more: &[Made]) -> Result<Vec<Journal>, AllocError> {
+    match journals_of(alloc, case, more) {
         Ok(journals) => Ok(journals),
-        Err(AllocError) => two_sessions(alloc, 1),
+        Err(AllocError) => journals_of(alloc, case, more),
     }
 }
 
-/// The journals are merged to `MERGED`. If memory is refused, the next try succeeds.
-fn check_again(rt: &impl Abort, alloc: Global, plan: &Plan) -> Result<(), AllocError> {
-    let journals = journals_again(alloc)?;
-    match check_merged(rt, alloc, plan, &journals, &MERGED) {
-        Ok(()) => Ok(()),
-        Err(AllocError) => check_merged(rt, alloc, plan, &journals, &MERGED),
+/// The same of what they are.
+fn are_again(
+    alloc: Global,
+    plan: &Plan,
+    journals: &[Journal],
+    want: Want,
+) -> Result<bool, AllocError> {
+    match are(alloc, plan, journals, want) {
+        Ok(is) => Ok(is),
+        Err(AllocError) => are(alloc, plan, journals, want),
     }
 }
 
-/// Passes, too, if any one request for memory is refused: one of these calls then fails, and the
-/// next try succeeds.
+/// In each way the journals are what is wanted.
+fn check_ways(rt: &impl Abort, alloc: Global, plan: &Plan, case: &Case) -> Result<(), AllocError> {
+    for way in case.ways {
+        let journals = journals_again(alloc, case, way.0)?;
+        assert!(rt;
+            are_again(alloc, plan, &journals, way.1)?,
+            "{:?}",
+            case.files
+        );
+    }
+    Ok(())
+}
+
+fn check_cases(rt: &impl Abort, alloc: Global, cases: &[Case]) -> Result<(), AllocError> {
+    for case in cases {
+        let plan = plan_again(rt, alloc, case.files)?;
+        check_ways(rt, alloc, &plan, case)?;
+    }
+    Ok(())
+}
+
+/// After the lines comes what lets go of the least target that is held, and nothing else.
+#[test]
+fn closing_and_guarded(rt: HostRuntime) -> Result<(), AllocError> {
+    check_cases(&rt, rt.alloc(), CLOSINGS)?;
+    check_cases(&rt, rt.alloc(), &[GUARDED])
+}
+
+/// Passes with each request for memory refused in turn, too: it is then met in one of these calls,
+/// and the next try succeeds.
 #[test]
 fn refused_memory(rt: HostRuntime) -> Result<(), AllocError> {
-    let plan = planned(&rt, rt.alloc())?;
-    check_again(&rt, rt.alloc(), &plan)
+    check_cases(&rt, rt.alloc(), &[MERGING])
 }

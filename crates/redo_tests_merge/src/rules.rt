@@ -1,5 +1,5 @@
-//! The rules of places, written once more: whether a place may come next after the lines so far.
-use crate::commands::command_at;
+//! The rules of places, written once more: by what stands so far, a place may come next or may not.
+use crate::plans::command_at;
 use crate::told::{Answer, Told};
 use redo_journal::{Place, Plan};
 use redo_terms::Command;

@@ -1,5 +1,5 @@
 //! Journals, as the tests make them.
-use crate::commands::command_at;
+use crate::plans::command_at;
 use redo_journal::{Entry, Journal, Place, Plan};
 use redo_terms::{Command, Kind, Line, Refusal, Reply};
 use std::alloc::{AllocError, Global};
@@ -20,8 +20,8 @@ pub(crate) struct Told {
     pub(crate) place: Place,
 }
 
-/// The reply of this answer.
-pub(crate) fn reply_of(answer: Answer) -> Reply {
+/// The reply itself.
+fn reply_of(answer: Answer) -> Reply {
     match answer {
         Answer::Okay => Reply::Okay,
         Answer::Granted(grant) => Reply::Granted(grant),
@@ -30,22 +30,22 @@ pub(crate) fn reply_of(answer: Answer) -> Reply {
     }
 }
 
-/// The entry of the line with this number.
-fn entry_of(number: u32, told: Told) -> Entry {
+/// The entry of the line with this number, or of a closing command.
+pub(crate) fn entry_of(number: u32, closing: Option<Command>, told: Told) -> Entry {
     Entry {
         number,
-        closing: None,
+        closing,
         reply: reply_of(told.answer),
         place: told.place,
     }
 }
 
-/// The journal of a session with these answers.
-pub(crate) fn journal_of(alloc: Global, session: u8, told: &[Told]) -> Result<Journal, AllocError> {
+/// The journal of a session that was told this.
+fn journal_of(alloc: Global, session: u8, told: &[Told]) -> Result<Journal, AllocError> {
     let mut entries = Vec::new(alloc);
     let mut number: u32 = 0;
     for one in told {
-        entries.push(entry_of(number, *one))?;
+        entries.push(entry_of(number, None, *one))?;
         number = number.wrapping_add(1);
     }
     Ok(Journal {
