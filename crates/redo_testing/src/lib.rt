@@ -6,6 +6,6 @@ mod plans;
 mod random;
 mod refusals;
 
-pub use plans::planned;
+pub use plans::{planned, readers};
 pub use random::Random;
 pub use refusals::tell;

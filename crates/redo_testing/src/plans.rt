@@ -6,7 +6,7 @@ use redo_whole::Watched;
 use std::alloc::{AllocError, Global};
 
 /// The files, as readers.
-fn readers<'a>(alloc: Global, files: &[&'a str]) -> Result<Vec<Watched<&'a [u8]>>, AllocError> {
+pub fn readers<'a>(alloc: Global, files: &[&'a str]) -> Result<Vec<Watched<&'a [u8]>>, AllocError> {
     let mut readers = Vec::new(alloc);
     for file in files {
         readers.push(Watched::new(file.as_bytes()))?;

@@ -2,6 +2,7 @@
 use redo_names::Names;
 use redo_terms::{Command, Reply};
 use redo_text::{LineFault, ReadFault, command_text, fault_word, read_command, reply_text};
+use std::alloc::Global;
 use std::test::Fail;
 
 #[test]
@@ -22,7 +23,13 @@ fn fault_words(rt: HostRuntime) -> Result<(), Fail> {
     Ok(())
 }
 
-/// A line read alone is line 1, and none is skipped. No name of these faulty lines stays.
+/// Whether the line, read alone, has this fault. Such a line is line 1.
+fn has_fault(alloc: Global, names: &mut Names, text: &str, want: LineFault) -> bool {
+    let read = read_command(alloc, text.as_bytes(), names);
+    matches!(read, Err(ReadFault::Line { line: 1, fault }) if fault == want)
+}
+
+/// No line is skipped, and no name of these faulty lines stays.
 #[test]
 fn single_lines(rt: HostRuntime) -> Result<(), Fail> {
     let alloc = rt.alloc();
@@ -37,9 +44,7 @@ fn single_lines(rt: HostRuntime) -> Result<(), Fail> {
         ("lock -", LineFault::BadName),
         ("file b -", LineFault::BadStamp),
     ] {
-        let read = read_command(alloc, text.as_bytes(), &mut names);
-        let is_right = matches!(read, Err(ReadFault::Line { line: 1, fault }) if fault == want);
-        assert!(rt; is_right, "{text:?}");
+        assert!(rt; has_fault(alloc, &mut names, text, want), "{text:?}");
     }
     assert!(rt; names.len() == 1);
     Ok(())

@@ -3,6 +3,7 @@
 use crate::devices::{FailingReader, FailingWriter};
 use redo_replay::replay_text;
 use redo_session::run_texts;
+use redo_testing::readers;
 use redo_text::Fault;
 use redo_whole::{Watched, WholeFault, read_whole, write_whole};
 use std::alloc::{AllocError, Global};
@@ -123,14 +124,6 @@ const RUNS: &[(Given, &str, usize, bool)] = &[
     ((&[""], 10, true), "history 0\nsession 1 0\n", 2, true),
     ((&[""], 10, false), "history 0\nsession 1 0\n", 2, true),
 ];
-
-fn readers<'a>(alloc: Global, files: &[&'a str]) -> Result<Vec<Watched<&'a [u8]>>, AllocError> {
-    let mut readers = Vec::new(alloc);
-    for file in files {
-        readers.push(Watched::new(file.as_bytes()))?;
-    }
-    Ok(readers)
-}
 
 fn run_fault<T: Threads + Wait + Sync, R: Read, W: Write>(
     rt: &T,

@@ -3,10 +3,10 @@ use crate::gates::Moment;
 use crate::histories::{counted, text_of};
 use crate::order::advance;
 use crate::outcomes::{Run, check_runs, check_text};
-use crate::plans::plan_of;
 use crate::schedules::{MOST, lines_of_schedule};
 use redo_journal::{Place, Plan};
 use redo_terms::Line;
+use redo_testing::planned;
 use std::alloc::{AllocError, Global};
 use std::process::Abort;
 
@@ -174,7 +174,7 @@ fn check_orders(
 /// In every order the sessions close all.
 fn check_ends(rt: &impl Abort, alloc: Global, ends: &Ends) -> Result<(), AllocError> {
     let mut turns = turns_of(alloc, ends.steps)?;
-    let plan = plan_of(rt, alloc, &ends.files)?;
+    let plan = planned(alloc, &ends.files)?.expect(rt, "a plan");
     check_orders(rt, alloc, ends, &plan, &mut turns)
 }
 
@@ -220,7 +220,7 @@ fn has_history(
     turns: &[usize],
     want: &str,
 ) -> Result<(), AllocError> {
-    let plan = plan_of(rt, alloc, &TOGETHER.files)?;
+    let plan = planned(alloc, &TOGETHER.files)?.expect(rt, "a plan");
     check_schedule(rt, alloc, &plan, turns, want)
 }
 

@@ -2,11 +2,10 @@
 use crate::counts::{Counts, check_counts};
 use crate::histories::counted;
 use crate::order::first_schedule;
-use crate::plans::plan_of;
 use crate::schedules::check_schedule;
 use redo_journal::Plan;
 use redo_session::{Outcome, run};
-use redo_testing::Random;
+use redo_testing::{Random, planned};
 use std::alloc::{AllocError, Global};
 use std::process::Abort;
 use std::sync::Wait;
@@ -68,7 +67,7 @@ fn drawn_plan(
     for file in &files {
         texts.push(file.as_str())?;
     }
-    plan_of(rt, alloc, &texts)
+    Ok(planned(alloc, &texts)?.expect(rt, "a plan"))
 }
 
 fn shuffle(random: &mut Random, turns: &mut [usize]) {

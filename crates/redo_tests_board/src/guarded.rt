@@ -1,9 +1,9 @@
 //! Guarded lines: which are let through, and that a skipped line is no step.
 use crate::gates::{Moment, Pairs, Pauses};
 use crate::outcomes::{Run, check_runs, check_text};
-use crate::plans::plan_of;
 use redo_journal::{Place, Plan};
 use redo_session::{run, run_text};
+use redo_testing::planned;
 use std::alloc::{AllocError, Global};
 use std::process::Abort;
 use std::sync::Wait;
@@ -131,6 +131,6 @@ fn check_busy<R: Threads + Wait + Abort + Sync>(
 
 #[test]
 fn busy_of_another_session(rt: HostRuntime) -> Result<(), AllocError> {
-    let plan = plan_of(&rt, rt.alloc(), &BUSY_FILES)?;
+    let plan = planned(rt.alloc(), &BUSY_FILES)?.expect(&rt, "a plan");
     check_busy(&rt, rt.alloc(), &plan)
 }

@@ -3,11 +3,11 @@ ghost use Rattle.std.specs.Prelude.{◌≡◌, length};
 
 use crate::histories::{history_of, rows_in};
 use crate::outcomes::{check_text, have_tried};
-use crate::plans::plan_of;
 use crate::seats::{close, meet, split};
 use crate::workers::work;
 use redo_board::{Board, Open};
 use redo_journal::{Journal, Plan};
+use redo_testing::planned;
 use std::alloc::{AllocError, Global};
 use std::process::Abort;
 
@@ -126,7 +126,7 @@ fn check_planned(
 
 /// The sessions of this case leave as it says.
 fn check_left(rt: &impl Abort, alloc: Global, left: &Left) -> Result<(), AllocError> {
-    let plan = plan_of(rt, alloc, &left.files)?;
+    let plan = planned(alloc, &left.files)?.expect(rt, "a plan");
     check_planned(rt, alloc, &plan, left)
 }
 

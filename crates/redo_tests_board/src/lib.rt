@@ -20,8 +20,6 @@ mod order;
 #[cfg(test)]
 mod outcomes;
 #[cfg(test)]
-mod plans;
-#[cfg(test)]
 mod refusals;
 #[cfg(test)]
 mod schedules;

@@ -1,10 +1,10 @@
 //! The outcomes of runs of whole plans.
 use crate::gates::{Pairs, Pauses};
-use crate::plans::plan_of;
 use redo_board::Gate;
 use redo_history::history_text;
 use redo_journal::{Entry, Journal, Place, Plan};
 use redo_session::{Outcome, run};
+use redo_testing::planned;
 use std::alloc::{AllocError, Global};
 use std::process::Abort;
 use std::sync::Wait;
@@ -129,7 +129,7 @@ fn check_run<R: Threads + Wait + Abort + Sync>(
     alloc: Global,
     run: &Run,
 ) -> Result<(), AllocError> {
-    let plan = plan_of(rt, alloc, run.files)?;
+    let plan = planned(alloc, run.files)?.expect(rt, "a plan");
     check_planned(rt, alloc, &plan, run)
 }
 

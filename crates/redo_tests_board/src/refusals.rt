@@ -5,7 +5,6 @@ ghost use Rattle.redo_board.specs.Kept.{IsBoardOf, SitsAt, IsFreshOf};
 use crate::gates::Pauses;
 use crate::histories::{counted, history_of, replays};
 use crate::outcomes::{have_tried, ran};
-use crate::plans::plan_of;
 use crate::seats::close;
 use crate::threads::journals_of;
 use crate::worked::{
@@ -16,21 +15,22 @@ use redo_board::{Board, Open, Seat};
 use redo_journal::{Journal, Plan};
 use redo_session::Outcome;
 use redo_terms::Line;
-use redo_testing::tell;
+use redo_testing::{planned, tell};
 use std::alloc::{AllocError, Global};
 use std::process::Abort;
 use std::sync::Wait;
 use std::thread::Threads;
 
 /// The plan of these files. If memory is refused, the next try succeeds.
-fn planned(rt: &impl Abort, alloc: Global, files: &[&str]) -> Result<Plan, AllocError> {
-    match plan_of(rt, alloc, files) {
-        Ok(plan) => Ok(plan),
+fn plan_again(rt: &impl Abort, alloc: Global, files: &[&str]) -> Result<Plan, AllocError> {
+    let plan = match planned(alloc, files) {
+        Ok(plan) => plan,
         Err(_) => {
             tell(alloc);
-            plan_of(rt, alloc, files)
+            planned(alloc, files)?
         }
-    }
+    };
+    Ok(plan.expect(rt, "a plan"))
 }
 
 /// The board of a plan. If memory is refused, the next try succeeds.
@@ -119,7 +119,7 @@ fn check_alone(
     rows: u32,
     want: &str,
 ) -> Result<(), AllocError> {
-    let plan = planned(rt, alloc, &[file])?;
+    let plan = plan_again(rt, alloc, &[file])?;
     check_planned(rt, alloc, &plan, rows, want)
 }
 
@@ -191,7 +191,7 @@ fn check_lost<R: Threads + Abort + Sync>(
 
 #[test]
 fn refused_after_the_lost_row(rt: HostRuntime) -> Result<(), AllocError> {
-    let plan = planned(&rt, rt.alloc(), LOST_TRY.files)?;
+    let plan = plan_again(&rt, rt.alloc(), LOST_TRY.files)?;
     check_lost(&rt, rt.alloc(), &plan)
 }
 
@@ -254,7 +254,7 @@ fn check_ran<R: Threads + Wait + Abort + Sync>(
 
 #[test]
 fn run_with_each_request_refused(rt: HostRuntime) -> Result<(), AllocError> {
-    let plan = planned(&rt, rt.alloc(), &TWO_SESSIONS)?;
+    let plan = plan_again(&rt, rt.alloc(), &TWO_SESSIONS)?;
     check_ran(&rt, rt.alloc(), &plan)
 }
 
@@ -271,6 +271,6 @@ fn check_two<R: Threads + Wait + Abort + Sync>(
 
 #[test]
 fn two_threads_with_each_request_refused(rt: HostRuntime) -> Result<(), AllocError> {
-    let plan = planned(&rt, rt.alloc(), &FILES)?;
+    let plan = plan_again(&rt, rt.alloc(), &FILES)?;
     check_two(&rt, rt.alloc(), &plan)
 }

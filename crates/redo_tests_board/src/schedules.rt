@@ -5,12 +5,12 @@ ghost use Rattle.redo_board.specs.Kept.{IsBoardOf, SitsAt, IsFreshOf, WorksAt};
 use crate::counts::{Counts, check_counts};
 use crate::histories::{merged, replays, text_of};
 use crate::order::{advance, first_schedule};
-use crate::plans::plan_of;
 use crate::seats::split;
 use crate::workers::worker_of;
 use redo_board::{Board, Seat, Worker};
 use redo_journal::{Entry, Journal, Place, Plan};
 use redo_terms::Line;
+use redo_testing::planned;
 use std::alloc::{AllocError, Global};
 use std::process::Abort;
 
@@ -219,7 +219,7 @@ fn check_plan(
     files: &[&str],
     count: usize,
 ) -> Result<(), AllocError> {
-    let plan = plan_of(rt, alloc, files)?;
+    let plan = planned(alloc, files)?.expect(rt, "a plan");
     assert!(rt; count_of(rt, alloc, &plan)? == count);
     Ok(())
 }

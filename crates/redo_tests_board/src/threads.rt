@@ -4,12 +4,12 @@ ghost use Rattle.redo_board.specs.Shown.{first_of, end_of};
 ghost use Rattle.redo_board.specs.Kept.{IsBoardOf, SitsAt, IsFresh, IsFreshOf};
 ghost use Rattle.redo_tests_board.specs.Inside.Workers.{HasFrom};
 
-use crate::plans::plan_of;
 use crate::seats::{close, meet, split};
 use crate::worked::FILES;
 use crate::workers::{MOST_STEPS, work};
 use redo_board::{Board, Gate, Open, Seat};
 use redo_journal::{Journal, Plan};
+use redo_testing::planned;
 use std::alloc::{AllocError, Global};
 use std::process::Abort;
 use std::thread::{Threads, join};
@@ -82,6 +82,6 @@ fn check_rows<R: Threads + Abort + Sync>(
 
 #[test]
 fn two_seats(rt: HostRuntime) -> Result<(), AllocError> {
-    let plan = plan_of(&rt, rt.alloc(), &FILES)?;
+    let plan = planned(rt.alloc(), &FILES)?.expect(&rt, "a plan");
     check_rows(&rt, rt.alloc(), &plan, 2)
 }

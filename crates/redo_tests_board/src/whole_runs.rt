@@ -2,10 +2,10 @@
 use crate::gates::Moment;
 use crate::histories::replays;
 use crate::outcomes::{Run, check_runs, ran};
-use crate::plans::plan_of;
 use crate::worked::{COMMON_PATH, FILES, LOST_TRY};
 use redo_board::Open;
 use redo_journal::Plan;
+use redo_testing::planned;
 use std::alloc::{AllocError, Global};
 use std::process::Abort;
 use std::sync::Wait;
@@ -168,6 +168,6 @@ fn check_most<R: Threads + Wait + Abort + Sync>(
 /// As many sessions as a plan has at most.
 #[test]
 fn most_sessions(rt: HostRuntime) -> Result<(), AllocError> {
-    let plan = plan_of(&rt, rt.alloc(), &[BUILD; 64])?;
+    let plan = planned(rt.alloc(), &[BUILD; 64])?.expect(&rt, "a plan");
     check_most(&rt, rt.alloc(), &plan)
 }

@@ -1,7 +1,5 @@
 //! Runs of one file, of two and of eight.
-ghost use Rattle.std.specs.Prelude.{◌≡◌, [], IfOk};
 ghost use Rattle.redo_history.specs.Recorded.{AreLinesBelow};
-ghost use Rattle.redo_run_text.specs.Inside.Files.{AreScriptsBelow};
 
 use crate::devices::FaultyWriter;
 use crate::failing::{ALL, NEVER, writer};
@@ -9,9 +7,8 @@ use crate::histories::{HISTORY, check_text};
 use crate::told::again;
 use redo_board::Open;
 use redo_journal::Plan;
-use redo_names::Names;
-use redo_session::{Outcome, read_files, run, run_text, run_texts};
-use redo_terms::Script;
+use redo_session::{Outcome, run, run_text, run_texts};
+use redo_testing::{planned, readers};
 use redo_text::Fault;
 use redo_whole::Watched;
 use std::alloc::{AllocError, Global};
@@ -33,29 +30,6 @@ fn is_right(text: &[u8]) -> bool {
     text.len() == HISTORY.len() + PART.len()
         && text.starts_with(HISTORY.as_bytes())
         && text.ends_with(PART.as_bytes())
-}
-
-fn readers<'a>(alloc: Global, files: &[&'a str]) -> Result<Vec<Watched<&'a [u8]>>, AllocError> {
-    let mut readers = Vec::new(alloc);
-    for file in files {
-        readers.push(Watched::new(file.as_bytes()))?;
-    }
-    Ok(readers)
-}
-
-fn scripts_of(alloc: Global, files: &[&str], names: &mut Names) -> Result<Vec<Script>, Fault>
-    requires { names.old ≡ [] }
-    ensures { IfOk result (λ scripts. AreScriptsBelow names.new scripts.items) }
-{
-    let mut readers = readers(alloc, files)?;
-    read_files(alloc, &mut readers, names)
-}
-
-/// The plan of these files.
-fn planned(rt: &impl Abort, alloc: Global, files: &[&str]) -> Result<Plan, Fault> {
-    let mut names = Names::new(alloc);
-    let scripts = scripts_of(alloc, files, &mut names)?;
-    Ok(Plan::new(scripts, names).expect(rt, "a plan"))
 }
 
 /// The outcome's run text is right.
@@ -86,7 +60,7 @@ fn check_run<R: Threads + Wait + Abort + Sync>(
 fn one_run(rt: HostRuntime) -> Result<(), Fail> {
     let alloc = rt.alloc();
     let files = [FILE];
-    let plan = again!(&rt, alloc, Fault::Memory, planned(&rt, alloc, &files));
+    let plan = again!(&rt, alloc, AllocError, planned(alloc, &files)).expect(&rt, "a plan");
     check_run(&rt, alloc, &plan)
 }
 

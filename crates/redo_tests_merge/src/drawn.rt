@@ -1,11 +1,11 @@
 //! Plans that are drawn at random, and what their sessions are answered in a drawn order.
 ghost use Rattle.std.specs.Prelude.{◌<◌};
 
-use crate::plans::{command_at, plan_of};
+use crate::plans::command_at;
 use crate::told::{Answer, Told};
 use redo_journal::{Place, Plan};
 use redo_terms::Command;
-use redo_testing::Random;
+use redo_testing::{Random, planned};
 use std::alloc::{AllocError, Global};
 use std::process::Abort;
 
@@ -51,7 +51,7 @@ fn drawn_plan(rt: &impl Abort, alloc: Global, random: &mut Random) -> Result<Pla
     for text in &texts {
         files.push(text.as_str())?;
     }
-    plan_of(rt, alloc, &files)
+    Ok(planned(alloc, &files)?.expect(rt, "a plan"))
 }
 
 /// The claims on a target: how often it was granted, and who holds it.

@@ -1,11 +1,11 @@
 //! Journals by hand: whether they are journals of their scripts, and their joint order.
 use crate::closings::CLOSINGS;
 use crate::guarded::GUARDED;
-use crate::plans::plan_of;
 use crate::told::{Answer, Told, Wanted, are_wanted, entry_of};
 use redo_journal::{Entry, Journal, Place, Plan, are_journals};
 use redo_merge::merge;
 use redo_terms::{Command, Kind, Line};
+use redo_testing::planned;
 use std::alloc::{AllocError, Global};
 use std::process::Abort;
 
@@ -142,10 +142,11 @@ fn are(alloc: Global, plan: &Plan, journals: &[Journal], want: Want) -> Result<b
 
 /// The plan. Where a request is refused, the next try succeeds.
 fn plan_again(rt: &impl Abort, alloc: Global, files: &[&str]) -> Result<Plan, AllocError> {
-    match plan_of(rt, alloc, files) {
-        Ok(plan) => Ok(plan),
-        Err(AllocError) => plan_of(rt, alloc, files),
-    }
+    let plan = match planned(alloc, files) {
+        Ok(plan) => plan,
+        Err(AllocError) => planned(alloc, files)?,
+    };
+    Ok(plan.expect(rt, "a plan"))
 }
 
 /// The same of the journals.
