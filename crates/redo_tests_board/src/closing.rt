@@ -2,7 +2,7 @@
 use crate::gates::Moment;
 use crate::histories::{counted, text_of};
 use crate::order::advance;
-use crate::outcomes::{Run, check_runs, check_text};
+use crate::outcomes::{Run, check_text};
 use crate::schedules::{MOST, lines_of_schedule};
 use redo_journal::{Place, Plan};
 use redo_terms::Line;
@@ -11,7 +11,7 @@ use std::alloc::{AllocError, Global};
 use std::process::Abort;
 
 /// The second session gets the lock after the first, which ends during a build, has released it.
-const SESSION_LETS_GO: Run = Run {
+pub(crate) const SESSION_LETS_GO: Run = Run {
     files: &["lock T\nstart T\n", "lock T\n"],
     pairs: &[(Moment::Before(1, 0), Moment::After(0, 3))],
     history: "history 6\n\
@@ -21,6 +21,7 @@ const SESSION_LETS_GO: Run = Run {
         1 unlock T => ok\n\
         2 lock T => granted 2\n\
         2 unlock T => ok\n",
+    text: None,
     tries: &[2, 0],
     told: [0b1111, 0b0110, 0b1111],
     places: &[
@@ -37,7 +38,7 @@ const SESSION_LETS_GO: Run = Run {
 /// A session loses its row to the other's closing command, and has to learn by the row's word that
 /// the target failed, and so is out of date. It asks after the other has closed all. By then two
 /// rows come after its own.
-const CLOSING_ROW_IS_READ: Run = Run {
+pub(crate) const CLOSING_ROW_IS_READ: Run = Run {
     files: &[
         "file t 1\nlock t\nstart t\n",
         "file a 1\nood\nlock t\nstart t\nifchange t a\ndone t 2\nood\n",
@@ -61,30 +62,17 @@ const CLOSING_ROW_IS_READ: Run = Run {
         2 done t 2 => ok\n\
         2 ood => ood\n\
         2 unlock t => ok\n",
+    text: None,
     tries: &[4, 9],
     told: [0b1_1111, 0b0_1101, 0b1_1111],
     places: &[],
 };
 
-#[test]
-fn closing_commands(rt: HostRuntime) -> Result<(), AllocError> {
-    check_runs(&rt, rt.alloc(), &[SESSION_LETS_GO, CLOSING_ROW_IS_READ])
-}
-
-/// The sessions' turns, so many of each, the first session's first.
-fn turns_of(alloc: Global, counts: [usize; 2]) -> Result<Vec<usize>, AllocError> {
-    let mut turns = Vec::from_elem(alloc, 0, counts[0])?;
-    for _ in 0..counts[1] {
-        turns.push(1)?;
-    }
-    Ok(turns)
-}
-
 /// Two sessions that hold and build at their end, and in every order of their steps close all.
 struct Ends {
     files: [&'static str; 2],
-    /// How many steps each session takes at most.
-    steps: [usize; 2],
+    /// A turn for each step that a session takes at most, the first session's turns first.
+    turns: &'static [usize],
     /// How many orders of these steps there are.
     orders: usize,
     /// How many lines the files have. Each grant and each start has one closing line more.
@@ -104,7 +92,7 @@ const APART: Ends = Ends {
         "lock b\nstart b\nlock a\nstart a\n",
         "lock d\nstart d\nlock c\nstart c\n",
     ],
-    steps: [8, 8],
+    turns: &[0, 0, 0, 0, 0, 0, 0, 0, 1, 1, 1, 1, 1, 1, 1, 1],
     orders: 12_870,
     lines: 8,
     starts: 4,
@@ -119,7 +107,7 @@ const TOGETHER: Ends = Ends {
         "lock b\nstart b\nlock a\nstart a\n",
         "lock a\nstart a\nlock b\n",
     ],
-    steps: [8, 6],
+    turns: &TURNS_IN_TURN,
     orders: 3_003,
     lines: 7,
     starts: 3,
@@ -173,18 +161,14 @@ fn check_orders(
 
 /// In every order the sessions close all.
 fn check_ends(rt: &impl Abort, alloc: Global, ends: &Ends) -> Result<(), AllocError> {
-    let mut turns = turns_of(alloc, ends.steps)?;
+    let mut turns = Vec::from_slice(alloc, ends.turns)?;
     let plan = planned(alloc, &ends.files)?.expect(rt, "a plan");
     check_orders(rt, alloc, ends, &plan, &mut turns)
 }
 
 #[test]
-fn every_end_apart(rt: HostRuntime) -> Result<(), AllocError> {
-    check_ends(&rt, rt.alloc(), &APART)
-}
-
-#[test]
-fn every_end_together(rt: HostRuntime) -> Result<(), AllocError> {
+fn every_end(rt: HostRuntime) -> Result<(), AllocError> {
+    check_ends(&rt, rt.alloc(), &APART)?;
     check_ends(&rt, rt.alloc(), &TOGETHER)
 }
 

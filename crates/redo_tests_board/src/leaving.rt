@@ -1,21 +1,20 @@
 //! Workers that leave before their session's end.
-ghost use Rattle.std.specs.Prelude.{◌≡◌, length};
-
+use crate::gates::{Moment, Pairs, Pauses};
 use crate::histories::{history_of, rows_in};
 use crate::outcomes::{check_text, have_tried};
-use crate::seats::{close, meet, split};
-use crate::workers::work;
-use redo_board::{Board, Open};
+use crate::threads::journals_of;
 use redo_journal::{Journal, Plan};
 use redo_testing::planned;
 use std::alloc::{AllocError, Global};
 use std::process::Abort;
+use std::thread::Threads;
 
-/// Two sessions that leave after so many steps each, the first before the second begins; how many
-/// rows are then filled, how many tries each session made, and the history.
+/// Two sessions that leave after so many steps each. The second begins after the first's last step.
+/// How many rows are then filled, how many tries each session made, and the history.
 struct Left {
     files: [&'static str; 2],
     steps: [u32; 2],
+    pairs: Pairs,
     rows: usize,
     tries: [u32; 2],
     history: &'static str,
@@ -29,6 +28,7 @@ const IN_THE_MIDDLE: Left = Left {
         "lock t\nfile t 1\nood\nunlock t\n",
     ],
     steps: [3, 4],
+    pairs: &[(Moment::Before(1, 0), Moment::After(0, 2))],
     rows: 5,
     tries: [2, 5],
     history: "history 7\n\
@@ -46,6 +46,7 @@ const IN_THE_MIDDLE: Left = Left {
 const AFTER_ITS_LINES: Left = Left {
     files: ["lock t\nstart t\n", "lock t\n"],
     steps: [2, 1],
+    pairs: &[(Moment::Before(1, 0), Moment::After(0, 1))],
     rows: 1,
     tries: [1, 0],
     history: "history 3\n1 lock t => granted 1\n1 start t => ok\n2 lock t => busy 1\n",
@@ -55,6 +56,7 @@ const AFTER_ITS_LINES: Left = Left {
 const AFTER_ONE_CLOSING: Left = Left {
     files: ["lock t\nstart t\n", "lock t\n"],
     steps: [3, 1],
+    pairs: &[(Moment::Before(1, 0), Moment::After(0, 2))],
     rows: 2,
     tries: [2, 0],
     history: "history 4\n1 lock t => granted 1\n1 start t => ok\n1 failed t => ok\n2 lock t => busy 1\n",
@@ -65,28 +67,11 @@ const AFTER_ONE_CLOSING: Left = Left {
 const IN_THE_LAST_ROW: Left = Left {
     files: ["lock t\nstart t\n", "file a 1\n"],
     steps: [3, 1],
+    pairs: &[(Moment::Before(1, 0), Moment::After(0, 2))],
     rows: 3,
     tries: [2, 3],
     history: "history 4\n1 lock t => granted 1\n1 start t => ok\n1 failed t => ok\n2 file a 1 => ok\n",
 };
-
-/// Both sessions leave after so many steps: the number of filled rows, and the journals.
-fn leave_apart(
-    rt: &impl Abort,
-    alloc: Global,
-    plan: &Plan,
-    steps: [u32; 2],
-) -> Result<(usize, Vec<Journal>), AllocError>
-    requires { length plan.now.scripts ≡ 2 }
-{
-    let (board, seat) = Board::open(alloc, plan)?;
-    let (left, right) = split(&board, plan, seat, 1);
-    let (left, first) = work(rt, alloc, &board, plan, &Open, left, steps[0])?;
-    let (right, second) = work(rt, alloc, &board, plan, &Open, right, steps[1])?;
-    let all = meet(&board, plan, left, right);
-    let rows = close(board, plan, all);
-    Ok((rows, vec![in alloc; first, second]?))
-}
 
 /// Whether each session has made so many steps.
 fn have_made(journals: &[Journal], steps: [u32; 2]) -> bool {
@@ -112,20 +97,25 @@ fn check_journals(
 }
 
 /// The plan's sessions leave as in this case.
-fn check_planned(
-    rt: &impl Abort,
+fn check_planned<R: Threads + Abort + Sync>(
+    rt: &R,
     alloc: Global,
     plan: &Plan,
     left: &Left,
 ) -> Result<(), AllocError> {
+    let gate = Pauses::new(alloc, left.pairs)?;
     assert!(rt; plan.scripts().len() == 2);
-    let found = leave_apart(rt, alloc, plan, left.steps)?;
-    assert!(rt; found.0 == left.rows);
+    let found = journals_of(rt, alloc, plan, &gate, left.steps)?;
+    assert!(rt; found.0 == left.rows && gate.are_met());
     check_journals(rt, alloc, plan, &found.1, left)
 }
 
 /// The sessions of this case leave as it says.
-fn check_left(rt: &impl Abort, alloc: Global, left: &Left) -> Result<(), AllocError> {
+fn check_left<R: Threads + Abort + Sync>(
+    rt: &R,
+    alloc: Global,
+    left: &Left,
+) -> Result<(), AllocError> {
     let plan = planned(alloc, &left.files)?.expect(rt, "a plan");
     check_planned(rt, alloc, &plan, left)
 }

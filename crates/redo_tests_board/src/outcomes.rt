@@ -1,9 +1,12 @@
 //! The outcomes of runs of whole plans.
+ghost use Rattle.std.specs.Prelude.{IfOk};
+ghost use Rattle.redo_history.specs.Recorded.{AreLinesBelow};
+
 use crate::gates::{Pairs, Pauses};
 use redo_board::Gate;
 use redo_history::history_text;
 use redo_journal::{Entry, Journal, Place, Plan};
-use redo_session::{Outcome, run};
+use redo_session::{Outcome, run, run_text};
 use redo_testing::planned;
 use std::alloc::{AllocError, Global};
 use std::process::Abort;
@@ -20,6 +23,8 @@ pub(crate) struct Run {
     pub(crate) files: &'static [&'static str],
     pub(crate) pairs: Pairs,
     pub(crate) history: &'static str,
+    /// The run text, if it is checked.
+    pub(crate) text: Option<&'static str>,
     pub(crate) tries: &'static [u32],
     pub(crate) told: [u64; 3],
     pub(crate) places: &'static [Places],
@@ -31,7 +36,9 @@ pub(crate) fn ran<G: Gate + Sync, R: Threads + Wait + Sync>(
     alloc: Global,
     plan: &Plan,
     gate: &G,
-) -> Result<(Outcome, Vec<u8>), AllocError> {
+) -> Result<(Outcome, Vec<u8>), AllocError>
+    ensures { IfOk result (λ r. AreLinesBelow plan.now.names r.0.history.items) }
+{
     let outcome = run(rt, alloc, plan, gate)?;
     let history = history_text(alloc, &outcome.history, plan.names())?;
     Ok((outcome, history))
@@ -109,6 +116,9 @@ fn check_under<R: Threads + Wait + Abort + Sync>(
     let left = ran(rt, alloc, plan, gate)?;
     check_outcome(rt, &left.0, &left.1, run);
     check_gate(rt, gate, run);
+    if let Some(text) = run.text {
+        check_text(rt, &run_text(alloc, plan, &left.0)?, text);
+    }
     Ok(())
 }
 

@@ -6,7 +6,7 @@ use crate::gates::Pauses;
 use crate::histories::{counted, history_of, replays};
 use crate::outcomes::{have_tried, ran};
 use crate::seats::close;
-use crate::threads::journals_of;
+use crate::threads::{ALL, journals_of};
 use crate::worked::{
     BROKEN_OFF, BROKEN_OFF_HISTORY, COMMON_PATH, COMMON_PATH_HISTORY, FILES, LOST_TRY,
 };
@@ -138,7 +138,7 @@ fn lost_under<R: Threads + Abort + Sync>(
 ) -> Result<Vec<Journal>, AllocError>
     requires { length plan.now.scripts ≡ 2 }
 {
-    let Ok(left) = journals_of(rt, alloc, plan, gate) else {
+    let Ok(left) = journals_of(rt, alloc, plan, gate, ALL) else {
         tell(alloc);
         return Err(AllocError);
     };
@@ -234,43 +234,33 @@ fn replays_again(
     }
 }
 
-/// The number of lines of a run, after which nothing is held or building.
-fn count_of(rt: &impl Abort, lines: &[Line]) -> usize {
-    assert!(rt; lines.len() >= 13 && lines.len() <= 15);
+/// The number of lines of a run, within these limits, after which nothing is held or building.
+fn count_of(rt: &impl Abort, lines: &[Line], (least, most): (usize, usize)) -> usize {
+    assert!(rt; lines.len() >= least && lines.len() <= most);
     assert!(rt; counted(lines).is_let_go());
     lines.len()
 }
 
-/// The plan's run replays.
+/// The plan's run, whose number of lines is within these limits, replays.
 fn check_ran<R: Threads + Wait + Abort + Sync>(
     rt: &R,
     alloc: Global,
     plan: &Plan,
+    limits: (usize, usize),
 ) -> Result<(), AllocError> {
     let left = ran_again(rt, alloc, plan)?;
-    let count = count_of(rt, &left.0.history);
+    let count = count_of(rt, &left.0.history, limits);
     Ok(replays_again(rt, alloc, &left.1, count)?)
 }
 
 #[test]
 fn run_with_each_request_refused(rt: HostRuntime) -> Result<(), AllocError> {
     let plan = plan_again(&rt, rt.alloc(), &TWO_SESSIONS)?;
-    check_ran(&rt, rt.alloc(), &plan)
-}
-
-/// The run of the plan's two sessions has two lines, and replays.
-fn check_two<R: Threads + Wait + Abort + Sync>(
-    rt: &R,
-    alloc: Global,
-    plan: &Plan,
-) -> Result<(), AllocError> {
-    let left = ran_again(rt, alloc, plan)?;
-    assert!(rt; left.0.history.len() == 2);
-    Ok(replays_again(rt, alloc, &left.1, 2)?)
+    check_ran(&rt, rt.alloc(), &plan, (13, 15))
 }
 
 #[test]
 fn two_threads_with_each_request_refused(rt: HostRuntime) -> Result<(), AllocError> {
     let plan = plan_again(&rt, rt.alloc(), &FILES)?;
-    check_two(&rt, rt.alloc(), &plan)
+    check_ran(&rt, rt.alloc(), &plan, (2, 2))
 }

@@ -137,6 +137,24 @@ fn journals_of(alloc: Global, workers: Vec<Worker>) -> Result<Vec<Journal>, Allo
     Ok(journals)
 }
 
+/// The workers of the sessions, which have taken their steps in this order.
+fn turned(
+    rt: &impl Abort,
+    alloc: Global,
+    board: &Board,
+    plan: &Plan,
+    gate: &Counts,
+    seat: Seat,
+    turns: &[usize],
+) -> Result<Vec<Worker>, AllocError>
+    requires board { IsBoardOf plan.now board.now × SitsAt plan.now board.now seat }
+    requires fresh { IsFreshOf 0 (length plan.now.scripts) seat }
+{
+    let mut workers = workers_of(alloc, board, plan, seat)?;
+    take_turns(rt, alloc, board, plan, gate, &mut workers, turns)?;
+    Ok(workers)
+}
+
 /// The journals of the sessions in this schedule.
 fn journals_of_schedule(
     rt: &impl Abort,
@@ -146,9 +164,7 @@ fn journals_of_schedule(
     turns: &[usize],
 ) -> Result<Vec<Journal>, AllocError> {
     let (board, seat) = Board::open(alloc, plan)?;
-    let mut workers = workers_of(alloc, &board, plan, seat)?;
-    take_turns(rt, alloc, &board, plan, gate, &mut workers, turns)?;
-    journals_of(alloc, workers)
+    journals_of(alloc, turned(rt, alloc, &board, plan, gate, seat, turns)?)
 }
 
 /// The lines are a legal history.

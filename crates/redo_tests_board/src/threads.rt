@@ -14,7 +14,10 @@ use std::alloc::{AllocError, Global};
 use std::process::Abort;
 use std::thread::{Threads, join};
 
-/// Does the scripts of both sessions. Joins both threads before it returns.
+/// More steps of each session than it takes.
+pub(crate) const ALL: [u32; 2] = [MOST_STEPS; 2];
+
+/// Does so many steps of each session. Joins both threads before it returns.
 fn work_both<G: Gate + Sync, R: Threads + Abort + Sync>(
     rt: &R,
     alloc: Global,
@@ -22,6 +25,7 @@ fn work_both<G: Gate + Sync, R: Threads + Abort + Sync>(
     plan: &Plan,
     gate: &G,
     seat: Seat,
+    steps: [u32; 2],
 ) -> Result<(Seat, Journal, Journal), AllocError>
     requires board { IsBoardOf plan.now board.now × SitsAt plan.now board.now seat }
     requires fresh { IsFreshOf 0 (length plan.now.scripts) seat }
@@ -37,14 +41,14 @@ fn work_both<G: Gate + Sync, R: Threads + Abort + Sync>(
                 × (first_of left < length plan.now.scripts) }
             ensures { IfOk result (λ r. HasFrom plan.entry.now board.entry.now
                 (first_of left) (end_of left) r.0) }
-        { work(rt, alloc, board, plan, gate, left, MOST_STEPS) },
+        { work(rt, alloc, board, plan, gate, left, steps[0]) },
         || -> Result<(Seat, Journal), AllocError>
             requires { IsBoardOf plan.now board.now × SitsAt plan.now board.now right
                 × IsFresh right × (end_of right ≡ first_of right + 1)
                 × (first_of right < length plan.now.scripts) }
             ensures { IfOk result (λ r. HasFrom plan.entry.now board.entry.now
                 (first_of right) (end_of right) r.0) }
-        { work(rt, alloc, board, plan, gate, right, MOST_STEPS) },
+        { work(rt, alloc, board, plan, gate, right, steps[1]) },
     );
     let (Ok((one, first)), Ok((other, second))) = (one, other) else {
         return Err(AllocError);
@@ -52,17 +56,18 @@ fn work_both<G: Gate + Sync, R: Threads + Abort + Sync>(
     Ok((meet(board, plan, one, other), first, second))
 }
 
-/// The number of filled rows, and the journals of a plan's two sessions.
+/// The number of filled rows, and the journals of a plan's two sessions that do so many steps.
 pub(crate) fn journals_of<G: Gate + Sync, R: Threads + Abort + Sync>(
     rt: &R,
     alloc: Global,
     plan: &Plan,
     gate: &G,
+    steps: [u32; 2],
 ) -> Result<(usize, Vec<Journal>), AllocError>
     requires { length plan.now.scripts ≡ 2 }
 {
     let (board, seat) = Board::open(alloc, plan)?;
-    let (all, first, second) = work_both(rt, alloc, &board, plan, gate, seat)?;
+    let (all, first, second) = work_both(rt, alloc, &board, plan, gate, seat, steps)?;
     let rows = close(board, plan, all);
     Ok((rows, vec![in alloc; first, second]?))
 }
@@ -75,7 +80,7 @@ fn check_rows<R: Threads + Abort + Sync>(
     rows: usize,
 ) -> Result<(), AllocError> {
     assert!(rt; plan.scripts().len() == 2);
-    let left = journals_of(rt, alloc, plan, &Open)?;
+    let left = journals_of(rt, alloc, plan, &Open, ALL)?;
     assert!(rt; left.0 == rows);
     Ok(())
 }

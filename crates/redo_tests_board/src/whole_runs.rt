@@ -1,5 +1,7 @@
 //! Runs of whole plans, each session on a thread of its own.
+use crate::closing::{CLOSING_ROW_IS_READ, SESSION_LETS_GO};
 use crate::gates::Moment;
+use crate::guarded::{BUSY_OF_ANOTHER, GUARDED_AT_THE_END, SKIPPED_LINES, STALE_LETS_THROUGH};
 use crate::histories::replays;
 use crate::outcomes::{Run, check_runs, ran};
 use crate::worked::{COMMON_PATH, FILES, LOST_TRY};
@@ -16,6 +18,7 @@ const GATE_A: Run = Run {
     files: &FILES,
     pairs: &[(Moment::Before(0, 0), Moment::After(1, 0))],
     history: "history 2\n2 file b 1 => ok\n1 file a 1 => ok\n",
+    text: None,
     tries: &[2, 1],
     told: [1, 1, 1],
     places: &[],
@@ -25,6 +28,7 @@ const GATE_B: Run = Run {
     files: &FILES,
     pairs: &[(Moment::Before(1, 0), Moment::After(0, 0))],
     history: "history 2\n1 file a 1 => ok\n2 file b 1 => ok\n",
+    text: None,
     tries: &[1, 2],
     told: [1, 1, 1],
     places: &[],
@@ -53,6 +57,7 @@ const BUSY_ACROSS_A_RELEASE: Run = Run {
         2 lock t => busy 2\n\
         3 targets => targets\n\
         3 unlock t => ok\n",
+    text: None,
     tries: &[0, 0, 1],
     told: [0b11, 0, 0b11],
     places: &[],
@@ -72,6 +77,7 @@ const MERGING: Run = Run {
         1 unlock t => ok\n\
         2 lock t => granted 2\n\
         2 unlock t => ok\n",
+    text: None,
     tries: &[0, 0],
     told: [0b11, 0, 0b11],
     places: &[],
@@ -82,6 +88,7 @@ const EMPTY: Run = Run {
     files: &[""],
     pairs: &[],
     history: "history 0\n",
+    text: None,
     tries: &[0],
     told: [0, 0, 0],
     places: &[],
@@ -91,6 +98,7 @@ const BOTH_EMPTY: Run = Run {
     files: &["", ""],
     pairs: &[],
     history: "history 0\n",
+    text: None,
     tries: &[0, 0],
     told: [0, 0, 0],
     places: &[],
@@ -101,6 +109,7 @@ const BETWEEN_EMPTY: Run = Run {
     files: &["", "file a 1\n", ""],
     pairs: &[],
     history: "history 1\n2 file a 1 => ok\n",
+    text: None,
     tries: &[0, 1, 0],
     told: [0, 0, 0],
     places: &[],
@@ -129,12 +138,19 @@ const BESIDE_OWN_LOCK: Run = Run {
         2 lock T => granted 1\n\
         2 lock T => busy 1\n\
         2 unlock T => ok\n",
+    text: None,
     tries: &[7, 0],
     told: [0b1_1111_1111, 0b1_1101_1101, 0b1_1111_1111],
     places: &[],
 };
 
-const RUNS: [Run; 9] = [
+const RUNS: [Run; 15] = [
+    SKIPPED_LINES,
+    STALE_LETS_THROUGH,
+    GUARDED_AT_THE_END,
+    BUSY_OF_ANOTHER,
+    SESSION_LETS_GO,
+    CLOSING_ROW_IS_READ,
     GATE_A,
     GATE_B,
     LOST_TRY,

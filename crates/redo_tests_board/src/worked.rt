@@ -53,6 +53,7 @@ pub(crate) const LOST_TRY: Run = Run {
         1 unlock a.o => ok\n\
         2 file a.c 11 => ok\n\
         1 ood => ood a.o\n",
+    text: None,
     tries: &[6, 5],
     told: [0b111_1111, 0b101_1101, 0b111_1111],
     places: &[],
