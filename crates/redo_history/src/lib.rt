@@ -17,6 +17,6 @@ pub use laws::{
     one_history,
 };
 pub use logs::{cut_lines, one_cut};
-pub use printed::{history_text, put_answer, put_line, put_number};
+pub use printed::{history_text, put_answer, put_header, put_line, put_number, put_session};
 pub use read::{read_history, session_of};
 pub use redo_journal::MOST_SESSIONS;

@@ -1,7 +1,7 @@
-ghost use Rattle.std.specs.Prelude.{◌≡◌, ◌++◌, length, map, decimal, IfOk, OnOk};
+ghost use Rattle.std.specs.Prelude.{◌≡◌, ◌+◌, ◌++◌, length, map, codes, decimal, IfOk, OnOk};
 ghost use Rattle.redo_model.specs.Renaming.{IsLineBelow};
 ghost use Rattle.redo_terms.specs.Meaning.{line_of, line_at};
-ghost use Rattle.redo_history.specs.Histories.{ended, answer_text_of, line_text_of, history_text_of};
+ghost use Rattle.redo_history.specs.Histories.{ended, header_of, answer_text_of, line_text_of, history_text_of};
 ghost use Rattle.redo_history.specs.Recorded.{AreLinesBelow};
 
 use itoa::Buffer;
@@ -15,6 +15,25 @@ pub fn put_number(text: &mut Vec<u8>, n: usize) -> Result<(), AllocError>
     ensures { OnOk result (text.new.items ≡ text.old.items ++ decimal n) }
 {
     text.extend_from_slice(Buffer::new().format(n).as_bytes())
+}
+
+/// Writes a session's number, with a space after it.
+pub fn put_session(text: &mut Vec<u8>, session: u8) -> Result<(), AllocError>
+    ensures { OnOk result (text.new.items ≡ text.old.items ++ decimal (session + 1) ++ codes " ") }
+{
+    put_number(text, session as usize + 1)?;
+    text.push(b' ')?;
+    Ok(())
+}
+
+/// Writes how many lines a history has.
+pub fn put_header(text: &mut Vec<u8>, count: usize) -> Result<(), AllocError>
+    ensures { OnOk result (text.new.items ≡ text.old.items ++ header_of count) }
+{
+    text.extend_from_slice(b"history ")?;
+    put_number(text, count)?;
+    text.push(b'\n')?;
+    Ok(())
 }
 
 /// Writes a line's command and reply, with an LF after them.
@@ -46,8 +65,7 @@ pub fn put_line(
     ensures { OnOk result (text.new.items
         ≡ text.old.items ++ line_text_of (line_at names.now line.now)) }
 {
-    put_number(text, line.session as usize + 1)?;
-    text.push(b' ')?;
+    put_session(text, line.session)?;
     put_answer(alloc, text, line, names)
 }
 
@@ -58,9 +76,7 @@ pub fn history_text(alloc: Global, lines: &[Line], names: &Names) -> Result<Vec<
         ≡ history_text_of (map (line_at names.now) lines.now)) }
 {
     let mut text = Vec::new(alloc);
-    text.extend_from_slice(b"history ")?;
-    put_number(&mut text, lines.len())?;
-    text.push(b'\n')?;
+    put_header(&mut text, lines.len())?;
     for line in lines {
         put_line(alloc, &mut text, line, names)?;
     }

@@ -3,6 +3,7 @@
 
 mod files;
 mod outcome;
+mod part;
 mod printed;
 
 pub use files::read_files;

@@ -1,180 +1,23 @@
-ghost use Rattle.std.specs.Prelude.{◌≡◌, ◌≤◌, ◌<◌, ◌+◌, ◌++◌, ◌⊎◌, ◌||◌, ℕ, List, [], true, false, not, drop, length, map, IfOk, OnOk, slice_index_or};
+ghost use Rattle.std.specs.Prelude.{◌≡◌, ◌<◌, ◌≤◌, ◌+◌, ◌^◌, ◌++◌, ◌∷◌, ℕ, List, [], drop, length, map, IfOk, OnOk, slice_index_or};
+ghost use Rattle.std.specs.List.{flat_map};
 ghost use Rattle.redo_model.specs.Names.{Text};
-ghost use Rattle.redo_model.specs.History.{part_of};
-ghost use Rattle.redo_model.specs.Renaming.{IsBelow, IsReplyBelow};
-ghost use Rattle.redo_terms.specs.Meaning.{command_of, reply_of, line_at, reply_at};
-ghost use Rattle.redo_terms.specs.Inside.Meaning.{item_at, item_of};
-ghost use Rattle.redo_journal.specs.Plans.{AreBelow, IsPlan, script_of};
-ghost use Rattle.redo_history.specs.Histories.{ended};
-ghost use Rattle.redo_journal.specs.Plans.{scripts_named};
-ghost use Rattle.redo_run_text.specs.RunTexts.{done_text_of, skipped_text_of, session_lines_of, session_header_of, session_text_of, run_text_of, sessions_below};
+ghost use Rattle.redo_model.specs.History as histories;
+ghost use Rattle.redo_model.specs.Renaming.{IsLineBelow};
+ghost use Rattle.redo_terms.specs.Meaning.{line_of, line_at};
+ghost use Rattle.redo_terms.specs.Inside.Meaning.{item_of};
+ghost use Rattle.redo_journal.specs.Plans.{IsPlan, script_of, scripts_named};
+ghost use Rattle.redo_history.specs.Histories.{ended, answer_text_of, line_text_of};
 ghost use Rattle.redo_history.specs.Recorded.{AreLinesBelow};
-ghost use Rattle.redo_run_text.specs.Inside.Printed.{part_in, closing_lines_of, ArePrinted};
+ghost use Rattle.redo_run_text.specs.RunTexts.{run_text_of, sessions_below};
+ghost use Rattle.redo_run_text.specs.Inside.Printed.{ArePrinted};
 
 use crate::outcome::Outcome;
-use redo_history::{history_text, put_answer, put_number};
+use crate::part::Part;
+use redo_history::{put_answer, put_header, put_session};
 use redo_journal::Plan;
 use redo_names::Names;
-use redo_terms::{Item, Line, Reply};
-use redo_text::{put_item, put_reply};
+use redo_terms::{Item, Line};
 use std::alloc::{AllocError, Global};
-
-/// The place of the session's first line from here on; past all lines if there is none.
-fn own_from(session: u8, lines: &[Line], from: usize) -> usize
-    requires { from ≤ length lines.now }
-    ensures within { result ≤ length lines.now }
-    ensures own { (d : Line) → result < length lines.now
-        → (slice_index_or lines.now result d).session ≡ session }
-    ensures same { (names : List Text) → part_in names session (drop result lines.now)
-        ≡ part_in names session (drop from lines.now) }
-{
-    for at in from..lines.len() {
-        if lines[at].session == session {
-            return at;
-        }
-    }
-    lines.len()
-}
-
-/// Whether the session's next line, if there is one, is of this item.
-fn is_answered(item: &Item, through: bool, at: usize, count: usize) -> bool
-    ensures yes { result ≡ true → (at < count) × ((through || not item.now.guarded) ≡ true) }
-    ensures no { result ≡ false
-        → (count ≤ at) ⊎ ((at < count) × ((through || not item.now.guarded) ≡ false)) }
-{
-    at < count && (through || !item.guarded)
-}
-
-/// Prints a line of a script with its reply.
-fn put_done(
-    alloc: Global,
-    text: &mut Vec<u8>,
-    item: &Item,
-    reply: &Reply,
-    names: &Names,
-) -> Result<(), AllocError>
-    requires item { IsBelow (length names.now) (command_of item.now.command) }
-    requires reply { IsReplyBelow (length names.now) (reply_of reply.now) }
-    ensures { OnOk result (text.new.items ≡ text.old.items
-        ++ ended (done_text_of (item_at names.now item.now) (reply_at names.now reply.now))) }
-{
-    put_item(alloc, text, item, names)?;
-    text.extend_from_slice(b" => ")?;
-    put_reply(alloc, text, reply, names)?;
-    text.push(b'\n')?;
-    Ok(())
-}
-
-/// Prints a line of a script that was not done.
-fn put_skipped(
-    alloc: Global,
-    text: &mut Vec<u8>,
-    item: &Item,
-    names: &Names,
-) -> Result<(), AllocError>
-    requires { IsBelow (length names.now) (command_of item.now.command) }
-    ensures { OnOk result (text.new.items
-        ≡ text.old.items ++ ended (skipped_text_of (item_at names.now item.now))) }
-{
-    put_item(alloc, text, item, names)?;
-    text.extend_from_slice(b" => skipped\n")?;
-    Ok(())
-}
-
-/// Prints each line of the session's script, with its reply if it was done. Returns the place from
-/// which on the session's lines are closing ones.
-fn put_script(
-    alloc: Global,
-    text: &mut Vec<u8>,
-    session: u8,
-    items: &[Item],
-    lines: &[Line],
-    names: &Names,
-) -> Result<usize, AllocError>
-    requires items { AreBelow (length names.now) items.now }
-    requires lines { AreLinesBelow names.now lines.now }
-    ensures within { IfOk result (λ at. at ≤ length lines.now) }
-    ensures printed { IfOk result (λ at. ArePrinted
-        (session_lines_of true (map (item_at names.now) items.now)
-        (part_in names.now session lines.now)) text.old.items text.new.items (length items.now)
-        (closing_lines_of (part_in names.now session (drop at lines.now)))) }
-{
-    let mut through = true;
-    let mut at = own_from(session, lines, 0);
-    for item in items {
-        if !is_answered(item, through, at, lines.len()) {
-            put_skipped(alloc, text, item, names)?;
-            continue;
-        }
-        let reply = &lines[at].reply;
-        put_done(alloc, text, item, reply, names)?;
-        through = reply.lets_through();
-        at = own_from(session, lines, at + 1);
-    }
-    Ok(at)
-}
-
-/// Prints the session's lines from here on, which are closing ones, and returns how many they are.
-fn put_closing(
-    alloc: Global,
-    text: &mut Vec<u8>,
-    session: u8,
-    lines: &[Line],
-    from: usize,
-    names: &Names,
-) -> Result<usize, AllocError>
-    requires lines { AreLinesBelow names.now lines.now }
-    requires from { from ≤ length lines.now }
-    ensures few { IfOk result (λ count. count ≤ length lines.now) }
-    ensures printed { IfOk result (λ count. ArePrinted
-        (closing_lines_of (part_in names.now session (drop from lines.now)))
-        text.old.items text.new.items count []) }
-{
-    let mut count = 0;
-    for at in from..lines.len() {
-        let line = &lines[at];
-        if line.session != session {
-            continue;
-        }
-        put_answer(alloc, text, line, names)?;
-        count += 1;
-    }
-    Ok(count)
-}
-
-fn put_header(text: &mut Vec<u8>, session: u8, count: usize) -> Result<(), AllocError>
-    ensures { OnOk result (text.new.items ≡ text.old.items ++ session_header_of session count) }
-{
-    text.extend_from_slice(b"session ")?;
-    put_number(text, session as usize + 1)?;
-    text.push(b' ')?;
-    put_number(text, count)?;
-    text.push(b'\n')?;
-    Ok(())
-}
-
-/// Prints the session's header, the lines of its script, and its closing lines.
-fn put_session(
-    alloc: Global,
-    text: &mut Vec<u8>,
-    session: u8,
-    items: &[Item],
-    lines: &[Line],
-    names: &Names,
-) -> Result<(), AllocError>
-    requires items { AreBelow (length names.now) items.now }
-    requires lines { AreLinesBelow names.now lines.now }
-    ensures { OnOk result (text.new.items
-        ≡ text.old.items ++ session_text_of session (map (item_at names.now) items.now)
-        (part_of session (map (line_at names.now) lines.now))) }
-{
-    let mut body = Vec::new(alloc);
-    let closing = put_script(alloc, &mut body, session, items, lines, names)?;
-    let count = put_closing(alloc, &mut body, session, lines, closing, names)?;
-    put_header(text, session, items.len() + count)?;
-    text.extend_from_slice(&body)?;
-    Ok(())
-}
 
 /// The lines of a session's script.
 fn items_of(plan: &Plan, session: usize) -> &[Item]
@@ -185,6 +28,91 @@ fn items_of(plan: &Plan, session: usize) -> &[Item]
     plan.scripts()[session].items()
 }
 
+/// A part for each session, with nothing printed.
+fn blank_parts(alloc: Global, plan: &Plan) -> Result<Vec<Part>, AllocError>
+    ensures { IfOk result (λ parts. (lines : List (histories.Line Text))
+        → ArePrinted (scripts_named plan.now) lines lines parts.items) }
+{
+    let mut parts = Vec::new(alloc);
+    for _ in plan.scripts() {
+        parts.push(Part::new(alloc))?;
+    }
+    Ok(parts)
+}
+
+/// Prints a line of the history. Returns the place at which its command and reply begin.
+fn put_line(
+    alloc: Global,
+    text: &mut Vec<u8>,
+    line: &Line,
+    names: &Names,
+) -> Result<usize, AllocError>
+    requires { IsLineBelow (length names.now) (line_of line.now) }
+    ensures text { OnOk result (text.new.items
+        ≡ text.old.items ++ line_text_of (line_at names.now line.now)) }
+    ensures within { IfOk result (λ start. start ≤ length text.new.items) }
+    ensures answer { IfOk result (λ start. drop start text.new.items
+        ≡ ended (answer_text_of (line_at names.now line.now))) }
+{
+    put_session(text, line.session)?;
+    let start = text.len();
+    put_answer(alloc, text, line, names)?;
+    Ok(start)
+}
+
+/// Prints a line in the part of its session, if it has one. Its command and reply are printed
+/// already.
+fn put_own(
+    alloc: Global,
+    plan: &Plan,
+    line: &Line,
+    answer: &[u8],
+    parts: &mut Vec<Part>,
+) -> Result<(), AllocError>
+    requires line { IsLineBelow (length plan.now.names) (line_of line.now) }
+    requires answer { answer.now ≡ ended (answer_text_of (line_at plan.now.names line.now)) }
+    requires count { length parts.old.items ≡ length plan.now.scripts }
+    requires few { (s : ℕ) (part : Part) → s < length parts.old.items
+        → part ≡ slice_index_or parts.old.items s part → part.closing + 1 < 2 ^ 64 }
+    ensures { OnOk result ((lines : List (histories.Line Text)) (later : List (histories.Line Text))
+        → ArePrinted (scripts_named plan.now) lines (line_at plan.now.names line.now ∷ later)
+        parts.old.items
+        → ArePrinted (scripts_named plan.now) lines later parts.new.items) }
+{
+    let session = line.session as usize;
+    if session >= parts.len() {
+        return Ok(());
+    }
+    let items = items_of(plan, session);
+    let part = &mut parts[session];
+    part.put(alloc, items, line, answer, plan.names())?;
+    Ok(())
+}
+
+/// Prints the lines of the history, and each once more in the part of its session.
+fn put_lines(
+    alloc: Global,
+    text: &mut Vec<u8>,
+    plan: &Plan,
+    lines: &[Line],
+    parts: &mut Vec<Part>,
+) -> Result<(), AllocError>
+    requires lines { AreLinesBelow plan.now.names lines.now }
+    requires parts { ArePrinted (scripts_named plan.now)
+        (map (line_at plan.now.names) lines.now) (map (line_at plan.now.names) lines.now)
+        parts.old.items }
+    ensures text { OnOk result (text.new.items ≡ text.old.items
+        ++ flat_map line_text_of (map (line_at plan.now.names) lines.now)) }
+    ensures parts { OnOk result (ArePrinted (scripts_named plan.now)
+        (map (line_at plan.now.names) lines.now) [] parts.new.items) }
+{
+    for line in lines {
+        let start = put_line(alloc, text, line, plan.names())?;
+        put_own(alloc, plan, line, &text[start..], parts)?;
+    }
+    Ok(())
+}
+
 /// The run text: the history, and then each session's lines.
 pub fn run_text(alloc: Global, plan: &Plan, outcome: &Outcome) -> Result<Vec<u8>, AllocError>
     requires { AreLinesBelow plan.now.names outcome.now.history.items }
@@ -192,18 +120,13 @@ pub fn run_text(alloc: Global, plan: &Plan, outcome: &Outcome) -> Result<Vec<u8>
         ≡ run_text_of (scripts_named plan.now) (sessions_below (length plan.now.scripts))
         (map (line_at plan.now.names) outcome.now.history.items)) }
 {
-    let names = plan.names();
-    let mut text = history_text(alloc, &outcome.history, names)?;
+    let mut text = Vec::new(alloc);
+    put_header(&mut text, outcome.history.len())?;
+    let mut parts = blank_parts(alloc, plan)?;
+    put_lines(alloc, &mut text, plan, &outcome.history, &mut parts)?;
     for session in 0..plan.scripts().len() {
         let items = items_of(plan, session);
-        put_session(
-            alloc,
-            &mut text,
-            session as u8,
-            items,
-            &outcome.history,
-            names,
-        )?;
+        parts[session].put_all(alloc, &mut text, session as u8, items, plan.names())?;
     }
     Ok(text)
 }

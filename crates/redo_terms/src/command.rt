@@ -1,3 +1,5 @@
+ghost use Rattle.std.specs.Prelude.{◌≡◌, ◌↔◌, IsTrue};
+
 use crate::kind::Kind;
 use crate::stamp::FileStamp;
 use std::alloc::{AllocError, Global};
@@ -33,8 +35,25 @@ pub enum Command {
     Sources,
 }
 
+fn is_same_stamp(one: &FileStamp, other: &FileStamp) -> bool
+    ensures { IsTrue result ↔ (one.now ≡ other.now) }
+{
+    one.bytes() == other.bytes()
+}
+
+/// Whether a build ends the same: with such a stamp, or with none.
+fn is_same_end(one: &Option<FileStamp>, other: &Option<FileStamp>) -> bool
+    ensures { IsTrue result ↔ (one.now ≡ other.now) }
+{
+    match (one, other) {
+        (Some(one), Some(other)) => is_same_stamp(one, other),
+        (None, None) => true,
+        _ => false,
+    }
+}
+
 impl Command {
-    ghost use Rattle.std.specs.Prelude.{◌≡◌, IfOk};
+    ghost use Rattle.std.specs.Prelude.{◌≡◌, ◌↔◌, IsTrue, IfOk};
     ghost use Rattle.redo_model.specs.Command.{target_of};
     ghost use Rattle.redo_terms.specs.Meaning.{command_of};
     ghost use Rattle.redo_terms.specs.Inside.Meaning.{kind_of};
@@ -71,6 +90,29 @@ impl Command {
             Command::Stamp(t, _) | Command::Done(t, _) | Command::Failed(t) => Some(*t),
             Command::File(..) | Command::Gone(_) => None,
             Command::Ood | Command::Targets | Command::Sources => None,
+        }
+    }
+
+    /// Whether the other is equal.
+    pub fn is_same(&self, other: &Command) -> bool
+        ensures { IsTrue result ↔ (command_of self.now ≡ command_of other.now) }
+    {
+        match (self, other) {
+            (Command::File(m, one), Command::File(n, two)) => m == n && is_same_stamp(one, two),
+            (Command::Gone(m), Command::Gone(n)) => m == n,
+            (Command::Lock(t), Command::Lock(u)) => t == u,
+            (Command::Unlock(t), Command::Unlock(u)) => t == u,
+            (Command::Start(t), Command::Start(u)) => t == u,
+            (Command::IfChange(t, one), Command::IfChange(u, two)) => t == u && one == two,
+            (Command::IfCreate(t, one), Command::IfCreate(u, two)) => t == u && one == two,
+            (Command::Always(t), Command::Always(u)) => t == u,
+            (Command::Stamp(t, one), Command::Stamp(u, two)) => t == u && one == two,
+            (Command::Done(t, one), Command::Done(u, two)) => t == u && is_same_end(one, two),
+            (Command::Failed(t), Command::Failed(u)) => t == u,
+            (Command::Ood, Command::Ood) => true,
+            (Command::Targets, Command::Targets) => true,
+            (Command::Sources, Command::Sources) => true,
+            _ => false,
         }
     }
 

@@ -1,4 +1,5 @@
 //! Runs of one file, of two and of eight.
+ghost use Rattle.std.specs.Prelude.{◌≡◌, IfOk};
 ghost use Rattle.redo_history.specs.Recorded.{AreLinesBelow};
 
 use crate::devices::FaultyWriter;
@@ -8,6 +9,7 @@ use crate::told::again;
 use redo_board::Open;
 use redo_journal::Plan;
 use redo_session::{Outcome, run, run_text, run_texts};
+use redo_terms::{Command, Line, Reply};
 use redo_testing::{planned, readers};
 use redo_text::Fault;
 use redo_whole::Watched;
@@ -32,18 +34,18 @@ fn is_right(text: &[u8]) -> bool {
         && text.ends_with(PART.as_bytes())
 }
 
-/// The outcome's run text is right.
+/// The outcome's run text is this one.
 fn check_outcome(
     rt: &impl Abort,
     alloc: Global,
     plan: &Plan,
     outcome: &Outcome,
-) -> Result<(), AllocError>
+    want: Want,
+) -> Result<(), Fail>
     requires { AreLinesBelow plan.now.names outcome.now.history.items }
 {
     let text = again!(rt, alloc, AllocError, run_text(alloc, plan, outcome));
-    assert!(rt; is_right(&text));
-    Ok(())
+    check_text_of_run(rt, alloc, &text, want)
 }
 
 /// The plan is run, and the outcome's run text is right.
@@ -53,7 +55,7 @@ fn check_run<R: Threads + Wait + Abort + Sync>(
     plan: &Plan,
 ) -> Result<(), Fail> {
     let outcome = again!(rt, alloc, AllocError, run(rt, alloc, plan, &Open));
-    Ok(check_outcome(rt, alloc, plan, &outcome)?)
+    check_outcome(rt, alloc, plan, &outcome, Want::Right)
 }
 
 #[test]
@@ -62,6 +64,55 @@ fn one_run(rt: HostRuntime) -> Result<(), Fail> {
     let files = [FILE];
     let plan = again!(&rt, alloc, AllocError, planned(alloc, &files)).expect(&rt, "a plan");
     check_run(&rt, alloc, &plan)
+}
+
+/// A file, and a run text of it by a history that is not its session's: a line of the file has the
+/// reply of the session's next line. The plan has no session 2.
+const OTHER_FILE: &str = "ood\n? targets\nsources\n";
+
+const OTHER_TEXT: &str = "history 5\n1 targets => ok\n2 ood => ok\n1 ood => ok\n\
+    1 sources => ok\n1 ood => ok\nsession 1 4\nood => ok\n? targets => ok\nsources => ok\n\
+    ood => ok\n";
+
+fn line(session: u8, command: Command) -> Line
+    ensures command { result.command ≡ command }
+    ensures reply { result.reply ≡ Reply.Okay }
+{
+    Line {
+        session,
+        command,
+        reply: Reply::Okay,
+    }
+}
+
+/// The outcome with that history.
+fn other_outcome(alloc: Global, plan: &Plan) -> Result<Outcome, AllocError>
+    ensures { IfOk result (λ outcome. AreLinesBelow plan.now.names outcome.history.items) }
+{
+    let history = [
+        line(0, Command::Targets),
+        line(1, Command::Ood),
+        line(0, Command::Ood),
+        line(0, Command::Sources),
+        line(0, Command::Ood),
+    ];
+    Ok(Outcome {
+        history: Vec::from_array(alloc, history)?,
+        journals: Vec::new(alloc),
+    })
+}
+
+fn check_other(rt: &impl Abort, alloc: Global, plan: &Plan) -> Result<(), Fail> {
+    let outcome = again!(rt, alloc, AllocError, other_outcome(alloc, plan));
+    check_outcome(rt, alloc, plan, &outcome, Want::This(OTHER_TEXT))
+}
+
+#[test]
+fn run_text_of_other_commands(rt: HostRuntime) -> Result<(), Fail> {
+    let alloc = rt.alloc();
+    let files = [OTHER_FILE];
+    let plan = again!(&rt, alloc, AllocError, planned(alloc, &files)).expect(&rt, "a plan");
+    check_other(&rt, alloc, &plan)
 }
 
 /// Writes the run text of these files. The writer has reserved memory.
