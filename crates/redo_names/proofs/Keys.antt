@@ -1,7 +1,7 @@
--- Names as the keys of a set of byte vectors.
+-- Names as the keys of a set of strings.
 use Rattle.std.proofs.Common.{◌≡◌, ℕ, Bool, true, false, cond, ◌||◌, List, [], ◌∷◌, ◌++◌, map, length, take, Option, Some, slice_get, refl, sym, ap, ◌∙◌, inl, inr, if◌then◌else◌, ◌⊎◌}
-use Rattle.std.specs.Prelude.{bytes_eq, find}
-use Rattle.std.specs.Global.{Vec}
+use Rattle.std.specs.Prelude.{String, bytes_eq, find, string_bytes}
+use Rattle.std.specs.Global.{Global}
 use Rattle.std.specs.Option.{option_map}
 use Rattle.std.specs.List.{list_any}
 use Rattle.std.proofs.lemmas.List.{length-map, map-append, take-map}
@@ -10,18 +10,18 @@ use Rattle.std.proofs.lemmas.Slice.Eq.{bytes_eq-Decides}
 use Rattle.redo_names.specs.Names.{has}
 
 -- the names that a set of these keys has
-abbrev pub texts : List (Vec ℕ) → List (List ℕ)
-texts keys = map (λ key. key.items) keys
+abbrev pub texts : List (String Global) → List (List ℕ)
+texts keys = map (λ key. string_bytes key) keys
 
-pub length-texts : (keys : List (Vec ℕ)) → length (texts keys) ≡ length keys
-length-texts keys = length-map keys (λ (key : Vec ℕ). key.items)
+pub length-texts : (keys : List (String Global)) → length (texts keys) ≡ length keys
+length-texts keys = length-map keys (λ (key : String Global). string_bytes key)
 
 -- the set's own test says whether a name is there
-pub has-texts : (text : List ℕ) (keys : List (Vec ℕ))
-    → list_any (λ key. bytes_eq text key.items) keys ≡ has (texts keys) text
+pub has-texts : (text : List ℕ) (keys : List (String Global))
+    → list_any (λ key. bytes_eq text (string_bytes key)) keys ≡ has (texts keys) text
 has-texts text [] = refl
 has-texts text (key ∷ keys) =
-    ap (λ (later : Bool). bytes_eq text key.items || later) (has-texts text keys)
+    ap (λ (later : Bool). bytes_eq text (string_bytes key) || later) (has-texts text keys)
 
 cond-Some : {K : Type 0} (b : Bool) (x k : K) (rest : Option K) → cond b (Some x) rest ≡ Some k
     → ((b ≡ true) × (x ≡ k)) ⊎ (rest ≡ Some k)
@@ -38,30 +38,30 @@ find-Some p (x ∷ keys) k e =
     ]
 
 -- a key's place among the keys is its name's number
-pub slice_get-texts : (text : List ℕ) (keys : List (Vec ℕ)) (number : ℕ) (key : Vec ℕ)
-    → slice_get keys number ≡ Some key → find (λ k. bytes_eq text k.items) keys ≡ Some key
+pub slice_get-texts : (text : List ℕ) (keys : List (String Global)) (number : ℕ) (key : String Global)
+    → slice_get keys number ≡ Some key → find (λ k. bytes_eq text (string_bytes k)) keys ≡ Some key
     → slice_get (texts keys) number ≡ Some text
 slice_get-texts text keys number key stored found =
-    let same : text ≡ key.items =
-    (bytes_eq-Decides text key.items).0
-    (find-Some (λ (k : Vec ℕ). bytes_eq text k.items) keys key found) in
-    slice_get-map (λ (k : Vec ℕ). k.items) keys number
-    ∙ ap (option_map (λ (k : Vec ℕ). k.items)) stored ∙ ap Some (sym same)
+    let same : text ≡ string_bytes key =
+    (bytes_eq-Decides text (string_bytes key)).0
+    (find-Some (λ (k : String Global). bytes_eq text (string_bytes k)) keys key found) in
+    slice_get-map (λ (k : String Global). string_bytes k) keys number
+    ∙ ap (option_map (λ (k : String Global). string_bytes k)) stored ∙ ap Some (sym same)
 
 -- a new key is the last
-pub texts-insert : (keys : List (Vec ℕ)) (key : Vec ℕ) (text : List ℕ) → key.items ≡ text
+pub texts-insert : (keys : List (String Global)) (key : String Global) (text : List ℕ) → string_bytes key ≡ text
     → has (texts keys) text ≡ false
-    → texts (if list_any (λ k. bytes_eq key.items k.items) keys then keys else keys ++ key ∷ [])
+    → texts (if list_any (λ k. bytes_eq (string_bytes key) (string_bytes k)) keys then keys else keys ++ key ∷ [])
     ≡ texts keys ++ text ∷ []
 texts-insert keys key text same new =
-    let absent : list_any (λ k. bytes_eq key.items k.items) keys ≡ false =
-    has-texts key.items keys ∙ ap (has (texts keys)) same ∙ new in
+    let absent : list_any (λ k. bytes_eq (string_bytes key) (string_bytes k)) keys ≡ false =
+    has-texts (string_bytes key) keys ∙ ap (has (texts keys)) same ∙ new in
     ap (λ (there : Bool). texts (cond there keys (keys ++ key ∷ []))) absent
-    ∙ map-append (λ (k : Vec ℕ). k.items) keys (key ∷ [])
+    ∙ map-append (λ (k : String Global). string_bytes k) keys (key ∷ [])
     ∙ ap (λ (t : List ℕ). texts keys ++ t ∷ []) same
 
 -- the first of the keys are those of the first names
-pub texts-take : (keys kept : List (Vec ℕ)) (names : List (List ℕ)) (n : ℕ) → texts keys ≡ names
+pub texts-take : (keys kept : List (String Global)) (names : List (List ℕ)) (n : ℕ) → texts keys ≡ names
     → kept ≡ take n keys → texts kept ≡ take n names
 texts-take keys kept names n view is =
-    ap texts is ∙ sym (take-map (λ (key : Vec ℕ). key.items) n keys) ∙ ap (take n) view
+    ap texts is ∙ sym (take-map (λ (key : String Global). string_bytes key) n keys) ∙ ap (take n) view

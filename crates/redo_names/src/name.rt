@@ -1,5 +1,6 @@
 ghost use Rattle.std.specs.Prelude.{◌≡◌};
 ghost use Rattle.std.specs.List.{list_all};
+ghost use Rattle.std.specs.Str.{IsAscii};
 ghost use Rattle.redo_names.specs.Names.{is_name as name_test, is_reserved as reserved_test, is_visible};
 
 /// How many bytes a name has at most.
@@ -23,4 +24,12 @@ pub fn is_name(text: &[u8]) -> bool
     ensures { result ≡ name_test text.now }
 {
     !text.is_empty() && text.len() <= LONGEST_NAME && is_all_visible(text) && !is_reserved(text)
+}
+
+/// Bytes of ASCII as text.
+pub(crate) fn ascii_text(bytes: &[u8]) -> &str
+    requires { IsAscii bytes.now }
+    ensures { result.now ≡ bytes.now }
+{
+    unsafe { str::from_utf8_unchecked(bytes) }
 }

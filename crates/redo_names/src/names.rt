@@ -1,10 +1,11 @@
-ghost use Rattle.std.specs.Prelude.{◌≡◌, ◌<◌, ◌≤◌, ◌↔◌, List, ℕ, [], map, length, take, is_some, IfSome, IfOk, OnOk, OnErr, IsOk, IsErrOf, slice_get, true, false};
+ghost use Rattle.std.specs.Prelude.{◌≡◌, ◌<◌, ◌≤◌, ◌↔◌, List, ℕ, [], map, length, take, string_bytes, is_some, IfSome, IfOk, OnOk, OnErr, IsOk, IsErrOf, slice_get, true, false};
 ghost use Rattle.std.specs.Cmp.Lexicographic.{slice_cmp};
 ghost use Rattle.std.specs.Ordering.{nat_cmp};
 ghost use Rattle.redo_names.specs.declared.names.NamesFault.TheVariants.{Memory};
 ghost use Rattle.redo_names.specs.Names.{is_name, has, with_name, text_at};
 ghost use Rattle.redo_names.specs.Inside.Names.{Extends, AreNames};
 
+use crate::name::ascii_text;
 use indexmap::IndexSet;
 use std::alloc::{AllocError, AllocFailed, Global};
 use std::cmp::Ordering;
@@ -44,15 +45,15 @@ impl<T: Drop> From<AllocFailed<T>> for NamesFault {
 /// Distinct names, each with a number: its place in the order in which they were added.
 #[derive(Drop)]
 pub struct Names {
-    texts: IndexSet<Vec<u8>>,
+    texts: IndexSet<String>,
 }
 
 impl Model for Names {
     ghost Value = { List (List ℕ) };
 
-    ghost view = { λ names. map (λ text. text.items) names.texts.keys };
+    ghost view = { λ names. map (λ text. string_bytes text) names.texts.keys };
 
-    ghost invariant = { λ names. AreNames (map (λ text. text.items) names.texts.keys) };
+    ghost invariant = { λ names. AreNames (map (λ text. string_bytes text) names.texts.keys) };
 }
 
 impl Names {
@@ -77,7 +78,12 @@ impl Names {
         ensures found { IfSome result (λ number. slice_get self.now number ≡ Some text.now) }
         ensures there { is_some result ≡ has self.now text.now }
     {
-        match self.texts.get_full(text) {
+        // This shows that each is a name, and so ASCII.
+        let texts = &self.texts;
+        if !text.is_ascii() {
+            return None;
+        }
+        match texts.get_full(ascii_text(text)) {
             Some((number, _)) => Some(number as u32),
             None => None,
         }
@@ -88,7 +94,7 @@ impl Names {
         requires { number < length self.now }
         ensures { result.now ≡ text_at self.now number }
     {
-        self.texts.as_slice()[number as usize].as_slice()
+        self.texts.as_slice()[number as usize].as_bytes()
     }
 
     /// How two names compare, by their bytes.
@@ -125,7 +131,7 @@ impl Names {
             return Err(NamesFault::Full);
         }
         let alloc = *self.texts.allocator();
-        let name = Vec::from_slice(alloc, text)?;
+        let name = String::from_str(alloc, ascii_text(text))?;
         self.texts.insert(name)?;
         Ok(number as u32)
     }

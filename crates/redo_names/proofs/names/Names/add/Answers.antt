@@ -2,9 +2,13 @@ use Rattle.std.proofs.Common.{◌≡◌, ◌∙◌, ℕ, ◌<◌, ◌≤◌, Lis
 use Rattle.std.proofs.lemmas.Option.{slice_get_within}
 use Rattle.redo_names.specs.Names.{has}
 use Rattle.redo_names.specs.Inside.Names.{AreNames}
+use Rattle.redo_names.proofs.Ascii.{name_is_ascii}
 use Rattle.redo_names.proofs.Keys.{texts, length-texts, texts-insert}
 use Rattle.redo_names.proofs.NameLists.{with_name-new, AreNames-push, slice_get-last}
 use Rattle.redo_names.proofs.names.Names.add.Goals as goal
+
+pub ascii_text-requires : goal.ascii_text-requires
+ascii_text-requires c = name_is_ascii c.args.text.now c.requires
 
 is_new : (c : goal.In_ok-insert) → has c.args.self.now c.args.text.now ≡ false
 is_new c = sym c.in_default.ensures.there
@@ -22,7 +26,8 @@ names_after c =
     let view : texts keys ≡ c.args.self.now = c.self.view_is in
     let absent : has (texts keys) c.args.text.now ≡ false = rw view (is_new c) in
     ap texts c.in_ok-insert.ensures.keys
-    ∙ texts-insert keys c.in_ok-name.name c.args.text.now c.in_ok-name.ensures.items absent
+    ∙ texts-insert keys c.in_ok-name.name c.args.text.now
+    (c.in_ok-name.ensures.ok ∙ c.ascii_text.ensures) absent
     ∙ ap (λ (names : List (List ℕ)). names ++ c.args.text.now ∷ []) view
 
 are_names : (c : goal.In_ok-insert) → AreNames (texts c.insert.new.self.keys)

@@ -1,5 +1,6 @@
-use Rattle.std.proofs.Common.{subst, sym, List, ℕ}
-use Rattle.std.specs.Global.{Vec}
+use Rattle.std.proofs.Common.{subst, sym, List}
+use Rattle.std.specs.Prelude.{String}
+use Rattle.std.specs.Global.{Global}
 use Rattle.redo_names.specs.Inside.Names.{AreNames}
 use Rattle.redo_names.proofs.Keys.{texts}
 use Rattle.redo_names.proofs.NameLists.{AreNames-none}
@@ -7,5 +8,5 @@ use Rattle.redo_names.proofs.names.Names.new.Goals as goal
 
 pub invariant_of-result : goal.invariant_of-result
 invariant_of-result c =
-    subst (λ (keys : List (Vec ℕ)). AreNames (texts keys))
+    subst (λ (keys : List (String Global)). AreNames (texts keys))
     (sym c.new-texts.ensures.empty) AreNames-none
