@@ -5,3 +5,5 @@ pub mod SearchTree
 pub mod Searching
 pub mod Shortest
 pub mod Spreading
+pub mod WordMembers
+pub mod Words

@@ -16,7 +16,7 @@ use Rattle.redo_ood.specs.NameSet.{Marked, IsQueue, size_of}
 use Rattle.redo_ood.proofs.Marking.{marked_below}
 
 -- the next number has P
-listed_with : (P : ℕ → Type 0) (k : ℕ) (ts : List ℕ) → P k → IsListed by_number (λ t. (t < k) × P t) ts → IsListed by_number (λ t. (t < k + 1) × P t) (ts ++ k ∷ [])
+pub listed_with : (P : ℕ → Type 0) (k : ℕ) (ts : List ℕ) → P k → IsListed by_number (λ t. (t < k) × P t) ts → IsListed by_number (λ t. (t < k + 1) × P t) (ts ++ k ∷ [])
 listed_with P k ts p h = (
   all_pairs_push (λ x y. nat_cmp x y ≡ Less) ts k h.0 (λ i d in'. sym (nat_cmp_is (get_or ts i d) k Less ((h.1 (get_or ts i d)).0 (Contains-get_or ts i d in')).0)),
   λ t. (

@@ -7,13 +7,9 @@ use Rattle.std.proofs.lemmas.List.Quantifiers.{all_pairs_push}
 use Rattle.std.proofs.lemmas.List.Elements.{Contains-get_or, Contains-push, Contains-push_cases, Contains-append_left, All-from_recursion}
 use Rattle.std.specs.List.{count_by, Contains}
 use Rattle.redo_model.specs.Renaming.{AllBelow}
-use Rattle.redo_ood.specs.NameSet.{Marked, IsMarked, IsQueued, IsQueue, Grows, Enters, Unmarks, IsSet, size_of}
+use Rattle.redo_ood.specs.Bits.{IsSet}
+use Rattle.redo_ood.specs.NameSet.{Marked, IsMarked, IsQueued, IsQueue, Grows, Enters, Unmarks, size_of}
 use Rattle.redo_ood.specs.Inside.NameSet.{HoldsOnly}
-
--- a flag that was read
-pub read_off : (marks : List Bool) (t : ℕ) (b : Bool) → b ≡ false → b ≡ get_or marks t b
-    → get_or marks t false ≡ false
-read_off marks t b off read = sym (subst (λ (c : Bool). c ≡ get_or marks t c) off read)
 
 fewer_by_one : (marks : List Bool) (t : ℕ) → t < length marks → get_or marks t false ≡ false
     → count_by not (set marks t true) + 1 ≡ count_by not marks

@@ -1,3 +1,4 @@
+pub mod Bits
 pub mod NameSet
 pub mod Regions
 pub mod Search

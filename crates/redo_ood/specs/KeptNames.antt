@@ -4,7 +4,7 @@ use Rattle.redo_ood.specs.NameSet.{Marked, IsQueue, size_of}
 use Rattle.redo_ood.specs.declared.name_set.NameSet.TheInside.{Inside}
 
 abbrev pub marked_of : Inside → Marked
-marked_of inside = record { marks = inside.marks.items; queue = inside.queue.items }
+marked_of inside = record { marks = inside.marks; queue = inside.queue.items }
 
 -- the queue has capacity for all names
 pub record KeepsMarked (inside : Inside) : Type 0 where

@@ -1,4 +1,6 @@
+pub mod Bits
 pub mod Inside
+pub mod KeptBits
 pub mod KeptMemo
 pub mod KeptNames
 pub mod Meaning

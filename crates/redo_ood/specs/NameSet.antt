@@ -1,5 +1,6 @@
 -- A set of names by marks, and a queue of the names that were marked.
-use Rattle.std.specs.Prelude.{◌≡◌, ◌≢◌, ◌⊎◌, ◌↔◌, ◌<◌, ◌≤◌, ◌+◌, ◌^◌, ◌++◌, ◌∷◌, [], ℕ, Bool, true, false, not, List, Contains, IsTrue, AllPairs, length, slice_index_or, slice_set, count_by}
+use Rattle.std.specs.Prelude.{◌≡◌, ◌≢◌, ◌⊎◌, ◌↔◌, ◌<◌, ◌≤◌, ◌+◌, ◌^◌, ◌++◌, ◌∷◌, [], ℕ, Bool, true, not, List, Contains, AllPairs, length, slice_set, count_by}
+use Rattle.redo_ood.specs.Bits.{IsSet}
 
 -- whether each name is marked, and the names that were marked since the queue was emptied
 pub record Marked : Type 0 where
@@ -9,9 +10,6 @@ pub record Marked : Type 0 where
 -- how many names there are
 abbrev pub size_of : Marked → ℕ
 size_of m = length m.marks
-
-abbrev pub IsSet : List Bool → ℕ → Type 0
-IsSet flags t = IsTrue (slice_index_or flags t false)
 
 abbrev pub IsMarked : Marked → ℕ → Type 0
 IsMarked m t = IsSet m.marks t

@@ -2,10 +2,13 @@
 //! capacity for all names allocates nothing.
 
 ghost use Rattle.std.specs.Prelude.{◌≡◌, ◌↔◌, ◌<◌, ◌≤◌, ◌^◌, ℕ, IsTrue, [], IfOk, length, false, replicate, slice_index, slice_index_or, Contains};
+ghost use Rattle.redo_model.specs.Names.{IsListed};
 ghost use Rattle.redo_model.specs.Renaming.{AllBelow};
-ghost use Rattle.redo_ood.specs.NameSet.{Marked, IsSet, IsQueued, IsQueue, Enters, Unmarks, size_of, with_name};
+ghost use Rattle.redo_records.specs.Rows.{by_number};
+ghost use Rattle.redo_ood.specs.Bits.{IsSet};
+ghost use Rattle.redo_ood.specs.NameSet.{Marked, IsMarked, IsQueued, IsQueue, Enters, Unmarks, size_of, with_name};
 
-use redo_records::extended;
+use crate::bits::Bits;
 use std::alloc::{AllocError, Global};
 use std::marker::Model;
 
@@ -13,7 +16,7 @@ use std::marker::Model;
 /// number of names it was made for.
 #[derive(Drop)]
 pub struct NameSet {
-    marks: Vec<bool>,
+    marks: Bits,
     queue: Vec<u32>,
 }
 
@@ -30,24 +33,24 @@ impl Model for NameSet {
 }
 
 /// Removes the marks of these names.
-fn unmark_each(marks: &mut Vec<bool>, names: &[u32])
-    requires { AllBelow (length marks.old.items) names.now }
-    ensures sized { length marks.new.items ≡ length marks.old.items }
-    ensures each { (t : ℕ) → IsSet marks.new.items t
-        ↔ (IsSet marks.old.items t × (Contains names.now t → ⊥)) }
+fn unmark_each(marks: &mut Bits, names: &[u32])
+    requires { AllBelow (length marks.old) names.now }
+    ensures sized { length marks.new ≡ length marks.old }
+    ensures each { (t : ℕ) → IsSet marks.new t
+        ↔ (IsSet marks.old t × (Contains names.now t → ⊥)) }
 {
     for &t in names {
-        marks[t as usize] = false;
+        marks.remove(t);
     }
 }
 
 impl NameSet {
-    /// No name is marked. But for `grown`, no other call allocates.
+    /// No name is marked. But for `grown` and `list`, no other call allocates.
     pub fn new(alloc: Global, names: u32) -> Result<NameSet, AllocError>
         ensures { IfOk result (λ marks.
             marks ≡ record { marks = replicate names false; queue = [] }) }
     {
-        let marks = vec![in alloc; false; names as usize]?;
+        let marks = Bits::new(alloc, names)?;
         let queue = Vec::with_capacity(alloc, names as usize)?;
         Ok(NameSet { marks, queue })
     }
@@ -59,16 +62,9 @@ impl NameSet {
         ensures same { IfOk result (λ marks. (t : ℕ)
             → slice_index_or marks.marks t false ≡ slice_index_or self.now.marks t false) }
     {
-        let marks = extended(alloc, &self.marks, names as usize, false)?;
+        let marks = self.marks.grown(alloc, names)?;
         let queue = Vec::with_capacity(alloc, names as usize)?;
         Ok(NameSet { marks, queue })
-    }
-
-    /// How many names there are.
-    pub fn count(&self) -> u32
-        ensures { result ≡ size_of self.now }
-    {
-        self.marks.len() as u32
     }
 
     /// Whether the name is marked.
@@ -76,7 +72,15 @@ impl NameSet {
         requires { t < size_of self.now }
         ensures { result ≡ slice_index_or self.now.marks t false }
     {
-        self.marks[t as usize]
+        self.marks.has(t)
+    }
+
+    /// The marked names, ascending.
+    pub fn list(&self, alloc: Global) -> Result<Vec<u32>, AllocError>
+        ensures listed { IfOk result (λ names. IsListed by_number (IsMarked self.now) names.items) }
+        ensures below { IfOk result (λ names. AllBelow (size_of self.now) names.items) }
+    {
+        self.marks.list(alloc)
     }
 
     /// The names that were marked since the queue was emptied.
@@ -112,7 +116,7 @@ impl NameSet {
         requires unmarked { slice_index_or self.old.marks t false ≡ false }
         ensures { self.new ≡ with_name self.old t }
     {
-        self.marks[t as usize] = true;
+        self.marks.put(t);
         self.queue.push_reserved(t);
     }
 
@@ -121,7 +125,7 @@ impl NameSet {
         requires { t < size_of self.old }
         ensures { Enters (λ u. u ≡ t) self.old self.new }
     {
-        if !self.marks[t as usize] {
+        if !self.marks.has(t) {
             self.enter_new(t);
         }
     }

@@ -18,17 +18,6 @@ use redo_records::{DepRows, Records};
 use std::alloc::{AllocError, Global};
 use std::marker::Model;
 
-fn push_if(targets: &mut Vec<u32>, t: u32, is_due: bool) -> Result<(), AllocError>
-    ensures ok { OnOk result
-        (targets.new.items ≡ targets.old.items ++ (if is_due then t ∷ [] else [])) }
-    ensures err { OnErr result (targets.new.items ≡ targets.old.items) }
-{
-    if is_due {
-        targets.push(t)?;
-    }
-    Ok(())
-}
-
 /// Which targets are out of date: those from which a chain of change rows leads to a target with a reason of its own.
 /// Names are numbers below the number of names it was made for.
 #[derive(Drop)]
@@ -150,11 +139,6 @@ impl Ood {
             IsListed by_number (λ t. IsTrue (is_out self.now t)) targets.items) }
         ensures below { IfOk result (λ targets. AllBelow (memo_count self.now) targets.items) }
     {
-        let mut targets = Vec::new(alloc);
-        for t in 0..self.out.count() {
-            let is_out = self.is(t);
-            push_if(&mut targets, t, is_out)?;
-        }
-        Ok(targets)
+        self.out.list(alloc)
     }
 }

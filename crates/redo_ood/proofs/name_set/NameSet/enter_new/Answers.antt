@@ -1,4 +1,4 @@
-use Rattle.std.proofs.Common.{◌<◌, ◌≡◌, true, false, get_or, sym, subst, arith}
+use Rattle.std.proofs.Common.{◌<◌, ◌≡◌, true, false, get_or, length, sym, ap, subst, arith}
 use Rattle.std.proofs.lemmas.List.{length-set}
 use Rattle.redo_ood.specs.NameSet.{Marked, size_of}
 use Rattle.redo_ood.specs.KeptNames.{marked_of}
@@ -15,6 +15,6 @@ invariant_of-self c =
     let sized = length-set m.marks t true in
     let pushed = c.push_reserved.ensures in
     record {
-      queue = rw pushed.items (queue_with_name m t below off c.self.invariant.queue);
-      room = omega (arith, sized, c.self.invariant.room, pushed.capacity);
+      queue = rw (c.put.ensures, pushed.items) (queue_with_name m t below off c.self.invariant.queue);
+      room = omega (arith, sized, ap length c.put.ensures, c.self.invariant.room, pushed.capacity);
     }

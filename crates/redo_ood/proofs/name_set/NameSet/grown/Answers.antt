@@ -1,11 +1,11 @@
-use Rattle.std.proofs.Common.{◌∙◌, ℕ, Bool, false, List, slice_index_or, ap, sym, subst, arith}
+use Rattle.std.proofs.Common.{◌∙◌, ℕ, false, List, slice_index_or, ap, sym, subst, arith}
 use Rattle.redo_ood.specs.NameSet.{Marked, IsQueue}
 use Rattle.redo_ood.proofs.Marking.{queue_emptied}
 use Rattle.redo_ood.proofs.name_set.NameSet.grown.Goals as goal
 
 pub invariant_of-result : goal.invariant_of-result
 invariant_of-result c =
-    let marks = c.in_ok-marks.marks.items in
+    let marks = c.in_ok-marks.marks in
     record {
       queue = subst (λ (queue : List ℕ). IsQueue (record { marks = marks; queue = queue }))
           (sym c.in_ok-queue.ensures.items)
@@ -15,5 +15,4 @@ invariant_of-result c =
 
 pub returns-clause-same : goal.returns-clause-same
 returns-clause-same c = λ t. c.in_ok-marks.ensures.same t
-    ∙ ap (λ (marks : List Bool). slice_index_or marks t false)
-    (c.deref.ensures.value ∙ ap (λ (m : Marked). m.marks) c.self.view_is)
+    ∙ ap (λ (m : Marked). slice_index_or m.marks t false) c.self.view_is

@@ -7,7 +7,7 @@ use Rattle.redo_ood.proofs.name_set.NameSet.unmark.Goals as goal
 
 pub invariant_of-self : goal.invariant_of-self
 invariant_of-self c =
-    let marks = c.unmark_each.new.marks.items in
+    let marks = c.unmark_each.new.marks in
     let sized = c.unmark_each.ensures.sized in
     let few : length marks < 2 ^ 32 = omega (arith, sized, c.self.invariant.queue.few) in
     record {
@@ -20,5 +20,5 @@ returns c =
     let m : Marked = marked_of c.self.inside in
     let unmarked = c.unmark_each.ensures in
     rw (c.clear.ensures.items, ← c.self.view_is)
-    (unmarks_from (Contains c.args.names.now) m c.unmark_each.new.marks.items
+    (unmarks_from (Contains c.args.names.now) m c.unmark_each.new.marks
     unmarked.sized unmarked.each)

@@ -1,7 +1,8 @@
 use Rattle.std.proofs.Common.{◌↔◌, ◌<◌, ◌^◌, ℕ, List, length, sym, subst, arith}
 use Rattle.std.specs.List.{Contains}
 use Rattle.redo_model.specs.Renaming.{AllBelow}
-use Rattle.redo_ood.specs.NameSet.{Marked, IsSet, IsMarked, IsQueued, size_of}
+use Rattle.redo_ood.specs.Bits.{IsSet}
+use Rattle.redo_ood.specs.NameSet.{Marked, IsMarked, IsQueued, size_of}
 use Rattle.redo_ood.specs.KeptNames.{marked_of}
 use Rattle.redo_ood.proofs.Listing.{queue_below}
 use Rattle.redo_ood.proofs.Marking.{unmarks_from, queue_emptied}
@@ -15,7 +16,7 @@ unmark_each-requires c =
 
 pub invariant_of-self : goal.invariant_of-self
 invariant_of-self c =
-    let marks = c.unmark_each.new.marks.items in
+    let marks = c.unmark_each.new.marks in
     let sized = c.unmark_each.ensures.sized in
     let few : length marks < 2 ^ 32 = omega (arith, sized, c.self.invariant.queue.few) in
     record {
@@ -26,7 +27,7 @@ invariant_of-self c =
 pub returns : goal.returns
 returns c =
     let m : Marked = marked_of c.self.inside in
-    let marks = c.unmark_each.new.marks.items in
+    let marks = c.unmark_each.new.marks in
     let unmarked = c.unmark_each.ensures in
     let each = subst
     (λ (ns : List ℕ). (t : ℕ) → IsSet marks t ↔ (IsMarked m t × (Contains ns t → ⊥)))

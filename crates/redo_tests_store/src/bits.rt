@@ -1,0 +1,23 @@
+//! A set of numbers as bits of words.
+use redo_ood::Bits;
+use std::alloc::AllocError;
+
+/// The set keeps numbers of three words and tells them in order, also among more numbers.
+#[test]
+fn three_words(rt: HostRuntime) -> Result<(), AllocError> {
+    let mut bits = Bits::new(rt.alloc(), 131)?;
+    bits.put(130);
+    bits.put(64);
+    bits.put(63);
+    bits.put(0);
+    bits.put(127);
+    bits.put(32);
+    bits.remove(32);
+    bits.remove(1);
+    assert!(rt; bits.has(63) && !bits.has(32) && !bits.has(95));
+    assert!(rt; bits.list(rt.alloc())?.as_slice() == [0, 63, 64, 127, 130].as_slice());
+    let mut more = bits.grown(rt.alloc(), 200)?;
+    more.put(199);
+    assert!(rt; more.list(rt.alloc())?.as_slice() == [0, 63, 64, 127, 130, 199].as_slice());
+    Ok(())
+}
