@@ -147,6 +147,14 @@ first_all {t} {P} {items} {names} {k} stored is whole below h =
     let listed = listed_at_end (naming_of t) P items k whole all names h.listed in
     record { listed = listed; below = listed_below (naming_of t) P (count_of t) below names listed }
 
+-- the names with P are those with Q
+pub listed_alike : (naming : Naming ℕ) (names : List ℕ) (P Q : ℕ → Type 0)
+    → ((n : ℕ) → P n ↔ Q n) → IsListed naming P names → IsListed naming Q names
+listed_alike naming names P Q same h = (
+  h.0,
+  λ n. (λ c. (same n).0 ((h.1 n).0 c), λ q. (h.1 n).1 ((same n).1 q)),
+)
+
 -- only a number below the count has a file
 pub file_below : (t : Stored) (n : ℕ) → HasFile (records_of t) n → n < count_of t
 file_below t n h = elim (cases_lt n (count_of t)) [

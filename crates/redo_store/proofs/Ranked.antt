@@ -1,21 +1,26 @@
 -- The ranks of names, and names by their ranks.
-use Rattle.std.proofs.Common.{◌≡◌, ◌==◌, ◌↔◌, ◌∙◌, ℕ, ◌<◌, ◌+◌, Bool, true, false, cond, IsTrue, List, [], ◌∷◌, ◌++◌, length, map, get_or, set, take, refl, sym, ap, subst, inl, inr, arith}
+use Rattle.std.proofs.Common.{◌≡◌, ◌==◌, ◌⊎◌, ◌↔◌, ◌∙◌, ℕ, ◌<◌, ◌≤◌, ◌+◌, Bool, true, false, cond, IsTrue, eqb, eqb-true, List, [], ◌∷◌, ◌++◌, length, map, get_or, set, take, replicate, refl, sym, ap, subst, inl, inr, arith}
 use Rattle.std.specs.List.{All, AllPairs, Contains, dedup}
 use Rattle.std.specs.List.Retain.{IsFiltered, DiffersFromLast}
 use Rattle.std.specs.List.Sorted.{IsPermutation, IsSorted}
+use Rattle.std.specs.Cmp.{nat_cmp_is}
 use Rattle.std.specs.Ordering.{nat_cmp}
-use Rattle.std.specs.declared.cmp.Ordering.TheVariants.{Less}
-use Rattle.std.proofs.lemmas.Bool.{cases_eq, false≢true}
-use Rattle.std.proofs.lemmas.List.{append-nil, get_or_default, get_or-map, get_or-set_other, get_or-set_same, length-map, map_more}
-use Rattle.std.proofs.lemmas.List.Elements.{All-contains, All-push, Contains-append_left, Contains-get_or, Contains-push, Contains-push_cases}
+use Rattle.std.specs.declared.cmp.Ordering.TheVariants.{Less, Equal, Greater}
+use Rattle.std.proofs.lemmas.Bool.{cases_eq, cases_lt, cases_order, false≢true, ne_eqb}
+use Rattle.std.proofs.lemmas.List.{append-nil, get_or_default, get_or_past, get_or-replicate, length-replicate, get_or-map, get_or-set_other, get_or-set_same, length-map, map_more}
+use Rattle.std.proofs.lemmas.List.Elements.{Contains-append_left, Contains-get_or, Contains-push, Contains-push_cases}
 use Rattle.std.proofs.lemmas.List.Filters.{dedup_is}
 use Rattle.std.proofs.lemmas.List.Kept.{AllPairs-from_increasing, Contains-dedup_nat, Contains-from_dedup}
 use Rattle.std.proofs.lemmas.List.Sorted.{Contains-permutation, IsPermutation-sym}
-use Rattle.std.proofs.lemmas.Map.Keys.{IsStrictlyIncreasing-dedup}
+use Rattle.std.proofs.lemmas.Map.Keys.{IsStrictlyIncreasing-dedup, IsDistinct-from_apart}
+use Rattle.std.proofs.lemmas.Map.Steps.{length-le_from_distinct_below}
+use Rattle.std.proofs.lemmas.Map.Views.{Contains-from_any}
 use Rattle.redo_model.specs.Names.{Ascending}
+use Rattle.redo_ood.specs.Bits.{IsSet}
 use Rattle.redo_ood.proofs.Listing.{each_below}
 use Rattle.redo_ood.proofs.Marking.{one_more}
-use Rattle.redo_store.specs.Orders.{AreRanks}
+use Rattle.redo_records.specs.Rows.{by_number}
+use Rattle.redo_store.specs.Orders.{AreRanks, by_place, place}
 use Rattle.redo_store.specs.Stored.{Stored, IsStored, count_of, naming_of}
 use Rattle.redo_store.specs.Inside.Stored.{AreInOrder, ArePlaces}
 use Rattle.redo_store.proofs.Sorting.{AllPairs-map}
@@ -57,62 +62,85 @@ rank_read {sorted = sorted} {ranks = ranks} n rank are c read =
     )
 
 -- the places of those of the names that have Q
-abbrev pub PlacesOf : Stored → (ℕ → Type 0) → List ℕ → List ℕ → Type 0
-PlacesOf t Q names ranks = ArePlaces t (λ n. Contains names n × Q n) ranks
+abbrev pub PlacesOf : Stored → (ℕ → Type 0) → List ℕ → (ℕ → Type 0) → Type 0
+PlacesOf t Q names At = ArePlaces t (λ n. Contains names n × Q n) At
 
-pub places_none : (t : Stored) (Q : ℕ → Type 0) → PlacesOf t Q [] []
-places_none t Q = record {
-  below = λ k d in'. absurd (omega (arith, in'));
-  from = λ k c. absurd (omega (arith, c.1));
+pub places_none : (t : Stored) (Q At : ℕ → Type 0) → ((k : ℕ) → At k → ⊥) → PlacesOf t Q [] At
+places_none t Q At none = record {
+  below = λ k at. absurd (none k at);
+  from = λ k at. absurd (none k at);
   all = λ n p. absurd (omega (arith, p.0.1));
 }
 
-module _ (t : Stored) (Q : ℕ → Type 0) (names : List ℕ) (i : ℕ) (in' : i < length names) where
-  -- the next name has Q
-  places_with : (k : ℕ) (ranks : List ℕ) → k < length t.sorted
-      → get_or t.sorted k 0 ≡ get_or names i 0 → Q (get_or names i 0)
-      → PlacesOf t Q (take i names) ranks → PlacesOf t Q (take (i + 1) names) (ranks ++ k ∷ [])
-  places_with k ranks below at has h = record {
-    below = All-push (λ j. j < length t.sorted) ranks k h.below below;
-    from = λ j c. elim (Contains-push_cases ranks k j c) [
-      | inl old ↦
-          let was = h.from j old in
-          ((one_more names i 0 (get_or t.sorted j 0) in').1 (inl was.0), was.1)
-      | inr e ↦
-          let is : get_or t.sorted j 0 ≡ get_or names i 0 =
-          ap (λ m. get_or t.sorted m 0) (sym e) ∙ at in
-          ((one_more names i 0 (get_or t.sorted j 0) in').1 (inr is), subst Q (sym is) has)
-    ];
-    all = λ n p. elim ((one_more names i 0 n in').0 p.0) [
-      | inl earlier ↦
-          let was = h.all n (earlier, p.1) in
-          (was.0, Contains-append_left ranks (k ∷ []) was.0 was.1, was.2)
-      | inr here ↦ (k, Contains-push ranks k, at ∙ sym here)
-    ];
-  }
+-- no place is marked at first
+pub none_marked : (count k : ℕ) → IsSet (replicate count false) k → ⊥
+none_marked count k on = elim (cases_lt k count) [
+  | inl below ↦ false≢true (sym (get_or-replicate count k false false below) ∙ on)
+  | inr past ↦
+      let end : length (replicate count false) ≤ k = omega (arith, past, length-replicate count false) in
+      false≢true (sym (get_or_past (replicate count false) k false end) ∙ on)
+]
 
-  -- the next name doesn't have Q
-  places_without : (ranks : List ℕ) → (Q (get_or names i 0) → ⊥)
-      → PlacesOf t Q (take i names) ranks → PlacesOf t Q (take (i + 1) names) ranks
-  places_without ranks hasnt h = record {
-    below = h.below;
-    from = λ j c.
-        let was = h.from j c in
-        ((one_more names i 0 (get_or t.sorted j 0) in').1 (inl was.0), was.1);
-    all = λ n p. elim ((one_more names i 0 n in').0 p.0) [
-      | inl earlier ↦ h.all n (earlier, p.1)
-      | inr here ↦ absurd (hasnt (subst Q here p.1))
-    ];
-  }
+-- one more place is marked, if it is due
+abbrev pub HasOneMore : (ℕ → Type 0) → (ℕ → Type 0) → ℕ → Bool → Type 0
+HasOneMore At To k due = (j : ℕ) → To j ↔ (At j ⊎ (IsTrue due × (j ≡ k)))
 
-  pub places_more : (k : ℕ) (ranks : List ℕ) (due : Bool) → k < length t.sorted
-      → get_or t.sorted k 0 ≡ get_or names i 0 → (IsTrue due ↔ Q (get_or names i 0))
-      → PlacesOf t Q (take i names) ranks
-      → PlacesOf t Q (take (i + 1) names) (ranks ++ cond due (k ∷ []) [])
-  places_more k ranks true below at is h = places_with k ranks below at (is.0 refl) h
-  places_more k ranks false below at is h =
-      subst (PlacesOf t Q (take (i + 1) names)) (sym (append-nil ranks))
-      (places_without ranks (λ q. false≢true (is.1 q)) h)
+-- the next name's place is marked if it has Q
+pub places_more : (t : Stored) (Q : ℕ → Type 0) (names : List ℕ) (i : ℕ) → i < length names
+    → (k : ℕ) (At To : ℕ → Type 0) (due : Bool) → k < length t.sorted
+    → get_or t.sorted k 0 ≡ get_or names i 0 → (IsTrue due ↔ Q (get_or names i 0))
+    → HasOneMore At To k due → PlacesOf t Q (take i names) At → PlacesOf t Q (take (i + 1) names) To
+places_more t Q names i in' k At To due below at is more h = record {
+  below = λ j c. elim ((more j).0 c) [
+    | inl old ↦ h.below j old
+    | inr e ↦ subst (λ m. m < length t.sorted) (sym e.1) below
+  ];
+  from = λ j c. elim ((more j).0 c) [
+    | inl old ↦
+        let was = h.from j old in
+        ((one_more names i 0 (get_or t.sorted j 0) in').1 (inl was.0), was.1)
+    | inr e ↦
+        let here : get_or t.sorted j 0 ≡ get_or names i 0 =
+        ap (λ m. get_or t.sorted m 0) e.1 ∙ at in
+        ((one_more names i 0 (get_or t.sorted j 0) in').1 (inr here), subst Q (sym here) (is.0 e.0))
+  ];
+  all = λ n p. elim ((one_more names i 0 n in').0 p.0) [
+    | inl earlier ↦
+        let was = h.all n (earlier, p.1) in
+        (was.0, (more was.0).1 (inl was.1), was.2)
+    | inr here ↦ (k, (more k).1 (inr (is.1 (subst Q here p.1), refl)), at ∙ sym here)
+  ];
+}
+
+-- a place that is pushed if it is due
+pub pushed_due : (ranks : List ℕ) (k : ℕ) (due : Bool)
+    → HasOneMore (Contains ranks) (Contains (ranks ++ cond due (k ∷ []) [])) k due
+pushed_due ranks k true j = (
+  λ c. elim (Contains-push_cases ranks k j c) [
+    | inl old ↦ inl old
+    | inr e ↦ inr (refl, sym e)
+  ],
+  λ s. elim s [
+    | inl old ↦ Contains-append_left ranks (k ∷ []) j old
+    | inr e ↦ subst (Contains (ranks ++ k ∷ [])) (sym e.1) (Contains-push ranks k)
+  ],
+)
+pushed_due ranks k false j = (
+  λ c. inl (subst (λ (ks : List ℕ). Contains ks j) (append-nil ranks) c),
+  λ s. elim s [
+    | inl old ↦ Contains-append_left ranks [] j old
+    | inr e ↦ absurd (false≢true e.0)
+  ],
+)
+
+-- the same places, of names with the same property
+pub same_places : {t : Stored} {At : ℕ → Type 0} (P Q : ℕ → Type 0) → ((n : ℕ) → P n ↔ Q n)
+    → ArePlaces t P At → ArePlaces t Q At
+same_places {t = t} P Q same h = record {
+  below = h.below;
+  from = λ k at. (same (get_or t.sorted k 0)).0 (h.from k at);
+  all = λ n q. h.all n ((same n).1 q);
+}
 
 -- numbers that were sorted, each kept once
 module _ (from sorted to : List ℕ) (moved : IsPermutation from sorted)
@@ -137,11 +165,11 @@ module _ (from sorted to : List ℕ) (moved : IsPermutation from sorted)
           subst (λ (ks : List ℕ). Contains ks k) (sym kept) (Contains-dedup_nat sorted k there),
     )
 
--- what is true of each number is true of each kept one
-pub all_kept : (P : ℕ → Type 0) (from to : List ℕ) → ((k : ℕ) → Contains to k ↔ Contains from k)
-    → All P from → All P to
-all_kept P from to same all i d in' =
-    All-contains P from (get_or to i d) all ((same (get_or to i d)).0 (Contains-get_or to i d in'))
+-- each place is one of the order
+pub all_placed : {t : Stored} {P At : ℕ → Type 0} (rising : List ℕ) → ArePlaces t P At
+    → ((k : ℕ) → Contains rising k ↔ At k) → All (λ k. k < length t.sorted) rising
+all_placed rising h same i d in' =
+    h.below (get_or rising i d) ((same (get_or rising i d)).0 (Contains-get_or rising i d in'))
 
 -- the name at one more place
 pub named_more : (sorted places names : List ℕ) (i : ℕ) → i < length places
@@ -154,14 +182,14 @@ named_more sorted places names i in' named =
     ∙ sym (map_more (λ (k : ℕ). get_or sorted k 0) places i 0 in')
 
 -- the names with P by their places in order
-pub in_order_by_places : {t : Stored} {P : ℕ → Type 0} {ranks : List ℕ} (rising names : List ℕ)
-    → IsStored t → ((n : ℕ) → P n → n < count_of t) → ArePlaces t P ranks
-    → AllPairs (λ j k. j < k) rising → ((k : ℕ) → Contains rising k ↔ Contains ranks k)
+pub in_order_by_places : {t : Stored} {P At : ℕ → Type 0} (rising names : List ℕ)
+    → IsStored t → ((n : ℕ) → P n → n < count_of t) → ArePlaces t P At
+    → AllPairs (λ j k. j < k) rising → ((k : ℕ) → Contains rising k ↔ At k)
     → names ≡ map (λ k. get_or t.sorted k 0) rising → AreInOrder t P names
-in_order_by_places {t = t} {P = P} {ranks = ranks} rising names stored below h up same is =
+in_order_by_places {t = t} {P = P} rising names stored below h up same is =
     let name = λ (k : ℕ). get_or t.sorted k 0 in
     let placed : All (λ k. k < length t.sorted) rising =
-    all_kept (λ k. k < length t.sorted) ranks rising same h.below in
+    all_placed rising h same in
     let ascending : Ascending (naming_of t) (map name rising) =
     AllPairs-map name (λ m n. (naming_of t).order m n ≡ Less) rising
     (λ i j d before in'. stored.all_in_order.0 (get_or rising i d) (get_or rising j d) 0
@@ -183,3 +211,32 @@ in_order_by_places {t = t} {P = P} {ranks = ranks} rising names stored below h u
       listed = (ascending, λ n. (has n, all n));
       below = each_below (count_of t) (map name rising) (λ n c. below n (has n c));
     })
+
+-- numbers that rise by their order
+less_by_number : (m n : ℕ) → nat_cmp m n ≡ Less → m < n
+less_by_number m n up = elim (cases_order m n) [
+  | inl e ↦ let o : Equal ≡ nat_cmp m n = nat_cmp_is m n Equal e in absurd cc
+  | inr h ↦ elim h [
+    | inl less ↦ less
+    | inr more ↦ let o : Greater ≡ nat_cmp m n = nat_cmp_is m n Greater more in absurd cc
+  ]
+]
+
+pub rise_by_number : (ks : List ℕ) → Ascending by_number ks → AllPairs (λ j k. j < k) ks
+rise_by_number ks up i j d before in' =
+    less_by_number (get_or ks i d) (get_or ks j d) (up i j d before in')
+
+-- no more numbers are in the order than there are names
+pub sorted_few : (t : Stored) → IsStored t → length t.sorted ≤ count_of t
+unfolding by_place
+sorted_few t stored =
+    let differ : (i j : ℕ) (d : ℕ) → i < j → j < length t.sorted
+    → eqb (get_or t.sorted i d) (get_or t.sorted j d) ≡ false = λ i j d before in'.
+    let m : ℕ = get_or t.sorted i d in
+    let n : ℕ = get_or t.sorted j d in
+    ne_eqb m n (λ e.
+    let less : place t.sorted m < place t.sorted n =
+    less_by_number (place t.sorted m) (place t.sorted n) (stored.all_in_order.0 i j d before in') in
+    omega (arith, less, ap (place t.sorted) e)) in
+    length-le_from_distinct_below t.sorted (count_of t) (IsDistinct-from_apart eqb t.sorted differ)
+    (λ q has. (stored.all_in_order.1 q).0 (Contains-from_any eqb-true q t.sorted has))

@@ -1,5 +1,5 @@
 -- The value of a store.
-use Rattle.std.specs.Prelude.{◌≡◌, ℕ, ◌<◌, ◌^◌, List, All, Contains, length, slice_index}
+use Rattle.std.specs.Prelude.{◌≡◌, ℕ, ◌<◌, ◌^◌, List, length, slice_index}
 use Rattle.redo_model.specs.Names.{IsListed}
 use Rattle.redo_model.specs.Renaming.{AllBelow}
 use Rattle.redo_records.specs.Cells.{cell_at}
@@ -21,8 +21,8 @@ pub record AreInOrder (stored : Stored) (P : ℕ → Type 0) (names : List ℕ) 
   pub listed : IsListed (naming_of stored) P names
   pub below : AllBelow (count_of stored) names
 
--- the places of the names with P in the order
-pub record ArePlaces (stored : Stored) (P : ℕ → Type 0) (ranks : List ℕ) : Type 0 where
-  pub below : All (λ k. k < length stored.sorted) ranks
-  pub from : (k : ℕ) → Contains ranks k → P (slice_index stored.sorted k)
-  pub all : (n : ℕ) → P n → (k : ℕ) × Contains ranks k × (slice_index stored.sorted k ≡ n)
+-- the places with At are those of the names with P in the order
+pub record ArePlaces (stored : Stored) (P At : ℕ → Type 0) : Type 0 where
+  pub below : (k : ℕ) → At k → k < length stored.sorted
+  pub from : (k : ℕ) → At k → P (slice_index stored.sorted k)
+  pub all : (n : ℕ) → P n → (k : ℕ) × At k × (slice_index stored.sorted k ≡ n)

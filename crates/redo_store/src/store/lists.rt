@@ -1,15 +1,20 @@
-ghost use Rattle.std.specs.Prelude.{◌≡◌, ◌<◌, ◌↔◌, ◌++◌, ◌∷◌, [], ℕ, IsTrue, IsNone, IfOk, OnOk, if◌then◌else◌};
+ghost use Rattle.std.specs.Prelude.{◌≡◌, ◌<◌, ◌↔◌, ◌⊎◌, ◌++◌, ◌∷◌, [], ℕ, IsTrue, IsNone, IfOk, OnOk, if◌then◌else◌, length};
 ghost use Rattle.redo_model.specs.Command as commands;
+ghost use Rattle.redo_model.specs.Names.{IsListed};
 ghost use Rattle.redo_model.specs.State.{Idle, has_file, is_building, target_state};
 ghost use Rattle.redo_model.specs.Changes.{is_stamp_of};
 ghost use Rattle.redo_model.specs.OutOfDate.{HasFile, IsTarget, OutOfDate, IsSource, HasChangeRow, HasCreatedRow, HasRow};
 ghost use Rattle.redo_model.specs.Step.{Tells, stale_reply};
 ghost use Rattle.redo_model.specs.Renaming.{AllBelow, IsReplyBelow};
+ghost use Rattle.redo_records.specs.Rows.{by_number};
+ghost use Rattle.redo_ood.specs.Bits.{IsSet};
 ghost use Rattle.redo_terms.specs.Meaning.{reply_of};
 ghost use Rattle.redo_store.specs.Stored.{IsStored, records_of, naming_of, count_of};
-ghost use Rattle.redo_store.specs.Inside.Stored.{AreInOrder};
+ghost use Rattle.redo_store.specs.Inside.Stored.{AreInOrder, ArePlaces};
 
 use crate::store::Store;
+use crate::store::stale::names_at;
+use redo_ood::Bits;
 use redo_records::State;
 use redo_terms::{FileStamp, Reply};
 use std::alloc::{AllocError, Global};
@@ -21,6 +26,16 @@ pub(crate) fn push_if(names: &mut Vec<u32>, n: u32, is_due: bool) -> Result<(), 
         names.push(n)?;
     }
     Ok(())
+}
+
+fn put_if(places: &mut Bits, k: u32, is_due: bool)
+    requires { k < length places.old }
+    ensures sized { length places.new ≡ length places.old }
+    ensures each { (j : ℕ) → IsSet places.new j ↔ (IsSet places.old j ⊎ (IsTrue is_due × (j ≡ k))) }
+{
+    if is_due {
+        places.put(k);
+    }
 }
 
 fn reply_to_ifchange(stale: Vec<u32>) -> Reply
@@ -75,12 +90,34 @@ impl Store {
         ensures { IfOk result (λ names. AreInOrder self.now (λ t. HasFile (records_of self.now) t
             × OutOfDate (records_of self.now) t) names.items) }
     {
-        let mut names = Vec::new(alloc);
-        for &n in self.sorted() {
-            let is_due = self.is_out_with_file(n);
-            push_if(&mut names, n, is_due)?;
+        let marked = self.ood_places(alloc)?;
+        let places = marked.list(alloc)?;
+        let all = self.sorted();
+        names_at(alloc, all, &places)
+    }
+
+    /// The out-of-date targets, by ascending number.
+    fn outdated(&self, alloc: Global) -> Result<Vec<u32>, AllocError>
+        ensures listed { IfOk result
+            (λ out. IsListed by_number (OutOfDate (records_of self.now)) out.items) }
+        ensures below { IfOk result (λ out. AllBelow (count_of self.now) out.items) }
+    {
+        self.memo.list(alloc)
+    }
+
+    /// The places of the out-of-date targets with a file.
+    fn ood_places(&self, alloc: Global) -> Result<Bits, AllocError>
+        ensures { IfOk result (λ places. ArePlaces self.now (λ t. HasFile (records_of self.now) t
+            × OutOfDate (records_of self.now) t) (IsSet places)) }
+    {
+        let out = self.outdated(alloc)?;
+        let mut places = Bits::new(alloc, self.count())?;
+        for &n in &out {
+            let rank = self.rank(n);
+            let is_due = self.has_file(n);
+            put_if(&mut places, rank, is_due);
         }
-        Ok(names)
+        Ok(places)
     }
 
     fn sources(&self, alloc: Global) -> Result<Vec<u32>, AllocError>
@@ -105,15 +142,6 @@ impl Store {
             push_if(&mut names, n, is_due)?;
         }
         Ok(names)
-    }
-
-    /// Whether it is an out-of-date target with a file.
-    fn is_out_with_file(&self, n: u32) -> bool
-        requires { n < count_of self.now }
-        ensures { IsTrue result
-            ↔ (HasFile (records_of self.now) n × OutOfDate (records_of self.now) n) }
-    {
-        self.is_out(n) && self.has_file(n)
     }
 
     fn is_source(&self, n: u32) -> bool

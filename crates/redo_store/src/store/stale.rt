@@ -19,12 +19,16 @@ fn in_order(mut ranks: Vec<u32>) -> Vec<u32>
 }
 
 /// The names at these places of the order.
-fn names_at(alloc: Global, sorted: &[u32], places: &[u32]) -> Result<Vec<u32>, AllocError>
+pub(super) fn names_at(
+    alloc: Global,
+    sorted: &[u32],
+    places: &[u32],
+) -> Result<Vec<u32>, AllocError>
     requires { All (λ k. k < length sorted.now) places.now }
     ensures { IfOk result (λ names.
         names.items ≡ map (λ k. slice_index sorted.now k) places.now) }
 {
-    let mut names = Vec::new(alloc);
+    let mut names = Vec::with_capacity(alloc, places.len())?;
     for &k in places {
         names.push(sorted[k as usize])?;
     }
@@ -48,7 +52,7 @@ impl Store {
     fn stale_ranks(&self, alloc: Global, names: &[u32]) -> Result<Vec<u32>, AllocError>
         requires { AllBelow (count_of self.now) names.now }
         ensures { IfOk result (λ ranks. ArePlaces self.now
-            (λ n. Contains names.now n × IsStale (records_of self.now) n) ranks.items) }
+            (λ n. Contains names.now n × IsStale (records_of self.now) n) (Contains ranks.items)) }
     {
         let mut ranks = Vec::new(alloc);
         for &n in names {
@@ -60,9 +64,10 @@ impl Store {
     }
 
     /// The place of the name in the order.
-    fn rank(&self, n: u32) -> u32
+    pub(super) fn rank(&self, n: u32) -> u32
         requires { n < count_of self.now }
         ensures below { result < length self.now.sorted }
+        ensures few { result < count_of self.now }
         ensures at { slice_index self.now.sorted result ≡ n }
     {
         self.ranks[n as usize]

@@ -1,18 +1,28 @@
-use Rattle.std.proofs.Common.{arith}
-use Rattle.redo_store.proofs.Listed.{number_below, first_more, first_all, file_below}
+use Rattle.std.proofs.Common.{◌<◌, ◌∙◌, ℕ, List, length, map, get_or, sym, ap, subst}
+use Rattle.std.specs.List.{All}
+use Rattle.std.proofs.lemmas.Result.{IfOk-weaker}
+use Rattle.redo_store.proofs.Listed.{file_below}
+use Rattle.redo_store.proofs.Ranked.{all_placed, in_order_by_places, rise_by_number}
 use Rattle.redo_store.proofs.store.Store.ood.Goals as goal
 
-pub is_out_with_file-is_due-requires : goal.is_out_with_file-is_due-requires
-is_out_with_file-is_due-requires c =
-    number_below c.loop-n.n-index 0 c.sorted-n-items.ensures.stored c.sorted-n-items.ensures.sorted
-    (omega arith)
-
-pub loop-n-preserved : goal.loop-n-preserved
-loop-n-preserved c =
-    first_more c.loop-n.n-index 0 c.sorted-n-items.ensures.stored c.sorted-n-items.ensures.sorted
-    (omega arith) c.loop-n.invariant c.is_out_with_file-is_due.ensures c.in_ok-push_if.ensures
+pub names_at-requires : goal.names_at-requires
+names_at-requires c =
+    let places = c.in_ok-places.places.items in
+    let sorted = c.args.self.now.sorted in
+    let below = all_placed places c.in_ok-marked.ensures c.in_ok-places.ensures.listed.1 in
+    subst (λ (ns : List ℕ). All (λ k. k < length ns) c.deref.result.now)
+    (sym c.sorted-all.ensures.sorted)
+    (subst (All (λ k. k < length sorted)) (sym c.deref.ensures.value) below)
 
 pub returns : goal.returns
 returns c =
-    first_all c.sorted-n-items.ensures.stored c.sorted-n-items.ensures.sorted (omega arith)
-    (λ n p. file_below c.args.self.now n p.0) c.loop-n.invariant
+    let places = c.in_ok-places.places.items in
+    let listed = c.in_ok-places.ensures.listed in
+    IfOk-weaker c.names_at.result _ _ (λ v named.
+    in_order_by_places places v.items c.sorted-all.ensures.stored
+    (λ n p. file_below c.args.self.now n p.0)
+    c.in_ok-marked.ensures (rise_by_number places listed.0) listed.1
+    (named
+    ∙ ap (λ (ns : List ℕ). map (λ k. get_or ns k 0) c.deref.result.now) c.sorted-all.ensures.sorted
+    ∙ ap (map (λ k. get_or c.args.self.now.sorted k 0)) c.deref.ensures.value))
+    c.names_at.ensures

@@ -1,6 +1,7 @@
 use Rattle.std.proofs.Common.{◌≡◌, ◌<◌, get_or, length, vec_len, sym, subst, arith, rules}
+use Rattle.redo_store.specs.KeptStore.{stored_of}
 use Rattle.redo_store.specs.Stored.{Stored, count_of}
-use Rattle.redo_store.proofs.Ranked.{rank_read}
+use Rattle.redo_store.proofs.Ranked.{rank_read, sorted_few}
 use Rattle.redo_store.proofs.store.Store.rank.Goals as goal
 
 pub index-requires : goal.index-requires
@@ -30,3 +31,13 @@ returns-clause-at c =
     let there = (c.self.invariant.stored.all_in_order.1 n).1 below in
     let read = rank_read n rank c.self.invariant.ranked there c.index.ensures in
     subst (λ (t : Stored). get_or t.sorted rank 0 ≡ n) c.self.view_is read.1
+
+pub returns-clause-few : goal.returns-clause-few
+returns-clause-few c =
+    let n = c.args.n in
+    let rank = c.index.result.now in
+    let below = subst (λ (t : Stored). n < count_of t) (sym c.self.view_is) c.requires in
+    let there = (c.self.invariant.stored.all_in_order.1 n).1 below in
+    let read = rank_read n rank c.self.invariant.ranked there c.index.ensures in
+    let few = sorted_few (stored_of c.self.inside) c.self.invariant.stored in
+    subst (λ (t : Stored). rank < count_of t) c.self.view_is (omega (arith, read.0, few))

@@ -2,15 +2,14 @@ use Rattle.std.proofs.Common.{◌<◌, ◌∙◌, ℕ, List, length, map, get_or
 use Rattle.std.specs.List.{All}
 use Rattle.std.proofs.lemmas.Result.{IfOk-weaker}
 use Rattle.redo_store.proofs.Listed.{named_below}
-use Rattle.redo_store.proofs.Ranked.{all_kept, in_order_by_places}
+use Rattle.redo_store.proofs.Ranked.{all_placed, in_order_by_places}
 use Rattle.redo_store.proofs.store.Store.stale.Goals as goal
 
 pub names_at-requires : goal.names_at-requires
 names_at-requires c =
     let places = c.in_order-places in
     let sorted = c.args.self.now.sorted in
-    let below = all_kept (λ k. k < length sorted) c.in_ok-ranks.ranks.items places.result.items
-    places.ensures.same c.in_ok-ranks.ensures.below in
+    let below = all_placed places.result.items c.in_ok-ranks.ensures places.ensures.same in
     subst (λ (ns : List ℕ). All (λ k. k < length ns) c.deref.result.now)
     (sym c.sorted-all.ensures.sorted)
     (subst (All (λ k. k < length sorted)) (sym c.deref.ensures.value) below)
