@@ -51,15 +51,15 @@ impl Bits {
     }
 
     /// Whether the number is in the set.
-    pub fn has(&self, t: u32) -> bool
+    pub fn contains(&self, t: u32) -> bool
         requires { t < length self.now }
         ensures { result ≡ slice_index_or self.now t false }
     {
         self.words[t as usize / 64] >> (t % 64) & 1 == 1
     }
 
-    /// Puts the number into the set.
-    pub fn put(&mut self, t: u32)
+    /// Adds the number to the set.
+    pub fn insert(&mut self, t: u32)
         requires { t < length self.old }
         ensures { self.new ≡ slice_set self.old t true }
     {

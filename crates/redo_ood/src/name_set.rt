@@ -72,7 +72,7 @@ impl NameSet {
         requires { t < size_of self.now }
         ensures { result ≡ slice_index_or self.now.marks t false }
     {
-        self.marks.has(t)
+        self.marks.contains(t)
     }
 
     /// The marked names, ascending.
@@ -116,7 +116,7 @@ impl NameSet {
         requires unmarked { slice_index_or self.old.marks t false ≡ false }
         ensures { self.new ≡ with_name self.old t }
     {
-        self.marks.put(t);
+        self.marks.insert(t);
         self.queue.push_reserved(t);
     }
 
@@ -125,7 +125,7 @@ impl NameSet {
         requires { t < size_of self.old }
         ensures { Enters (λ u. u ≡ t) self.old self.new }
     {
-        if !self.marks.has(t) {
+        if !self.marks.contains(t) {
             self.enter_new(t);
         }
     }

@@ -6,18 +6,18 @@ use std::alloc::AllocError;
 #[test]
 fn three_words(rt: HostRuntime) -> Result<(), AllocError> {
     let mut bits = Bits::new(rt.alloc(), 131)?;
-    bits.put(130);
-    bits.put(64);
-    bits.put(63);
-    bits.put(0);
-    bits.put(127);
-    bits.put(32);
+    bits.insert(130);
+    bits.insert(64);
+    bits.insert(63);
+    bits.insert(0);
+    bits.insert(127);
+    bits.insert(32);
     bits.remove(32);
     bits.remove(1);
-    assert!(rt; bits.has(63) && !bits.has(32) && !bits.has(95));
+    assert!(rt; bits.contains(63) && !bits.contains(32) && !bits.contains(95));
     assert!(rt; bits.list(rt.alloc())?.as_slice() == [0, 63, 64, 127, 130].as_slice());
     let mut more = bits.grown(rt.alloc(), 200)?;
-    more.put(199);
+    more.insert(199);
     assert!(rt; more.list(rt.alloc())?.as_slice() == [0, 63, 64, 127, 130, 199].as_slice());
     Ok(())
 }

@@ -28,13 +28,13 @@ pub(crate) fn push_if(names: &mut Vec<u32>, n: u32, is_due: bool) -> Result<(), 
     Ok(())
 }
 
-fn put_if(places: &mut Bits, k: u32, is_due: bool)
+fn insert_if(places: &mut Bits, k: u32, is_due: bool)
     requires { k < length places.old }
     ensures sized { length places.new ≡ length places.old }
     ensures each { (j : ℕ) → IsSet places.new j ↔ (IsSet places.old j ⊎ (IsTrue is_due × (j ≡ k))) }
 {
     if is_due {
-        places.put(k);
+        places.insert(k);
     }
 }
 
@@ -115,7 +115,7 @@ impl Store {
         for &n in &out {
             let rank = self.rank(n);
             let is_due = self.has_file(n);
-            put_if(&mut places, rank, is_due);
+            insert_if(&mut places, rank, is_due);
         }
         Ok(places)
     }

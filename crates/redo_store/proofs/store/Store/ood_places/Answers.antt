@@ -18,8 +18,8 @@ loop-n-init c =
           (none_marked count);
     })
 
-pub put_if-requires : goal.put_if-requires
-put_if-requires c = omega (arith, c.loop-n.invariant.sized, c.rank-rank.ensures.few)
+pub insert_if-requires : goal.insert_if-requires
+insert_if-requires c = omega (arith, c.loop-n.invariant.sized, c.rank-rank.ensures.few)
 
 pub loop-n-preserved : goal.loop-n-preserved
 loop-n-preserved c =
@@ -31,10 +31,10 @@ loop-n-preserved c =
     let file = c.has_file-is_due.ensures in
     let is : IsTrue due ↔ HasOne (get_or names i 0) = (λ h. sym file ∙ h, λ h. file ∙ h) in
     record {
-      sized = c.put_if.ensures.sized ∙ c.loop-n.invariant.sized;
+      sized = c.insert_if.ensures.sized ∙ c.loop-n.invariant.sized;
       placed = places_more t HasOne names i c.loop-n-test.true c.rank-rank.result
-          (IsSet c.loop-n.places) (IsSet c.put_if.new.places) due c.rank-rank.ensures.below
-          c.rank-rank.ensures.at is c.put_if.ensures.each c.loop-n.invariant.placed;
+          (IsSet c.loop-n.places) (IsSet c.insert_if.new.places) due c.rank-rank.ensures.below
+          c.rank-rank.ensures.at is c.insert_if.ensures.each c.loop-n.invariant.placed;
     }
 
 pub returns : goal.returns

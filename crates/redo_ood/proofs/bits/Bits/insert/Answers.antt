@@ -1,6 +1,6 @@
 use Rattle.std.proofs.Common.{◌/◌, refl, ◌∙◌, Bool, List, true, set, ap, arith}
 use Rattle.redo_ood.proofs.Words.{bit_put, flag_changed, none_past_still, word_within, below_count}
-use Rattle.redo_ood.proofs.bits.Bits.put.Goals as goal
+use Rattle.redo_ood.proofs.bits.Bits.insert.Goals as goal
 
 pub index_mut-requires : goal.index_mut-requires
 index_mut-requires c = omega (

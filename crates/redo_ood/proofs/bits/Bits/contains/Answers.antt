@@ -1,6 +1,6 @@
 use Rattle.std.proofs.Common.{◌/◌, refl, ◌∙◌, Bool, List, false, get_or, sym, ap, arith}
 use Rattle.redo_ood.proofs.Words.{flag_at, bit_read, word_within}
-use Rattle.redo_ood.proofs.bits.Bits.has.Goals as goal
+use Rattle.redo_ood.proofs.bits.Bits.contains.Goals as goal
 
 pub index-requires : goal.index-requires
 index-requires c = omega (
