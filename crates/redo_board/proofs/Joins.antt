@@ -9,7 +9,8 @@ use Rattle.atomic_table.specs.Table.{step, keeps, Allows, Splits, Joins}
 use Rattle.atomic_table.proofs.Lists.{at_set, at_snoc, at_longer, at_last, set_else}
 use Rattle.redo_journal.specs.Plans.{PlanOf}
 use Rattle.redo_board.specs.Core.{Line, row_words}
-use Rattle.redo_board.specs.Views.{Part, ViewOf, view, nobody}
+use Rattle.redo_board.specs.Views.{Part, ViewOf, view}
+use Rattle.redo_board.specs.Inside.Views.{nobody}
 use Rattle.redo_board.specs.Rule.{HasPart, Fits, Apart, AllStand, AllFit, Orderly, longer}
 use Rattle.redo_board.specs.Inside.Rule.{below, from, left_of, right_of, met}
 use Rattle.redo_board.specs.Inside.Plays.{looked}

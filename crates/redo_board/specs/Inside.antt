@@ -4,3 +4,4 @@ pub mod Plays
 pub mod Rule
 pub mod Shown
 pub mod Steps
+pub mod Views

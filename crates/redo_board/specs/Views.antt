@@ -1,5 +1,5 @@
 -- What a seat knows of the board.
-use Rattle.std.specs.Prelude.{ℕ, List, []}
+use Rattle.std.specs.Prelude.{ℕ, List}
 use Rattle.redo_journal.specs.Plans.{PlanOf}
 use Rattle.redo_board.specs.Core.{Line}
 
@@ -17,9 +17,3 @@ pub record ViewOf : Type 0 where
 
 abbrev pub view : PlanOf → List Part → List ℕ → List ℕ → ViewOf
 view p parts seen also = record { plan = p; parts = parts; seen = seen; also = also }
-
-abbrev pub nothing : PlanOf
-nothing = record { names = []; scripts = [] }
-
-abbrev pub nobody : ViewOf
-nobody = view nothing [] [] []

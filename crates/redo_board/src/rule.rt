@@ -88,7 +88,7 @@ pub struct Both;
 
 impl Join<View> for Both {
     ghost use Rattle.redo_board.specs.Inside.Rule.{met};
-    ghost use Rattle.redo_board.specs.Views.{nobody};
+    ghost use Rattle.redo_board.specs.Inside.Views.{nobody};
 
     ghost both = { met };
 

@@ -16,7 +16,7 @@ impl Model for Opened {
 
     ghost Value = { LiveState };
 
-    ghost use Rattle.redo_c.specs.Opened.{live_in};
+    ghost use Rattle.redo_c.specs.Inside.Opened.{live_in};
 
     ghost view = { live_in };
 }

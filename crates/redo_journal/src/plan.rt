@@ -33,7 +33,7 @@ impl Model for Plan {
 
     ghost Value = { PlanOf };
 
-    ghost use Rattle.redo_journal.specs.Kept.{plan_of, KeepsPlan};
+    ghost use Rattle.redo_journal.specs.Inside.Kept.{plan_of, KeepsPlan};
 
     ghost view = { plan_of };
 

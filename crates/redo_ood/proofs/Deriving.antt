@@ -14,7 +14,7 @@ use Rattle.redo_model.proofs.UpToDate.{idle_up_to_date}
 use Rattle.redo_records.proofs.MorePlaces.{same_everywhere}
 use Rattle.redo_ood.specs.NameSet.{Marked, IsMarked, IsQueued, IsQueue, Enters, Grows, Unmarks, size_of}
 use Rattle.redo_ood.specs.Inside.NameSet.{HoldsOnly}
-use Rattle.redo_ood.specs.KeptMemo.{IsCleared}
+use Rattle.redo_ood.specs.Inside.KeptMemo.{IsCleared}
 use Rattle.redo_ood.specs.Memo.{is_out, IsRight, WasRight, HasCount}
 use Rattle.redo_ood.specs.Inside.Regions.{Spreads, IsDue, IsClosed, IsSound, EntersDue}
 use Rattle.redo_ood.proofs.Listing.{listed_or_not}

@@ -7,7 +7,7 @@ use Rattle.std.proofs.lemmas.Nat.{shr-shr}
 use Rattle.std.proofs.lemmas.Nat.Bits.{bit_at-zero, bit_at_above, bit_at-trailing_zeros}
 use Rattle.redo_ood.specs.Bits.{IsSet}
 use Rattle.redo_ood.specs.Inside.Bits.{IsListedBelow}
-use Rattle.redo_ood.specs.KeptBits.{has_bit, bits_below, HasNonePast}
+use Rattle.redo_ood.specs.Inside.KeptBits.{has_bit, bits_below, HasNonePast}
 use Rattle.redo_ood.proofs.Listing.{listed_with}
 use Rattle.redo_ood.proofs.Words.{flag_at}
 

@@ -6,7 +6,7 @@ use Rattle.std.proofs.lemmas.Bool.{cases_eq, cases_lt}
 use Rattle.std.proofs.lemmas.List.{same_lists, length-set, get_or-set_same, get_or-set_other, get_or_past, get_or_default, get_or-replicate, length-replicate}
 use Rattle.std.proofs.lemmas.List.FromFn.{get_or-map-range_with_len, length-map-range_with_len}
 use Rattle.std.proofs.lemmas.Nat.Bits.{bit_at-zero, shr_and_one, bit_at_set_same, bit_at_set_other, bit_at_clear_same, bit_at_clear_other}
-use Rattle.redo_ood.specs.KeptBits.{has_bit, bits_below, HasNonePast}
+use Rattle.redo_ood.specs.Inside.KeptBits.{has_bit, bits_below, HasNonePast}
 
 pub bits_sized : (words : List ℕ) (count : ℕ) → length (bits_below words count) ≡ count
 bits_sized words count = length-map-range_with_len (has_bit words) 0 count

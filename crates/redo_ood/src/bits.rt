@@ -23,7 +23,7 @@ impl Model for Bits {
 
     ghost Value = { List Bool };
 
-    ghost use Rattle.redo_ood.specs.KeptBits.{flags_of, KeepsBits};
+    ghost use Rattle.redo_ood.specs.Inside.KeptBits.{flags_of, KeepsBits};
 
     ghost view = { flags_of };
 

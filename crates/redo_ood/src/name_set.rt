@@ -25,7 +25,7 @@ impl Model for NameSet {
 
     ghost Value = { Marked };
 
-    ghost use Rattle.redo_ood.specs.KeptNames.{marked_of, KeepsMarked};
+    ghost use Rattle.redo_ood.specs.Inside.KeptNames.{marked_of, KeepsMarked};
 
     ghost view = { marked_of };
 

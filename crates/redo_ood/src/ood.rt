@@ -33,7 +33,7 @@ impl Model for Ood {
 
     ghost Value = { List Bool };
 
-    ghost use Rattle.redo_ood.specs.KeptMemo.{memo_of, KeepsMemo};
+    ghost use Rattle.redo_ood.specs.Inside.KeptMemo.{memo_of, KeepsMemo};
 
     ghost view = { memo_of };
 

@@ -5,8 +5,7 @@ use Rattle.std.proofs.lemmas.List.{length-set, set-set, get_or_default, drop_mor
 use Rattle.std.specs.List.{Contains, AllPairs}
 use Rattle.redo_records.specs.Rows.{Slot, TargetRows, slot_at, has_slot, target_at, bare, room_of}
 use Rattle.redo_records.specs.Numbers.{NumberList}
-use Rattle.redo_records.specs.Kept.{has_change, has_created, passes_on, sits_on, numbers_at, IsInverse, IsKept}
-use Rattle.redo_records.specs.Inside.Kept.{FollowsOn}
+use Rattle.redo_records.specs.Inside.Kept.{has_change, has_created, passes_on, sits_on, numbers_at, IsInverse, IsKept, FollowsOn}
 use Rattle.redo_records.proofs.Inverses.{flag, IsRowTest, target_same, target_other, inverse_stays, inverse_set, counts_set, counts_stay, no_slot_no_row, slot_counted}
 
 pub below_set : (targets : List TargetRows) (t : ℕ) (new : TargetRows) → t < length targets

@@ -6,8 +6,7 @@ use Rattle.std.proofs.lemmas.List.Sums.{sum_by-set, sum_by-cons, get_or-le-sum_b
 use Rattle.std.specs.List.{count_by, Contains}
 use Rattle.redo_records.specs.Rows.{Slot, TargetRows, slot_at, has_slot, target_at, bare}
 use Rattle.redo_records.specs.Numbers.{NumberList}
-use Rattle.redo_records.specs.Kept.{no_numbers, passes_on, sits_on, slots_on, numbers_at, IsInverseOn, IsInverse, CountsSlots}
-use Rattle.redo_records.specs.Inside.Kept.{Follows, FollowsOn}
+use Rattle.redo_records.specs.Inside.Kept.{no_numbers, passes_on, sits_on, slots_on, numbers_at, IsInverseOn, IsInverse, CountsSlots, Follows, FollowsOn}
 
 abbrev pub flag : Bool → ℕ
 flag b = cond b 1 0

@@ -8,8 +8,8 @@ use Rattle.std.proofs.lemmas.List.Sums.{sum_by-append, sum_by-set}
 use Rattle.std.specs.List.{Contains, insert, count_by}
 use Rattle.redo_records.specs.Numbers.{NumberList}
 use Rattle.redo_records.specs.Rows.{Slot, slot_at}
-use Rattle.redo_records.specs.Target.{Ascending, has_row, IsKept}
-use Rattle.redo_records.specs.Inside.Target.{blank, IsSlotOf, IsGapFor}
+use Rattle.redo_records.specs.Target.{Ascending}
+use Rattle.redo_records.specs.Inside.Target.{has_row, IsKept, blank, IsSlotOf, IsGapFor}
 use Rattle.redo_records.proofs.Slots.{slot_stands, slot_named, none_in_gap}
 use Rattle.redo_records.proofs.SlotEdits.{slot_at-set, set_ascends, slot_at-insert, insert_ascends}
 

@@ -7,7 +7,7 @@ use Rattle.redo_model.specs.Renaming.{AllBelow}
 use Rattle.redo_records.specs.Rows.{Slot, TargetRows, has_slot, target_at, bare}
 use Rattle.redo_records.specs.Target.{HasRowIn}
 use Rattle.redo_records.specs.Numbers.{NumberList}
-use Rattle.redo_records.specs.Kept.{passes_on, has_change, has_created, IsKept, IsInverse, numbers_at, no_numbers}
+use Rattle.redo_records.specs.Inside.Kept.{passes_on, has_change, has_created, IsKept, IsInverse, numbers_at, no_numbers}
 use Rattle.redo_records.proofs.Inverses.{found_target, IsRowTest, slotted_row}
 
 -- a list whose members are below the count

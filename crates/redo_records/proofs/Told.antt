@@ -11,7 +11,7 @@ use Rattle.redo_records.specs.News.{name_of, IsNews}
 use Rattle.redo_records.specs.Inside.News.{known, HasAppeared, HasChanged, HasNews, SomeNews, IsNewsOf, IsNewsIn}
 use Rattle.redo_records.specs.declared.news.News.{News}
 use Rattle.redo_records.specs.declared.news.News.TheVariants.{Appeared, Changed}
-use Rattle.redo_records.specs.Kept.{has_change, has_created}
+use Rattle.redo_records.specs.Inside.Kept.{has_change, has_created}
 use Rattle.redo_records.proofs.Inverses.{slotted_row}
 use Rattle.redo_records.proofs.Slots.{slot_found, slot_there, nothing_stands}
 

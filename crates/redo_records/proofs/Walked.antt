@@ -6,7 +6,7 @@ use Rattle.redo_model.proofs.Members.{contains_map}
 use Rattle.redo_records.specs.Rows.{Slot, TargetRows, slot_at, has_slot, target_at, rows_of}
 use Rattle.redo_records.specs.Target.{Ascending}
 use Rattle.redo_records.specs.Inside.Target.{blank}
-use Rattle.redo_records.specs.Kept.{has_change}
+use Rattle.redo_records.specs.Inside.Kept.{has_change}
 use Rattle.redo_records.proofs.Inverses.{found_target, slotted_row}
 use Rattle.redo_records.proofs.Slots.{slot_found, slot_there}
 use Rattle.redo_records.proofs.Told.{named_slot}

@@ -6,8 +6,7 @@ use Rattle.std.specs.List.{Contains}
 use Rattle.redo_model.specs.State.{Mark}
 use Rattle.redo_records.specs.Rows.{Slot, TargetRows, slot_at, has_slot, room_of, target_at}
 use Rattle.redo_records.specs.Numbers.{NumberList}
-use Rattle.redo_records.specs.Kept.{no_numbers, has_change, has_created, passes_on, sits_on, slots_on, numbers_at, IsInverseOn, IsInverse, IsKept}
-use Rattle.redo_records.specs.Inside.Kept.{FollowsOn}
+use Rattle.redo_records.specs.Inside.Kept.{no_numbers, has_change, has_created, passes_on, sits_on, slots_on, numbers_at, IsInverseOn, IsInverse, IsKept, FollowsOn}
 use Rattle.redo_records.proofs.Inverses.{found_target, flag, IsRowTest, inverse_stays, inverse_set, follows_on_same, counts_set, counts_stay, has_room_for}
 use Rattle.redo_records.proofs.Forgetting.{kept_stays, below_set}
 use Rattle.redo_records.proofs.Changed.{WritesChange, WritesCreated, AddsSlot, field_of_cond, cond_same}

@@ -2,3 +2,6 @@ pub mod Kept
 pub mod News
 pub mod Numbers
 pub mod Target
+pub mod KeptMark
+pub mod Cell
+pub mod Slot

@@ -1,12 +1,8 @@
 pub mod Meaning
-pub mod Cell
 pub mod Cells
 pub mod Refusals
 pub mod Inside
-pub mod Kept
-pub mod KeptMark
 pub mod News
 pub mod Numbers
 pub mod Rows
-pub mod Slot
 pub mod Target

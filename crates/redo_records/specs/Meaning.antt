@@ -17,10 +17,3 @@ target_state_of Idle = states.Idle
 target_state_of (Building s) = states.Building s
 target_state_of Built = states.Built
 target_state_of Failed = states.Failed
-
--- the state that means it
-abbrev pub state_for : states.TargetState → State
-state_for states.Idle = Idle
-state_for (states.Building s) = Building s
-state_for states.Built = Built
-state_for states.Failed = Failed

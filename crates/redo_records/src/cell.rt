@@ -31,7 +31,7 @@ impl Model for Cell {
 
     ghost Value = { states.Cell };
 
-    ghost use Rattle.redo_records.specs.Cell.{cell_of, fields_for, fields_for-cell_of};
+    ghost use Rattle.redo_records.specs.Inside.Cell.{cell_of, fields_for, fields_for-cell_of};
 
     ghost view = { cell_of };
 

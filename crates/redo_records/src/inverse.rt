@@ -1,7 +1,6 @@
 ghost use Rattle.std.specs.Prelude.{◌≡◌, ◌<◌, ◌↔◌, true, false, IsTrue, IsFalse, length, slice_set, Contains};
 ghost use Rattle.redo_records.specs.Rows.{bare};
-ghost use Rattle.redo_records.specs.Kept.{IsKept, numbers_at};
-ghost use Rattle.redo_records.specs.Inside.Kept.{FollowsOn};
+ghost use Rattle.redo_records.specs.Inside.Kept.{IsKept, numbers_at, FollowsOn};
 
 use crate::numbers::Numbers;
 use crate::target::Target;

@@ -1,7 +1,7 @@
 ghost use Rattle.std.specs.Prelude.{◌≡◌, ◌↔◌, IsTrue};
 ghost use Rattle.redo_model.specs.State.{mark_in};
 ghost use Rattle.redo_records.specs.Meaning.{row_mark_of};
-ghost use Rattle.redo_records.specs.KeptMark.{kept_mark_of};
+ghost use Rattle.redo_records.specs.Inside.KeptMark.{kept_mark_of};
 
 use crate::cell::Cell;
 use crate::mark::Mark;

@@ -34,7 +34,7 @@ pub struct DepRows {
 impl Model for DepRows {
     ghost use Rattle.std.specs.Prelude.{List};
     ghost use Rattle.redo_records.specs.Rows.{TargetRows};
-    ghost use Rattle.redo_records.specs.Kept.{IsKept};
+    ghost use Rattle.redo_records.specs.Inside.Kept.{IsKept};
 
     ghost Value = { List TargetRows };
 

@@ -3,8 +3,8 @@ ghost use Rattle.redo_model.specs.Names.{IsListed};
 ghost use Rattle.redo_model.specs.State.{mark_in};
 ghost use Rattle.redo_records.specs.Meaning.{row_mark_of};
 ghost use Rattle.redo_records.specs.Rows.{bare, slot_at, has_slot, by_number};
-ghost use Rattle.redo_records.specs.Target.{has_row, HasRowIn, HasChangeBut, Ascending};
-ghost use Rattle.redo_records.specs.Inside.Target.{blank, IsSlotOf, IsGapFor};
+ghost use Rattle.redo_records.specs.Target.{HasRowIn, HasChangeBut, Ascending};
+ghost use Rattle.redo_records.specs.Inside.Target.{has_row, blank, IsSlotOf, IsGapFor};
 
 use crate::cell::Cell;
 use crate::kept_mark::KeptMark;
@@ -30,7 +30,7 @@ impl Model for Slot {
 
     ghost Value = { rows.Slot };
 
-    ghost use Rattle.redo_records.specs.Slot.{slot_of, fields_for, fields_for-slot_of};
+    ghost use Rattle.redo_records.specs.Inside.Slot.{slot_of, fields_for, fields_for-slot_of};
 
     ghost view = { slot_of };
 
@@ -147,7 +147,7 @@ pub struct Target {
 
 impl Model for Target {
     ghost use Rattle.redo_records.specs.Rows.{TargetRows};
-    ghost use Rattle.redo_records.specs.Target.{IsKept};
+    ghost use Rattle.redo_records.specs.Inside.Target.{IsKept};
 
     ghost Value = { TargetRows };
 

@@ -12,7 +12,8 @@ use Rattle.redo_records.proofs.MorePlaces.{same_everywhere}
 use Rattle.redo_records.specs.Cells.{cell_at}
 use Rattle.redo_records.specs.Rows.{rows_count}
 use Rattle.redo_store.specs.Orders.{AreRanks, IsByNumber, place, by_place}
-use Rattle.redo_store.specs.Stored.{Stored, IsStored}
+use Rattle.redo_store.specs.Stored.{Stored}
+use Rattle.redo_store.specs.Inside.Stored.{IsStored}
 use Rattle.redo_store.proofs.Places.{below_by_numbers}
 
 abbrev pub up_to : ℕ → List ℕ

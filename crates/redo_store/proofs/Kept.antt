@@ -11,7 +11,8 @@ use Rattle.redo_model.specs.Step.{after, locks_granted}
 use Rattle.redo_model.specs.Command as commands
 use Rattle.redo_store.specs.Orders.{AreSorted}
 use Rattle.redo_records.specs.Rows.{TargetRows, rows_count}
-use Rattle.redo_store.specs.Stored.{Stored, IsStored}
+use Rattle.redo_store.specs.Stored.{Stored}
+use Rattle.redo_store.specs.Inside.Stored.{IsStored}
 use Rattle.redo_store.specs.Stored as stored
 use Rattle.redo_records.proofs.MorePlaces.{same_everywhere}
 use Rattle.redo_store.specs.Tables.{Tables, tables_records, locks_of, state_of}

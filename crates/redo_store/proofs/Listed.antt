@@ -11,8 +11,8 @@ use Rattle.redo_model.specs.State.{idle}
 use Rattle.redo_model.specs.OutOfDate.{HasFile}
 use Rattle.redo_model.specs.Renaming.{AllBelow}
 use Rattle.redo_model.proofs.Members.{contains_first, contains_none}
-use Rattle.redo_store.specs.Stored.{Stored, IsStored, records_of, naming_of, count_of}
-use Rattle.redo_store.specs.Inside.Stored.{AreInOrder}
+use Rattle.redo_store.specs.Stored.{Stored, records_of, naming_of, count_of}
+use Rattle.redo_store.specs.Inside.Stored.{IsStored, AreInOrder}
 
 -- a number of the list is below the count
 pub number_below : {t : Stored} {items : List ℕ} (k d : ℕ) → IsStored t → items ≡ t.sorted

@@ -21,8 +21,8 @@ use Rattle.redo_ood.proofs.Listing.{each_below}
 use Rattle.redo_ood.proofs.Marking.{one_more}
 use Rattle.redo_records.specs.Rows.{by_number}
 use Rattle.redo_store.specs.Orders.{AreRanks, by_place, place}
-use Rattle.redo_store.specs.Stored.{Stored, IsStored, count_of, naming_of}
-use Rattle.redo_store.specs.Inside.Stored.{AreInOrder, ArePlaces}
+use Rattle.redo_store.specs.Stored.{Stored, count_of, naming_of}
+use Rattle.redo_store.specs.Inside.Stored.{IsStored, AreInOrder, ArePlaces}
 use Rattle.redo_store.proofs.Sorting.{AllPairs-map}
 
 -- the first k numbers of the list have their ranks

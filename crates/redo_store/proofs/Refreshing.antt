@@ -15,8 +15,8 @@ use Rattle.redo_ood.specs.Memo.{IsRight, WasRight, memo_count}
 use Rattle.redo_records.specs.Cells.{cell_at, with_cell_at}
 use Rattle.redo_records.specs.Rows.{TargetRows, by_number, rows_of, with_always, without_rows, rows_count, with_rows}
 use Rattle.redo_store.specs.Inside.Changes.{AreRowsAfter}
-use Rattle.redo_store.specs.KeptStore.{KeepsStored, stored_of}
-use Rattle.redo_store.specs.Stored.{IsStored}
+use Rattle.redo_store.specs.Inside.KeptStore.{KeepsStored, stored_of}
+use Rattle.redo_store.specs.Inside.Stored.{IsStored}
 use Rattle.redo_store.specs.declared.store.Store.TheInside.{Inside}
 use Rattle.redo_store.proofs.Kept.{IsStored-set_cell, IsStored-set_rows}
 

@@ -4,8 +4,9 @@ use Rattle.std.proofs.lemmas.List.{get_or_past}
 use Rattle.redo_model.specs.Inside.Unknown.{IsUnknown}
 use Rattle.redo_model.specs.State.{idle}
 use Rattle.redo_records.specs.Rows.{TargetRows, bare, slot_at, target_at}
-use Rattle.redo_store.specs.Stored.{IsStored}
-use Rattle.redo_store.specs.Tables.{Tables, AreTables, state_of, tables_count}
+use Rattle.redo_store.specs.Inside.Stored.{IsStored}
+use Rattle.redo_store.specs.Tables.{Tables, state_of, tables_count}
+use Rattle.redo_store.specs.Inside.Tables.{AreTables}
 
 pub unknown_past : (tables : Tables) → IsStored tables.store → AreTables tables → (n : ℕ)
     → tables_count tables ≤ n → IsUnknown (state_of tables) n

@@ -2,3 +2,5 @@ pub mod Changes
 pub mod Numbered
 pub mod Stored
 pub mod Tables
+pub mod Kept
+pub mod KeptStore

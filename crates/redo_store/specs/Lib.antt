@@ -1,6 +1,4 @@
 pub mod Inside
-pub mod Kept
-pub mod KeptStore
 pub mod Meaning
 pub mod Orders
 pub mod Stored

@@ -1,12 +1,11 @@
 -- The value of a store.
-use Rattle.std.specs.Prelude.{◌≡◌, ℕ, ◌<◌, ◌≤◌, ◌^◌, Bool, true, false, IsTrue, List, length}
+use Rattle.std.specs.Prelude.{◌≡◌, ℕ, Bool, true, false, IsTrue, List, length}
 use Rattle.std.specs.List.{list_all}
 use Rattle.redo_model.specs.Command.{Command, IfChange, IfCreate, Ood, Targets, Sources}
 use Rattle.std.specs.declared.cmp.Ordering.{Ordering}
-use Rattle.redo_model.specs.Names.{Naming, IsListed, numbers}
+use Rattle.redo_model.specs.Names.{Naming, numbers}
 use Rattle.redo_model.specs.State.{Cell, Records}
-use Rattle.redo_records.specs.Cells.{cell_at}
-use Rattle.redo_records.specs.Rows.{TargetRows, room_of, rows_count, with_rows}
+use Rattle.redo_records.specs.Rows.{TargetRows, room_of, with_rows}
 use Rattle.redo_store.specs.Orders.{by_place}
 
 -- a cell and the rows for each name, the numbers of all names in order, and how many commands were
@@ -34,14 +33,6 @@ naming_of stored = numbers (order_of stored)
 -- how many commands were applied
 abbrev pub applied_of : Stored → ℕ
 applied_of stored = stored.applied
-
--- each name has a cell and rows, each number is listed once, in order, no name was built more often
--- than commands were applied, and each name has a number of 32 bits
-pub record IsStored (stored : Stored) : Type 0 where
-  pub rows_for_each : rows_count stored.rows ≡ count_of stored
-  pub all_in_order : IsListed (naming_of stored) (λ n. n < count_of stored) stored.sorted
-  pub few_builds : (n : ℕ) → (cell_at stored.cells n).builds ≤ stored.applied
-  pub few_names : count_of stored < 2 ^ 32
 
 -- whether memory is reserved for all rows of the command
 abbrev pub has_room_for : Stored → Command ℕ → Bool

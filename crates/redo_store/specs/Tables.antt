@@ -1,5 +1,5 @@
 -- The value of the one-thread database.
-use Rattle.std.specs.Prelude.{◌≡◌, ℕ, ◌≤◌, List, Option, None, slice_index, slice_index_or, length}
+use Rattle.std.specs.Prelude.{◌≡◌, ℕ, List, Option, None, slice_index, slice_index_or}
 use Rattle.std.specs.declared.cmp.Ordering.{Ordering}
 use Rattle.redo_model.specs.State.{Records, Locks, State}
 use Rattle.redo_store.specs.Stored.{Stored}
@@ -36,13 +36,6 @@ tables_order tables = stored.order_of tables.store
 -- the calls that gave a reply
 abbrev pub calls_of : Tables → ℕ
 calls_of tables = tables.calls
-
--- each list has a place for each name, and no count is above the calls
-pub record AreTables (tables : Tables) : Type 0 where
-  pub holder_for_each : length tables.holders ≡ tables_count tables
-  pub grants_for_each : length tables.grants ≡ tables_count tables
-  pub few_grants : (n : ℕ) → slice_index tables.grants n ≤ tables.calls
-  pub few_applied : tables.store.applied ≤ tables.calls
 
 -- the same state, names and calls
 pub record IsAsBefore (old new : Tables) : Type 0 where

@@ -31,7 +31,7 @@ impl Model for Redo {
 
     ghost Value = { Tables };
 
-    ghost use Rattle.redo_store.specs.Kept.{tables_of, KeepsTables};
+    ghost use Rattle.redo_store.specs.Inside.Kept.{tables_of, KeepsTables};
 
     ghost view = { tables_of };
 

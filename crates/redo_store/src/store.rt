@@ -44,7 +44,7 @@ impl Model for Store {
 
     ghost Value = { Stored };
 
-    ghost use Rattle.redo_store.specs.KeptStore.{stored_of, KeepsStored};
+    ghost use Rattle.redo_store.specs.Inside.KeptStore.{stored_of, KeepsStored};
 
     ghost view = { stored_of };
 

@@ -1,7 +1,8 @@
 ghost use Rattle.std.specs.Prelude.{◌≡◌, ◌≤◌, List, ℕ, length, take, IfSome, is_some, true};
 ghost use Rattle.std.specs.List.{list_all};
 ghost use Rattle.redo_names.specs.Names.{is_visible};
-ghost use Rattle.redo_terms.specs.Stamp.{is_stamp as stamp_test, is_placeholder as placeholder_test, padded as padded_list, IsPadded, padded-take, length-taken};
+ghost use Rattle.redo_terms.specs.Stamp.{is_stamp as stamp_test, is_placeholder as placeholder_test};
+ghost use Rattle.redo_terms.specs.Inside.Stamp.{padded as padded_list, IsPadded, padded-take, length-taken};
 
 use std::marker::Model;
 

@@ -1,7 +1,62 @@
 -- The invariant of the rows: their inverses, and how many targets have a slot for each name.
-use Rattle.std.specs.Prelude.{◌≡◌, ◌≢◌, ◌↔◌, ◌≤◌, ◌+◌, ℕ, Bool, List, [], IsTrue, cond, length, Contains}
+use Rattle.std.specs.Prelude.{◌≡◌, ◌≢◌, ◌↔◌, ◌≤◌, ◌+◌, ℕ, Bool, List, [], IsTrue, cond, length, Contains, ◌<◌, ◌^◌, is_some, slice_index_or, count_by}
 use Rattle.redo_records.specs.Numbers.{NumberList}
-use Rattle.redo_records.specs.Kept.{numbers_at}
+use Rattle.redo_records.specs.Rows.{Slot, TargetRows, slot_at, has_slot, target_at, room_of}
+
+-- the slot has a change row
+abbrev pub has_change : Slot → Bool
+has_change slot = is_some slot.change
+
+-- the slot has a created row
+abbrev pub has_created : Slot → Bool
+has_created slot = slot.created
+
+-- whether the target's slot for n passes
+abbrev pub passes_on : (Slot → Bool) → ℕ → TargetRows → Bool
+passes_on test n target = test (slot_at target.slots n)
+
+-- whether it has a slot for n
+abbrev pub sits_on : ℕ → TargetRows → Bool
+sits_on n target = has_slot target.slots n
+
+-- how many targets have a slot for n
+abbrev pub slots_on : List TargetRows → ℕ → ℕ
+slots_on targets n = count_by (sits_on n) targets
+
+-- no numbers and no memory for any
+abbrev pub no_numbers : NumberList
+no_numbers = record { items = []; room = 0 }
+
+-- the list of n
+abbrev pub numbers_at : List NumberList → ℕ → NumberList
+numbers_at lists n = slice_index_or lists n no_numbers
+
+-- the targets whose slot for n passes, and memory for each that has a slot for n
+pub record IsInverseOn (test : Slot → Bool) (targets : List TargetRows) (n : ℕ)
+    (list : NumberList) : Type 0 where
+  pub listed : (t : ℕ) → Contains list.items t ↔ IsTrue (passes_on test n (target_at targets t))
+  pub counted : length list.items ≡ count_by (passes_on test n) targets
+  pub room : slots_on targets n ≤ list.room
+
+-- the same of each name
+pub record IsInverse (test : Slot → Bool) (targets : List TargetRows)
+    (lists : List NumberList) : Type 0 where
+  pub sized : length lists ≡ length targets
+  pub each : (n : ℕ) → n < length targets → IsInverseOn test targets n (numbers_at lists n)
+
+-- for each name, how many targets have a slot for it
+pub record CountsSlots (targets : List TargetRows) (slotted : List ℕ) : Type 0 where
+  pub sized : length slotted ≡ length targets
+  pub each : (n : ℕ) → n < length targets → slice_index_or slotted n 0 ≡ slots_on targets n
+
+-- rows are on names alone, and each inverse and count is right
+pub record IsKept (targets : List TargetRows) (needed awaited : List NumberList)
+    (slotted : List ℕ) : Type 0 where
+  pub small : length targets < 2 ^ 32
+  pub below : (t n : ℕ) → IsTrue (room_of targets t n) → n < length targets
+  pub needs : IsInverse has_change targets needed
+  pub awaits : IsInverse has_created targets awaited
+  pub counts : CountsSlots targets slotted
 
 -- no list has a number
 abbrev pub AreEmpty : List NumberList → Type 0

@@ -9,8 +9,8 @@ ghost use Rattle.redo_model.specs.Renaming.{AllBelow, IsReplyBelow};
 ghost use Rattle.redo_records.specs.Rows.{by_number};
 ghost use Rattle.redo_ood.specs.Bits.{IsSet};
 ghost use Rattle.redo_terms.specs.Meaning.{reply_of};
-ghost use Rattle.redo_store.specs.Stored.{IsStored, records_of, naming_of, count_of};
-ghost use Rattle.redo_store.specs.Inside.Stored.{AreInOrder, ArePlaces};
+ghost use Rattle.redo_store.specs.Stored.{records_of, naming_of, count_of};
+ghost use Rattle.redo_store.specs.Inside.Stored.{IsStored, AreInOrder, ArePlaces};
 
 use crate::store::Store;
 use crate::store::stale::names_at;

@@ -1,4 +1,4 @@
-use Rattle.redo_records.specs.Kept.{IsKept}
+use Rattle.redo_records.specs.Inside.Kept.{IsKept}
 use Rattle.redo_records.proofs.Forgetting.{with_rest}
 use Rattle.redo_records.proofs.inverse.forget.Given as goal
 

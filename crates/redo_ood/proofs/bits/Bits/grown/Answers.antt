@@ -1,5 +1,5 @@
 use Rattle.std.proofs.Common.{◌≡◌, ◌≤◌, ◌∙◌, ℕ, Bool, List, false, length, get_or, sym, ap, subst, arith}
-use Rattle.redo_ood.specs.KeptBits.{bits_below}
+use Rattle.redo_ood.specs.Inside.KeptBits.{bits_below}
 use Rattle.redo_ood.proofs.Words.{bits_sized, none_past_grown, same_flag}
 use Rattle.redo_ood.proofs.bits.Bits.grown.Goals as goal
 

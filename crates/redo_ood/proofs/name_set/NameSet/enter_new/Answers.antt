@@ -1,7 +1,7 @@
 use Rattle.std.proofs.Common.{◌<◌, ◌≡◌, true, false, get_or, length, sym, ap, subst, arith}
 use Rattle.std.proofs.lemmas.List.{length-set}
 use Rattle.redo_ood.specs.NameSet.{Marked, size_of}
-use Rattle.redo_ood.specs.KeptNames.{marked_of}
+use Rattle.redo_ood.specs.Inside.KeptNames.{marked_of}
 use Rattle.redo_ood.proofs.Marking.{queue_with_name}
 use Rattle.redo_ood.proofs.name_set.NameSet.enter_new.Goals as goal
 

@@ -1,7 +1,7 @@
 use Rattle.std.proofs.Common.{sym, subst}
 use Rattle.redo_model.specs.Renaming.{AllBelow}
 use Rattle.redo_ood.specs.NameSet.{Marked, size_of}
-use Rattle.redo_ood.specs.KeptNames.{marked_of}
+use Rattle.redo_ood.specs.Inside.KeptNames.{marked_of}
 use Rattle.redo_ood.proofs.Listing.{queue_below}
 use Rattle.redo_ood.proofs.name_set.NameSet.queue.Goals as goal
 

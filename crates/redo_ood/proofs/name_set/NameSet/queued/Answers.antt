@@ -1,6 +1,6 @@
 use Rattle.std.proofs.Common.{◌<◌, length, sym, subst}
 use Rattle.redo_ood.specs.NameSet.{Marked, IsQueued, size_of}
-use Rattle.redo_ood.specs.KeptNames.{marked_of}
+use Rattle.redo_ood.specs.Inside.KeptNames.{marked_of}
 use Rattle.redo_ood.proofs.Marking.{marked_below}
 use Rattle.redo_ood.proofs.name_set.NameSet.queued.Goals as goal
 

@@ -1,7 +1,7 @@
 use Rattle.std.proofs.Common.{◌<◌, ◌^◌, length, arith}
 use Rattle.std.specs.List.{Contains}
 use Rattle.redo_ood.specs.NameSet.{Marked}
-use Rattle.redo_ood.specs.KeptNames.{marked_of}
+use Rattle.redo_ood.specs.Inside.KeptNames.{marked_of}
 use Rattle.redo_ood.proofs.Marking.{unmarks_from, queue_emptied}
 use Rattle.redo_ood.proofs.name_set.NameSet.unmark.Goals as goal
 

@@ -3,7 +3,7 @@ use Rattle.std.specs.List.{Contains}
 use Rattle.redo_model.specs.Renaming.{AllBelow}
 use Rattle.redo_ood.specs.Bits.{IsSet}
 use Rattle.redo_ood.specs.NameSet.{Marked, IsMarked, IsQueued, size_of}
-use Rattle.redo_ood.specs.KeptNames.{marked_of}
+use Rattle.redo_ood.specs.Inside.KeptNames.{marked_of}
 use Rattle.redo_ood.proofs.Listing.{queue_below}
 use Rattle.redo_ood.proofs.Marking.{unmarks_from, queue_emptied}
 use Rattle.redo_ood.proofs.name_set.NameSet.unmark_queue.Goals as goal

@@ -1,5 +1,5 @@
 use Rattle.std.proofs.Common.{refl}
-use Rattle.redo_records.specs.Kept.{has_created}
+use Rattle.redo_records.specs.Inside.Kept.{has_created}
 use Rattle.redo_records.proofs.Listed.{inverse_below}
 use Rattle.redo_records.proofs.rows.DepRows.awaited_by.Goals as goal
 

@@ -2,7 +2,7 @@ use Rattle.std.proofs.Common.{rules, ◌≡◌, ◌∙◌, ℕ, ◌+◌, ◌-◌
 use Rattle.std.proofs.Math.ListN.{replicate, length-replicate}
 use Rattle.redo_records.specs.Rows.{TargetRows, bare, rows_of}
 use Rattle.redo_records.specs.Numbers.{NumberList}
-use Rattle.redo_records.specs.Kept.{IsKept}
+use Rattle.redo_records.specs.Inside.Kept.{IsKept}
 use Rattle.redo_records.proofs.Growing.{kept_grown, rows_grown}
 use Rattle.redo_records.proofs.rows.DepRows.grow.Goals as goal
 

@@ -1,6 +1,6 @@
 use Rattle.std.proofs.Common.{refl}
 use Rattle.redo_records.specs.Meaning.{row_mark_of}
-use Rattle.redo_records.specs.Kept.{has_change}
+use Rattle.redo_records.specs.Inside.Kept.{has_change}
 use Rattle.redo_records.proofs.Changed.{change_written}
 use Rattle.redo_records.proofs.Writing.{kept_change, knows_row}
 use Rattle.redo_records.proofs.rows.DepRows.put_change.Goals as goal

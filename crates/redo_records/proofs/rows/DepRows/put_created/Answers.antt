@@ -1,5 +1,5 @@
 use Rattle.std.proofs.Common.{refl}
-use Rattle.redo_records.specs.Kept.{has_created}
+use Rattle.redo_records.specs.Inside.Kept.{has_created}
 use Rattle.redo_records.proofs.Changed.{created_written}
 use Rattle.redo_records.proofs.Writing.{kept_created, knows_row}
 use Rattle.redo_records.proofs.rows.DepRows.put_created.Goals as goal

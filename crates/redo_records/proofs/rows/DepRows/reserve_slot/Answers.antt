@@ -1,7 +1,7 @@
 use Rattle.std.proofs.Common.{◌≡◌, ◌∙◌, ◌<◌, sym, ap, arith, length, set}
 use Rattle.std.proofs.lemmas.List.{get_or_default}
 use Rattle.redo_records.specs.Rows.{TargetRows}
-use Rattle.redo_records.specs.Kept.{slots_on, sits_on}
+use Rattle.redo_records.specs.Inside.Kept.{slots_on, sits_on}
 use Rattle.std.proofs.lemmas.List.Sums.{count_by-le-length}
 use Rattle.redo_records.proofs.Changed.{slot_added_rows}
 use Rattle.redo_records.proofs.Writing.{kept_needed, kept_awaited, kept_always, kept_slot}

@@ -1,6 +1,6 @@
 use Rattle.std.proofs.Common.{sym, ap, ◌∙◌, option_map}
 use Rattle.redo_model.specs.State.{mark_in}
-use Rattle.redo_records.specs.KeptMark.{kept_mark_of}
+use Rattle.redo_records.specs.Inside.KeptMark.{kept_mark_of}
 use Rattle.redo_records.specs.Rows.{Slot}
 use Rattle.redo_records.proofs.Told.{other_told}
 use Rattle.redo_records.proofs.target.Slot.has_changed.Goals as goal

@@ -1,8 +1,7 @@
 use Rattle.std.proofs.Common.{◌≡◌, ◌∙◌, ◌||◌, ap, sym, subst, arith, false, eqb, List, length}
 use Rattle.std.specs.List.{insert}
 use Rattle.redo_records.specs.Rows.{Slot, TargetRows, slot_at, has_slot}
-use Rattle.redo_records.specs.Target.{IsKept}
-use Rattle.redo_records.specs.Inside.Target.{blank, IsGapFor}
+use Rattle.redo_records.specs.Inside.Target.{IsKept, blank, IsGapFor}
 use Rattle.redo_records.proofs.SlotEdits.{slot_at-insert, has_slot-insert}
 use Rattle.redo_records.proofs.Keeping.{kept_added}
 use Rattle.redo_records.proofs.target.Target.add_slot.Goals as goal

@@ -2,8 +2,7 @@ use Rattle.std.proofs.Common.{◌≡◌, ◌∙◌, ap, subst, refl, true, Some,
 use Rattle.redo_records.specs.declared.mark.Mark.{Mark}
 use Rattle.redo_records.specs.Meaning.{row_mark_of}
 use Rattle.redo_records.specs.Rows.{Slot, TargetRows, slot_at, has_slot}
-use Rattle.redo_records.specs.Target.{has_row}
-use Rattle.redo_records.specs.Inside.Target.{IsSlotOf}
+use Rattle.redo_records.specs.Inside.Target.{has_row, IsSlotOf}
 use Rattle.redo_records.proofs.Slots.{slot_stands}
 use Rattle.redo_records.proofs.SlotEdits.{has_slot-set}
 use Rattle.redo_records.proofs.Keeping.{row_listed, kept_written, new_named, rows_written}

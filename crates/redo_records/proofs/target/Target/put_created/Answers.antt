@@ -1,8 +1,7 @@
 use Rattle.std.proofs.Common.{◌≡◌, ◌∙◌, ap, subst, refl, true, is_some, List, cond, eqb}
 use Rattle.std.proofs.lemmas.Bool.{or_right}
 use Rattle.redo_records.specs.Rows.{Slot, TargetRows, slot_at, has_slot}
-use Rattle.redo_records.specs.Target.{has_row}
-use Rattle.redo_records.specs.Inside.Target.{IsSlotOf}
+use Rattle.redo_records.specs.Inside.Target.{has_row, IsSlotOf}
 use Rattle.redo_records.proofs.Slots.{slot_stands}
 use Rattle.redo_records.proofs.SlotEdits.{has_slot-set}
 use Rattle.redo_records.proofs.Keeping.{row_listed, kept_written, new_named, rows_written}

@@ -1,6 +1,6 @@
 use Rattle.std.proofs.Common.{ℕ, ◌≤◌, subst}
 use Rattle.redo_model.specs.Inside.Unknown.{IsUnknown}
-use Rattle.redo_store.specs.Kept.{tables_of}
+use Rattle.redo_store.specs.Inside.Kept.{tables_of}
 use Rattle.redo_store.specs.Tables.{Tables, state_of, tables_count}
 use Rattle.redo_store.proofs.Unknown.{unknown_past}
 use Rattle.redo_store.proofs.redo.Redo.count.Goals as goal

@@ -1,6 +1,6 @@
 use Rattle.std.proofs.Common.{◌≡◌, ◌<◌, None, length, get_or, sym, subst, arith}
 use Rattle.redo_store.specs.Tables.{Tables, tables_count, locks_of}
-use Rattle.redo_store.specs.Kept.{tables_of}
+use Rattle.redo_store.specs.Inside.Kept.{tables_of}
 use Rattle.redo_store.proofs.Kept.{granted}
 use Rattle.redo_store.proofs.redo.Redo.grant.Goals as goal
 

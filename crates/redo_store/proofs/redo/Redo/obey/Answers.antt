@@ -2,7 +2,7 @@ use Rattle.std.proofs.Common.{◌≡◌, ◌∙◌, refl, ap, subst, sym}
 use Rattle.redo_model.specs.Step.{Answers, after}
 use Rattle.redo_model.proofs.LetThrough.{free_through}
 use Rattle.redo_terms.specs.Meaning.{command_of, reply_of}
-use Rattle.redo_store.specs.Kept.{tables_of}
+use Rattle.redo_store.specs.Inside.Kept.{tables_of}
 use Rattle.redo_store.specs.Tables.{Tables, state_of, tables_records, locks_of}
 use Rattle.redo_store.specs.Inside.Tables.{tables_naming}
 use Rattle.redo_store.proofs.Obeyed.{accepted_told, freed, freed_at, obeyed_accepted}

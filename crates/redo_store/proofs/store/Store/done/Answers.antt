@@ -1,7 +1,7 @@
 use Rattle.std.proofs.Common.{◌<◌, sym, subst, arith}
 use Rattle.redo_records.specs.Cells.{cell_at}
 use Rattle.redo_store.specs.Inside.Stored.{HasBuildsLeft}
-use Rattle.redo_store.specs.KeptStore.{stored_of}
+use Rattle.redo_store.specs.Inside.KeptStore.{stored_of}
 use Rattle.redo_store.proofs.Refreshing.{cell_refreshed, due_by_cell}
 use Rattle.redo_store.proofs.store.Store.done.Goals as goal
 

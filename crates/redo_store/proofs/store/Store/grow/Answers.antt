@@ -1,7 +1,7 @@
 use Rattle.std.proofs.Common.{◌∙◌, ◌≤◌, List, ap, sym, subst, arith}
 use Rattle.redo_model.specs.State.{Cell}
 use Rattle.redo_records.specs.Rows.{TargetRows, with_rows}
-use Rattle.redo_store.specs.KeptStore.{KeepsStored}
+use Rattle.redo_store.specs.Inside.KeptStore.{KeepsStored}
 use Rattle.redo_store.specs.Stored.{Stored, records_of}
 use Rattle.redo_store.proofs.Counting.{IsStored-by_number, ordered_by_number, ranked_by_number}
 use Rattle.redo_store.proofs.Slots.{same_records, still_right}

@@ -1,4 +1,4 @@
-use Rattle.redo_store.specs.KeptStore.{stored_of}
+use Rattle.redo_store.specs.Inside.KeptStore.{stored_of}
 use Rattle.redo_store.proofs.Effects.{put_for_always}
 use Rattle.redo_store.proofs.Refreshing.{rows_refreshed, was_right_by_always}
 use Rattle.redo_store.proofs.store.Store.put_always.Goals as goal

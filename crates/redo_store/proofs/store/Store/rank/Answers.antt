@@ -1,5 +1,5 @@
 use Rattle.std.proofs.Common.{◌≡◌, ◌<◌, get_or, length, vec_len, sym, subst, arith, rules}
-use Rattle.redo_store.specs.KeptStore.{stored_of}
+use Rattle.redo_store.specs.Inside.KeptStore.{stored_of}
 use Rattle.redo_store.specs.Stored.{Stored, count_of}
 use Rattle.redo_store.proofs.Ranked.{rank_read, sorted_few}
 use Rattle.redo_store.proofs.store.Store.rank.Goals as goal

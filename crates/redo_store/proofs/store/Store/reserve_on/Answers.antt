@@ -4,7 +4,7 @@ use Rattle.redo_model.specs.State.{Rows}
 use Rattle.redo_ood.specs.Memo.{IsRight}
 use Rattle.redo_records.specs.Cells.{cell_at}
 use Rattle.redo_records.specs.Rows.{room_of}
-use Rattle.redo_store.specs.KeptStore.{stored_of}
+use Rattle.redo_store.specs.Inside.KeptStore.{stored_of}
 use Rattle.redo_store.proofs.Kept.{IsStored-set_rows}
 use Rattle.redo_store.proofs.Rooms.{all_of_them}
 use Rattle.redo_store.proofs.store.Store.reserve_on.Goals as goal

@@ -1,6 +1,6 @@
 use Rattle.std.proofs.Common.{◌<◌, length, sym, subst}
 use Rattle.redo_store.specs.Stored.{Stored}
-use Rattle.redo_store.specs.KeptStore.{stored_of}
+use Rattle.redo_store.specs.Inside.KeptStore.{stored_of}
 use Rattle.redo_store.proofs.Effects.{started}
 use Rattle.redo_store.proofs.Kept.{IsStored-set_cell, IsStored-set_rows}
 use Rattle.redo_store.proofs.Refreshing.{refreshed, was_right_by_start}

@@ -5,7 +5,14 @@ use Rattle.redo_model.specs.State as states
 use Rattle.redo_records.specs.declared.state.State.{State}
 use Rattle.redo_records.specs.declared.state.State.TheVariants.{Idle, Building, Built, Failed}
 use Rattle.redo_records.specs.declared.cell.Cell.TheInside.{Inside}
-use Rattle.redo_records.specs.Meaning.{target_state_of, state_for}
+use Rattle.redo_records.specs.Meaning.{target_state_of}
+
+-- the state that means it
+abbrev pub state_for : states.TargetState → State
+state_for states.Idle = Idle
+state_for (states.Building s) = Building s
+state_for states.Built = Built
+state_for states.Failed = Failed
 
 abbrev pub cell_of : Inside → states.Cell
 cell_of c = record {

@@ -1,5 +1,6 @@
 -- The value of the database's fields, and their invariant.
-use Rattle.redo_store.specs.Tables.{Tables, AreTables}
+use Rattle.redo_store.specs.Tables.{Tables}
+use Rattle.redo_store.specs.Inside.Tables.{AreTables}
 use Rattle.redo_store.specs.declared.redo.Redo.TheInside.{Inside}
 
 abbrev pub tables_of : Inside → Tables

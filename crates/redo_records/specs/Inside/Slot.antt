@@ -3,7 +3,7 @@ use Rattle.std.specs.Prelude.{◌≡◌, refl, Option, Some, None, option_map}
 use Rattle.std.proofs.Common.{ap}
 use Rattle.redo_records.specs.declared.kept_mark.KeptMark.{KeptMark}
 use Rattle.redo_records.specs.declared.target.Slot.TheInside.{Inside}
-use Rattle.redo_records.specs.KeptMark.{kept_mark_of, kept_mark_for, kept_mark_for-kept_mark_of}
+use Rattle.redo_records.specs.Inside.KeptMark.{kept_mark_of, kept_mark_for, kept_mark_for-kept_mark_of}
 use Rattle.redo_records.specs.Rows.{Slot}
 
 abbrev pub slot_of : Inside → Slot

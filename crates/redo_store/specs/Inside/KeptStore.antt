@@ -2,7 +2,8 @@
 use Rattle.std.specs.Prelude.{◌≡◌}
 use Rattle.redo_ood.specs.Memo.{memo_count, IsRight}
 use Rattle.redo_store.specs.Orders.{AreRanks}
-use Rattle.redo_store.specs.Stored.{Stored, IsStored, records_of, count_of}
+use Rattle.redo_store.specs.Stored.{Stored, records_of, count_of}
+use Rattle.redo_store.specs.Inside.Stored.{IsStored}
 use Rattle.redo_store.specs.declared.store.Store.TheInside.{Inside}
 
 abbrev pub stored_of : Inside → Stored
