@@ -27,15 +27,17 @@ fn is_read<R: Read>(
     }
 }
 
-/// Four bytes are within the limit, and five are too many.
+/// Four bytes are within the limit, and five are too many. Memory is requested for the bytes that come, and not for as
+/// many as may come.
 #[test]
 fn whole_reads(rt: HostRuntime) {
-    for (bytes, want) in [
-        (b"abcd".as_slice(), Ok(b"abcd".as_slice())),
-        (b"abcde".as_slice(), Err(WholeFault::TooLong)),
+    for (bytes, most, want) in [
+        (b"abcd".as_slice(), 4, Ok(b"abcd".as_slice())),
+        (b"abcde".as_slice(), 4, Err(WholeFault::TooLong)),
+        (b"abcd".as_slice(), usize::MAX, Ok(b"abcd".as_slice())),
     ] {
         let mut reader = Watched::new(bytes);
-        assert!(rt; is_read(rt.alloc(), &mut reader, 4, want) && !reader.faulted());
+        assert!(rt; is_read(rt.alloc(), &mut reader, most, want) && !reader.faulted());
     }
 }
 

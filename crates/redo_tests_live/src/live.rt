@@ -64,9 +64,10 @@ const COMMON_PATH: &[Step] = &[
     (0, Answer("ood"), Said("1 ood => ood a.o\n")),
 ];
 
-/// A command whose names don't fit is a fault, and makes no name known.
+/// A command whose names don't fit is a fault, and makes no name known. Nor does one whose answer is over the limit.
 const TOO_MANY_NAMES: &[Step] = &[
     (0, Gone(65_535), Nothing),
+    (0, Within("lock c", 0), TooLong(22)),
     (0, Answer("ifchange a b"), Fault(LineFault::TooManyNames)),
     (0, Answer("gone a"), Said("1 gone a => ok\n")),
     (0, Answer("gone b"), Fault(LineFault::TooManyNames)),

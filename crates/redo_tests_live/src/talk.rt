@@ -1,6 +1,6 @@
 //! Conversations that were worked out by hand from the rules.
 use redo_live::{Live, Withheld};
-use redo_talk::{Replied, converse, reply};
+use redo_talk::{Replied, TalkFault, converse, reply};
 use redo_whole::Watched;
 use std::alloc::{AllocError, Global};
 use std::process::Abort;
@@ -99,6 +99,21 @@ fn talks(rt: HostRuntime) -> Result<(), AllocError> {
     }
     let long = lines_of(rt.alloc(), &[8192, 8193, 200_000])?;
     check_talk(&rt, rt.alloc(), &long, (TOO_LONG, ""))
+}
+
+/// A line that changes something isn't answered if the log takes no byte.
+#[test]
+fn full_log(rt: HostRuntime) {
+    let mut said = Vec::new(rt.alloc());
+    let mut room: [u8; 0] = [];
+    let ended = converse(
+        rt.alloc(),
+        &mut Watched::new(b"1 lock a\n".as_slice()),
+        &mut Watched::new(room.as_mut_slice()),
+        &mut Watched::new(&mut said),
+    );
+    assert!(rt; ended == Err(TalkFault::Write));
+    assert!(rt; said.is_empty());
 }
 
 /// Lines, their answers, how they are answered, and how many bytes of each answer are logged.

@@ -204,3 +204,24 @@ fn closing_and_guarded(rt: HostRuntime) -> Result<(), AllocError> {
 fn refused_memory(rt: HostRuntime) -> Result<(), AllocError> {
     check_cases(&rt, rt.alloc(), &[MERGING])
 }
+
+/// Whether the journals are those of the two sessions, where the second one's has this number.
+fn is_of_second(alloc: Global, plan: &Plan, session: u8) -> Result<bool, AllocError> {
+    let mut journals = Vec::new(alloc);
+    journals.push(journal_of(alloc, 0, &[], &[])?)?;
+    journals.push(journal_of(alloc, session, FIRST, &[])?)?;
+    are_journals(alloc, plan, &journals)
+}
+
+/// The journal of a session that did something has that session's number.
+#[test]
+fn journal_of_another(rt: HostRuntime) -> Result<(), AllocError> {
+    let plan = plan_again(&rt, rt.alloc(), &["ood\n", "lock t\nunlock t\n"])?;
+    for (session, want) in [(0, false), (1, true), (2, false)] {
+        assert!(rt;
+            is_of_second(rt.alloc(), &plan, session)? == want,
+            "{session}"
+        );
+    }
+    Ok(())
+}
