@@ -1,4 +1,5 @@
-use Rattle.std.proofs.Common.{◌≡◌, ℕ, Some, refl, sym, subst, ◌∙◌, rules}
+use Rattle.std.proofs.Common.{◌≡◌, ℕ, Some, refl, sym, subst, ◌∙◌}
+use Rattle.std.proofs.lemmas.Result.{err_from_is_err_and}
 use Rattle.redo_model.specs.Journals.{Numbered}
 use Rattle.redo_model.specs.Renaming.{IsBelow}
 use Rattle.redo_terms.specs.Meaning.{command_of}
@@ -62,12 +63,13 @@ returns-in_err-reserve-clause-err g c =
     let x : Worker = c.pass_row.new.self in
     let u : Worker = record x { store = c.reserve.new.self } in
     let e = c.catch_up.ensures in
-    let waits : Waits p w u =
-    waits-same p w x u
+    let failed = err_from_is_err_and c.from_residual-in_err-reserve.result
+    c.from_residual-in_err-reserve.ensures.1 in
+    rw failed.1
+    (waits-same p w x u
     (still p w c.rows.self c.catch_up.new.self x c.rows.invariant.2 e.same.0 e.same.1
     e.seat (c.pass_row.ensures.same c.if-pass_row.false))
-    refl refl refl in
-    search rules
+    refl refl refl)
 
 pub returns-in_err-list-clause-err : goal.returns-in_err-list-clause-err
 returns-in_err-list-clause-err g c =
@@ -75,10 +77,11 @@ returns-in_err-list-clause-err g c =
     let w = c.args.self.now in
     let x = c.pass_row.new.self in
     let e = c.catch_up.ensures in
-    let waits : Waits p w x =
-    still p w c.rows.self c.catch_up.new.self x c.rows.invariant.2 e.same.0 e.same.1 e.seat
-    (c.pass_row.ensures.same c.if-pass_row.false) in
-    search rules
+    let failed = err_from_is_err_and c.from_residual-in_err-list.result
+    c.from_residual-in_err-list.ensures.1 in
+    rw failed.1
+    (still p w c.rows.self c.catch_up.new.self x c.rows.invariant.2 e.same.0 e.same.1 e.seat
+    (c.pass_row.ensures.same c.if-pass_row.false))
 
 pub try_row-requires-clause-ready : goal.try_row-requires-clause-ready
 try_row-requires-clause-ready g c =
