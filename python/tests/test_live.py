@@ -29,7 +29,7 @@ class StandIn:
 
     def begin(self) -> None:
         self.live.start(cast(Program, self))
-        self.answer("redodb-live 0.1.0 restored 0")
+        self.answer("redodb-live 0.2.0 restored 0")
 
     def answer(self, *lines: str) -> None:
         self.answers.write("".join(line + "\n" for line in lines).encode())

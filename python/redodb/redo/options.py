@@ -1,6 +1,4 @@
-"""The options of the programs, and what --help and --version say."""
-
-VERSION = "0.1.0"
+"""The options of the programs, and what --help says."""
 
 COMMON = """
     --help             prints this
