@@ -1,4 +1,4 @@
-//! A case: the journals are merged to what the search finds.
+//! Compares what merging finds with what the search over all orders finds.
 use crate::orders::first_order;
 use crate::told::{Told, are_lines, journals_of};
 use redo_journal::{Journal, Plan, are_journals};
@@ -7,7 +7,7 @@ use redo_terms::Line;
 use std::alloc::{AllocError, Global};
 use std::process::Abort;
 
-/// How many cases had an order, and how many had none.
+/// How many cases had a joint order, and how many had none.
 #[derive(Drop)]
 pub(crate) struct Tally {
     pub(crate) some: u32,
@@ -39,7 +39,7 @@ fn merged(
     merge(alloc, plan, journals)
 }
 
-/// Whether the lines are in this order, or there is neither.
+/// Whether the lines are those of this order, or there are neither lines nor an order.
 fn agree(
     plan: &Plan,
     told: &[Vec<Told>],
@@ -53,7 +53,7 @@ fn agree(
     }
 }
 
-/// Whether the journals of these answers are merged to this order, or there is neither.
+/// Whether merging the journals of these answers finds this order, or finds none if there is none.
 fn agrees(
     rt: &impl Abort,
     alloc: Global,
@@ -66,7 +66,8 @@ fn agrees(
     Ok(agree(plan, told, order, &lines))
 }
 
-/// Merges the journals of these answers. Returns the first order, if there is one.
+/// Asserts that merging these answers agrees with the search, and counts the case. Returns the
+/// first order, if there is one.
 pub(crate) fn check(
     rt: &impl Abort,
     alloc: Global,

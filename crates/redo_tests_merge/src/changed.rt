@@ -1,4 +1,4 @@
-//! Journals with other places.
+//! Changed journals: other places, exchanged lines, journals that are cut short.
 use crate::drawn::Drawn;
 use crate::told::{Answer, Told, copied, count_of};
 use redo_journal::Place;
@@ -26,7 +26,7 @@ fn with_number(place: Place, number: u32) -> Place {
     }
 }
 
-/// The place, with the answer that fits it.
+/// The place, with its grant as the answer to a `lock`; else with this answer.
 fn told_at(place: Place, answer: Answer) -> Told {
     let answer = match place {
         Place::Granted(_, grant) => Answer::Granted(grant),
@@ -36,7 +36,7 @@ fn told_at(place: Place, answer: Answer) -> Told {
     Told { answer, place }
 }
 
-/// A granted lock becomes a busy one, and a busy one becomes the next grant.
+/// Turns a granted lock into a busy one, and a busy one into the next grant.
 fn turned(place: Place) -> Place {
     match place {
         Place::Granted(target, grant) => Place::Busy(target, grant),
@@ -45,7 +45,7 @@ fn turned(place: Place) -> Place {
     }
 }
 
-/// A place that doesn't fit the command.
+/// A place that doesn't fit the line's command and answer.
 fn misplaced(place: Place) -> Place {
     match place {
         Place::Row(row) => Place::Released(0, row),
@@ -53,7 +53,7 @@ fn misplaced(place: Place) -> Place {
     }
 }
 
-/// The line, changed in one of the ways.
+/// The line, changed in the way with this number.
 fn changed(told: Told, way: usize) -> Told {
     let number = number_of(told.place);
     let more = with_number(told.place, number.wrapping_add(1));
@@ -85,7 +85,7 @@ fn set(told: &mut [Vec<Told>], session: usize, number: usize, one: Told) {
     }
 }
 
-/// Exchanges what was told at two lines: of two rows the places, and else the answers too.
+/// Exchanges the places of two lines, and the answers too unless both are rows.
 fn exchange(told: &mut [Vec<Told>], one: (usize, usize), two: (usize, usize)) {
     let (Some(first), Some(second)) = (get(told, one.0, one.1), get(told, two.0, two.1)) else {
         return;
@@ -114,7 +114,7 @@ fn drawn_line(random: &mut Random, told: &[Vec<Told>]) -> (usize, usize) {
     }
 }
 
-/// A line is changed, or two are exchanged, as it is drawn.
+/// Changes a random line, or exchanges two.
 fn change_line(random: &mut Random, told: &mut [Vec<Told>]) {
     let (session, line) = drawn_line(random, told);
     let way = random.below(WAYS + 2);
@@ -126,7 +126,7 @@ fn change_line(random: &mut Random, told: &mut [Vec<Told>]) {
     }
 }
 
-/// Each journal is cut short anywhere, or stays.
+/// Cuts each journal to a random length, or leaves it whole.
 fn cut(random: &mut Random, told: &mut [Vec<Told>]) {
     for own in told.iter_mut() {
         if random.below(2) == 0 {
@@ -135,8 +135,7 @@ fn cut(random: &mut Random, told: &mut [Vec<Told>]) {
     }
 }
 
-/// The line at this place of the order and the one before it, which are of one session, exchange
-/// what was told.
+/// Exchanges the line at this place of the order with its session's line before it.
 fn move_line(told: &mut [Vec<Told>], order: &[u8], at: usize) {
     if let Some(session) = order.get(at) {
         let own = *session as usize;
@@ -154,7 +153,7 @@ pub(crate) enum Change {
     Moved(usize),
 }
 
-/// A changed copy of what was told.
+/// A copy of the answers with this change.
 pub(crate) fn with_change(
     alloc: Global,
     random: &mut Random,

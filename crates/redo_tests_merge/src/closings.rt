@@ -1,4 +1,5 @@
-//! What sessions may close by at their end, and what not.
+//! Closing commands at the end of a session: right ones and wrong ones. Names are numbered in the
+//! order in which the files have them.
 use crate::merging::{Act, Case, Closing, Made, Want};
 use crate::told::{Answer, Wanted};
 use Answer::{Busy, Granted, NotLocked, Okay};
@@ -7,7 +8,7 @@ use Want::{Journals, Merged, NoJournals, Unmerged};
 use redo_journal::Place;
 use redo_terms::Kind;
 
-/// A place that isn't looked at. Names have numbers in the order in which they come.
+/// Any place: `are_journals` doesn't look at it.
 const ANY: Place = Place::Row(0);
 
 const GRANTED: Act = (None, Granted(1), ANY);
@@ -38,11 +39,11 @@ const BUILDS: Case = Case {
         (&[], Journals),
         (&[(2, FAILED)], Journals),
         (&[(2, FAILED), (3, UNLOCK)], Journals),
-        // It is building.
+        // The target is building.
         (&[(2, UNLOCK)], NoJournals),
-        // It has failed already.
+        // The build has failed already.
         (&[(2, FAILED), (3, FAILED)], NoJournals),
-        // Nothing is held any more.
+        // The session holds nothing any more.
         (&[(2, FAILED), (3, UNLOCK), (4, UNLOCK)], NoJournals),
     ],
 };
@@ -54,7 +55,7 @@ const HAS_BUILT: Case = Case {
     ways: &[(&[(3, UNLOCK)], Journals), (&[(3, FAILED)], NoJournals)],
 };
 
-/// The least name by bytes comes first, not the one that was locked first.
+/// A session closes the least name by bytes first, not the one that it locked first.
 const HOLDS_TWO: Case = Case {
     files: &["lock b\nlock a\n"],
     made: &[&[(0, GRANTED), (1, GRANTED)]],
@@ -63,7 +64,7 @@ const HOLDS_TWO: Case = Case {
         (&[(2, UNLOCK_1)], Journals),
         (&[(2, UNLOCK_1), (3, UNLOCK)], Journals),
         (&[(2, UNLOCK)], NoJournals),
-        // The numbers aren't the next.
+        // A number is used twice, or one is left out.
         (&[(1, UNLOCK_1)], NoJournals),
         (&[(3, UNLOCK_1)], NoJournals),
         (&[(2, UNLOCK_1), (2, UNLOCK)], NoJournals),
@@ -80,7 +81,7 @@ const HOLDS_THREE: Case = Case {
     ],
 };
 
-/// Only a target that is building is failed.
+/// A session fails only a target that it is building.
 const BUILDS_ONE: Case = Case {
     files: &["lock b\nlock a\nstart b\n"],
     made: &[&[(0, GRANTED), (1, GRANTED), (2, OKAY)]],
@@ -114,7 +115,7 @@ const HAS_LOCKED_AGAIN: Case = Case {
     ways: &[
         (&[(3, UNLOCK)], Journals),
         (&[(3, FAILED)], NoJournals),
-        // An entry says that its command is a closing one exactly where no line has its number.
+        // An entry after the last line names its closing command.
         (&[(3, OKAY)], NoJournals),
     ],
 };
@@ -143,7 +144,7 @@ const HAS_A_LINE_LEFT: Case = Case {
     ],
 };
 
-/// Skipped lines are counted, too.
+/// The number of a closing command counts skipped lines too.
 const SKIPS_A_LINE: Case = Case {
     files: &["lock a\nlock b\n? start b\n"],
     made: &[&[(0, GRANTED), (1, BUSY)]],
@@ -151,7 +152,7 @@ const SKIPS_A_LINE: Case = Case {
     ways: &[(&[(3, UNLOCK)], Journals), (&[(2, UNLOCK)], NoJournals)],
 };
 
-/// An entry of a line says that its command is a closing one.
+/// The entry of a line names no closing command.
 const MARKS_A_LINE: Case = Case {
     files: &["lock t\nunlock t\nlock t\n"],
     made: &[&[]],
@@ -186,8 +187,9 @@ const MARKS_A_LINE: Case = Case {
     ],
 };
 
-/// The first session breaks off in a build, and the second has the target after it. `T` is name 0. Where the first was
-/// left before it let go of `T`, the second can't have it. Closing commands are merged as others are.
+/// The first session's file ends while it builds `T`, which is name 0, and the second locks `T`
+/// later. If the first has not released `T`, there is no joint order. Closing commands are merged as
+/// others are.
 const ONE_AFTER_THE_OTHER: Case = Case {
     files: &["lock T\nlock a\nstart T\n", "lock T\n"],
     made: &[
@@ -206,13 +208,13 @@ const ONE_AFTER_THE_OTHER: Case = Case {
     ways: &[(LETS_GO, Merged(MERGED)), (&[], Unmerged)],
 };
 
-/// The first session lets go of `T`, and of `a` after it.
+/// The first session releases `T`, and then `a`.
 const LETS_GO: &[Made] = &[
     (4, (Some(Unlock(0)), Okay, Place::Released(0, 1))),
     (5, (Some(Unlock(1)), Okay, Place::Released(1, 1))),
 ];
 
-/// The lines of their history.
+/// The history of both sessions.
 const MERGED: &[Wanted] = &[
     (0, Kind::Lock, 0, Granted(1)),
     (0, Kind::Lock, 1, Granted(1)),

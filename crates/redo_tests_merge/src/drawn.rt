@@ -1,4 +1,4 @@
-//! Plans that are drawn at random, and what their sessions are answered in a drawn order.
+//! Random plans, and what a simple database answers to their lines in a random order.
 ghost use Rattle.std.specs.Prelude.{◌<◌};
 
 use crate::plans::command_at;
@@ -9,7 +9,7 @@ use redo_testing::{Random, planned};
 use std::alloc::{AllocError, Global};
 use std::process::Abort;
 
-/// A plan, an order of its sessions' lines, and what each session is answered.
+/// A plan, an order of its sessions' lines, and each session's answers.
 #[derive(Drop)]
 pub(crate) struct Drawn {
     pub(crate) plan: Plan,
@@ -17,7 +17,7 @@ pub(crate) struct Drawn {
     pub(crate) told: Vec<Vec<Told>>,
 }
 
-/// A session file of so many lines.
+/// A session file with this number of lines.
 fn text_of(alloc: Global, random: &mut Random, lines: usize) -> Result<String, AllocError> {
     let mut text = String::new(alloc);
     for _ in 0..lines {
@@ -32,7 +32,7 @@ fn text_of(alloc: Global, random: &mut Random, lines: usize) -> Result<String, A
     Ok(text)
 }
 
-/// The files of one to four sessions. Two of four have few lines, so that the orders are few.
+/// The files of one to four sessions. Of four, two have at most two lines: all orders are searched.
 fn texts_of(alloc: Global, random: &mut Random) -> Result<Vec<String>, AllocError> {
     let sessions = random.below(4) + 1;
     let mut texts = Vec::new(alloc);
@@ -54,14 +54,14 @@ fn drawn_plan(rt: &impl Abort, alloc: Global, random: &mut Random) -> Result<Pla
     Ok(planned(alloc, &files)?.expect(rt, "a plan"))
 }
 
-/// The claims on a target: how often it was granted, and who holds it.
+/// A target's lock: how often it was granted, and which session holds it.
 #[derive(Clone, Copy)]
 struct Held {
     grants: u32,
     holder: Option<u8>,
 }
 
-/// The rows and the claims of a simple database.
+/// A simple database: how many rows were made, and each target's lock.
 #[derive(Drop)]
 struct Simple {
     rows: u32,
@@ -137,7 +137,7 @@ fn tell(
     Ok(())
 }
 
-/// So many sessions without an answer.
+/// An empty list of answers for each session.
 fn untold(alloc: Global, sessions: usize) -> Result<Vec<Vec<Told>>, AllocError> {
     let mut told = Vec::new(alloc);
     for _ in 0..sessions {
@@ -146,7 +146,7 @@ fn untold(alloc: Global, sessions: usize) -> Result<Vec<Vec<Told>>, AllocError> 
     Ok(told)
 }
 
-/// What each session is answered in this order.
+/// Each session's answers, if the lines are done in this order.
 fn told_in(
     rt: &impl Abort,
     alloc: Global,
@@ -179,7 +179,7 @@ fn shuffle(random: &mut Random, order: &mut [u8]) {
     }
 }
 
-/// A plan, an order, and what the sessions are answered in it.
+/// Draws a plan and an order, and does the lines in that order.
 pub(crate) fn draw(
     rt: &impl Abort,
     alloc: Global,

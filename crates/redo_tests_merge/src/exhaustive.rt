@@ -1,4 +1,4 @@
-//! Compares drawn cases with the search over all orders.
+//! Compares merging with the search over all orders, on random histories.
 ghost use Rattle.std.specs.Prelude.{◌<◌, length};
 
 use crate::cases::{Tally, check};
@@ -12,7 +12,7 @@ use std::process::Abort;
 /// How many histories are drawn.
 const HISTORIES: u32 = 2000;
 
-/// A history's journals, changed so.
+/// Checks the history's journals with this change.
 fn check_changed(
     rt: &impl Abort,
     alloc: Global,
@@ -26,7 +26,7 @@ fn check_changed(
     Ok(())
 }
 
-/// The same, so many times.
+/// Checks this number of changes of this kind.
 fn check_changes(
     rt: &impl Abort,
     alloc: Global,
@@ -48,8 +48,8 @@ fn is_order(alloc: Global, drawn: &Drawn, order: &[u8]) -> Result<bool, AllocErr
     Ok(is_placed(&drawn.told, order, &mut standing))
 }
 
-/// If the lines are still a placed history when the line at this place moves one place forward,
-/// this order doesn't come before the first.
+/// Moves the line at this place one place forward. If the lines are still a placed history, their
+/// order doesn't come before the first.
 fn check_swapped(
     rt: &impl Abort,
     alloc: Global,
@@ -65,8 +65,8 @@ fn check_swapped(
     Ok(())
 }
 
-/// The history with each line moved one place forward: of another session it is one more order of
-/// the same lines, and else two lines of one session exchange what was told.
+/// Moves each line one place forward. Past a line of another session, this is another order of the
+/// same lines; past a line of its own session, the two lines are exchanged.
 fn check_moves(
     rt: &impl Abort,
     alloc: Global,
@@ -85,7 +85,7 @@ fn check_moves(
     Ok(())
 }
 
-/// What is done with each history that is drawn from a seed.
+/// A seed, and what is checked of each history that is drawn from it.
 #[derive(Clone, Copy)]
 struct Search {
     seed: u64,
@@ -96,7 +96,8 @@ struct Search {
     changes: (Change, u32),
 }
 
-/// The first order of a history's journals, which aren't after its own. Whether it is its own.
+/// Checks that the first order of a history's journals is its own, or comes before it. Returns
+/// whether it is its own.
 fn check_history(
     rt: &impl Abort,
     alloc: Global,
@@ -113,7 +114,7 @@ fn check_history(
     Ok(first.as_slice() == drawn.order.as_slice())
 }
 
-/// A history that is drawn, moved and changed. Whether its order is found to be the first.
+/// Draws a history and checks it. Returns whether its own order was found to be the first.
 fn check_drawn(
     rt: &impl Abort,
     alloc: Global,
@@ -128,7 +129,8 @@ fn check_drawn(
     Ok(is_first)
 }
 
-/// What is counted in all histories, and how many have the first order.
+/// Returns how many cases had an order, how many had none, and how many histories were found to be
+/// in their first order.
 fn searched(rt: &impl Abort, alloc: Global, search: Search) -> Result<(u32, u32, u32), AllocError> {
     let mut random = Random::new(search.seed);
     let mut tally = Tally::new();
@@ -157,7 +159,7 @@ fn every_order(rt: HostRuntime) -> Result<(), AllocError> {
     Ok(())
 }
 
-/// A history whose order is the first is what its parts merge to.
+/// Each history is merged, and at least 500 of them to their own order.
 #[test]
 fn first_order(rt: HostRuntime) -> Result<(), AllocError> {
     let (some, _, firsts) = searched(
@@ -174,7 +176,7 @@ fn first_order(rt: HostRuntime) -> Result<(), AllocError> {
     Ok(())
 }
 
-/// Journals that are cut short.
+/// Journals that are cut short at random.
 #[test]
 fn whole_journals(rt: HostRuntime) -> Result<(), AllocError> {
     let (some, none, _) = searched(

@@ -1,19 +1,19 @@
-//! Scripts with guarded lines: an entry is of the first line after the one before it that is let through.
+//! Scripts with guarded lines: each entry is of the next line that the reply before lets through.
 use crate::merging::{Act, Case, FIRST, Want};
 use crate::told::{Answer, Wanted};
 use Want::{Journals, Merged, NoJournals};
 use redo_journal::Place;
 use redo_terms::Kind;
 
-/// What the second session is told: it finds the target locked, and has it later.
+/// The second session's answers: the target is busy, then granted, then released.
 const BUSY: Act = (None, Answer::Busy(1), Place::Busy(0, 1));
 
 const GRANTED: Act = (None, Answer::Granted(2), Place::Granted(0, 2));
 
 const RELEASED: Act = (None, Answer::Okay, Place::Released(0, 2));
 
-/// The lines that are journals of these scripts, as far as they go, and such as are none. Of all lines of the second
-/// session but the second, which is skipped, the journals are merged.
+/// What the second session may have done, and what not. Its second line is skipped. Once all others
+/// are done, the journals are merged.
 pub(crate) const GUARDED: Case = Case {
     files: &[
         "? lock t\n? unlock t\n",
@@ -37,7 +37,7 @@ pub(crate) const GUARDED: Case = Case {
     ],
 };
 
-/// The lines of their history.
+/// The history of both sessions.
 const MERGED: &[Wanted] = &[
     (0, Kind::Lock, 0, Answer::Granted(1)),
     (1, Kind::Lock, 0, Answer::Busy(1)),

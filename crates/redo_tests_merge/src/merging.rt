@@ -16,13 +16,13 @@ pub(crate) enum Closing {
     Unlock(u32),
 }
 
-/// A line, or a command to close after the lines, and what was answered where.
+/// The closing command, unless a line was done; the answer and its place.
 pub(crate) type Act = (Option<Closing>, Answer, Place);
 
-/// The number of a line or of a closing command, and what was done with it.
+/// The number of an entry, and what the entry says.
 pub(crate) type Made = (u32, Act);
 
-/// What journals are.
+/// What is expected of journals.
 #[derive(Clone, Copy)]
 pub(crate) enum Want {
     NoJournals,
@@ -33,8 +33,8 @@ pub(crate) enum Want {
     Merged(&'static [Wanted]),
 }
 
-/// Sessions: their files, what each does, and what one of them goes on to do, with what the journals
-/// are then.
+/// Session files, what each session did, and the ways in which the session `goes_on` may go on,
+/// each with what is expected of the journals.
 #[derive(Clone, Copy)]
 pub(crate) struct Case {
     pub(crate) files: &'static [&'static str],
@@ -51,7 +51,8 @@ pub(crate) const FIRST: &[Made] = &[
 
 const GRANTED: Made = (1, (None, Answer::Granted(2), Place::Granted(0, 2)));
 
-/// The other finds it busy by the first one's grant, or by one that nobody has, and has it later.
+/// The other session is answered `busy` with the first one's grant, or with one that was never
+/// made, and is granted the lock later.
 const MERGING: Case = Case {
     files: &["lock t\nunlock t\n", "lock t\nlock t\n"],
     made: &[FIRST, &[]],
@@ -90,7 +91,7 @@ fn push_all(entries: &mut Vec<Entry>, made: &[Made]) -> Result<(), AllocError> {
     Ok(())
 }
 
-/// The journal of the session that did this, and went on so.
+/// The journal of a session that did `made`, and then `more`.
 fn journal_of(
     alloc: Global,
     session: u8,
@@ -107,7 +108,7 @@ fn journal_of(
     })
 }
 
-/// The journals of the case, of which one goes on so.
+/// The journals of the case, if its session `goes_on` then did `more`.
 fn journals_of(alloc: Global, case: &Case, more: &[Made]) -> Result<Vec<Journal>, AllocError> {
     let mut journals = Vec::new(alloc);
     let mut session: u8 = 0;
@@ -119,7 +120,7 @@ fn journals_of(alloc: Global, case: &Case, more: &[Made]) -> Result<Vec<Journal>
     Ok(journals)
 }
 
-/// Whether the lines are these, where there are any.
+/// Whether there are lines, and they are these.
 fn are_these(lines: &Option<Vec<Line>>, want: &[Wanted]) -> bool {
     match lines {
         Some(lines) => are_wanted(lines, want),
@@ -127,7 +128,7 @@ fn are_these(lines: &Option<Vec<Line>>, want: &[Wanted]) -> bool {
     }
 }
 
-/// Whether this is what they are.
+/// Whether the journals are as expected.
 fn are(alloc: Global, plan: &Plan, journals: &[Journal], want: Want) -> Result<bool, AllocError> {
     if !are_journals(alloc, plan, journals)? {
         return Ok(matches!(want, Want::NoJournals));
@@ -140,7 +141,7 @@ fn are(alloc: Global, plan: &Plan, journals: &[Journal], want: Want) -> Result<b
     }
 }
 
-/// The plan. Where a request is refused, the next try succeeds.
+/// The plan of these files. If a request for memory is refused, a second try is made.
 fn plan_again(rt: &impl Abort, alloc: Global, files: &[&str]) -> Result<Plan, AllocError> {
     let plan = match planned(alloc, files) {
         Ok(plan) => plan,
@@ -149,7 +150,7 @@ fn plan_again(rt: &impl Abort, alloc: Global, files: &[&str]) -> Result<Plan, Al
     Ok(plan.expect(rt, "a plan"))
 }
 
-/// The same of the journals.
+/// The journals of the case, with a second try.
 fn journals_again(alloc: Global, case: &Case, more: &[Made]) -> Result<Vec<Journal>, AllocError> {
     match journals_of(alloc, case, more) {
         Ok(journals) => Ok(journals),
@@ -157,7 +158,7 @@ fn journals_again(alloc: Global, case: &Case, more: &[Made]) -> Result<Vec<Journ
     }
 }
 
-/// The same of what they are.
+/// Whether the journals are as expected, with a second try.
 fn are_again(
     alloc: Global,
     plan: &Plan,
@@ -170,7 +171,7 @@ fn are_again(
     }
 }
 
-/// In each way the journals are what is wanted.
+/// Asserts that the journals are as expected in each way.
 fn check_ways(rt: &impl Abort, alloc: Global, plan: &Plan, case: &Case) -> Result<(), AllocError> {
     for way in case.ways {
         let journals = journals_again(alloc, case, way.0)?;
@@ -191,21 +192,21 @@ fn check_cases(rt: &impl Abort, alloc: Global, cases: &[Case]) -> Result<(), All
     Ok(())
 }
 
-/// After the lines comes what lets go of the least target that is held, and nothing else.
+/// After its lines a session closes the least target that it holds, and does nothing else.
 #[test]
 fn closing_and_guarded(rt: HostRuntime) -> Result<(), AllocError> {
     check_cases(&rt, rt.alloc(), CLOSINGS)?;
     check_cases(&rt, rt.alloc(), &[GUARDED])
 }
 
-/// Passes with each request for memory refused in turn, too: it is then met in one of these calls,
-/// and the next try succeeds.
+/// Passes also if any one request for memory is refused: one of these calls fails then, and its
+/// second try succeeds.
 #[test]
 fn refused_memory(rt: HostRuntime) -> Result<(), AllocError> {
     check_cases(&rt, rt.alloc(), &[MERGING])
 }
 
-/// Whether the journals are those of the two sessions, where the second one's has this number.
+/// Whether these are journals of the plan if the second session's journal has this number.
 fn is_of_second(alloc: Global, plan: &Plan, session: u8) -> Result<bool, AllocError> {
     let mut journals = Vec::new(alloc);
     journals.push(journal_of(alloc, 0, &[], &[])?)?;

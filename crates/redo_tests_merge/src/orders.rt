@@ -1,4 +1,4 @@
-//! All orders of the lines of some sessions: lists of the sessions, each as often as it has lines.
+//! All orders of some sessions' lines: lists of sessions, each as often as it has lines.
 ghost use Rattle.std.specs.Prelude.{◌+◌, ◌<◌, length, IfSome};
 
 use crate::rules::{Standing, all_fit, is_placed};
@@ -36,7 +36,7 @@ fn last_rise(order: &[u8]) -> Option<usize>
     rise
 }
 
-/// The last place with a larger session.
+/// The last place with a larger session, or 0.
 fn last_above(order: &[u8], session: u8) -> usize
     requires { 0 < length order.now }
     ensures { result < length order.now }

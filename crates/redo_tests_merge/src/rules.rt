@@ -1,18 +1,18 @@
-//! The rules of places, written once more: by what stands so far, a place may come next or may not.
+//! The rules of places, written once more: which place may come next, after the lines so far.
 use crate::plans::command_at;
 use crate::told::{Answer, Told};
 use redo_journal::{Place, Plan};
 use redo_terms::Command;
 use std::alloc::{AllocError, Global};
 
-/// How often a target was granted, and whether that grant is in force.
+/// How often a target was granted, and whether the last grant is in force.
 #[derive(Clone, Copy)]
 struct Claim {
     grants: u32,
     is_held: bool,
 }
 
-/// The claims on a target that was never granted.
+/// A target that was never granted.
 const FREE: Claim = Claim {
     grants: 0,
     is_held: false,
@@ -49,7 +49,7 @@ pub(crate) struct Standing {
 }
 
 impl Standing {
-    /// Nothing was done by these sessions on these targets.
+    /// The start: no session has done a line, and no target was granted.
     pub(crate) fn new(
         alloc: Global,
         sessions: usize,
@@ -62,7 +62,7 @@ impl Standing {
         })
     }
 
-    /// Goes back to where nothing was done.
+    /// Goes back to the start.
     pub(crate) fn clear(&mut self) {
         self.lines.fill(0);
         self.rows = 0;
@@ -101,7 +101,7 @@ impl Standing {
     }
 }
 
-/// Whether the place is one for this command and answer.
+/// Whether the place fits this command and answer.
 fn fits(command: &Command, told: Told) -> bool {
     match told.place {
         Place::Row(_) => match command {

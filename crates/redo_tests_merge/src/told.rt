@@ -1,4 +1,4 @@
-//! Journals, as the tests make them.
+//! Journals made from lists of answers, and lines compared with them.
 use crate::plans::command_at;
 use redo_journal::{Entry, Journal, Place, Plan};
 use redo_terms::{Command, Kind, Line, Refusal, Reply};
@@ -20,7 +20,6 @@ pub(crate) struct Told {
     pub(crate) place: Place,
 }
 
-/// The reply itself.
 fn reply_of(answer: Answer) -> Reply {
     match answer {
         Answer::Okay => Reply::Okay,
@@ -40,7 +39,7 @@ pub(crate) fn entry_of(number: u32, closing: Option<Command>, told: Told) -> Ent
     }
 }
 
-/// The journal of a session that was told this.
+/// The journal of a session with these answers.
 fn journal_of(alloc: Global, session: u8, told: &[Told]) -> Result<Journal, AllocError> {
     let mut entries = Vec::new(alloc);
     let mut number: u32 = 0;
