@@ -16,7 +16,7 @@ use Rattle.redo_model.proofs.Texts.{texts_are_names}
 use Rattle.redo_names.specs.Names.{text_at}
 use Rattle.redo_store.specs.Orders.{by_text}
 
--- numbers by their texts are told apart and ordered strictly
+-- numbers by their texts are distinguished and ordered strictly
 pub by_text_is_naming : (names : List Text) → IsNaming (by_text names)
 by_text_is_naming names = record {
   decides = Decides-eqb;

@@ -10,7 +10,7 @@ use Rattle.redo_journal.specs.Plans.{PlanOf, script_of}
 use Rattle.redo_board.specs.Rows.{naming_of}
 use Rattle.redo_board.specs.Core.{Line, way, Way}
 
--- numbers, told apart and ordered as numbers
+-- numbers as names, in their own order
 abbrev pub by_number : Naming ℕ
 by_number = numbers nat_cmp
 

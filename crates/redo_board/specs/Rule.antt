@@ -25,7 +25,7 @@ Apart views =
     (i k : ℕ) (v w : ViewOf) (t : ℕ) (j h : List Line) → get_elem? views i ≡ some v
     → get_elem? views k ≡ some w → HasPart v.parts t j → HasPart w.parts t h → i ≡ k
 
--- and each of so many sessions is in one
+-- and each of these sessions is in one
 abbrev pub AllStand : ℕ → List ViewOf → Type 0
 AllStand sessions views =
     (t : ℕ) → t < sessions

@@ -99,7 +99,7 @@ Known input =
     ((names : List Text) × (lines : List (Line Text)) × IsHistory input names lines)
     ⊎ ((fault : HistoryFault) × (fault ≢ Memory) × IsHistoryFault input fault)
 
--- what is left after the lines that were read, if so many are to come
+-- what is left after the lines that were read, if this many lines follow
 read_on : (input : Text) (count todo : ℕ) (texts : List Text) (lines : List (Line Text))
     (names : List Text) (left : Text) → count ≤ 1048576 → length texts + todo ≡ count
     → AreLinesOf texts lines names → input ≡ header_of count ++ flat_map ended texts ++ left

@@ -18,7 +18,7 @@ file_name files file = name_or_dash (slice_get files file)
 abbrev pub said : List ℕ → List ℕ
 said text = codes "redodb: " ++ text ++ codes "\n"
 
--- the same of a file
+-- the same for a file
 abbrev pub said_of : List ℕ → List ℕ → List ℕ
 said_of name text = said (name ++ codes ": " ++ text)
 
@@ -28,7 +28,7 @@ in_line line word = codes "line " ++ decimal line ++ codes ": " ++ word
 abbrev pub said_of_file : List (String Global) → ℕ → List ℕ → List ℕ
 said_of_file files file text = said_of (file_name files file) text
 
--- the same of a line in a file
+-- the same for a line in a file
 abbrev pub said_of_line : List (String Global) → ℕ → ℕ → List ℕ → List ℕ
 said_of_line files file line word = said_of_file files file (in_line line word)
 

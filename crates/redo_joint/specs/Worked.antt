@@ -34,7 +34,7 @@ three_rows =
     ∷ numbered_at 0 2 (Start 1) Okay (Row 2)
     ∷ []
 
--- the first session locks a target and starts it, the second locks it; each breaks off there
+-- the first session locks a target and starts it, the second locks it; each script ends there
 abbrev pub broken_off : ℕ → List (Item ℕ)
 broken_off zero = item_of (Lock 0) ∷ item_of (Start 0) ∷ []
 broken_off (suc zero) = item_of (Lock 0) ∷ []

@@ -32,8 +32,8 @@ pub fn words_by_hand()
     ensures released { claim_word_of texts merging shared ≡ 3 }
 {}
 
-/// Two sessions break off, the first in a build, and close their target: the words of their rows,
-/// and of rows of other closing lines.
+/// Two scripts end while their session holds the target, the first during a build. The sessions
+/// close it: the words of their rows, and of rows of other closing lines.
 pub fn closing_words_by_hand()
     ensures placed { IsPlaced by_number let_go }
     ensures legal { Legal by_number (map line_of let_go) }

@@ -56,7 +56,7 @@ module _ (script : List Item) (through : Bool) (at : ℕ) (item : Item) (within 
       ap (first_from through at) left
       ∙ ap (λ (b : Bool). cond b (Some found) (first_at script through (at + 1))) passed
 
--- the same of a list that equals the script
+-- the same for a list that equals the script
 module _ (items script : List Item) (same : items ≡ script) (through : Bool) (at : ℕ) where
   pub done_here : (item : Item) → at < length items → item ≡ get_or items at item
       → (through || not item.guarded) ≡ true

@@ -41,6 +41,6 @@ pub record Notes (names : List Text) (old : List Hold) (x : Command ℕ) (reply 
 abbrev pub own_lines : ℕ → List (commands.Item ℕ) → List Entry → List (Line ℕ)
 own_lines s script entries = map line_of (lines_told s script entries)
 
--- their commands are over so many names
+-- their commands are over this many names
 abbrev pub AreToldBelow : ℕ → List (commands.Item ℕ) → List Entry → Type 0
 AreToldBelow n script entries = All (λ entry. IsBelow n (command_told script entry)) entries

@@ -15,12 +15,12 @@ pub enum Unanswered {
     Fault(LineFault),
 }
 
-/// Why a command was not answered in so many bytes.
+/// Why a command was not answered in this many bytes.
 #[derive(Clone, Copy, Debug, PartialEq, Eq, Error)]
 pub enum Withheld {
     #[error("{0}")]
     Unanswered(Unanswered),
-    /// The answer would have so many bytes, which are too many.
+    /// The answer would have this many bytes, which is more than the limit.
     #[error("{0} bytes are too long")]
     TooLong(usize),
 }

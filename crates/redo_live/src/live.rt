@@ -24,7 +24,7 @@ mod ending;
 /// How many numbers there are for names at first.
 const FIRST_NUMBERS: u32 = 64;
 
-/// After so many calls it answers no more commands: closing takes two calls for each held target, of which there are at
+/// After this many calls it answers no more commands: closing takes two calls for each held target, of which there are at
 /// most as many as names.
 const MOST_CALLS: u32 = u32::MAX - 131_072;
 
@@ -33,7 +33,7 @@ const MOST_CALLS: u32 = u32::MAX - 131_072;
 pub struct Live {
     names: Names,
     redo: Redo,
-    /// There are numbers for so many names.
+    /// There are numbers for this many names.
     numbers: u32,
     /// Memory for the line that is printed next.
     line: Vec<u8>,

@@ -17,7 +17,7 @@ pub record IsLeftBy (lines : List (Line Text)) (live : LiveState) : Type 0 where
   pub state : state_in live ≡ left_by texts empty lines
   pub calls : calls_in live ≡ length lines
 
--- the lines were done again; they and the header have so many bytes
+-- the lines were done again; they and the header have this many bytes
 pub record IsRestoredTo (lines : List (Line Text)) (restored : Restored) : Type 0 where
   pub left : IsLeftBy lines restored.live
   pub lines_are : restored.lines ≡ length lines
@@ -44,7 +44,7 @@ pub record DiffersBehind (bytes : Text) (lines : List (Line Text)) : Type 0 wher
   pub differs : (line : Line Text) (rest : Text) → left ≡ line_text_of line ++ rest
       → ¬ (AreLogged (lines ++ line ∷ []))
 
--- a line of the file, counted from 1, is not the database's answer: so many lines and bytes of a
+-- a line of the file, counted from 1, is not the database's answer: this many lines and bytes of a
 -- log come before it
 abbrev pub DiffersAt : Text → ℕ → ℕ → ℕ → Type 0
 DiffersAt bytes number count size =

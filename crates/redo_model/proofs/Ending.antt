@@ -180,7 +180,7 @@ module _ {N : Type 0} {naming : Naming N} (law : IsNaming naming)
       pub left : left_by naming st lines ≡ state_without s st
       pub closes : (own : List (Line N)) → TellsOwn own st → ClosesAfter naming own lines
 
-    -- in both states the same of these targets are building
+    -- the same ones of these targets are building in both states
     abbrev BuildAlike : State N → State N → List N → Type 0
     BuildAlike plan st ts =
         (t : N) → Contains ts t

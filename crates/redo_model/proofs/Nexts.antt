@@ -16,7 +16,7 @@ module _ {N : Type 0} where
     pub within : next.number < length script
     pub command : get_or (commands_in script) next.number Ood ≡ next.command
 
-  -- the same of lines that are counted on from here
+  -- the same for lines that are counted on from here
   record IsAmong (items : List (Item N)) (here : ℕ) (next : Numbered N) : Type 0 where
     pub from : here ≤ next.number
     pub within : next.number < here + length items

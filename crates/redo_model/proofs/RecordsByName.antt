@@ -44,7 +44,7 @@ module _ {M : Type 0} {to : Renaming M} (law : IsRenaming to) where
       (value_at_name (λ n. d) (λ j n. value_at d (f j) (to.number n)) k below)
 
   module _ (naming : Naming M) (good : IsNaming naming) (order : ℕ → ℕ → Ordering) where
-    -- a number's name is a given name where the number is that name's
+    -- a number's name is a given name exactly if the number is that name's
     pub same_at : (n : ℕ) (t : M) (o : Option ℕ) → n < to.count → to.number t ≡ o
         → naming.same (to.name n) t ≡ value_at false (λ k. n == k) o
     same_at n t None below e =

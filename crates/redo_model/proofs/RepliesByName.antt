@@ -61,7 +61,7 @@ module _ {M : Type 0} {to : Renaming M} (law : IsRenaming to) where
   reply_back (Refused Itself) below = refl
   reply_back (Refused (Exists m)) below = ap (λ j. Refused (Exists j)) (number_of_name m below)
 
-  -- a reply over numbers is another where its name is the other's
+  -- two replies over numbers are equal exactly if they are equal over the names
   pub same_reply : (a b : Reply ℕ) → IsReplyBelow to.count a → IsReplyBelow to.count b
       → (a ≡ b) ↔ (named_reply to.name a ≡ named_reply to.name b)
   same_reply a b below_a below_b = (

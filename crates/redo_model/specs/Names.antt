@@ -1,4 +1,4 @@
--- How names are told apart and ordered. The definitions are for names of any kind: the contracts
+-- How names are distinguished and ordered. The definitions are for names of any kind: the contracts
 -- use texts, and the code uses numbers.
 use Rattle.std.specs.Prelude.{◌≡◌, ℕ, Bool, cond, List, bytes_eq, ◌==◌, ◌↔◌, AllPairs, Contains}
 use Rattle.std.specs.Ordering.{nat_cmp}

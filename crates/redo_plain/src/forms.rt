@@ -41,7 +41,7 @@ fn form_of(word: &[u8]) -> Option<(Kind, Shape)> {
     None
 }
 
-/// Whether the word has from 1 to so many bytes, all visible, and is neither `-` nor `=>`.
+/// Whether the word has 1 to `most` bytes, all visible, and is neither `-` nor `=>`.
 fn is_visible(word: &[u8], most: usize) -> bool {
     let is_marked = word == b"-".as_slice() || word == b"=>".as_slice();
     let is_short = !word.is_empty() && word.len() <= most;
@@ -61,7 +61,7 @@ fn is_content(word: &[u8]) -> bool {
     word == b"-".as_slice() || !word.is_empty() && word.len() % 2 == 0 && is_digits
 }
 
-/// Whether a command of this shape may have so many words after its own.
+/// Whether a command of this shape may have this many words after its own.
 fn fits(shape: Shape, count: usize) -> bool {
     match shape {
         Shape::Nothing => count == 0,

@@ -106,7 +106,7 @@ same_where_legal lines verdict is = (
   λ legal. one_verdict lines verdict (Same (length lines)) is (refl, legal),
 )
 
--- the same of the code's verdict
+-- the same for the code's verdict
 pub answered_same : {E : Type 0} (names : List Text) (lines : List (Line Text))
     (result : Result declared.Verdict E)
     → IfOk result (λ verdict. IsVerdict lines (verdict_at names verdict))

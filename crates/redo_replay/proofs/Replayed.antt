@@ -69,7 +69,7 @@ replayed_more order state next lines line reply replayed same answers step =
           ∙ ap (left_by (numbers order) empty) (sym more);
     }
 
--- the same of what equals these
+-- the same for what equals these
 pub replayed_next : {order now_order : ℕ → ℕ → Ordering} {state next : State ℕ}
     {lines now_lines : List Line} (line : Line) (reply : Reply)
     → now_order ≡ order → now_lines ≡ lines ++ line ∷ [] → Replayed order state lines

@@ -11,8 +11,8 @@ use Rattle.redo_history.specs.Histories.{ended}
 use Rattle.redo_replay.specs.declared.verdict.Verdict as declared
 use Rattle.redo_replay.specs.declared.verdict.Verdict.TheVariants as coded
 
--- they are, in so many lines; or the first wrong reply is on this line, counted from 1, and this is
--- the right one
+-- they are, in this many lines; or the first wrong reply is on this line, counted from 1, and this
+-- is the right one
 pub data Verdict : Type 0 where
   Same : ℕ → Verdict
   Differs : ℕ → Reply Text → Verdict

@@ -73,7 +73,7 @@ module _ {N : Type 0} where
       let one = one_in n line.session below.0 in
       omega arith
 
-  -- n sessions, each of at most so many lines
+  -- n sessions, each of at most this many lines
   pub length_by_part : (most n : ℕ) (lines : List (Line N))
       → AllByRecursion (λ line. line.session < n) lines
       → ((s : ℕ) → s < n → length (part_of s lines) ≤ most) → length lines ≤ n * most

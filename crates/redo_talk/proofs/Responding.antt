@@ -1,4 +1,4 @@
--- A conversation goes on, or breaks off, by the answer to a line and by what is sent.
+-- A conversation goes on, or is cut short, by the answer to a line and by what is sent.
 use Rattle.std.proofs.Common.{◌≡◌, ◌⊎◌, [], ◌++◌, Option, refl, sym, ap, ◌∙◌, subst, append-nil, inl, inr}
 use Rattle.std.specs.Io.KnownBytes.{Appends, Keeps}
 use Rattle.std.proofs.KnownBytes.{Appends-kept}

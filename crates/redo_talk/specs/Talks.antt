@@ -1,4 +1,4 @@
--- What a conversation reads, answers and logs, and what is left if it breaks off.
+-- What a conversation reads, answers and logs, and what is left if it is cut short.
 use Rattle.std.specs.Prelude.{◌≡◌, ◌⊎◌, List, [], ◌++◌, Option}
 use Rattle.std.specs.Io.KnownBytes.{Consumes, Appends}
 use Rattle.redo_model.specs.Names.{Text, texts}

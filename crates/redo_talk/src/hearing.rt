@@ -18,10 +18,10 @@ use redo_whole::{Watched, WriteFault};
 use std::alloc::Global;
 use std::io::Write;
 
-/// So many bytes of a line are kept: one more than a session's number, a space and the longest command have.
+/// This many bytes of a line are kept: one more than a session's number, a space and the longest command have.
 pub(crate) const MOST_KEPT: usize = 8196;
 
-/// The first bytes, so many at most.
+/// The first bytes, this many at most.
 fn first(bytes: &[u8], most: usize) -> &[u8]
     ensures { result.now ≡ take most bytes.now }
 {

@@ -1,4 +1,4 @@
-//! The answer to one line, in so many bytes at most.
+//! The answer to one line, in this many bytes at most.
 ghost use Rattle.std.specs.Prelude.{◌≡◌, ◌≤◌, ◌+◌, ◌++◌, length, decimal, IfErr, OnOk, OnErr};
 ghost use Rattle.redo_model.specs.Names.{Text};
 ghost use Rattle.redo_live.specs.Answers.{AnswersInquiry};

@@ -15,7 +15,7 @@ use redo_whole::Watched;
 use std::alloc::Global;
 use std::io::{Read, Write};
 
-/// So many bytes are read at once.
+/// This many bytes are read at once.
 const READ_BYTES: usize = 65_536;
 
 /// Answers line after line, until the input ends.

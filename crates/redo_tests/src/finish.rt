@@ -121,7 +121,7 @@ fn verdicts(rt: HostRuntime) {
     }
 }
 
-/// The line about a file with a name of so many bytes takes so many writes.
+/// The line about a file with a name of this many bytes takes this many writes.
 fn check_writes(
     rt: &impl Abort,
     alloc: Global,

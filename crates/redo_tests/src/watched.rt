@@ -12,7 +12,7 @@ use std::process::Abort;
 use std::sync::Wait;
 use std::thread::Threads;
 
-/// Whether a read of at most so many bytes gives these, or this fault.
+/// Whether a read of at most this many bytes gives these, or this fault.
 fn is_read<R: Read>(
     alloc: Global,
     reader: &mut Watched<R>,
@@ -106,7 +106,7 @@ fn failing_flush(rt: HostRuntime) {
     assert!(rt; device.taken.as_slice() == b"ab".as_slice());
 }
 
-/// A run's files, and a writer that takes so many bytes, and then fails or takes no byte.
+/// A run's files, and a writer that takes this many bytes, and then fails or takes no byte.
 type Given = (&'static [&'static str], usize, bool);
 
 const TWO: &[&str] = &["", "file a 1\n"];

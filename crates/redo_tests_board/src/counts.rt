@@ -6,7 +6,7 @@ use std::alloc::{AllocError, Global};
 use std::process::Abort;
 use std::sync::atomic::{AtomicU32, Ordering};
 
-/// The plans here have at most so many sessions, and so many commands of each, with closing ones.
+/// The plans here have at most this many sessions, and this many commands of each, with closing ones.
 const SESSIONS: usize = 4;
 
 const COMMANDS: usize = 64;
@@ -27,7 +27,7 @@ pub(crate) struct Counts {
     strays: AtomicU32,
 }
 
-/// So many zeros.
+/// This many zeros.
 fn zeros(alloc: Global, count: usize) -> Result<Vec<AtomicU32>, AllocError> {
     let mut zeros = Vec::new(alloc);
     for _ in 0..count {

@@ -31,7 +31,7 @@ const COMMANDS: [&str; 16] = [
     "sources\n",
 ];
 
-/// A session file of so many commands.
+/// A session file of this many commands.
 fn file_of(alloc: Global, random: &mut Random, commands: usize) -> Result<String, AllocError> {
     let mut file = String::new(alloc);
     for _ in 0..commands {
@@ -40,7 +40,7 @@ fn file_of(alloc: Global, random: &mut Random, commands: usize) -> Result<String
     Ok(file)
 }
 
-/// Session files of so many sessions, and so many commands of each.
+/// Session files of this many sessions, and this many commands of each.
 fn files_of(
     alloc: Global,
     random: &mut Random,
@@ -54,7 +54,7 @@ fn files_of(
     Ok(files)
 }
 
-/// A plan of so many sessions, and so many commands of each.
+/// A plan of this many sessions, and this many commands of each.
 fn drawn_plan(
     rt: &impl Abort,
     alloc: Global,
@@ -91,7 +91,7 @@ fn shuffled_schedule(
     check_schedule(rt, alloc, plan, &turns)
 }
 
-/// The same of a drawn plan.
+/// The same for a drawn plan.
 fn drawn_schedule(
     rt: &impl Abort,
     alloc: Global,
@@ -146,7 +146,7 @@ fn counted_run<R: Threads + Wait + Abort + Sync>(
     Ok((rows, gate.all()))
 }
 
-/// The same of a drawn plan.
+/// The same for a drawn plan.
 fn drawn_run<R: Threads + Wait + Abort + Sync>(
     rt: &R,
     alloc: Global,

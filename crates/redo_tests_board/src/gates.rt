@@ -37,7 +37,7 @@ impl Pause {
         }
     }
 
-    /// Whether the second moment came within so many turns.
+    /// Whether the second moment came within this many turns.
     fn comes(&self) -> bool {
         for _ in 0..TURNS {
             if self.has_come.load(Ordering::SeqCst) != 0 {

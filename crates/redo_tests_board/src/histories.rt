@@ -100,12 +100,12 @@ fn read(rt: &impl Abort, alloc: Global, history: &[u8]) -> Result<History, Alloc
     }
 }
 
-/// Whether the replay answers `same`, with so many lines.
+/// Whether the replay answers `same`, with this many lines.
 fn is_same(alloc: Global, told: &History, count: usize) -> Result<bool, AllocError> {
     Ok(matches!(replay(alloc, told)?, Verdict::Same(lines) if lines == count))
 }
 
-/// Whether the history of this text replays as `same`, with so many lines.
+/// Whether the history of this text replays as `same`, with this many lines.
 fn is_replayed(
     rt: &impl Abort,
     alloc: Global,
@@ -116,7 +116,7 @@ fn is_replayed(
     is_same(alloc, &told, count)
 }
 
-/// The history of this text replays as `same`, with so many lines.
+/// The history of this text replays as `same`, with this many lines.
 pub(crate) fn replays(
     rt: &impl Abort,
     alloc: Global,

@@ -9,7 +9,7 @@ use std::alloc::{AllocError, Global};
 use std::process::Abort;
 use std::thread::Threads;
 
-/// Two sessions that leave after so many steps each. The second begins after the first's last step.
+/// Two sessions that leave after this many steps each. The second begins after the first's last step.
 /// How many rows are then filled, how many tries each session made, and the history.
 struct Left {
     files: [&'static str; 2],
@@ -73,7 +73,7 @@ const IN_THE_LAST_ROW: Left = Left {
     history: "history 4\n1 lock t => granted 1\n1 start t => ok\n1 failed t => ok\n2 file a 1 => ok\n",
 };
 
-/// Whether each session has made so many steps.
+/// Whether each session has made this many steps.
 fn have_made(journals: &[Journal], steps: [u32; 2]) -> bool {
     journals.len() == 2
         && journals[0].entries.len() == steps[0] as usize

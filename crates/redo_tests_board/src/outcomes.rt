@@ -76,7 +76,7 @@ fn are_placed(journals: &[Journal], places: &[Places]) -> bool {
     true
 }
 
-/// Whether the journals have so many tries.
+/// Whether the journals have this many tries.
 pub(crate) fn have_tried(journals: &[Journal], tries: &[u32]) -> bool {
     if journals.len() != tries.len() {
         return false;

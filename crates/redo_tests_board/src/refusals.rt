@@ -75,7 +75,7 @@ fn merged(
     }
 }
 
-/// The journal of the one session, which does its whole script and closes all, with so many rows.
+/// The journal of the one session, which does its whole script and closes all, with this many rows.
 fn done_alone(rt: &impl Abort, alloc: Global, plan: &Plan, rows: u32) -> Result<Journal, AllocError>
     requires { length plan.now.scripts ≡ 1 }
 {
@@ -98,7 +98,7 @@ fn check_history(
     Ok(())
 }
 
-/// The plan's one session has this history, with so many rows.
+/// The plan's one session has this history, with this many rows.
 fn check_planned(
     rt: &impl Abort,
     alloc: Global,
@@ -111,7 +111,7 @@ fn check_planned(
     check_history(rt, alloc, plan, &[journal], want)
 }
 
-/// The one session has this history, with so many rows.
+/// The one session has this history, with this many rows.
 fn check_alone(
     rt: &impl Abort,
     alloc: Global,

@@ -72,7 +72,7 @@ fn workers_of(
     Ok(workers)
 }
 
-/// How many rows the session has passed with this entry, if so many before it.
+/// How many rows the session has passed with this entry, if this many before it.
 fn rows_passed(entry: Option<&Entry>, passed: u32) -> u32 {
     match entry {
         Some(entry) => match entry.place {
@@ -194,7 +194,7 @@ pub(crate) fn lines_of_schedule(
     Ok((lines, rows, gate.all()))
 }
 
-/// The same of a schedule in which each turn makes a line: its rows and its exchanges.
+/// The rows and the exchanges of a schedule in which each turn makes a line.
 pub(crate) fn check_schedule(
     rt: &impl Abort,
     alloc: Global,
@@ -228,7 +228,7 @@ fn count_of(rt: &impl Abort, alloc: Global, plan: &Plan) -> Result<usize, AllocE
     check_orders(rt, alloc, plan, &mut turns)
 }
 
-/// The plan of these files has so many schedules.
+/// The plan of these files has this many schedules.
 fn check_plan(
     rt: &impl Abort,
     alloc: Global,

@@ -17,7 +17,7 @@ use std::thread::{Threads, join};
 /// More steps of each session than it takes.
 pub(crate) const ALL: [u32; 2] = [MOST_STEPS; 2];
 
-/// Does so many steps of each session. Joins both threads before it returns.
+/// Does this many steps of each session. Joins both threads before it returns.
 fn work_both<G: Gate + Sync, R: Threads + Abort + Sync>(
     rt: &R,
     alloc: Global,
@@ -56,7 +56,7 @@ fn work_both<G: Gate + Sync, R: Threads + Abort + Sync>(
     Ok((meet(board, plan, one, other), first, second))
 }
 
-/// The number of filled rows, and the journals of a plan's two sessions that do so many steps.
+/// The number of filled rows, and the journals of a plan's two sessions that do this many steps.
 pub(crate) fn journals_of<G: Gate + Sync, R: Threads + Abort + Sync>(
     rt: &R,
     alloc: Global,
@@ -72,7 +72,7 @@ pub(crate) fn journals_of<G: Gate + Sync, R: Threads + Abort + Sync>(
     Ok((rows, vec![in alloc; first, second]?))
 }
 
-/// The plan's two sessions fill so many rows.
+/// The plan's two sessions fill this many rows.
 fn check_rows<R: Threads + Abort + Sync>(
     rt: &R,
     alloc: Global,

@@ -45,7 +45,7 @@ fn are_same(one: Option<(u32, Place)>, other: Option<(u32, Place)>) -> bool {
     }
 }
 
-/// What a worker's steps have made: so many entries, and the number and the place of the last.
+/// What a worker's steps have made: this many entries, and the number and the place of the last.
 #[derive(Drop)]
 struct Steps {
     count: usize,
@@ -94,7 +94,7 @@ fn step<G: Gate>(
     Ok(())
 }
 
-/// Does so many commands of the seat's session, or all if there are fewer, and leaves. Its journal
+/// Does this many commands of the seat's session, or all if there are fewer, and leaves. Its journal
 /// has the entries that the steps have made, and none of a refused step.
 pub(crate) fn work<G: Gate>(
     rt: &impl Abort,

@@ -79,7 +79,7 @@ fn piece_at(text: &[u8], at: usize, is_line: bool) -> (usize, usize) {
     (at.saturating_sub(prefix), at.saturating_add(back))
 }
 
-/// The text so many times.
+/// The text, repeated this many times.
 fn repeated(alloc: Global, text: &[u8], times: usize) -> Result<Vec<u8>, AllocError> {
     let mut out = Vec::new(alloc);
     for _ in 0..times {

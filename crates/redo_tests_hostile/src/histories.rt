@@ -24,7 +24,7 @@ fn damaged_histories(rt: HostRuntime) -> Result<(), Fail> {
     Ok(())
 }
 
-/// The same of damaged session files, whose lines are made lines of a history.
+/// The same for damaged session files, whose lines are made lines of a history.
 #[test]
 fn damaged_files_as_histories(rt: HostRuntime) -> Result<(), Fail> {
     let alloc = rt.alloc();

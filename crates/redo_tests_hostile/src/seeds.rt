@@ -106,7 +106,7 @@ pub(crate) fn histories<R: Threads + Wait + Sync + AllocGlobal>(
     Ok(all)
 }
 
-/// A session file of so many commands, and some lines that are skipped.
+/// A session file of this many commands, and some lines that are skipped.
 pub(crate) fn long_file(alloc: Global, commands: usize) -> Result<Vec<u8>, AllocError> {
     let mut text = Vec::from_slice(alloc, b"# 4,096 commands are allowed.\n\n")?;
     for number in 0..commands {

@@ -28,7 +28,7 @@ fn damaged_session_files(rt: HostRuntime) -> Result<(), Fail> {
 /// The last commands of a file. With them it has one command more than the limit.
 const LAST: &[u8] = b"lock c\nstart c\nstamp c 61\ndone c 1\nood\n";
 
-/// The same of files with about as many commands as the limit, damaged near the end.
+/// The same for files with about as many commands as the limit, damaged near the end.
 #[test]
 fn damaged_long_session_files(rt: HostRuntime) -> Result<(), Fail> {
     let alloc = rt.alloc();

@@ -44,7 +44,7 @@ impl Tally {
         }
     }
 
-    /// So many texts were judged, and each of these outcomes came so often or more.
+    /// `all` texts were judged, and each of these outcomes came at least `often` times.
     pub(crate) fn check(&self, rt: &impl Abort, all: u32, often: u32, places: &[usize]) {
         let counts = &self.counts;
         let sum = counts

@@ -8,14 +8,14 @@ use std::process::Abort;
 #[derive(Clone, Copy)]
 enum Ask {
     Answer(&'static str),
-    /// The answer to the command, if it has at most so many bytes.
+    /// The answer to the command, if it has at most this many bytes.
     Within(&'static str, usize),
     End,
     EndWithin(usize),
     Why(&'static str),
     Deps(&'static str),
     State(&'static str),
-    /// The command `gone` of so many names: `n0`, `n1` and so on.
+    /// The command `gone` of this many names: `n0`, `n1` and so on.
     Gone(u32),
 }
 
@@ -183,7 +183,7 @@ const QUESTIONS: &[Step] = &[
     ),
 ];
 
-/// Sends `gone` of so many names, `n0`, `n1` and so on.
+/// Sends `gone` of this many names, `n0`, `n1` and so on.
 fn tell_gone(alloc: Global, live: &mut Live, count: u32) -> Result<(), Unanswered> {
     let (mut said, mut logged) = (Vec::new(alloc), Vec::new(alloc));
     for number in 0..count {

@@ -76,7 +76,7 @@ fn check_talk(
     Ok(())
 }
 
-/// Lines of session 64, each with so many bytes after the number and its space.
+/// Lines of session 64, each with this many bytes after the number and its space.
 fn lines_of(alloc: Global, lengths: &[usize]) -> Result<Vec<u8>, AllocError> {
     let mut bytes = Vec::new(alloc);
     for length in lengths {
@@ -133,7 +133,7 @@ const REPLIES: &[(&str, &str, Replied, usize)] = &[
     ),
 ];
 
-/// The line, with its limit, has this result and answer; so many bytes of the answer are logged.
+/// The line, with its limit, has this result and answer; this many bytes of the answer are logged.
 pub(crate) fn check_reply(
     rt: &impl Abort,
     alloc: Global,

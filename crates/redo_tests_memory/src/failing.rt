@@ -51,7 +51,7 @@ const HISTORY: &[u8] = b"history 1\n1 ood => ood\n";
 
 const VERDICT: &[u8] = b"same 1\n";
 
-/// How many faults to try if so many calls are made: four at each, and at two calls after them.
+/// How many faults to try if this many calls are made: four at each, and at two calls after them.
 fn count_of_faults(calls: usize) -> usize {
     calls.saturating_add(2).saturating_mul(4)
 }
@@ -110,7 +110,7 @@ fn replay_written(rt: &impl Abort, alloc: Global, most: usize, writes: usize, fa
     assert!(rt; is_replay_written(&done, fault.at < writes, want));
 }
 
-/// The prefix of a text that so many writes take, of so many bytes each.
+/// The prefix of a text that this many writes take, of this many bytes each.
 fn prefix(text: &[u8], writes: usize, most: usize) -> &[u8] {
     let count = writes.min(text.len()).saturating_mul(most).min(text.len());
     &text[..count]
@@ -245,7 +245,7 @@ fn is_run_read(done: &Ran, given: &Given, fails: bool) -> bool {
         && done.writer.taken.as_slice() == want
 }
 
-/// Runs of two files, of which the one that isn't empty takes so many reads.
+/// Runs of two files, of which the one that isn't empty takes this many reads.
 fn run_reads<R: Threads + Wait + Abort + Sync>(
     rt: &R,
     alloc: Global,

@@ -12,7 +12,7 @@ fn text_of(number: u8) -> [u8; 3] {
     [b'n', b'0' + number / 10, b'0' + number % 10]
 }
 
-/// Whether there are so many names, and none of them is the text.
+/// Whether there are this many names, and none of them is the text.
 fn is_none_of(names: &Names, count: u32, text: &[u8]) -> bool {
     names.len() == count && names.number_of(text).is_none()
 }

@@ -188,8 +188,8 @@ const MARKS_A_LINE: Case = Case {
 };
 
 /// The first session's file ends while it builds `T`, which is name 0, and the second locks `T`
-/// later. If the first has not released `T`, there is no joint order. Closing commands are merged as
-/// others are.
+/// later. If the first has not released `T`, there is no joint order. Closing commands are merged
+/// as others are.
 const ONE_AFTER_THE_OTHER: Case = Case {
     files: &["lock T\nlock a\nstart T\n", "lock T\n"],
     made: &[

@@ -2,7 +2,7 @@
 use redo_ood::Bits;
 use std::alloc::AllocError;
 
-/// The set keeps numbers of three words and tells them in order, also among more numbers.
+/// The set keeps numbers of three words and lists them in order, also after it has grown.
 #[test]
 fn three_words(rt: HostRuntime) -> Result<(), AllocError> {
     let mut bits = Bits::new(rt.alloc(), 131)?;

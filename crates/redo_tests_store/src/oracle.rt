@@ -47,7 +47,7 @@ impl Tally {
     }
 }
 
-/// Draws a command on one of so many targets. Both databases have to give the same reply.
+/// Draws a command on one of this many targets. Both databases have to give the same reply.
 fn draw(
     rt: &impl Abort,
     alloc: Global,

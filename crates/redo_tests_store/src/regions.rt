@@ -94,7 +94,7 @@ impl Graph {
     }
 
     /// No target is out of date. A change of the name's file makes these out of date, and its
-    /// region has so many names.
+    /// region has this many names.
     fn change_file(
         &mut self,
         rt: &impl Abort,
@@ -114,7 +114,7 @@ impl Graph {
     }
 
     /// No target is out of date. A start of the target makes these out of date, and its region has
-    /// so many names.
+    /// this many names.
     fn begin(
         &mut self,
         rt: &impl Abort,

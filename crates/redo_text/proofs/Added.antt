@@ -58,7 +58,7 @@ added_fits names t after e few = by (has names t) (eqb (length names) 65536) ref
         absurd (grind (arith, nat_tests, len, full, few))
     by false false full h = ap names_read (sym h)
 
--- the same of the names of a command with one name
+-- the same for the names of a command with one name
 pub one_added : (names : List Text) (t : Text) (command : commands.Command Text) (after : List Text)
     → length names ≤ 65536 → commands.names_in command ≡ t ∷ [] → added names t ≡ Ok after
     → AddsNames names (command ∷ []) after

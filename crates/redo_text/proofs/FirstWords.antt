@@ -69,7 +69,7 @@ pub no_kind : (text word : Text) (args : List Text) → words_of text ≡ word �
 unfolding words_in form_in
 no_kind text word args e named names = words_by_kind text word args None e named names
 
--- the same of replies
+-- the same for replies
 pub reply_word_is : (word : Text) (kind : ReplyKind) → reply_kind_named word ≡ Some kind
     → word ≡ reply_word kind
 reply_word_is word kind named =

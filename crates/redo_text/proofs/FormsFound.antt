@@ -27,7 +27,7 @@ pub record SaysCommand (names : List Text) (word : Text) (args : List Text) (com
   pub spelled : IsSpelled (spaced word args) command
   pub adds : AddsNames names (command ∷ []) after
 
--- the same of a pair
+-- the same for a pair
 abbrev SaysRead : List Text → Text → List Text → Command Text × List Text → Type 0
 SaysRead names word args x = SaysCommand names word args x.0 x.1
 

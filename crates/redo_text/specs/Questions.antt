@@ -141,14 +141,14 @@ is_guarded (b ∷ c ∷ bs) = b == 63 && c == 32
 abbrev pub unguarded : Text → Text
 unguarded line = if is_guarded line then drop 2 line else line
 
--- the questions about a line of a session file after so many items, if it is not too long
+-- the questions about a line of a session file after this many items, if it is not too long
 abbrev pub file_line_questions : ℕ → List Text → Text → List Question
 file_line_questions count names line =
     if is_skipped line then []
     else (count == 4096, TooManyLines) ∷ (has_bad_byte line, BadByte)
     ∷ word_list_questions names (words_of (unguarded line))
 
--- the fault of a line of a session file, after so many items
+-- the fault of a line of a session file, after this many items
 unfoldable pub file_line_fault : ℕ → List Text → Text → Option LineFault
 file_line_fault count names line =
     first_yes ((is_too_long line, LineTooLong) ∷ file_line_questions count names line)

@@ -95,7 +95,7 @@ pub(crate) fn listed_of(
     numbers_of(alloc, names, &words)
 }
 
-/// The same of at least one name.
+/// The same for at least one name.
 pub(crate) fn some_listed_of(
     alloc: Global,
     names: &mut Names,

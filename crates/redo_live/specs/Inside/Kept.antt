@@ -23,8 +23,8 @@ pub record IsReached (st : State Text) : Type 0 where
 abbrev pub AreTaken : Locks ℕ → List ℕ → Type 0
 AreTaken locks ts = (t : ℕ) → Contains ts t → IsSome (locks.holder t)
 
--- after so many calls a legal history leaves this state over these names; nothing is known of other
--- numbers, and two more calls are left for each held target
+-- after this many calls a legal history leaves this state over these names; nothing is known of
+-- other numbers, and two more calls are left for each held target
 pub record IsKept (names : List Text) (st : State ℕ) (calls : ℕ) : Type 0 where
   pub within : IsStateWithin (length names) st
   pub reached : IsReached (named_state (numbering names) st)

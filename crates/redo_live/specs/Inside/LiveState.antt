@@ -31,7 +31,7 @@ pub record IsAsKnown (old new : LiveState) : Type 0 where
   pub names : new.names ≡ old.names
   pub calls : calls_in new ≡ calls_in old
 
--- the same of the numbers
+-- the same for the numbers
 pub record IsSameDatabase (old new : LiveState) : Type 0 where
   pub state : state_of new.tables ≡ state_of old.tables
   pub calls : calls_in new ≡ calls_in old

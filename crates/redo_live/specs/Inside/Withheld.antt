@@ -1,4 +1,4 @@
--- Why a command wasn't answered in so many bytes.
+-- Why a command wasn't answered in this many bytes.
 use Rattle.std.specs.Prelude.{◌≡◌, ℕ, ◌<◌, List, [], ◌∷◌, ◌++◌, length}
 use Rattle.std.specs.List.{flat_map}
 use Rattle.redo_names.specs.Names.{text_at}
@@ -32,7 +32,7 @@ IsUnobeyedFor live session command most (Unanswered why) = why ≡ Memory
 IsUnobeyedFor live session command most (TooLong size) =
     (most < size) × WouldObey live session command size
 
--- the line that answers the session's text has so many bytes
+-- the line that answers the session's text has this many bytes
 pub record WouldAnswer (live : LiveState) (session : ℕ) (text : Text) (size : ℕ) : Type 0 where
   pub line : Line Text
   pub session_is : line.session ≡ session
@@ -48,7 +48,7 @@ IsWithheldFor live session text most (Unanswered why) = IsUnansweredFor live tex
 IsWithheldFor live session text most (TooLong size) =
     (most < size) × WouldAnswer live session text size
 
--- the answer to the session's end has so many bytes
+-- the answer to the session's end has this many bytes
 pub record WouldEnd (live : LiveState) (session size : ℕ) : Type 0 where
   pub lines : List (Line Text)
   pub is : IsEnded (state_in live) (left_by texts (state_in live) lines) session lines

@@ -51,7 +51,7 @@ abbrev pub AreWithin : ℕ → List Entry → Type 0
 AreWithin n entries =
     (k : ℕ) → k < length entries → IsWithin n (slice_index_or entries k none).place
 
--- the place may come after so many rows, with these claim words
+-- the place may come after this many rows, with these claim words
 abbrev pub Comes : Turns → Place → Type 0
 Comes turns (Row r) = turns.rows ≡ r
 Comes turns (Granted t g) = slice_index turns.claims.items t + 2 ≡ 2 * g

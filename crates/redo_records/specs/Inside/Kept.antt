@@ -38,7 +38,7 @@ pub record IsInverseOn (test : Slot → Bool) (targets : List TargetRows) (n : �
   pub counted : length list.items ≡ count_by (passes_on test n) targets
   pub room : slots_on targets n ≤ list.room
 
--- the same of each name
+-- the same for each name
 pub record IsInverse (test : Slot → Bool) (targets : List TargetRows)
     (lists : List NumberList) : Type 0 where
   pub sized : length lists ≡ length targets
@@ -70,7 +70,7 @@ pub record Follows (t : ℕ) (was is : Bool) (old new : NumberList) : Type 0 whe
   pub counted : length new.items + cond was 1 0 ≡ length old.items + cond is 1 0
   pub room : old.room ≤ new.room
 
--- the same of the list of n, if the other lists stay
+-- the same for the list of n, if the other lists stay
 pub record FollowsOn (n t : ℕ) (was is : Bool) (old new : List NumberList) : Type 0 where
   pub sized : length new ≡ length old
   pub others : (k : ℕ) → k ≢ n → numbers_at new k ≡ numbers_at old k

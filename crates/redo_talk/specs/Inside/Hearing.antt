@@ -41,7 +41,7 @@ GoesOn old new before after =
     (first : Moment) (left : Option Text) → TalksAt first left old before
     → TalksAt first left new after
 
--- or it breaks off
+-- or it is cut short
 abbrev pub BreaksOff : Place → Place → Text → Type 0
 BreaksOff old new before =
     (first : Moment) (left : Option Text) → TalksAt first left old before

@@ -1,4 +1,4 @@
--- The answer to one line in so many bytes.
+-- The answer to one line in this many bytes.
 use Rattle.std.specs.Prelude.{◌≡◌, ℕ, ◌<◌, ◌++◌, length}
 use Rattle.redo_model.specs.Names.{Text}
 use Rattle.redo_model.specs.State.{State}
@@ -28,7 +28,7 @@ pub record TellsRound (old new : Known) (heard said said_after logged logged_aft
     pub logs : logged_after ≡ logged ++ logged_of old.state round.lines
     pub prefix : LogsPrefix old.state round
 
--- the answer to the line would have so many bytes
+-- the answer to the line would have this many bytes
 pub record WouldTell (old : Known) (heard : Text) (size : ℕ) : Type 0 where
   pub round : Round
   pub next : Known

@@ -166,7 +166,7 @@ line_in names line =
 abbrev pub item_in : Text → Command Text → Item Text
 item_in line command = record { guarded = is_guarded line; command = command }
 
--- a line of a script, after so many items; it may be skipped
+-- a line of a script, after this many items; it may be skipped
 unfoldable pub script_line_in : ℕ → List Text → Text
     → Result (Option (Item Text) × List Text) LineFault
 script_line_in count names line =

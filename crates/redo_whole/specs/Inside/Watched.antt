@@ -7,7 +7,7 @@ abbrev pub AppendsPrefix : Option (List ℕ) → Option (List ℕ) → List ℕ 
 AppendsPrefix old new bytes =
     (sent : List ℕ) × (rest : List ℕ) × (bytes ≡ sent ++ rest) × Appends old new sent
 
--- known bytes begin with at least one and at most so many, and lose them
+-- known bytes begin with at least one and at most this many, and lose them
 abbrev pub ConsumesSome : Option (List ℕ) → Option (List ℕ) → ℕ → Type 0
 ConsumesSome old new most =
     (taken : List ℕ) × (0 < length taken) × (length taken ≤ most) × Consumes old new taken
