@@ -1,4 +1,4 @@
-"""The session files of bench/run, as bench/README.md tells them: three kinds of work."""
+"""The session files of bench/run, as bench/README.md describes them: three kinds of work."""
 import itertools
 from pathlib import Path
 from typing import Callable, Iterator
@@ -12,7 +12,7 @@ Lines = Iterator[str]
 
 
 def files() -> Lines:
-    """All sources are told."""
+    """All sources are reported."""
     return (f"file src/{number}.c 1" for number in range(SOURCES))
 
 
@@ -22,7 +22,7 @@ def sources_from(first: int) -> str:
 
 
 def build(target: str, first: int, stamp: int, guard: str = "") -> Lines:
-    """One build of a target that needs eight sources; behind the lock, each command has the guard."""
+    """One build of a target that needs eight sources; after the lock, each command has the guard."""
     yield f"lock {target}"
     yield f"{guard}start {target}"
     yield f"{guard}ifchange {target} {sources_from(first)}"
@@ -39,7 +39,7 @@ def builds(session: int) -> Lines:
 
 
 def contended(session: int) -> Lines:
-    """The sources, and then the targets that all sessions build, each in an order of its own: a build is left out where
+    """The sources, and then the targets that all sessions build, each in an order of its own: a build is left out if
     another session has the lock. What is out of date is asked between builds, since a question lets guards through."""
     yield from files()
     step, first = STEPS[session % len(STEPS)], 37 * session
@@ -51,7 +51,7 @@ def contended(session: int) -> Lines:
 
 
 def asked(work: Callable[[int], Lines], each: int) -> Callable[[int], Lines]:
-    """The work, in which each so many-th command asks what is out of date."""
+    """The work, in which every command whose number `each` divides asks what is out of date."""
     def lines(session: int) -> Lines:
         commands = work(session)
         for number in itertools.count(1):
@@ -67,7 +67,7 @@ WORKS = {
 
 
 def written(folder: Path, work: str, session: int) -> Path:
-    """The file of a session: the work's first commands. Where they end in a build, the closing commands end it."""
+    """The file of a session: the work's first commands. If they end in a build, the closing commands end it."""
     path = folder / f"{work}-{session}.redo"
     lines = itertools.islice(WORKS[work](session), COMMANDS)
     path.write_text("".join(f"{line}\n" for line in lines))

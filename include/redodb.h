@@ -23,7 +23,7 @@ extern "C" {
  * header; redodb_abi returns the library's. */
 #define REDODB_ABI 1
 
-/* A database knows at most so many names: a line with one more is answered by its fault. */
+/* A database knows at most this many names: a line with one more is answered by its fault. */
 #define REDODB_MOST_NAMES 65536
 
 /* Sessions are numbered from 1 to this number. */

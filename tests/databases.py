@@ -1,5 +1,5 @@
 """Databases that are made up by chance, each as the lines that make it and ask about it. Each has
-names of its own, so one program can be told many."""
+names of its own, so one program can be given many."""
 import random
 from typing import Iterable
 
@@ -31,7 +31,7 @@ class Database:
         return self.choose.choice(self.sessions)
 
     def some(self, names: list[str], most: int) -> str:
-        """Up to so many of these names."""
+        """Up to this many of these names."""
         return " ".join(self.choose.sample(names, min(len(names), self.choose.randint(1, most))))
 
     def file(self, name: str) -> None:
@@ -65,7 +65,7 @@ class Database:
         self.end_build(session, target, f"done {target} {self.choose.choice(['1', '1', '2', '-'])}")
 
     def depend(self, session: int, target: str) -> None:
-        """What a build tells while it goes on: mostly names that come before its own."""
+        """What a build reports while it goes on: mostly names that come before its own."""
         choose = self.choose
         before = self.names[:self.names.index(target)]
         others = [name for name in self.names if name != target]

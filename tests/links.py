@@ -1,4 +1,4 @@
-"""Whether each link of the pages leads somewhere: to a file of the repository, and to a heading of it where it names
+"""Whether each link of the pages leads somewhere: to a file of the repository, and to a heading of it if it names
 one. tests/believe calls it."""
 import re
 from collections.abc import Iterator
@@ -16,7 +16,7 @@ def pages_of(top: Path) -> list[Path]:
 
 
 def anchors_of(page: str) -> set[str]:
-    """The anchors of a page: each heading's words in small letters, and a number behind one that comes again."""
+    """The anchors of a page: each heading's words in small letters, and a number after one that comes again."""
     found: set[str] = set()
     for heading in HEADING.findall(BLOCK.sub("", page)):
         words = re.sub(r"\[([^\]]*)\]\([^)]*\)", r"\1", heading).lower()
@@ -30,7 +30,7 @@ def anchors_of(page: str) -> set[str]:
 
 
 def is_there(page: Path, link: str) -> bool:
-    """Whether a link of the page leads to a file or a folder, and to a heading where it names one."""
+    """Whether a link of the page leads to a file or a folder, and to a heading if it names one."""
     path, _, anchor = link.partition("#")
     target = page.parent / path if path else page
     if anchor:

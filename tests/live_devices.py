@@ -30,7 +30,7 @@ class Devices:
         self.checks.check("words: the log", (self.folder / "J").read_text(), HEADER)
 
     def wrapper(self) -> None:
-        """./redodb-live answers these words at once, also where nothing is proved."""
+        """./redodb-live answers these words at once, also if nothing is proved."""
         wrapper = TOP / "redodb-live"
         version = greeting(0).partition(" restored")[0]
         self.checks.check("--version", ended(wrapper, "", "--version"), (0, f"{version}\n", ""))
@@ -87,7 +87,7 @@ class Devices:
         self.checks.check("full log", got, fault("/dev/full: write"))
 
     def limited(self, log: Path, limit: int, asked: str) -> Ended:
-        """What is answered where no file can grow beyond so many bytes."""
+        """What is answered if no file can grow beyond this many bytes."""
         return ended(
             self.program, asked, "--log", str(log), restore_signals=False,
             preexec_fn=lambda: resource.setrlimit(resource.RLIMIT_FSIZE, (limit, limit)),

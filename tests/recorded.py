@@ -22,7 +22,7 @@ class Kind(Enum):
     BUILDS = "builds"
 
 
-# what a name looks like to a build: marks are equal where kind and value both are
+# what a name looks like to a build: marks are equal if kind and value both are
 Mark = tuple[Kind, str | int | None]
 
 
@@ -78,7 +78,7 @@ class Database:
 
     def __init__(self, lines: Iterable[str] = ()) -> None:
         self.cells: dict[str, Cell] = {}
-        # the steps, where they were counted since the last change
+        # the steps, if they were counted since the last change
         self.counted: dict[str, int] | None = None
         for line in lines:
             self.do(line)
@@ -123,7 +123,7 @@ class Database:
                 cell.state = State.FAILED
 
     def reasons(self, target: str) -> set[tuple[str, str]]:
-        """The reasons that a name has by itself, each with the name that is told for it."""
+        """The reasons that a name has by itself, each with the name that an answer gives for it."""
         cell = self.known(target)
         if cell.state is State.IDLE:
             return set()

@@ -10,8 +10,8 @@ MOST = 100000
 class Sweep:
     """A run with its first request refused, its second one, and so on, until a run meets no refusal.
 
-    `run` is called with the environment. It answers what is wrong with the run, and how often the run has told of a
-    refusal by what it answered; a test says it in the library's report, or tells nothing and has only to pass."""
+    `run` is called with the environment. It returns what is wrong with the run, and how often the run has reported
+    a refusal in its answers; a test reports it to the library, or reports nothing and has only to pass."""
 
     def __init__(self, library, variable, run, tells=True):
         self.library, self.variable, self.run, self.tells = library, variable, run, tells
@@ -19,7 +19,7 @@ class Sweep:
         self.wrong = []
 
     def step(self, at, report):
-        """One run. Answers whether it met the refusal."""
+        """One run. Returns whether it met the refusal."""
         wanted = {self.variable: str(at), "FAIL_REPORT": report, "LD_PRELOAD": self.library}
         fault, answered = self.run({**os.environ, **wanted})
         try:

@@ -11,7 +11,7 @@ TOP = Path(__file__).resolve().parent.parent
 PROGRAM = TOP / "crates/redo_live_cli/out/redo_live_cli"
 REDODB = TOP / "crates/redo_cli/out/redo_cli"
 HEADER = "redodb-log 1\n"
-# an answer that isn't there after so many seconds doesn't come
+# an answer that isn't there after this many seconds doesn't come
 SECONDS = 60
 # a status, standard output and standard error
 Ended = tuple[int, str, str]
@@ -20,7 +20,7 @@ Pairs = list[tuple[str, list[str]]]
 
 
 class Checks:
-    """Counts what passed and what failed, and tells what failed."""
+    """Counts what passed and what failed, and prints what failed."""
 
     def __init__(self) -> None:
         self.passed = self.failed = self.skipped = 0
@@ -33,7 +33,7 @@ class Checks:
             print(f"failed: {name}\n  got:    {shown(got)}\n  wanted: {shown(wanted)}", flush=True)
 
     def end(self) -> int:
-        """Prints the counts; answers the status."""
+        """Prints the counts; returns the status."""
         if self.skipped:
             print(f"{self.skipped} skipped: no ./redodb is proved that could replay")
         print(f"{self.passed} passed, {self.failed} failed")
@@ -64,7 +64,7 @@ def fault(words: str) -> Ended:
 
 
 def is_change(files: dict[str, str], line: str) -> bool:
-    """Whether a line of a history changes something, where these names have these stamps before it; they are then those
+    """Whether a line of a history changes something, if these names have these stamps before it. Then they have those
     after it."""
     said, _, reply = line.rstrip("\n").partition(" => ")
     words = said.split(" ")[1:]
@@ -119,7 +119,7 @@ class Talk:
         self.read = b""
 
     def send(self, text: str) -> None:
-        """Sends a text, in one write where the FIFO takes it. A program that ended hears none."""
+        """Sends a text, in one write if the FIFO takes it. A program that ended hears none."""
         with contextlib.suppress(BrokenPipeError):
             self.asks.write(text.encode("latin-1"))
 
@@ -140,7 +140,7 @@ class Talk:
         return not self.read and not select.select([self.answers], [], [], 0.05)[0]
 
     def end(self) -> tuple[int, str]:
-        """Hangs up. Answers the status, and what was said on standard error."""
+        """Hangs up. Returns the status, and what was said on standard error."""
         self.asks.close()
         errors = self.process.communicate(timeout=SECONDS)[1].decode("latin-1")
         self.answers.close()
@@ -161,7 +161,7 @@ def sessions_text(text: str) -> str:
 
 
 def pairs_of(text: str) -> Pairs:
-    """The lines that are sent stand behind `> `, and what has to be answered after them."""
+    """The lines that are sent follow `> `, and what has to be answered after them."""
     pairs: Pairs = []
     for line in sessions_text(text).splitlines(keepends=True):
         if line.startswith("> "):

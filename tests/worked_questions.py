@@ -8,7 +8,7 @@ from databases import text_of
 from talks import (HEADER, TOP, Checks, changing, ended, fault, greeting, line_by_line, pairs_of,
                    sessions_text)
 
-# each reason where it is the only one, chains of two lengths, and questions around an `end`
+# each reason if it is the only one, chains of two lengths, and questions around an `end`
 WORKED = """
     > 1 why a
     1 why a => clean
@@ -170,7 +170,7 @@ WORKED = """
     > 1 state state
     1 state state => idle lock - file -
 """
-# what stands behind the session's number, by its fault
+# what follows the session's number, by its fault
 FAULTS = {
     "line-too-long": ["why " + "a" * 8189, "deps" + " " * 8189, "state a" + "\r" * 8190],
     "bad-byte": ["why a\r", "deps a\x7f", "state \xe9", "why\ta", "state\r", "why - -\0"],
@@ -187,7 +187,7 @@ QUESTION = re.compile(r"\d+ (why|deps|state) ")
 
 
 def is_question(line: str) -> bool:
-    """Whether a line is a question, or is told of one."""
+    """Whether a line is a question, or the answer to one."""
     return QUESTION.match(line) is not None
 
 
@@ -220,7 +220,7 @@ class Worked:
         self.checks.check("example", got, sessions_text("".join(told)).splitlines())
 
     def faults(self) -> None:
-        """Each is told, and nothing comes of it."""
+        """Each is answered by its fault, and changes nothing."""
         pairs = [(f"{session} {text}\n", f"{session} fault {word}\n")
                  for word, texts in FAULTS.items() for text in texts for session in (1, 64)]
         pairs += [(f"{session}why a\n", "0 fault bad-session\n")

@@ -15,7 +15,7 @@ TOP = Path(__file__).resolve().parent.parent
 NOTE = "redodb: not proved yet: compiling a program for this call alone, in a minute or two; ./prove proves it"
 NO_RT = "redodb: rt is not on the path: redodb wants the Rattle kit, as README.md says under 'Two commands'"
 NO_ANSWER = "redodb: no answer without the proved program ({}): ./prove first"
-# of standard input `rt try` takes no more; it waits so many seconds for the program, instead of 60
+# of standard input `rt try` takes no more; it waits this many seconds for the program, instead of 60
 MOST_INPUT = 67_108_864
 SECONDS = 600
 ENDED = re.compile(rb"^checked: ended status=(\d+)$", re.M)

@@ -42,7 +42,7 @@ static const char *const STATEMENT[STATEMENTS] = {
 
 static sqlite3_stmt *prepared[STATEMENTS];
 
-/* Does a statement with a text and, where there is one, another. */
+/* Does a statement with a text and, if there is one, another. */
 static void does(int which, const char *first, const char *second) {
     sqlite3_stmt *statement = prepared[which];
     sqlite3_bind_text(statement, 1, first, -1, SQLITE_STATIC);

@@ -59,7 +59,7 @@ impl Database {
         }
     }
 
-    // whether a command changes what is known, where it is neither busy nor refused
+    // whether a command changes what is known, if it is neither busy nor refused
     fn is_change(&self, command: Command) -> bool {
         let graph = &self.store.graph;
         match command {
@@ -79,7 +79,7 @@ impl Database {
         };
     }
 
-    // does a command, and prints its reply; answers whether it changed something
+    // does a command, and prints its reply; returns whether it changed something
     fn call(&mut self, session: u8, command: Command, said: &mut Vec<u8>) -> bool {
         self.calls += 1;
         let is_change = self.is_change(command);
@@ -135,7 +135,7 @@ impl Database {
         }
     }
 
-    // The same of a line that is neither the end of a session nor a question.
+    // The same for a line that is neither the end of a session nor a question.
     pub fn answer_command(&mut self, line: &[u8], answers: &mut Answers) {
         let Some((session, text)) = session_of(line) else {
             return answers.fault(0, "bad-session");

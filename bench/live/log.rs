@@ -11,7 +11,7 @@ pub struct Log {
     is_synced: bool,
 }
 
-// how far a log was restored: so many lines behind the header, and so many bytes
+// how far a log was restored: this many lines after the header, and this many bytes
 struct Restored {
     lines: u64,
     bytes: u64,
@@ -103,7 +103,7 @@ impl Log {
     }
 
     // Does the lines of the log again, cuts off what isn't whole, and closes the sessions of the
-    // former run. Answers the database, and how many lines the log held.
+    // former run. Returns the database, and how many lines the log held.
     pub fn restored(&mut self, is_salvaged: bool) -> Result<(Database, u64), String> {
         let (mut database, mut restored) = self.done_again()?;
         if let Some(line) = restored.differs {
@@ -129,7 +129,7 @@ impl Log {
         self.file.set_len(length).map_err(|_| format!("{}: write", self.name))
     }
 
-    // Appends lines; they are on the disk then, where that is asked for.
+    // Appends lines; they are on the disk then, if that is asked for.
     pub fn append(&mut self, lines: &[u8]) -> Result<(), String> {
         if lines.is_empty() {
             return Ok(());

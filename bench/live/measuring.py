@@ -17,14 +17,14 @@ def compiled(folder: Path, source: str) -> Path:
 
 
 def least(tasks: Sequence[Callable[[], float]], rounds: int = ROUNDS) -> list[float]:
-    """What tasks take, each of which tells it: they are done in turn, and the least counts."""
+    """What tasks take, each of which returns it: they are done in turn, and the least counts."""
     times = [[task() for task in tasks] for _ in range(rounds)]
     return [min(taken) for taken in zip(*times)]
 
 
 def answered_in(asking: Path, words: Sequence[Path], lines: Path, count: int, piece: int) -> float:
-    """Seconds that pass while a program (these words) is asked so many lines, the last of a file, a
-    piece of so many at a time."""
+    """Seconds that pass while a program (these words) is asked the last `count` lines of a file,
+    `piece` at a time."""
     command = [str(word) for word in (asking, count, piece, *words)]
     with lines.open("rb") as text:
         run = subprocess.run(command, stdin=text, capture_output=True, check=True)

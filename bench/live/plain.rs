@@ -33,7 +33,7 @@ use database::{Answers, Database};
 use log::Log;
 use std::io::{stdin, stdout, BufRead, BufReader, Read, Write};
 
-// a line of which so many bytes were read is too long: two digits, a space, and 8,193 bytes
+// a line of which this many bytes were read is too long: two digits, a space, and 8,193 bytes
 const MOST_BYTES: u64 = 8196;
 
 #[derive(Default)]

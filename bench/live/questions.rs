@@ -30,7 +30,7 @@ fn kind_of(keyword: &[u8]) -> Option<Kind> {
 }
 
 impl Question<'_> {
-    // The question that a text asks, or its fault; none where it asks none of the three.
+    // The question that a text asks, or its fault; none if it asks none of the three.
     pub fn of(text: &[u8]) -> Option<Result<Question<'_>, Fault>> {
         let mut words = text.split(|byte| *byte == b' ');
         let kind = kind_of(words.next()?)?;
@@ -43,7 +43,7 @@ impl Question<'_> {
     }
 }
 
-// why a target is out of date by itself, with the name that is told: another or the target
+// why a target is out of date by itself, with the name in the answer: another or the target
 enum Reason {
     Building,
     Failed,
@@ -114,7 +114,7 @@ impl Search {
         is_new
     }
 
-    // the reason of the name that is met, where it has one, or else of one on which it depends
+    // the reason of the name that is met, if it has one, or else of one on which it depends
     fn reason(&mut self, store: &Store, t: u32) -> Option<Reason> {
         let graph = &store.graph;
         self.turn += 1;

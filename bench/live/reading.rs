@@ -46,7 +46,7 @@ pub fn fault_of_bytes(text: &[u8]) -> Option<Fault> {
     is_bad.then_some("bad-byte")
 }
 
-// how many names, and what follows them, where so many words stand behind the keyword
+// how many names, and what follows them, if this many words follow the keyword
 fn form_of(keyword: &[u8], words: usize) -> Option<(usize, Last)> {
     Some(match keyword {
         b"file" => (1, Last::Stamp),
@@ -69,7 +69,7 @@ fn fault_of_last(last: Last, word: &[u8]) -> Option<Fault> {
 }
 
 impl Database {
-    // whether all names of a text are known, or have room
+    // whether all names of a text are known, or fit
     fn has_room<'a>(&self, words: impl Iterator<Item = &'a [u8]>) -> bool {
         let mut new: Vec<&[u8]> =
             words.filter(|word| !self.names.numbers.contains_key(word)).collect();

@@ -69,7 +69,7 @@ pub enum Reply {
 }
 
 impl Reply {
-    // whether a guarded line behind it is done
+    // whether a guarded line after it is done
     pub fn lets_through(self) -> bool {
         !matches!(
             self,

@@ -1,4 +1,4 @@
-// Which targets are out of date, kept up to date. Where a name has changed, its region is searched:
+// Which targets are out of date, kept up to date. If a name has changed, its region is searched:
 // the name, the targets with a change or created row on it, and each target from which change rows
 // lead to one of these. Only the first of these names can have come to be out of date by their own
 // rows; what else is out of date then depends on one of them, or was out of date before.
@@ -13,7 +13,7 @@ pub struct Memo {
     pub flags: Vec<u8>,
     region: Vec<u32>,
     found: Vec<u32>,
-    // how many of the names found have told those that depend on them
+    // how many of the names found were passed on to those that depend on them
     spread: usize,
 }
 
@@ -42,7 +42,7 @@ impl Memo {
         }
     }
 
-    // answers how many names, first in the region, have a row on the seed, with the seed
+    // returns how many names, first in the region, have a row on the seed, with the seed
     fn meet_region(&mut self, graph: &Graph, seed: u32) -> usize {
         self.region.clear();
         self.meet(seed);

@@ -10,7 +10,7 @@ pub enum Mix {
     Header,
 }
 
-// so many builds, and then a source changes
+// this many builds, and then a source changes
 const BUILDS: usize = 16;
 // before each such query the header changes
 const QUERIES: usize = 100;
@@ -24,7 +24,7 @@ struct Plan {
 }
 
 impl Plan {
-    // a plan of so many names, at least 140
+    // a plan of this many names, at least 140
     fn new(names: u32, has_header: bool) -> Plan {
         let header = has_header.then(|| names - 1);
         let others = names - u32::from(has_header);
@@ -56,7 +56,7 @@ impl Plan {
         }
     }
 
-    // the first of the 8 sources of an object, where it is one
+    // the first of the 8 sources of an object, if it is one
     fn first_source(&self, target: u32) -> Option<u32> {
         let object = u64::from(target - self.sources);
         let objects = 64 * u64::from(self.programs);
@@ -67,7 +67,7 @@ impl Plan {
         let at = target - self.sources;
         let names: Vec<u32> = match self.first_source(target) {
             Some(first) => (first..first + 8).map(|n| n % self.sources).collect(),
-            // the objects of all archives stand in a row, and so do the archives of all programs
+            // all objects have numbers in a row, and so have all archives
             None => (self.sources + 8 * (at - 64 * self.programs)..).take(8).collect(),
         };
         self.header.into_iter().chain(names).collect()
@@ -78,7 +78,7 @@ struct Work<'a> {
     plan: Plan,
     mix: Mix,
     writer: Writer<'a>,
-    // how many sources were told so far, and how many builds, builds in turn and queries there were
+    // how many sources, builds, builds in turn and queries there were so far
     sources: u32,
     builds: usize,
     turns: usize,
@@ -157,7 +157,7 @@ fn plain(lines: usize, names: usize) -> (String, Vec<u8>) {
     writer.history()
 }
 
-// a history of so many lines over so many names, or over fewer where the lines don't suffice
+// a history of this many lines over this many names, or over fewer if the lines don't suffice
 pub fn history_of(mix: Mix, lines: usize, names: usize) -> (String, Vec<u8>) {
     if mix == Mix::Plain {
         return plain(lines, names);

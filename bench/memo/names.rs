@@ -58,7 +58,7 @@ pub struct Names<'a> {
 }
 
 impl<'a> Names<'a> {
-    // the number of a text of visible bytes, where it is a name and there aren't too many
+    // the number of a text of visible bytes, if it is a name and there aren't too many
     pub fn add(&mut self, text: &'a [u8]) -> Option<u32> {
         if let Some(number) = self.numbers.get(text) {
             return Some(*number);

@@ -7,7 +7,7 @@ pub enum Asked {
     Same,
     // before each question one source changes, always the same
     One,
-    // before each question another source changes, and it changes back behind it
+    // before each question another source changes, and it changes back after it
     Each,
 }
 

@@ -79,7 +79,7 @@ impl<'a> Writer<'a> {
         self.tell(Command::Unlock(target), &[]);
     }
 
-    // builds a target, whose dependencies are told 64 at a time
+    // builds a target, whose dependencies are reported 64 at a time
     pub fn build(&mut self, target: u32, names: &[u32], stamp: usize) {
         self.lock(target);
         self.tell(Command::Start(target), &[]);

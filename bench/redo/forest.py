@@ -19,7 +19,7 @@ rule list
 
 
 class Forest:
-    """So many targets, in folders of a hundred, below a folder."""
+    """This many targets, in folders of a hundred, below a folder."""
 
     def __init__(self, folder: Path, targets: int) -> None:
         self.folder = folder

@@ -65,7 +65,7 @@ def _listens(path: Path) -> bool:
 
 
 class Server:
-    """The server of a tree, started here so that what it takes can be told. It ends with `with`."""
+    """The server of a tree, started here to measure what it takes. It ends with `with`."""
 
     def __init__(self, command: list[str], top: Path, environment: dict[str, str]) -> None:
         (top / ".redo").mkdir(exist_ok=True)

@@ -97,7 +97,7 @@ def _start(places: Places, idle: float) -> None:
 
 
 def _last_error(places: Places, before: int) -> str:
-    """Return `: ` and the last line of the server's errors behind so many bytes, if any."""
+    """Return `: ` and the last line of the server's errors after this many bytes, if any."""
     try:
         with open(places.errors, "rb") as errors:
             errors.seek(before)

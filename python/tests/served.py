@@ -19,7 +19,7 @@ PATIENCE = 20.0
 
 
 def program_or_skip() -> str:
-    """Return the program redodb-live. Where it isn't proved, the tests are skipped."""
+    """Return the program redodb-live. If it isn't proved, the tests are skipped."""
     program = find_program()
     if program is None:
         raise unittest.SkipTest("redodb-live is not found")
@@ -40,7 +40,7 @@ def eventually(holds: Callable[[], bool]) -> bool:
 
 
 class Raw:
-    """A connection that says what it is told, byte by byte."""
+    """A connection that sends what it is given, byte by byte."""
 
     def __init__(self, places: Places) -> None:
         self.socket = socket.socket(socket.AF_UNIX)
@@ -49,7 +49,7 @@ class Raw:
         self.reader = self.socket.makefile("rb")
 
     def send(self, *lines: str) -> None:
-        """Send lines, each with an LF behind it."""
+        """Send lines, each with an LF after it."""
         self.socket.sendall("".join(line + "\n" for line in lines).encode())
 
     def line(self) -> str:
@@ -57,7 +57,7 @@ class Raw:
         return self.reader.readline().decode().removesuffix("\n")
 
     def lines(self, count: int) -> list[str]:
-        """Return so many lines."""
+        """Return this many lines."""
         return [self.line() for _ in range(count)]
 
     def talk(self, *lines: str) -> list[str]:

@@ -33,7 +33,7 @@ fi
 
 
 def options_of_help(words: list[str]) -> set[str]:
-    """Return the long options of a program's --help, and those that it needn't tell of."""
+    """Return the long options of a program's --help, and those that it needn't name."""
     run = subprocess.run([*words, "--help"], capture_output=True, text=True, check=True)
     found = set(re.findall(r"^    (?:-\w(?: \w+)?, )?(--[a-z-]+)", run.stdout, re.M))
     return found | ({"--help"} if len(words) > 1 else {"--help", "--version"})

@@ -250,7 +250,7 @@ class LookingAgain(ServedTree):
         )
 
     def noticed(self, name: str, stamp: str) -> None:
-        """The next look finds this one difference, and the one behind it none."""
+        """The next look finds this one difference, and the one after it none."""
         self.assertEqual(
             self.one.talk("6 look", "7 look", f"8 state {name}", "9 look"),
             ["6 ok 1", "7 ok 0", f"8 idle lock - file {stamp}", "9 ok 0"],

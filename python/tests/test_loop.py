@@ -100,7 +100,7 @@ class Calls(unittest.TestCase):
 
 
 class Taker(Owner):
-    """Keeps what its stream tells."""
+    """Keeps what its stream reports."""
 
     def __init__(self) -> None:
         self.taken = b""

@@ -1,4 +1,4 @@
-"""The database of this process. Skipped where library/make hasn't made the library."""
+"""The database of this process. Skipped if library/make hasn't made the library."""
 import doctest
 import unittest
 

@@ -1,4 +1,4 @@
-"""The end of a server, and what it says where redodb-live ends."""
+"""The end of a server, and what it says when redodb-live ends."""
 import os
 import signal
 import subprocess

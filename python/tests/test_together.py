@@ -65,7 +65,7 @@ class Together(ServedTree):
         self.assertRegex(self.client().talk("1 state t0")[0], r"\A1 (built|failed) lock - file ")
 
     def check_history(self, lines: list[str]) -> None:
-        """Fail where a name was granted while another session had it."""
+        """Fail if a name was granted while another session had it."""
         holders: dict[str, str] = {}
         for line in lines:
             session, word, name = line.split(" => ")[0].split(" ")[:3]

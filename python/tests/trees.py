@@ -65,7 +65,7 @@ class TreeTest(unittest.TestCase):
         return run.stdout
 
     def age(self, name: str, seconds: float) -> None:
-        """Make a file older by these seconds, or newer where they are negative."""
+        """Make a file older by these seconds, or newer if they are negative."""
         path = self.top / name
         status = path.stat()
         time = status.st_mtime_ns - int(seconds * 1_000_000_000)
@@ -73,7 +73,7 @@ class TreeTest(unittest.TestCase):
 
     @contextlib.contextmanager
     def touched(self, name: str) -> Iterator[None]:
-        """A file is newer than all others inside the block, and as before behind it."""
+        """A file is newer than all others inside the block, and as before after it."""
         path = self.top / name
         before = path.stat()
         newest = max(file.stat().st_mtime_ns for file in self.top.rglob("*")) + 1_000_000_000

@@ -58,7 +58,7 @@ static void lengths(redodb *database) {
     EXPECT(redodb_answer(database, "1 ood\n", 6, room, sizeof room, &size, &logged) == REDODB_FAULT);
 }
 
-/* An answer that doesn't fit is not done, and its length is told, whatever it is an answer to. */
+/* An answer that doesn't fit is not done, and its length is reported, whatever it is an answer to. */
 static void small_rooms(redodb *database) {
     static const char *const lines[] = {"1 lock a", "1 start a", "1 ifchange a b c", "2 why a", "3 bad", "1 end"};
     static const char *const wants[] = {"1 lock a => granted 1\n", "1 start a => ok\n",

@@ -27,7 +27,7 @@ static void expect(int is_so, const char *what, int line) {
 
 #define EXPECT(condition) expect((condition), #condition, __LINE__)
 
-/* The request of this number, counted from 1, is refused, and none where it is 0. */
+/* The request of this number, counted from 1, is refused, and none if it is 0. */
 static size_t requests, refused_at, refused;
 /* How many bytes the one that was refused wanted, and whether the next one wanted no more. */
 static size_t lacking;
@@ -35,7 +35,7 @@ static int is_asked_again;
 /* How many refusals were done without, and how many pieces of memory aren't freed yet. */
 static size_t done_without, blocks;
 
-/* Whether a request for so many bytes is refused. */
+/* Whether a request for this many bytes is refused. */
 static int refuses(size_t size) {
     requests++;
     is_asked_again = is_asked_again || (lacking != 0 && size <= lacking);
@@ -90,7 +90,7 @@ static const char *line_of(size_t number) {
     return line;
 }
 
-/* All that was answered, and of that what a log takes, behind its header. */
+/* All that was answered, and of that what a log takes, after its header. */
 struct told {
     char said[MOST], log[MOST];
     size_t said_size, log_size;
@@ -115,7 +115,7 @@ static size_t refused_before(void) {
     return refused;
 }
 
-/* Whether the call lacked memory, and is to be done again. Without the memory it can do only where it asked for no more. */
+/* Whether the call lacked memory, and is to be done again. It can do without only if it asked for no more memory. */
 static int is_to_be_repeated(int status, size_t before) {
     EXPECT(refused <= before + 1 && (status != REDODB_MEMORY || refused > before));
     if (status != REDODB_MEMORY && refused > before) {
@@ -125,7 +125,7 @@ static int is_to_be_repeated(int status, size_t before) {
     return status == REDODB_MEMORY;
 }
 
-/* Answers a line, twice where memory is refused. */
+/* Answers a line, twice if memory is refused. */
 static void answer(redodb *database, const char *line, struct told *told) {
     char *room = told->said + told->said_size;
     size_t size = 7, logged = 7, most = MOST - told->said_size, before = refused_before();

@@ -55,7 +55,7 @@ def case_lists_in_a_folder(tree: Tree) -> None:
 
 
 def case_lists_of_nothing(tree: Tree) -> None:
-    """Where nothing was built, the lists are empty."""
+    """If nothing was built, the lists are empty."""
     for program in ("redo-ood", "redo-targets", "redo-sources"):
         run = tree.run(program)
         tree.check.same(program, (run.status, run.out, run.err), (0, "", ""))
@@ -81,7 +81,7 @@ def case_whichdo(tree: Tree) -> None:
 
 
 def case_whichdo_of_nothing(tree: Tree) -> None:
-    """Where none is there, it prints all up to the folder `/`, with status 1."""
+    """If none is there, it prints all up to the folder `/`, with status 1."""
     run = tree.run("redo-whichdo", "/a/b/c.x.y", folder="../../..")
     wanted = [
         "a/b/c.x.y.do",
@@ -121,7 +121,7 @@ def case_why_changed(tree: Tree) -> None:
 
 
 def case_why_other_reasons(tree: Tree) -> None:
-    """redo-why tells the other reasons, too."""
+    """redo-why names the other reasons, too."""
     tree.files(
         a__do="redo-ifcreate b\necho a\n",
         c__do="redo-always\necho c\n",
@@ -171,7 +171,7 @@ def copy_hello(tree: Tree) -> None:
 
 
 def case_hello(tree: Tree) -> None:
-    """examples/hello is built, and again after an edit of its header, which redo-why tells."""
+    """examples/hello is built, and again after an edit of its header, which redo-why names."""
     copy_hello(tree)
     tree.check.same("built", tree.redo().err, "redo  all\nredo    hello\nredo      hello.o\n")
     tree.check.same("hello", tree.run("./hello").out, "hello, world\n")

@@ -82,7 +82,7 @@ def case_ring(tree: Tree) -> None:
 
 
 def case_ring_across_runs(tree: Tree) -> None:
-    """A ring of which two runs build a part each is told, too; none of them hangs."""
+    """A ring of which two runs build a part each is reported, too; none of them hangs."""
     wait = "while ! [ -e began.%s ]; do sleep 0.01; done\n"
     tree.files(
         a__do=": >began.a\n" + wait % "b" + "redo-ifchange b\n",
@@ -179,7 +179,7 @@ def case_second_run(tree: Tree) -> None:
 
 
 def case_killed_script(tree: Tree) -> None:
-    """A script that is killed fails, and the signal is told."""
+    """A script that is killed fails, and the signal is reported."""
     tree.files(x__do="echo text\nkill -9 $$\n")
     run = tree.run("redo", "x")
     tree.check.same("status", run.status, 1)

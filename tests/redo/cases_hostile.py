@@ -105,7 +105,7 @@ def case_link_to_a_folder(tree: Tree) -> None:
 
 
 def case_link_as_source(tree: Tree) -> None:
-    """A source that is a link has changed where it, or what it leads to, has."""
+    """A source that is a link has changed if it, or what it leads to, has."""
     tree.write("default.out.do", COPY)
     tree.files(a="one\n", b="two\n")
     os.symlink("a", tree.path("x.in"))
@@ -196,7 +196,7 @@ def case_tree_of_another_user(tree: Tree) -> None:
 
 
 def give_away(tree: Tree) -> None:
-    """Has a tree belong to nobody, where root runs the tests."""
+    """Has a tree belong to nobody, if root runs the tests."""
     if os.getuid() == 0:
         tree.until("the server ends", lambda: not tree.path(".redo/server/socket").exists())
         os.chmod(tree.folder.parent, 0o755)
@@ -204,17 +204,17 @@ def give_away(tree: Tree) -> None:
 
 
 def unprivileged() -> dict[str, Any]:
-    """Options for a program to run as nobody, where root runs the tests."""
+    """Options for a program to run as nobody, if root runs the tests."""
     return {"user": NOBODY} if os.getuid() == 0 else {}
 
 
 def case_full_disk(tree: Tree) -> None:
-    """On a full disk the build fails, and nothing is left; with room again, it succeeds."""
+    """On a full disk the build fails, and nothing is left; with space again, it succeeds."""
     on_small_disk(tree, full_disk)
 
 
 def case_full_disk_of_the_database(tree: Tree) -> None:
-    """Where the database can't write, the run ends with an error; with room again, it goes on."""
+    """If the database can't write, the run ends with an error; with space again, it goes on."""
     on_small_disk(tree, full_database)
 
 

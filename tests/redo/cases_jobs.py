@@ -18,7 +18,7 @@ def most(tree: Tree) -> int:
 
 
 def busy(tree: Tree, count: int) -> list[str]:
-    """Writes the rule of so many targets."""
+    """Writes the rule of this many targets."""
     tree.write("default.busy.do", BUSY)
     return [f"{number}.busy" for number in range(count)]
 
@@ -53,7 +53,7 @@ def case_waiting_script_has_no_token(tree: Tree) -> None:
 
 
 def case_needs_at_once(tree: Tree) -> None:
-    """What a target is known to need is built at once, where its script asks for one by one."""
+    """What a target is known to need is built at once, if its script asks for one by one."""
     tree.write("default.busy.do", BUSY + "redo-ifchange in\n")
     tree.files(x__do="redo-ifchange 1.busy\nredo-ifchange 2.busy\n")
     tree.write("in", "one")
@@ -159,7 +159,7 @@ def case_jobserver_on_a_fifo(tree: Tree) -> None:
 
 
 def case_unreachable_jobserver(tree: Tree) -> None:
-    """A jobserver that can't be reached is told, and one script runs at a time."""
+    """A jobserver that can't be reached is reported, and one script runs at a time."""
     targets = busy(tree, 3)
     run = tree.redo(*targets, environment={"MAKEFLAGS": " -j4 --jobserver-auth=97,98"})
     tree.check.has("message", run.err, "jobserver 97,98 can't be reached")

@@ -31,7 +31,7 @@ def case_ifchange(tree: Tree) -> None:
 
 
 def case_redo_builds_in_any_case(tree: Tree) -> None:
-    """redo builds its targets in any case, and what they need only where that is out of date."""
+    """redo builds its targets in any case, and what they need only if that is out of date."""
     small_program(tree)
     tree.redo("app")
     tree.redo("app")
@@ -48,7 +48,7 @@ def case_removed_target(tree: Tree) -> None:
 
 
 def case_source_without_rule(tree: Tree) -> None:
-    """A file that no build made is a source, also where a .do file would match."""
+    """A file that no build made is a source, also if a .do file would match."""
     tree.files(default__do="echo made\n", x__do="redo-ifchange y\ncat y\n", y="by hand\n")
     tree.redo("x")
     tree.check.same("x", tree.read("x"), "by hand\n")
@@ -66,7 +66,7 @@ def case_missing_source(tree: Tree) -> None:
 
 
 def case_touched_source(tree: Tree) -> None:
-    """A source is told by its size, time, inode and mode: another time alone is a change."""
+    """A source is known by its size, time, inode and mode: another time alone is a change."""
     tree.files(x__do="echo ran >>ran\nredo-ifchange y\ncat y\n", y="text\n")
     tree.redo("x")
     os.utime(tree.path("y"), ns=(1, 2))
@@ -166,7 +166,7 @@ def case_changed_by_hand(tree: Tree) -> None:
 
 
 def case_changed_by_hand_and_out_of_date(tree: Tree) -> None:
-    """It stays as well where what it was built from has changed, too."""
+    """It stays as well if what it was built from has changed, too."""
     small_program(tree)
     tree.redo("app")
     tree.write("util.o", "by hand\n")
@@ -210,7 +210,7 @@ def case_failed_target(tree: Tree) -> None:
 
 
 def case_need_that_fails(tree: Tree) -> None:
-    """Where what a target needed can't be built, its script finds out whether it needs it still."""
+    """If what a target needed can't be built, its script finds out whether it needs it still."""
     tree.files(
         x__do="[ -e alone ] || redo-ifchange y\necho x >>ran\n", y__do="redo-ifchange z\n", z=""
     )

@@ -98,7 +98,7 @@ def case_folder_of_the_target(tree: Tree) -> None:
 
 
 def case_missing_folder(tree: Tree) -> None:
-    """Where nobody makes that folder, the build fails and leaves nothing."""
+    """If nobody makes that folder, the build fails and leaves nothing."""
     tree.files(default__o__do="echo text\n")
     run = tree.run("redo", "d/x.o")
     tree.check.same("status", run.status, 1)
@@ -117,7 +117,7 @@ def case_folder_as_target(tree: Tree) -> None:
 
 
 def case_folder_that_is_there(tree: Tree) -> None:
-    """A folder that no build made is a target where a rule matches: its script may fill it."""
+    """A folder that no build made is a target if a rule matches: its script may fill it."""
     tree.files(default__dir__do='mkdir -p "$1"\ntouch "$1/made"\n')
     for program in ("redo", "redo-ifchange"):
         name = f"{program}.dir"

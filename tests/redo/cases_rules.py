@@ -50,7 +50,7 @@ def case_own_do_file_in_its_folder_alone(tree: Tree) -> None:
 
 
 def case_appearing_do_file(tree: Tree) -> None:
-    """A target is out of date where a .do file appears that would win, or its own is edited."""
+    """A target is out of date if a .do file appears that would win, or its own is edited."""
     tree.files(default__do="echo old\n")
     tree.redo("x.c")
     tree.write("default.c.do", "echo new\n")
@@ -88,7 +88,7 @@ def case_interpreter(tree: Tree) -> None:
 
 
 def case_missing_interpreter(tree: Tree) -> None:
-    """Where that program is missing, the build fails and says so."""
+    """If that program is missing, the build fails and says so."""
     tree.files(x__do="#!/nothing/here\n")
     run = tree.run("redo", "x")
     tree.check.same("status", run.status, 1)

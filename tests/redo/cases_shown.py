@@ -134,7 +134,7 @@ def case_colours(tree: Tree) -> None:
 
 
 def case_progress(tree: Tree) -> None:
-    """On a terminal a line tells how many targets are done, run and are left, until the end."""
+    """On a terminal a line says how many targets are done, run and are left, until the end."""
     tree.files(all__do="redo-ifchange a b c\n", a__do=":\n", b__do="sleep 1\n", c__do=":\n")
     shown = on_terminal(tree, "redo", "--no-color", "all")
     told = re.findall(r"redo: (\d+) done, (\d+) running, (\d+) left", shown)
@@ -170,7 +170,7 @@ def case_help_and_version(tree: Tree) -> None:
 
 
 def case_nobody_reads(tree: Tree) -> None:
-    """Where nobody reads what is printed, the targets are built all the same."""
+    """If nobody reads what is printed, the targets are built all the same."""
     tree.files(a__do="echo text >&2\nredo-ifchange b\necho a\n", b__do="echo text >&2\n")
     run = tree.run("sh", "-c", "redo a 2>&1 | true; cat a")
     tree.check.same("a", run.out, "a\n")

@@ -31,7 +31,7 @@ class Made:
         return ["all", "header.h", *[f"group{group}.a" for group in range(self.groups)], *objects]
 
     def names(self, group: int) -> list[str]:
-        """The names of a group's objects, without what stands behind the dot."""
+        """The names of a group's objects, without what follows the dot."""
         return [f"object{group}_{number}" for number in range(self.objects)]
 
     def write(self, text: str) -> None:

@@ -8,7 +8,7 @@ from nothing by gcc alone.
 
 Usage: tests/redo/program.py [--jobs N]
            --jobs builds at -j N alone
-The database is $REDODB_LIVE, or ./redodb-live where it is proved. The last line is
+The database is $REDODB_LIVE, or ./redodb-live if it is proved. The last line is
 'N passed, M failed, K skipped'."""
 import argparse
 import os
@@ -32,7 +32,7 @@ SECONDS = 600
 
 @dataclass
 class Checks:
-    """Counts what passed and failed, and tells what failed."""
+    """Counts what passed and failed, and prints what failed."""
 
     passed: int = 0
     failed: int = 0
@@ -47,7 +47,7 @@ class Checks:
 
 
 def database() -> str | None:
-    """redodb-live: $REDODB_LIVE, else that of the repository where it is proved, else None."""
+    """redodb-live: $REDODB_LIVE, else that of the repository if it is proved, else None."""
     live = os.environ.get("REDODB_LIVE") or str(TOP / "redodb-live")
     run = subprocess.run([live], stdin=subprocess.DEVNULL, capture_output=True, check=False)
     return live if run.returncode == 0 else None
@@ -82,13 +82,13 @@ class Tree:
         )
 
     def objects(self) -> dict[str, bytes]:
-        """The bytes of all objects and of the program by their names, none where one is missing."""
+        """The bytes of all objects and of the program by their names, none if one is missing."""
         paths = {name: self.folder / name for name in [*self.made.objects, "prog"]}
         return {name: path.read_bytes() if path.exists() else b"" for name, path in paths.items()}
 
     @contextmanager
     def touched(self, name: str) -> Iterator[None]:
-        """The file is newer than all others inside the block, and as before behind it."""
+        """The file is newer than all others inside the block, and as before after it."""
         path = self.folder / name
         before = path.stat()
         os.utime(path)
@@ -145,7 +145,7 @@ class Compiler:
 
 @dataclass
 class Trial:
-    """The program built by redo at so many jobs, beside the same program built by ninja."""
+    """The program built by redo at this many jobs, beside the same program built by ninja."""
 
     check: Checks
     jobs: int
@@ -216,7 +216,7 @@ class Trial:
 
 
 def try_jobs(check: Checks, jobs: int, work: Path, live: str, compiler: Compiler) -> int:
-    """Tries the program at so many jobs; how many parts were skipped."""
+    """Tries the program at this many jobs; how many parts were skipped."""
     kept = {
         name: value for name, value in os.environ.items() if not name.startswith(("REDO", "MAKE"))
     }

@@ -22,7 +22,7 @@ class Skipped(Exception):
 
 @dataclass
 class Checks:
-    """Counts what passed and what failed, and tells what failed."""
+    """Counts what passed and what failed, and prints what failed."""
 
     passed: int = 0
     failed: int = 0
@@ -112,14 +112,14 @@ class Tree:
             self.write(name.replace("__", "."), text)
 
     def read(self, name: str | bytes) -> str:
-        """Returns the text of a file, or `(none)` where there is none."""
+        """Returns the text of a file, or `(none)` if there is none."""
         try:
             return self.path(name).read_text()
         except FileNotFoundError:
             return "(none)"
 
     def count(self, name: str) -> int:
-        """Returns the number of lines of a file, 0 where there is none: how often a script ran."""
+        """Returns the number of lines of a file, 0 if there is none: how often a script ran."""
         text = self.read(name)
         return 0 if text == "(none)" else text.count("\n")
 
@@ -222,13 +222,13 @@ def new_tree(folder: Path, check: Checks, live: str) -> Iterator[Tree]:
 
 
 def needs(program: str) -> None:
-    """Skips a case where a program is missing."""
+    """Skips a case if a program is missing."""
     if shutil.which(program) is None:
         raise Skipped(f"no {program}")
 
 
 def program() -> str | None:
-    """The database: $REDODB_LIVE, else ./redodb-live where it is proved, else None."""
+    """The database: $REDODB_LIVE, else ./redodb-live if it is proved, else None."""
     chosen = os.environ.get("REDODB_LIVE")
     if chosen:
         return chosen
@@ -240,7 +240,7 @@ def program() -> str | None:
 def sleepers(tree: Tree, with_server: bool) -> dict[int, list[bytes]]:
     """Returns the processes that run in the folder of a tree, each with its words.
 
-    Those of the server, and of its database, are among them where they are asked for.
+    Those of the server, and of its database, are among them if they are asked for.
     """
     found: dict[int, list[bytes]] = {}
     for process in Path("/proc").iterdir():

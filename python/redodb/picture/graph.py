@@ -71,7 +71,7 @@ class Questions:
 
 
 def graph_of(questions: Questions, root: bytes, most: int) -> Graph:
-    """Return the graph below this target, with at most so many targets.
+    """Return the graph below this target, with at most this many targets.
 
     The chain of why is always whole, and then come the nearest ones. Raises PictureError if the
     name is no target.

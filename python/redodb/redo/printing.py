@@ -25,7 +25,7 @@ def has_colours(file: int, environment: Mapping[str, str]) -> bool:
 
 
 class Terminal:
-    """Writes lines to a file, and if it is a terminal a line of progress behind them."""
+    """Writes lines to a file, and if it is a terminal a line of progress after them."""
 
     def __init__(self, file: int, colours: bool, progress: bool) -> None:
         self._file = file

@@ -54,7 +54,7 @@ def questions(wanted: list[bytes]) -> list[bytes]:
 
 
 def nothing_to_do(answers: list[bytes], count: int) -> bool:
-    """Returns whether so many names are right: up to date, or sources."""
+    """Returns whether this many names are right: up to date, or sources."""
     told = answers[count:]
     return all(is_right(*both) for both in zip(told[::2], told[1::2]))
 

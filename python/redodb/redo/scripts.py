@@ -134,7 +134,7 @@ class Processes:
         return pid, end
 
     async def stop(self, grace: float) -> None:
-        """Ends all of them: SIGTERM, and SIGKILL so many seconds later."""
+        """Ends all of them: SIGTERM, and SIGKILL this many seconds later."""
         groups, ends = list(self._ends), list(self._ends.values())
         self.signal(groups, signal.SIGTERM)
         if ends:

@@ -65,7 +65,7 @@ def joined(makeflags: str) -> Jobserver | None:
 
 
 def served(jobs: int, makeflags: str) -> tuple[Jobserver, str]:
-    """Makes a jobserver for so many jobs, and MAKEFLAGS for scripts.
+    """Makes a jobserver for this many jobs, and MAKEFLAGS for scripts.
 
     One of the jobs needs no token.
     """

@@ -58,7 +58,7 @@ class Options:
 
 
 def main(words: list[str]) -> int:
-    """Run the program. Return 0, 1 where redodb-live failed, or 2 where it can't serve."""
+    """Run the program. Return 0, 1 if redodb-live failed, or 2 if it can't serve."""
     if words in (["--help"], ["--version"]):
         from .. import __version__
 

@@ -144,7 +144,7 @@ class Connection(Owner):
             self._skipping = True
 
     def _hold(self, call: Callable[[], None]) -> None:
-        """Call when all before is answered, and only then work on what comes behind."""
+        """Call when all before is answered, and only then work on what comes after."""
 
         def release() -> None:
             self._held = False
@@ -158,7 +158,7 @@ class Connection(Owner):
         self._live.afterwards(release)
 
     def _answer_in_turn(self, number: bytes, answer: bytes) -> None:
-        """Answer behind all that was asked before."""
+        """Answer after all that was asked before."""
         self._live.afterwards(lambda: self.answer(number, answer))
 
     def _wait(self, number: bytes, words: list[bytes]) -> None:

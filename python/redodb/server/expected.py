@@ -102,7 +102,7 @@ def _path_of(name: bytes) -> bytes | None:
 
 
 def _part_of(count: int, share: int, shares: int) -> tuple[int, int]:
-    """Return where a share of so many begins, and where it ends."""
+    """Return where a share of these many begins, and where it ends."""
     return count * share // shares, count * (share + 1) // shares
 
 

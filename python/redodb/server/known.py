@@ -19,9 +19,9 @@ class Known:
     said, after the lines that were learnt.
 
     A line is SESSION COMMAND => REPLY. The lines of the log, and those that pass through the server
-    behind it, are learnt in their order, by the function that `learners` has for the word of the
+    after it, are learnt in their order, by the function that `learners` has for the word of the
     command. Each is a reader, which returns the names of which something else is known now, and
-    what is expected of them behind it.
+    what is expected of them after it.
     """
 
     def __init__(self) -> None:

@@ -68,7 +68,7 @@ class Loop:
         self._soon.append(call)
 
     def later(self, seconds: float, call: Callable[[], None]) -> Timer:
-        """Call so many seconds from now, unless the timer is dropped."""
+        """Call this many seconds from now, unless the timer is dropped."""
         timer = Timer(time.monotonic() + seconds, call)
         self._timers.append(timer)
         return timer

@@ -16,7 +16,7 @@ _MOST_FILES = 4096
 
 
 def shares_of(count: int) -> int:
-    """Return in how many shares to search so many things, since it takes time to make a process."""
+    """Return in how many shares to search this many things: it takes time to make a process."""
     processors = len(os.sched_getaffinity(0))
     return max(1, min(count // _LEAST_IN_SHARE, processors, _MOST_SHARES))
 

@@ -33,7 +33,7 @@ class Stream:
 
     It reads from one file and writes to another, or to the same one; the files are the stream's.
     Writing doesn't block. The stream closes itself if the other side has ended. What is written
-    behind its close is dropped.
+    after its close is dropped.
     """
 
     def __init__(self, loop: Loop, reading: int, writing: int, owner: Owner) -> None:
@@ -51,7 +51,7 @@ class Stream:
         loop.watch(reading, READABLE, self._ready)
 
     def write(self, data: bytes) -> None:
-        """Send data, behind all that was written before."""
+        """Send data, after all that was written before."""
         if self.is_closing:
             return
         sent = 0 if self.unsent else self._sent(data)
