@@ -135,7 +135,7 @@ module _ {inside : Inside} (kept : KeepsStored inside) (n : ℕ) where
       subst (λ (cs : List Cell). WasRight (n ∷ []) inside.memo (with_rows cs inside.rows))
       (sym written) (was_right_by_cell inside.memo inside.records inside.rows n kept.memo_right c)
 
-  -- and the store's invariant holds, if the cell has no more builds than commands were applied
+  -- and the store's invariant is kept, if the cell has no more builds than commands were applied
   pub cell_refreshed : (c : Cell) {cells : List Cell} {memo : List Bool}
       → cells ≡ with_cell_at inside.records n c → c.builds ≤ inside.applied
       → memo_count memo ≡ length cells → IsRight memo (with_rows cells inside.rows)

@@ -71,7 +71,7 @@ module _ (old made : Stored) (same : IsSameButRoom old made) (s : ℕ) (holds : 
       ∙ ap (λ (n : Naming ℕ). effect_of n (records_of made) s command) same_naming
       ∙ ap (λ (r : Records ℕ). effect_of (naming_of old) r s command) same.records)
 
--- an error comes with P, if P holds in any case
+-- an error comes with P, if P is true in any case
 pub on_err_from : {X E P : Type 0} (r : Result X E) → P → OnErr r P
 on_err_from (Ok x) p = tt
 on_err_from (Err e) p = p

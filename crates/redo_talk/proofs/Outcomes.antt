@@ -1,4 +1,4 @@
--- What holds whatever a result is, or follows from another fact about it.
+-- What is true whatever a result is, or follows from another fact about it.
 use Rattle.std.proofs.Common.{◌≡◌}
 use Rattle.std.specs.Prelude.{Result, Ok, Err, OnOk, OnErr, IfErr}
 
