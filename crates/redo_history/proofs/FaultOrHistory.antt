@@ -40,12 +40,12 @@ line_read : (names : List Text) (number : ℕ) (text word rest : Text) (session 
     → IsCutAtSpace text word rest → IsSessionWord word session
     → IsRead names text ⊎ Fails names number text
 line_read names number text word rest session cut is = elim (cut_at_arrow rest) [
-  | inr none ↦ inr (BadReply number, λ e. absurd cc, (refl, (rest, has, inl none)))
+  | inr none ↦ inr (BadReply number, λ e. absurd cc, (refl, (rest, begins, inl none)))
   | inl parts ↦ by parts.0 parts.1 parts.2 (line_fault names parts.0) refl
 ]
   where
-    has : HasSession text rest
-    has = (word, session, cut, is)
+    begins : HasSession text rest
+    begins = (word, session, cut, is)
 
     answered : (command reply : Text) → IsCutAtArrow rest command reply → (said : Command Text)
         (mid : List Text) → IsCommandLine command said → AddsNames names (said ∷ []) mid
@@ -57,7 +57,7 @@ line_read names number text word rest session cut is = elim (cut_at_arrow rest) 
         inr (
           BadReply number,
           λ h. absurd cc,
-          (refl, (rest, has, inr (command, reply, said, mid, arrow, spelled, adds, none))),
+          (refl, (rest, begins, inr (command, reply, said, mid, arrow, spelled, adds, none))),
         )
     answered command reply arrow said mid spelled adds (Ok found) e =
         let its = reply_found mid reply found.0 found.1 e in
@@ -80,7 +80,7 @@ line_read names number text word rest session cut is = elim (cut_at_arrow rest) 
         → (fault : Option LineFault) → line_fault names command ≡ fault
         → IsRead names text ⊎ Fails names number text
     by command reply arrow (Some fault) e =
-        inr (BadLine number fault, λ h. absurd cc, (refl, (rest, command, reply, has, arrow, e)))
+        inr (BadLine number fault, λ h. absurd cc, (refl, (rest, command, reply, begins, arrow, e)))
     by command reply arrow None e =
         let said = command_without_fault names command e in
         answered command reply arrow said.0 said.1 said.2 said.3 (reply_in said.1 reply) refl

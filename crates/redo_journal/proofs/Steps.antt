@@ -146,12 +146,12 @@ of_last P entries k entry all e =
     subst P (get_or_from_slice_get entries k entry entry e)
     (all k entry (slice_get_within entries k entry e))
 
-at_below : (n : ℕ) (script : List (commands.Item ℕ)) (k : ℕ)
+at_below : (n : ℕ) (script : List (commands.Item ℕ)) (number : ℕ)
     → AllByRecursion (λ item. IsBelow n item.command) script
-    → IsBelow n (get_or (commands_in script) k Ood)
-at_below n [] k below = tt
+    → IsBelow n (get_or (commands_in script) number Ood)
+at_below n [] number below = tt
 at_below n (item ∷ script) zero below = below.0
-at_below n (item ∷ script) (suc k) below = at_below n script k below.1
+at_below n (item ∷ script) (suc number) below = at_below n script number below.1
 
 -- what is next is over the names
 pub next_below : (names : List Text) (s : ℕ) (script : List (commands.Item ℕ))

@@ -20,12 +20,12 @@ use Rattle.redo_journal.proofs.Closings.{TellsBelow, closing_told_below}
 use Rattle.redo_merge.specs.Inside.Merging.{FitsAt, busy_one, busy_in}
 use Rattle.redo_merge.proofs.BusyCounts.{busy_in-cons, busy_one-le}
 
-script_below : (n : ℕ) (script : List (commands.Item ℕ)) (k : ℕ)
+script_below : (n : ℕ) (script : List (commands.Item ℕ)) (number : ℕ)
     → AllByRecursion (λ item. IsBelow n item.command) script
-    → IsBelow n (get_or (commands_in script) k Ood)
-script_below n [] k below = tt
+    → IsBelow n (get_or (commands_in script) number Ood)
+script_below n [] number below = tt
 script_below n (item ∷ script) zero below = below.0
-script_below n (item ∷ script) (suc k) below = script_below n script k below.1
+script_below n (item ∷ script) (suc number) below = script_below n script number below.1
 
 tells_more : (n : ℕ) (script : List (commands.Item ℕ)) (entries : List Entry) (entry : Entry)
     → TellsBelow n script entries → IsBelow n (command_told script entry)
