@@ -66,8 +66,7 @@ fn agrees(
     Ok(agree(plan, told, order, &lines))
 }
 
-/// Asserts that merging these answers agrees with the search, and counts the case. Returns the
-/// first order, if there is one.
+/// Compares merging with the search, and counts the case. Returns the first order, if there is one.
 pub(crate) fn check(
     rt: &impl Abort,
     alloc: Global,

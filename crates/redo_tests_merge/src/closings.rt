@@ -1,5 +1,4 @@
-//! Closing commands at the end of a session: right ones and wrong ones. Names are numbered in the
-//! order in which the files have them.
+//! Closing commands at a session's end, right and wrong. Names are numbered as they first appear.
 use crate::merging::{Act, Case, Closing, Made, Want};
 use crate::told::{Answer, Wanted};
 use Answer::{Busy, Granted, NotLocked, Okay};
@@ -187,9 +186,8 @@ const MARKS_A_LINE: Case = Case {
     ],
 };
 
-/// The first session's file ends while it builds `T`, which is name 0, and the second locks `T`
-/// later. If the first has not released `T`, there is no joint order. Closing commands are merged
-/// as others are.
+/// The first session's file ends while it builds `T`, name 0, and the second locks `T` later. If
+/// the first has not released `T`, there is no joint order. Closing commands merge as others do.
 const ONE_AFTER_THE_OTHER: Case = Case {
     files: &["lock T\nlock a\nstart T\n", "lock T\n"],
     made: &[

@@ -96,8 +96,7 @@ struct Search {
     changes: (Change, u32),
 }
 
-/// Checks that the first order of a history's journals is its own, or comes before it. Returns
-/// whether it is its own.
+/// Checks that the first order doesn't come after the history's own. Returns whether it is its own.
 fn check_history(
     rt: &impl Abort,
     alloc: Global,
@@ -129,8 +128,7 @@ fn check_drawn(
     Ok(is_first)
 }
 
-/// Returns how many cases had an order, how many had none, and how many histories were found to be
-/// in their first order.
+/// How many cases had an order, how many had none, and how many histories were in the first order.
 fn searched(rt: &impl Abort, alloc: Global, search: Search) -> Result<(u32, u32, u32), AllocError> {
     let mut random = Random::new(search.seed);
     let mut tally = Tally::new();

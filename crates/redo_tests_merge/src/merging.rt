@@ -51,8 +51,7 @@ pub(crate) const FIRST: &[Made] = &[
 
 const GRANTED: Made = (1, (None, Answer::Granted(2), Place::Granted(0, 2)));
 
-/// The other session is answered `busy` with the first one's grant, or with one that was never
-/// made, and is granted the lock later.
+/// The other session is answered `busy` with grant 1, or with 3, which is never made; then grant 2.
 const MERGING: Case = Case {
     files: &["lock t\nunlock t\n", "lock t\nlock t\n"],
     made: &[FIRST, &[]],
