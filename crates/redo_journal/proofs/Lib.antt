@@ -3,5 +3,5 @@ pub mod Closings
 pub mod Says
 mod Each
 mod Nexts
-mod Steps
+pub mod Steps
 mod Told

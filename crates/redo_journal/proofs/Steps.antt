@@ -146,7 +146,7 @@ of_last P entries k entry all e =
     subst P (get_or_from_slice_get entries k entry entry e)
     (all k entry (slice_get_within entries k entry e))
 
-at_below : (n : ℕ) (script : List (commands.Item ℕ)) (number : ℕ)
+pub at_below : (n : ℕ) (script : List (commands.Item ℕ)) (number : ℕ)
     → AllByRecursion (λ item. IsBelow n item.command) script
     → IsBelow n (get_or (commands_in script) number Ood)
 at_below n [] number below = tt

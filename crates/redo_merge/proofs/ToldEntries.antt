@@ -1,10 +1,10 @@
 -- The entries of a journal: their commands are over the names, and few of them are busy replies.
-use Rattle.std.proofs.Common.{◌≡◌, ℕ, zero, suc, ◌-◌, ◌≤◌, Bool, true, false, cond, List, [], ◌∷◌, ◌++◌, length, map, get_or, Some, refl, sym, ◌∙◌, subst, inl, inr, arith}
+use Rattle.std.proofs.Common.{◌≡◌, ℕ, suc, ◌-◌, ◌≤◌, Bool, true, false, cond, List, [], ◌∷◌, ◌++◌, length, map, Some, refl, sym, ◌∙◌, subst, inl, inr, arith}
 use Rattle.std.specs.List.{AllByRecursion}
 use Rattle.std.proofs.lemmas.List.{map_push}
 use Rattle.redo_model.specs.Names.{Naming}
 use Rattle.redo_model.specs.Command as commands
-use Rattle.redo_model.specs.Command.{Lock, Unlock, Failed, Ood, commands_in}
+use Rattle.redo_model.specs.Command.{Lock, Unlock, Failed}
 use Rattle.redo_model.specs.Reply as replies
 use Rattle.redo_model.specs.Placed.{PlacedLine, Fits, line_of}
 use Rattle.redo_model.specs.Renaming.{IsBelow}
@@ -17,15 +17,9 @@ use Rattle.redo_journal.specs.declared.entry.Place.TheVariants.{Row, Granted, Bu
 use Rattle.redo_journal.specs.declared.entry.Entry.{Entry}
 use Rattle.redo_journal.specs.Journals.{place_of, command_told, line_told, lines_told}
 use Rattle.redo_journal.proofs.Closings.{TellsBelow, closing_told_below}
+use Rattle.redo_journal.proofs.Steps.{at_below}
 use Rattle.redo_merge.specs.Inside.Merging.{FitsAt, busy_one, busy_in}
 use Rattle.redo_merge.proofs.BusyCounts.{busy_in-cons, busy_one-le}
-
-script_below : (n : ℕ) (script : List (commands.Item ℕ)) (number : ℕ)
-    → AllByRecursion (λ item. IsBelow n item.command) script
-    → IsBelow n (get_or (commands_in script) number Ood)
-script_below n [] number below = tt
-script_below n (item ∷ script) zero below = below.0
-script_below n (item ∷ script) (suc number) below = script_below n script number below.1
 
 tells_more : (n : ℕ) (script : List (commands.Item ℕ)) (entries : List Entry) (entry : Entry)
     → TellsBelow n script entries → IsBelow n (command_told script entry)
@@ -48,7 +42,7 @@ module _ (naming : Naming ℕ) (s : ℕ) (script : List (commands.Item ℕ)) whe
         elim (next_cases naming script (lines_told s script before) next e) [
           | inl is ↦
               subst (IsBelow n) (next_line_from script (lines_told s script before) next is).command
-              (script_below n script next.number below)
+              (at_below n script next.number below)
           | inr closing ↦
               closing_told_below naming n s script before next.command all closing.closes
         ]
