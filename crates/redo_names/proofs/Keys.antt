@@ -1,11 +1,11 @@
 -- Names as the keys of a set of strings.
-use Rattle.std.proofs.Common.{◌≡◌, ℕ, Bool, true, false, cond, ◌||◌, List, [], ◌∷◌, ◌++◌, map, length, take, Option, Some, slice_get, refl, sym, ap, ◌∙◌, inl, inr, if◌then◌else◌, ◌⊎◌}
+use Rattle.std.proofs.Common.{◌≡◌, ℕ, Bool, true, false, cond, ◌||◌, List, [], ◌∷◌, ◌++◌, map, length, take, Option, Some, slice_get, refl, sym, ap, ◌∙◌, inl, inr, if◌then◌else◌, ◌⊎◌, ◌<◌, arith, slice_index_or}
 use Rattle.std.specs.Prelude.{String, bytes_eq, find, string_bytes}
 use Rattle.std.specs.Global.{Global}
 use Rattle.std.specs.Option.{option_map}
 use Rattle.std.specs.List.{list_any}
 use Rattle.std.proofs.lemmas.List.{length-map, map-append, take-map}
-use Rattle.std.proofs.lemmas.Option.{slice_get-map}
+use Rattle.std.proofs.lemmas.Option.{slice_get-map, slice_get_cases}
 use Rattle.std.proofs.lemmas.Slice.Eq.{bytes_eq-Decides}
 use Rattle.redo_names.specs.Names.{has}
 
@@ -47,6 +47,20 @@ slice_get-texts text keys number key stored found =
     (find-Some (λ (k : String Global). bytes_eq text (string_bytes k)) keys key found) in
     slice_get-map (λ (k : String Global). string_bytes k) keys number
     ∙ ap (option_map (λ (k : String Global). string_bytes k)) stored ∙ ap Some (sym same)
+
+-- the key at a place is the name with that number
+pub texts-at : (text : List ℕ) (keys : List (String Global)) (number : ℕ) (key : String Global)
+    → number < length keys → ((d : String Global) → key ≡ slice_index_or keys number d)
+    → string_bytes key ≡ text → slice_get (texts keys) number ≡ Some text
+texts-at text keys number key within at same =
+    slice_get-map (λ (k : String Global). string_bytes k) keys number
+    ∙ ap (option_map (λ (k : String Global). string_bytes k)) stored ∙ ap Some same
+  where
+    stored : slice_get keys number ≡ Some key
+    stored = elim ((slice_get_cases keys number).1) [
+      | inl there ↦ there.2 ∙ ap Some (sym (at there.0 ∙ there.3))
+      | inr past ↦ absurd (omega (arith, within, past.0))
+    ]
 
 -- a new key is the last
 pub texts-insert : (keys : List (String Global)) (key : String Global) (text : List ℕ) → string_bytes key ≡ text

@@ -1,9 +1,10 @@
 -- Growing lists of names.
-use Rattle.std.proofs.Common.{◌≡◌, ℕ, zero, suc, ◌<◌, Bool, true, false, cond, List, [], ◌∷◌, ◌++◌, length, take, Some, slice_get, refl, sym, ap, ◌∙◌, arith, length-append, append-nil, append_assoc}
+use Rattle.std.proofs.Common.{◌≡◌, ℕ, zero, suc, ◌<◌, Bool, true, false, cond, ◌||◌, List, [], ◌∷◌, ◌++◌, length, take, Some, slice_get, refl, sym, ap, ◌∙◌, arith, length-append, append-nil, append_assoc}
 use Rattle.std.specs.Prelude.{bytes_eq}
 use Rattle.std.specs.List.{AllByRecursion, IsDistinct}
 use Rattle.std.proofs.lemmas.Cmp.{nat_list_eq_equiv}
 use Rattle.std.proofs.lemmas.List.{length-take}
+use Rattle.std.proofs.lemmas.Slice.Eq.{bytes_eq-Decides}
 use Rattle.std.proofs.lemmas.Map.Keys.{IsDistinct-push}
 use Rattle.redo_names.specs.Names.{is_name, has, with_name, AreAllNames}
 use Rattle.redo_names.specs.Inside.Names.{Extends, AreNames}
@@ -28,6 +29,22 @@ pub slice_get-last : (names : List (List ℕ)) (text : List ℕ)
     → slice_get (names ++ text ∷ []) (length names) ≡ Some text
 slice_get-last [] text = refl
 slice_get-last (_ ∷ names) text = slice_get-last names text
+
+-- what has a number is among the names
+pub has-at : (names : List (List ℕ)) (text : List ℕ) (number : ℕ)
+    → slice_get names number ≡ Some text → has names text ≡ true
+has-at [] text number e = absurd cc
+has-at (name ∷ names) text zero e =
+    ap (λ (same : Bool). same || has names text)
+    ((bytes_eq-Decides text name).1 (sym (same_in e)))
+  where
+    same_in : Some name ≡ Some text → name ≡ text
+    same_in e = cc
+has-at (name ∷ names) text (suc number) e = by (bytes_eq text name) (has-at names text number e)
+  where
+    by : (same : Bool) → has names text ≡ true → (same || has names text) ≡ true
+    by true there = refl
+    by false there = there
 
 pub AreNames-none : AreNames []
 unfolding IsDistinct

@@ -46,6 +46,8 @@ impl<T: Drop> From<AllocFailed<T>> for NamesFault {
 #[derive(Drop)]
 pub struct Names {
     texts: IndexSet<String>,
+    // the number that was added or found last: the next name is often the same
+    latest: u32,
 }
 
 impl Model for Names {
@@ -62,7 +64,7 @@ impl Names {
         ensures { result ≡ [] }
     {
         let texts = IndexSet::new(alloc);
-        Names { texts }
+        Names { texts, latest: 0 }
     }
 
     /// How many names there are.
@@ -75,6 +77,27 @@ impl Names {
 
     /// The number of a text, if it is among the names.
     pub fn number_of(&self, text: &[u8]) -> Option<u32>
+        ensures found { IfSome result (λ number. slice_get self.now number ≡ Some text.now) }
+        ensures there { is_some result ≡ has self.now text.now }
+    {
+        match self.latest_of(text) {
+            Some(number) => Some(number),
+            None => self.search(text),
+        }
+    }
+
+    /// The number that was added or found last, if it is that of the text.
+    fn latest_of(&self, text: &[u8]) -> Option<u32>
+        ensures { IfSome result (λ number. slice_get self.now number ≡ Some text.now) }
+    {
+        match self.texts.as_slice().get(self.latest as usize) {
+            Some(name) if name.as_bytes() == text => Some(self.latest),
+            _ => None,
+        }
+    }
+
+    /// The number of a text, if it is among the names, found by its hash.
+    fn search(&self, text: &[u8]) -> Option<u32>
         ensures found { IfSome result (λ number. slice_get self.now number ≡ Some text.now) }
         ensures there { is_some result ≡ has self.now text.now }
     {
@@ -124,6 +147,7 @@ impl Names {
         ensures names { AreNames self.new }
     {
         if let Some(number) = self.number_of(text) {
+            self.latest = number;
             return Ok(number);
         }
         let number = self.texts.len();
@@ -133,6 +157,7 @@ impl Names {
         let alloc = *self.texts.allocator();
         let name = String::from_str(alloc, ascii_text(text))?;
         self.texts.insert(name)?;
+        self.latest = number as u32;
         Ok(number as u32)
     }
 

@@ -10,16 +10,16 @@ use Rattle.redo_names.proofs.names.Names.add.Goals as goal
 pub ascii_text-requires : goal.ascii_text-requires
 ascii_text-requires c = name_is_ascii c.args.text.now c.requires
 
-is_new : (c : goal.In_ok-insert) → has c.args.self.now c.args.text.now ≡ false
+is_new : (c : goal.After-self-2-1) → has c.args.self.now c.args.text.now ≡ false
 is_new c = sym c.in_default.ensures.there
 
 -- the count of the set's keys is the count of the names
-count : (c : goal.In_ok-insert) → length c.args.self.now ≡ c.len-number.result
+count : (c : goal.After-self-2-1) → length c.args.self.now ≡ c.len-number.result
 count c =
     rw (← c.self.view_is) (length-texts c.self.inside.texts.keys ∙ sym c.len-number.ensures.len)
 
 -- the names that the set has after the insertion
-names_after : (c : goal.In_ok-insert)
+names_after : (c : goal.After-self-2-1)
     → texts c.insert.new.self.keys ≡ c.args.self.now ++ c.args.text.now ∷ []
 names_after c =
     let keys = c.self.inside.texts.keys in
@@ -30,7 +30,7 @@ names_after c =
     (c.in_ok-name.ensures.ok ∙ c.ascii_text.ensures) absent
     ∙ ap (λ (names : List (List ℕ)). names ++ c.args.text.now ∷ []) view
 
-are_names : (c : goal.In_ok-insert) → AreNames (texts c.insert.new.self.keys)
+are_names : (c : goal.After-self-2-1) → AreNames (texts c.insert.new.self.keys)
 are_names c =
     let are : AreNames c.args.self.now = rw (← c.self.view_is) c.self.invariant in
     let most : length c.args.self.now ≤ 65536 = are.few in
@@ -38,7 +38,7 @@ are_names c =
     subst AreNames (sym (names_after c))
     (AreNames-push c.args.self.now c.args.text.now are c.requires (is_new c) room)
 
-stored : (c : goal.In_ok-insert) → slice_get (texts c.insert.new.self.keys) c.len-number.result
+stored : (c : goal.After-self-2-1) → slice_get (texts c.insert.new.self.keys) c.len-number.result
     ≡ Some c.args.text.now
 stored c = rw (names_after c, ← count c) (slice_get-last c.args.self.now c.args.text.now)
 
