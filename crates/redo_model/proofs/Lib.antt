@@ -17,11 +17,13 @@ pub mod FewTargets
 pub mod Held
 pub mod HistoriesByName
 pub mod Lists
+pub mod Listing
 pub mod JournalRoom
 pub mod LetThrough
 pub mod Least
 pub mod Letting
 pub mod Members
+pub mod MorePlaces
 pub mod NamesWithoutAFile
 pub mod Nexts
 pub mod Naming

@@ -22,6 +22,10 @@ texts = record { same = bytes_eq; order = slice_cmp nat_cmp }
 abbrev pub numbers : (ℕ → ℕ → Ordering) → Naming ℕ
 numbers order = record { same = ◌==◌; order = order }
 
+-- numbers by their size
+abbrev pub by_number : Naming ℕ
+by_number = numbers nat_cmp
+
 -- the function f with the value x at n
 abbrev pub put : {N X : Type 0} → Naming N → N → X → (N → X) → N → X
 put naming n x f m = cond (naming.same n m) x (f m)

@@ -1,9 +1,3 @@
-pub mod Deriving
-pub mod Listing
-pub mod Marking
 pub mod SearchTree
 pub mod Searching
 pub mod Shortest
-pub mod Spreading
-pub mod WordMembers
-pub mod Words

@@ -8,9 +8,9 @@ use Rattle.std.proofs.lemmas.List.Elements.{Contains-push, Contains-append_left}
 use Rattle.std.specs.List.{Contains}
 use Rattle.redo_model.specs.State.{Records}
 use Rattle.redo_model.specs.OutOfDate.{Depends}
-use Rattle.redo_ood.specs.NameSet.{Marked, IsMarked, IsQueued, with_name, size_of}
+use Rattle.redo_marks.specs.NameSet.{Marked, IsMarked, IsQueued, with_name, size_of}
 use Rattle.redo_ood.specs.Inside.Search.{IsSearchTree, IsNear, IsSearch}
-use Rattle.redo_ood.proofs.Marking.{set_cases}
+use Rattle.redo_marks.proofs.Marking.{set_cases}
 
 -- a depth for one more place
 with_depth : (ℕ → ℕ) → ℕ → ℕ → ℕ → ℕ

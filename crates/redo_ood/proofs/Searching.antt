@@ -7,9 +7,10 @@ use Rattle.std.specs.List.{Contains}
 use Rattle.redo_model.specs.State.{Records}
 use Rattle.redo_model.specs.OutOfDate.{IsTarget, HasReason, Depends}
 use Rattle.redo_model.proofs.Members.{contains_first, contains_none}
-use Rattle.redo_ood.specs.NameSet.{Marked, IsMarked, IsQueued, with_name, size_of}
+use Rattle.redo_marks.specs.NameSet.{Marked, IsMarked, IsQueued, with_name, size_of}
 use Rattle.redo_ood.specs.Inside.Search.{IsSearch, StepsBefore, Finds, HaveNoReason}
-use Rattle.redo_ood.proofs.Marking.{set_cases, one_more}
+use Rattle.redo_marks.proofs.Marking.{set_cases}
+use Rattle.redo_model.proofs.Listing.{one_more}
 use Rattle.redo_ood.proofs.SearchTree.{search_with_name}
 
 module _ (r : Records ℕ) where

@@ -5,7 +5,7 @@ use Rattle.redo_model.specs.State.{Records}
 use Rattle.redo_model.specs.OutOfDate.{HasReason, Depends, Chain, OutOfDate}
 use Rattle.redo_model.specs.Why.{Reason, IsReason, Explains, end_of}
 use Rattle.redo_model.proofs.Reasons.{reason_holds}
-use Rattle.redo_ood.specs.NameSet.{Marked, IsMarked}
+use Rattle.redo_marks.specs.NameSet.{Marked, IsMarked}
 use Rattle.redo_ood.specs.Inside.Search.{IsSearchTree, IsSearch, StepsBefore, IsWay}
 
 -- a path along parents is a chain, as long as its end is deep

@@ -1,5 +1,2 @@
-pub mod Bits
 pub mod Inside
 pub mod Meaning
-pub mod Memo
-pub mod NameSet

@@ -4,12 +4,12 @@ ghost use Rattle.std.specs.Prelude.{◌≡◌, ◌<◌, ◌↔◌, ℕ, IsTrue, 
 ghost use Rattle.redo_model.specs.OutOfDate.{Depends};
 ghost use Rattle.redo_model.specs.Renaming.{AllBelow};
 ghost use Rattle.redo_records.specs.Rows.{with_rows, rows_of, rows_count};
-ghost use Rattle.redo_ood.specs.NameSet.{IsMarked, size_of};
-ghost use Rattle.redo_ood.specs.Inside.Regions.{IsDue, IsClosed, EntersDue};
+ghost use Rattle.redo_marks.specs.NameSet.{IsMarked, size_of};
+ghost use Rattle.redo_marks.specs.Inside.Regions.{IsDue, IsClosed, EntersDue};
 
-use crate::name_set::NameSet;
 use crate::reason::has_reason;
 use crate::region::{is_target, spread};
+use redo_marks::NameSet;
 use redo_records::{DepRows, Records, Slot};
 
 /// Whether the slot has a change row, and its name is marked.

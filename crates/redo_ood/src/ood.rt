@@ -1,19 +1,19 @@
 ghost use Rattle.std.specs.Prelude.{◌≡◌, ◌<◌, ◌≤◌, ℕ, IsTrue, length, IfOk, IfSome, IsOk, OnOk, OnErr, option_map, ◌++◌, ◌∷◌, [], if◌then◌else◌};
-ghost use Rattle.redo_model.specs.Names.{IsListed};
+ghost use Rattle.redo_model.specs.Names.{IsListed, by_number};
 ghost use Rattle.redo_model.specs.Inside.OutOfDate.{InRegion};
 ghost use Rattle.redo_model.specs.Why.{TellsWhy};
 ghost use Rattle.redo_model.specs.Inside.Why.{IsWhyBelow};
 ghost use Rattle.redo_model.specs.OutOfDate.{OutOfDate};
 ghost use Rattle.redo_model.specs.Renaming.{AllBelow};
 ghost use Rattle.redo_model.specs.State.{empty};
-ghost use Rattle.redo_records.specs.Rows.{with_rows, by_number, rows_count};
+ghost use Rattle.redo_records.specs.Rows.{with_rows, rows_count};
 ghost use Rattle.redo_ood.specs.Meaning.{why_of};
-ghost use Rattle.redo_ood.specs.Memo.{memo_count, is_out, IsRight, WasRight, HasCount};
+ghost use Rattle.redo_marks.specs.Memo.{memo_count, is_out, IsRight, WasRight, HasCount};
 
 use crate::derive::derive;
-use crate::name_set::NameSet;
 use crate::region::{enter_marked, find_region};
 use crate::why::{Why, search};
+use redo_marks::NameSet;
 use redo_records::{DepRows, Records};
 use std::alloc::{AllocError, Global};
 use std::marker::Model;

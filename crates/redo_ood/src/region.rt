@@ -8,11 +8,11 @@ ghost use Rattle.redo_model.specs.Renaming.{AllBelow};
 ghost use Rattle.redo_model.specs.State.{Idle};
 ghost use Rattle.redo_records.specs.Cells.{cell_at};
 ghost use Rattle.redo_records.specs.Rows.{with_rows, rows_count};
-ghost use Rattle.redo_ood.specs.NameSet.{IsMarked, IsQueued, Enters, size_of};
-ghost use Rattle.redo_ood.specs.Inside.NameSet.{HoldsOnly};
-ghost use Rattle.redo_ood.specs.Inside.Regions.{Spreads, IsClosed};
+ghost use Rattle.redo_marks.specs.NameSet.{IsMarked, IsQueued, Enters, size_of};
+ghost use Rattle.redo_marks.specs.Inside.NameSet.{HoldsOnly};
+ghost use Rattle.redo_marks.specs.Inside.Regions.{Spreads, IsClosed};
 
-use crate::name_set::NameSet;
+use redo_marks::NameSet;
 use redo_records::{DepRows, Records, State};
 
 pub(crate) fn is_target(records: &Records, t: u32) -> bool

@@ -7,15 +7,15 @@ ghost use Rattle.redo_model.specs.Inside.Why.{IsReasonBelow, IsWhyBelow};
 ghost use Rattle.redo_model.specs.OutOfDate.{OutOfDate};
 ghost use Rattle.redo_model.specs.Renaming.{AllBelow};
 ghost use Rattle.redo_records.specs.Rows.{with_rows, rows_count};
-ghost use Rattle.redo_ood.specs.NameSet.{IsMarked, IsQueued, size_of};
-ghost use Rattle.redo_ood.specs.Inside.NameSet.{AreQueued};
+ghost use Rattle.redo_marks.specs.NameSet.{IsMarked, IsQueued, size_of};
+ghost use Rattle.redo_marks.specs.Inside.NameSet.{AreQueued};
 ghost use Rattle.redo_ood.specs.Meaning.{reason_of, why_of};
 ghost use Rattle.redo_ood.specs.Inside.Search.{IsSearch, StepsBefore, Finds, IsWay, HaveNoReason, IsFirstReason};
 
 use crate::derive::needs_marked;
-use crate::name_set::NameSet;
 use crate::reason::{Reason, own_reason};
 use crate::region::is_target;
+use redo_marks::NameSet;
 use redo_records::{DepRows, Records};
 use std::alloc::{AllocError, Global};
 

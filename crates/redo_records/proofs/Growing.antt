@@ -5,7 +5,7 @@ use Rattle.std.proofs.lemmas.Bool.{cases_Bool, cases_lt, false≢true}
 use Rattle.std.proofs.lemmas.List.{get_or_past}
 use Rattle.std.proofs.lemmas.List.Sums.{sum_by-append, sum_by-cons}
 use Rattle.std.specs.List.{count_by, Contains}
-use Rattle.redo_records.proofs.MorePlaces.{get_or-extended}
+use Rattle.redo_model.proofs.MorePlaces.{get_or-extended}
 use Rattle.redo_records.specs.Rows.{Slot, TargetRows, slot_at, has_slot, target_at, bare, room_of, rows_of}
 use Rattle.redo_records.specs.Numbers.{NumberList}
 use Rattle.redo_records.specs.Inside.Kept.{has_change, has_created, no_numbers, passes_on, sits_on, slots_on, numbers_at, IsInverseOn, IsInverse, CountsSlots, IsKept, AreEmpty}

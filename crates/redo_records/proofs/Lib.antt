@@ -1,4 +1,3 @@
-pub mod MorePlaces
 pub mod Refusals
 pub mod Begun
 pub mod Changed

@@ -1,9 +1,9 @@
 -- The rows of the targets, and the memory that is reserved for more.
 use Rattle.std.specs.Prelude.{ℕ, Bool, true, false, List, [], ◌∷◌, Option, Some, None, IsSome, IsTrue, ◌⊎◌, ◌==◌, if◌then◌else◌, slice_index_or, length}
 use Rattle.std.specs.List.{list_any}
-use Rattle.std.specs.Ordering.{nat_cmp}
-use Rattle.redo_model.specs.Names.{Naming, numbers, put}
+use Rattle.redo_model.specs.Names.{put}
 use Rattle.redo_model.specs.State.{Cell, Mark, Records, Rows}
+pub use Rattle.redo_model.specs.Names.{by_number}
 use Rattle.redo_records.specs.Cells.{cell_at}
 
 -- reserved memory for a target's rows on one name, and the rows that are there
@@ -47,10 +47,6 @@ rows_of targets = record {
 -- whether memory is reserved for t's rows on n
 abbrev pub room_of : List TargetRows → ℕ → ℕ → Bool
 room_of targets t n = has_slot (target_at targets t).slots n
-
--- numbers by their size
-abbrev pub by_number : Naming ℕ
-by_number = numbers nat_cmp
 
 -- the rows with a change row of t on n, which replaces an earlier one
 abbrev pub with_change : Rows ℕ → ℕ → ℕ → Mark → Rows ℕ

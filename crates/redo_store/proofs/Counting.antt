@@ -8,7 +8,7 @@ use Rattle.std.proofs.lemmas.List.FromFn.{length-range_with_len, get_or-range_wi
 use Rattle.std.proofs.lemmas.List.Sums.{position_or_len_is}
 use Rattle.redo_model.specs.Names.{numbers, IsListed}
 use Rattle.redo_model.specs.State.{Cell, idle}
-use Rattle.redo_records.proofs.MorePlaces.{same_everywhere}
+use Rattle.redo_model.proofs.MorePlaces.{same_everywhere}
 use Rattle.redo_records.specs.Cells.{cell_at}
 use Rattle.redo_records.specs.Rows.{rows_count}
 use Rattle.redo_store.specs.Orders.{AreRanks, IsByNumber, place, by_place}

@@ -8,7 +8,8 @@ use Rattle.redo_model.specs.Command as commands
 use Rattle.redo_model.specs.State.{Cell, Mark, Records, Rows, Building, idle, mark_of}
 use Rattle.redo_model.specs.Step.{effect_of, is_among}
 use Rattle.redo_records.specs.Cells.{cell_at, with_cell_at}
-use Rattle.redo_records.specs.Rows.{TargetRows, by_number, rows_of, with_change, with_created, with_always, without_rows, with_rows}
+use Rattle.redo_records.specs.Rows.{TargetRows, rows_of, with_change, with_created, with_always, without_rows, with_rows}
+use Rattle.redo_model.specs.Names.{by_number}
 use Rattle.redo_store.specs.Inside.Changes.{AreRowsAfter}
 use Rattle.redo_store.specs.Stored.{Stored, records_of, naming_of}
 use Rattle.redo_store.proofs.Kept.{set_is_put}

@@ -5,9 +5,8 @@ use Rattle.std.specs.List.Sorted.{IsStrictlyIncreasing}
 use Rattle.std.specs.declared.cmp.Ordering.TheVariants.{Less}
 use Rattle.std.proofs.lemmas.Bool.{cases_lt, eq-eqb, eqb-true, false≢true}
 use Rattle.std.proofs.lemmas.List.{get_or_past}
-use Rattle.redo_model.specs.Names.{IsListed}
+use Rattle.redo_model.specs.Names.{IsListed, by_number}
 use Rattle.redo_model.specs.Step.{is_held_by}
-use Rattle.redo_records.specs.Rows.{by_number}
 use Rattle.redo_store.specs.Tables.{Tables, locks_of}
 
 -- the session holds the target

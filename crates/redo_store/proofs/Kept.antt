@@ -14,7 +14,7 @@ use Rattle.redo_records.specs.Rows.{TargetRows, rows_count}
 use Rattle.redo_store.specs.Stored.{Stored}
 use Rattle.redo_store.specs.Inside.Stored.{IsStored}
 use Rattle.redo_store.specs.Stored as stored
-use Rattle.redo_records.proofs.MorePlaces.{same_everywhere}
+use Rattle.redo_model.proofs.MorePlaces.{same_everywhere}
 use Rattle.redo_store.specs.Tables.{Tables, tables_records, locks_of, state_of}
 use Rattle.redo_store.specs.Inside.Tables.{tables_naming}
 use Rattle.redo_store.proofs.Places.{listed_by_place}

@@ -1,13 +1,13 @@
 -- The ranks of names, and names by their ranks.
-use Rattle.std.proofs.Common.{◌≡◌, ◌==◌, ◌⊎◌, ◌↔◌, ◌∙◌, ℕ, ◌<◌, ◌≤◌, ◌+◌, Bool, true, false, cond, IsTrue, eqb, eqb-true, List, [], ◌∷◌, ◌++◌, length, map, get_or, set, take, replicate, refl, sym, ap, subst, inl, inr, arith}
+use Rattle.std.proofs.Common.{◌≡◌, ◌==◌, ◌⊎◌, ◌↔◌, ◌∙◌, ℕ, ◌<◌, ◌≤◌, ◌+◌, Bool, true, false, cond, IsTrue, eqb, eqb-true, List, [], ◌∷◌, ◌++◌, length, map, get_or, set, take, refl, sym, ap, subst, inl, inr, arith}
 use Rattle.std.specs.List.{All, AllPairs, Contains, dedup}
 use Rattle.std.specs.List.Retain.{IsFiltered, DiffersFromLast}
 use Rattle.std.specs.List.Sorted.{IsPermutation, IsSorted}
 use Rattle.std.specs.Cmp.{nat_cmp_is}
 use Rattle.std.specs.Ordering.{nat_cmp}
 use Rattle.std.specs.declared.cmp.Ordering.TheVariants.{Less, Equal, Greater}
-use Rattle.std.proofs.lemmas.Bool.{cases_eq, cases_lt, cases_order, false≢true, ne_eqb}
-use Rattle.std.proofs.lemmas.List.{append-nil, get_or_default, get_or_past, get_or-replicate, length-replicate, get_or-map, get_or-set_other, get_or-set_same, length-map, map_more}
+use Rattle.std.proofs.lemmas.Bool.{cases_eq, cases_order, false≢true, ne_eqb}
+use Rattle.std.proofs.lemmas.List.{append-nil, get_or_default, get_or-map, get_or-set_other, get_or-set_same, length-map, map_more}
 use Rattle.std.proofs.lemmas.List.Elements.{Contains-append_left, Contains-get_or, Contains-push, Contains-push_cases}
 use Rattle.std.proofs.lemmas.List.Filters.{dedup_is}
 use Rattle.std.proofs.lemmas.List.Kept.{AllPairs-from_increasing, Contains-dedup_nat, Contains-from_dedup}
@@ -15,11 +15,8 @@ use Rattle.std.proofs.lemmas.List.Sorted.{Contains-permutation, IsPermutation-sy
 use Rattle.std.proofs.lemmas.Map.Keys.{IsStrictlyIncreasing-dedup, IsDistinct-from_apart}
 use Rattle.std.proofs.lemmas.Map.Steps.{length-le_from_distinct_below}
 use Rattle.std.proofs.lemmas.Map.Views.{Contains-from_any}
-use Rattle.redo_model.specs.Names.{Ascending}
-use Rattle.redo_ood.specs.Bits.{IsSet}
-use Rattle.redo_ood.proofs.Listing.{each_below}
-use Rattle.redo_ood.proofs.Marking.{one_more}
-use Rattle.redo_records.specs.Rows.{by_number}
+use Rattle.redo_model.specs.Names.{Ascending, by_number}
+use Rattle.redo_model.proofs.Listing.{each_below, one_more}
 use Rattle.redo_store.specs.Orders.{AreRanks, by_place, place}
 use Rattle.redo_store.specs.Stored.{Stored, count_of, naming_of}
 use Rattle.redo_store.specs.Inside.Stored.{IsStored, AreInOrder, ArePlaces}
@@ -71,15 +68,6 @@ places_none t Q At none = record {
   from = λ k at. absurd (none k at);
   all = λ n p. absurd (omega (arith, p.0.1));
 }
-
--- no place is marked at first
-pub none_marked : (count k : ℕ) → IsSet (replicate count false) k → ⊥
-none_marked count k on = elim (cases_lt k count) [
-  | inl below ↦ false≢true (sym (get_or-replicate count k false false below) ∙ on)
-  | inr past ↦
-      let end : length (replicate count false) ≤ k = omega (arith, past, length-replicate count false) in
-      false≢true (sym (get_or_past (replicate count false) k false end) ∙ on)
-]
 
 -- one more place is marked, if it is due
 abbrev pub HasOneMore : (ℕ → Type 0) → (ℕ → Type 0) → ℕ → Bool → Type 0

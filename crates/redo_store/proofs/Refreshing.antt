@@ -6,14 +6,14 @@ use Rattle.std.proofs.Math.Path.{fun_ext}
 use Rattle.std.proofs.lemmas.Bool.{ne_eqb}
 use Rattle.std.proofs.lemmas.List.{get_or-set_other}
 use Rattle.redo_model.specs.Command as commands
-use Rattle.redo_model.specs.Names.{put}
+use Rattle.redo_model.specs.Names.{put, by_number}
 use Rattle.redo_model.specs.Inside.OutOfDate.{DifferAt}
 use Rattle.redo_model.specs.State.{Cell, Mark, empty, idle, no_rows}
 use Rattle.redo_model.proofs.Members.{contains_first}
-use Rattle.redo_records.proofs.MorePlaces.{same_everywhere}
-use Rattle.redo_ood.specs.Memo.{IsRight, WasRight, memo_count}
+use Rattle.redo_model.proofs.MorePlaces.{same_everywhere}
+use Rattle.redo_marks.specs.Memo.{IsRight, WasRight, memo_count}
 use Rattle.redo_records.specs.Cells.{cell_at, with_cell_at}
-use Rattle.redo_records.specs.Rows.{TargetRows, by_number, rows_of, with_always, without_rows, rows_count, with_rows}
+use Rattle.redo_records.specs.Rows.{TargetRows, rows_of, with_always, without_rows, rows_count, with_rows}
 use Rattle.redo_store.specs.Inside.Changes.{AreRowsAfter}
 use Rattle.redo_store.specs.Inside.KeptStore.{KeepsStored, stored_of}
 use Rattle.redo_store.specs.Inside.Stored.{IsStored}

@@ -2,7 +2,7 @@
 use Rattle.std.proofs.Common.{◌≡◌, ◌↔◌, ℕ, Bool, List, None, get_or, IsTrue, sym, subst}
 use Rattle.redo_model.specs.OutOfDate.{OutOfDate}
 use Rattle.redo_model.specs.State.{Cell, Records}
-use Rattle.redo_ood.specs.Memo.{IsRight, is_out}
+use Rattle.redo_marks.specs.Memo.{IsRight, is_out}
 use Rattle.redo_records.specs.Cells.{cell_at}
 use Rattle.redo_records.specs.Rows.{TargetRows, rows_of, with_rows}
 use Rattle.redo_store.specs.Tables.{Tables, state_of, tables_records}

@@ -17,7 +17,7 @@ use Rattle.std.proofs.lemmas.List.Sorted.{sorted_far, ranks_by, All-permutation,
 use Rattle.std.proofs.lemmas.Map.Keys.{IsDistinct-from_apart, apart_from_distinct, IsDistinct-IsPermutation}
 use Rattle.std.proofs.lemmas.Map.Text.{is_eq-slice_cmp}
 use Rattle.redo_model.specs.Renaming.{AllBelow}
-use Rattle.redo_ood.proofs.Listing.{each_below as all_from}
+use Rattle.redo_model.proofs.Listing.{each_below as all_from}
 use Rattle.redo_names.specs.Names.{text_at}
 use Rattle.redo_names.specs.Inside.Names.{AreNames}
 use Rattle.redo_store.specs.Inside.Numbered.{AreNumbered}

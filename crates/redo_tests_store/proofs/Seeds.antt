@@ -10,7 +10,7 @@ use Rattle.redo_model.specs.Renaming.{AllBelow}
 use Rattle.redo_model.specs.State.{Cell, empty, idle}
 use Rattle.redo_records.specs.Cells.{cell_at}
 use Rattle.redo_records.specs.Rows.{TargetRows, bare, rows_count, with_rows, slot_at, target_at}
-use Rattle.redo_ood.proofs.Listing.{each_below}
+use Rattle.redo_model.proofs.Listing.{each_below}
 
 numbered : (count n : ℕ) → n < count → Contains (range_with_len 0 count) n
 numbered count n below =

@@ -1,5 +1,5 @@
 //! A set of numbers as bits of words.
-use redo_ood::Bits;
+use redo_marks::Bits;
 use std::alloc::AllocError;
 
 /// The set keeps numbers of three words and lists them in order, also after it has grown.

@@ -3,8 +3,8 @@ use Rattle.std.specs.Prelude.{◌≡◌, ◌⊎◌, ◌<◌, ◌≤◌, ◌+◌,
 use Rattle.redo_model.specs.State.{Records}
 use Rattle.redo_model.specs.OutOfDate.{HasReason, Depends}
 use Rattle.redo_model.specs.Why.{Reason, IsReason}
-use Rattle.redo_ood.specs.NameSet.{Marked, IsMarked, with_name}
-use Rattle.redo_ood.specs.Inside.NameSet.{AreQueued}
+use Rattle.redo_marks.specs.NameSet.{Marked, IsMarked, with_name}
+use Rattle.redo_marks.specs.Inside.NameSet.{AreQueued}
 
 -- each place of the queue but the first has a parent, an earlier place whose name depends on its
 -- own; its depth is one more than its parent's, and no later place is less deep

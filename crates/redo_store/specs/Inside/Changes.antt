@@ -1,10 +1,10 @@
 -- How an accepted command changes the store.
 use Rattle.std.specs.Prelude.{◌≡◌, ℕ, List, Option}
 use Rattle.redo_model.specs.Command.{Command}
-use Rattle.redo_model.specs.Names.{Text}
+use Rattle.redo_model.specs.Names.{Text, by_number}
 use Rattle.redo_model.specs.State.{Cell, Records}
 use Rattle.redo_model.specs.Step.{effect_of, with_cell}
-use Rattle.redo_records.specs.Rows.{TargetRows, by_number, with_rows}
+use Rattle.redo_records.specs.Rows.{TargetRows, with_rows}
 use Rattle.redo_store.specs.Stored.{Stored, records_of, naming_of}
 
 -- the records of the new store are the effect of the session's command on those of the old

@@ -12,7 +12,7 @@ ghost use Rattle.redo_model.specs.State.{is_building, target_state};
 ghost use Rattle.redo_model.specs.Renaming.{AllBelow, IsBelow};
 ghost use Rattle.redo_ood.specs.Meaning.{why_of};
 ghost use Rattle.redo_records.specs.Meaning.{target_state_of};
-ghost use Rattle.redo_records.specs.Rows.{by_number};
+ghost use Rattle.redo_model.specs.Names.{by_number};
 ghost use Rattle.redo_terms.specs.Meaning.{command_of, reply_of};
 ghost use Rattle.redo_store.specs.Meaning.{deps_of};
 ghost use Rattle.redo_store.specs.Tables.{state_of, tables_records, locks_of, tables_count};

@@ -3,7 +3,7 @@ ghost use Rattle.std.specs.List.{list_all};
 ghost use Rattle.redo_model.specs.State.{Cell, is_building, target_state};
 ghost use Rattle.redo_model.specs.Command as commands;
 ghost use Rattle.redo_model.specs.Renaming.{AllBelow};
-ghost use Rattle.redo_ood.specs.Memo.{IsRight, WasRight, memo_count};
+ghost use Rattle.redo_marks.specs.Memo.{IsRight, WasRight, memo_count};
 ghost use Rattle.redo_records.specs.Rows.{room_of, rows_count, with_rows};
 ghost use Rattle.redo_store.specs.Inside.Changes.{HasEffect, HasEffectOfAny, AreRowsAfter, records_with_file};
 ghost use Rattle.redo_store.specs.Stored.{records_of, count_of, has_room_for};

@@ -1,20 +1,19 @@
 ghost use Rattle.std.specs.Prelude.{◌≡◌, ◌<◌, ◌↔◌, ◌⊎◌, ◌++◌, ◌∷◌, [], ℕ, IsTrue, IsNone, IfOk, OnOk, if◌then◌else◌, length};
 ghost use Rattle.redo_model.specs.Command as commands;
-ghost use Rattle.redo_model.specs.Names.{IsListed};
+ghost use Rattle.redo_model.specs.Names.{IsListed, by_number};
 ghost use Rattle.redo_model.specs.State.{Idle, has_file, is_building, target_state};
 ghost use Rattle.redo_model.specs.Changes.{is_stamp_of};
 ghost use Rattle.redo_model.specs.OutOfDate.{HasFile, IsTarget, OutOfDate, IsSource, HasChangeRow, HasCreatedRow, HasRow};
 ghost use Rattle.redo_model.specs.Step.{Tells, stale_reply};
 ghost use Rattle.redo_model.specs.Renaming.{AllBelow, IsReplyBelow};
-ghost use Rattle.redo_records.specs.Rows.{by_number};
-ghost use Rattle.redo_ood.specs.Bits.{IsSet};
+ghost use Rattle.redo_marks.specs.Bits.{IsSet};
 ghost use Rattle.redo_terms.specs.Meaning.{reply_of};
 ghost use Rattle.redo_store.specs.Stored.{records_of, naming_of, count_of};
 ghost use Rattle.redo_store.specs.Inside.Stored.{IsStored, AreInOrder, ArePlaces};
 
 use crate::store::Store;
 use crate::store::stale::names_at;
-use redo_ood::Bits;
+use redo_marks::Bits;
 use redo_records::State;
 use redo_terms::{FileStamp, Reply};
 use std::alloc::{AllocError, Global};

@@ -4,13 +4,12 @@ ghost use Rattle.redo_model.specs.Deps.{AreDeps};
 ghost use Rattle.redo_model.specs.Inside.Deps.{AreDepsBelow};
 ghost use Rattle.redo_model.specs.Why.{TellsWhy};
 ghost use Rattle.redo_model.specs.Inside.Why.{IsWhyBelow};
-ghost use Rattle.redo_model.specs.Names.{IsListed};
+ghost use Rattle.redo_model.specs.Names.{IsListed, by_number};
 ghost use Rattle.redo_model.specs.OutOfDate.{HasChangeRow, HasCreatedRow, OutOfDate};
 ghost use Rattle.redo_model.specs.Renaming.{AllBelow};
 ghost use Rattle.redo_model.specs.State.{target_state};
 ghost use Rattle.redo_ood.specs.Meaning.{why_of};
 ghost use Rattle.redo_records.specs.Meaning.{target_state_of};
-ghost use Rattle.redo_records.specs.Rows.{by_number};
 ghost use Rattle.redo_store.specs.Meaning.{deps_of};
 ghost use Rattle.redo_store.specs.Stored.{count_of, records_of};
 

@@ -1,7 +1,7 @@
 use Rattle.redo_records.specs.Rows.{with_rows}
-use Rattle.redo_ood.specs.Inside.Regions.{EntersDue}
-use Rattle.redo_ood.proofs.Deriving.{due_more}
-use Rattle.redo_ood.proofs.Marking.{at_take_all}
+use Rattle.redo_marks.specs.Inside.Regions.{EntersDue}
+use Rattle.redo_marks.proofs.Deriving.{due_more}
+use Rattle.redo_model.proofs.Listing.{at_take_all}
 use Rattle.redo_ood.proofs.derive.derive.Goals as goal
 
 pub loop-t-preserved : goal.loop-t-preserved

@@ -1,5 +1,5 @@
 use Rattle.redo_records.specs.Rows.{with_rows}
-use Rattle.redo_ood.proofs.Deriving.{closed_then, due_spread}
+use Rattle.redo_marks.proofs.Deriving.{closed_then, due_spread}
 use Rattle.redo_ood.proofs.derive.enter_due.Goals as goal
 
 pub spread-requires-clause-closed : goal.spread-requires-clause-closed

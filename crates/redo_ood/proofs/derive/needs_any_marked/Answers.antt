@@ -3,7 +3,7 @@ use Rattle.std.proofs.lemmas.Bool.{false≢true}
 use Rattle.redo_records.specs.Rows.{rows_count}
 use Rattle.redo_records.specs.Inside.Target.{blank}
 use Rattle.redo_records.proofs.Walked.{name_below_all, row_of_slot, slot_of_row}
-use Rattle.redo_ood.specs.NameSet.{IsMarked}
+use Rattle.redo_marks.specs.NameSet.{IsMarked}
 use Rattle.redo_ood.proofs.derive.needs_any_marked.Goals as goal
 
 pub needs_marked-requires : goal.needs_marked-requires

@@ -1,6 +1,6 @@
 use Rattle.std.proofs.Common.{ℕ, ◌<◌, IsSome, slice_index_or}
 use Rattle.redo_records.specs.Rows.{Slot}
-use Rattle.redo_ood.specs.NameSet.{IsMarked}
+use Rattle.redo_marks.specs.NameSet.{IsMarked}
 use Rattle.redo_ood.proofs.derive.needs_any_marked.Given as goal
 
 abbrev pub invariant-loop-slot : goal.invariant-loop-slot

@@ -1,7 +1,8 @@
 use Rattle.std.proofs.Common.{◌+◌, take}
 use Rattle.std.specs.List.{Contains}
-use Rattle.redo_ood.specs.NameSet.{Enters}
-use Rattle.redo_ood.proofs.Marking.{at_take_all, enters_then, one_more}
+use Rattle.redo_marks.specs.NameSet.{Enters}
+use Rattle.redo_marks.proofs.Marking.{enters_then}
+use Rattle.redo_model.proofs.Listing.{at_take_all, one_more}
 use Rattle.redo_ood.proofs.region.enter_each.Goals as goal
 
 pub loop-n-preserved : goal.loop-n-preserved

@@ -1,6 +1,6 @@
 use Rattle.std.proofs.Common.{take}
 use Rattle.std.specs.List.{Contains}
-use Rattle.redo_ood.specs.NameSet.{Enters}
+use Rattle.redo_marks.specs.NameSet.{Enters}
 use Rattle.redo_ood.proofs.region.enter_each.Given as goal
 
 abbrev pub invariant-loop-n : goal.invariant-loop-n

@@ -1,7 +1,7 @@
 use Rattle.std.proofs.Common.{inl, inr}
 use Rattle.redo_model.specs.OutOfDate.{IsTarget, HasRow}
 use Rattle.redo_records.specs.Rows.{with_rows}
-use Rattle.redo_ood.proofs.Marking.{enters_then}
+use Rattle.redo_marks.proofs.Marking.{enters_then}
 use Rattle.redo_ood.proofs.region.enter_holders.Goals as goal
 
 pub returns : goal.returns

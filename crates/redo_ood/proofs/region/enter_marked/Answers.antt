@@ -1,7 +1,8 @@
 use Rattle.std.proofs.Common.{◌↔◌, ◌∙◌, IsTrue, sym, get_or}
 use Rattle.std.specs.List.{Contains}
-use Rattle.redo_ood.specs.NameSet.{IsMarked, Enters}
-use Rattle.redo_ood.proofs.Marking.{at_take_all, enters_one_more}
+use Rattle.redo_marks.specs.NameSet.{IsMarked, Enters}
+use Rattle.redo_marks.proofs.Marking.{enters_one_more}
+use Rattle.redo_model.proofs.Listing.{at_take_all}
 use Rattle.redo_ood.proofs.region.enter_marked.Goals as goal
 
 pub loop-t-preserved : goal.loop-t-preserved

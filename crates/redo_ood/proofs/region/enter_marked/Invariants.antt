@@ -1,6 +1,6 @@
 use Rattle.std.proofs.Common.{take}
 use Rattle.std.specs.List.{Contains}
-use Rattle.redo_ood.specs.NameSet.{IsMarked, Enters}
+use Rattle.redo_marks.specs.NameSet.{IsMarked, Enters}
 use Rattle.redo_ood.proofs.region.enter_marked.Given as goal
 
 abbrev pub invariant-loop-t : goal.invariant-loop-t

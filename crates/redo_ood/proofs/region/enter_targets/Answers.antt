@@ -2,8 +2,9 @@ use Rattle.std.proofs.Common.{◌≢◌, ℕ}
 use Rattle.std.specs.List.{Contains}
 use Rattle.redo_model.specs.State.{Idle}
 use Rattle.redo_records.specs.Cells.{cell_at}
-use Rattle.redo_ood.specs.NameSet.{Enters}
-use Rattle.redo_ood.proofs.Marking.{at_take_all, enters_one_more}
+use Rattle.redo_marks.specs.NameSet.{Enters}
+use Rattle.redo_marks.proofs.Marking.{enters_one_more}
+use Rattle.redo_model.proofs.Listing.{at_take_all}
 use Rattle.redo_ood.proofs.region.enter_targets.Goals as goal
 
 pub loop-t-preserved : goal.loop-t-preserved

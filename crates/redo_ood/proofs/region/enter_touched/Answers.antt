@@ -1,7 +1,7 @@
 use Rattle.redo_records.specs.Rows.{with_rows}
-use Rattle.redo_ood.specs.NameSet.{Enters}
-use Rattle.redo_ood.proofs.Marking.{at_take_all}
-use Rattle.redo_ood.proofs.Spreading.{Touches, touches_more}
+use Rattle.redo_marks.specs.NameSet.{Enters}
+use Rattle.redo_model.proofs.Listing.{at_take_all}
+use Rattle.redo_marks.proofs.Spreading.{Touches, touches_more}
 use Rattle.redo_ood.proofs.region.enter_touched.Goals as goal
 
 pub loop-n-preserved : goal.loop-n-preserved

@@ -1,7 +1,7 @@
 use Rattle.std.proofs.Common.{take}
 use Rattle.redo_records.specs.Rows.{with_rows}
-use Rattle.redo_ood.specs.NameSet.{Enters}
-use Rattle.redo_ood.proofs.Spreading.{Touches}
+use Rattle.redo_marks.specs.NameSet.{Enters}
+use Rattle.redo_marks.proofs.Spreading.{Touches}
 use Rattle.redo_ood.proofs.region.enter_touched.Given as goal
 
 abbrev pub invariant-loop-n : goal.invariant-loop-n

@@ -1,5 +1,5 @@
 use Rattle.redo_records.specs.Rows.{with_rows}
-use Rattle.redo_ood.proofs.Spreading.{region_found, touched_first}
+use Rattle.redo_marks.proofs.Spreading.{region_found, touched_first}
 use Rattle.redo_ood.proofs.region.find_region.Goals as goal
 
 pub returns-clause-region : goal.returns-clause-region

@@ -1,8 +1,9 @@
 use Rattle.std.proofs.Common.{◌≤◌, ◌<◌, length, arith}
 use Rattle.redo_records.specs.Rows.{with_rows}
-use Rattle.redo_ood.specs.Inside.Regions.{Spreads}
-use Rattle.redo_ood.proofs.Marking.{at_take_all, grows_longer}
-use Rattle.redo_ood.proofs.Spreading.{spreads_more}
+use Rattle.redo_marks.specs.Inside.Regions.{Spreads}
+use Rattle.redo_marks.proofs.Marking.{grows_longer}
+use Rattle.redo_model.proofs.Listing.{at_take_all}
+use Rattle.redo_marks.proofs.Spreading.{spreads_more}
 use Rattle.redo_ood.proofs.region.spread.Goals as goal
 
 pub names-preserved : goal.names-preserved

@@ -1,7 +1,7 @@
 use Rattle.std.proofs.Common.{◌≤◌, ◌-◌, length, take}
 use Rattle.redo_records.specs.Rows.{with_rows}
-use Rattle.redo_ood.specs.NameSet.{size_of}
-use Rattle.redo_ood.specs.Inside.Regions.{Spreads}
+use Rattle.redo_marks.specs.NameSet.{size_of}
+use Rattle.redo_marks.specs.Inside.Regions.{Spreads}
 use Rattle.redo_ood.proofs.region.spread.Given as goal
 
 abbrev pub invariant-names : goal.invariant-names

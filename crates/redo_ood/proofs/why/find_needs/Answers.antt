@@ -4,9 +4,9 @@ use Rattle.std.proofs.lemmas.List.{append-nil, get_or-map, length-map}
 use Rattle.redo_model.specs.OutOfDate.{IsTarget}
 use Rattle.redo_records.specs.Rows.{Slot, with_rows, rows_count}
 use Rattle.redo_records.proofs.Walked.{slot_names, name_below_all, row_of_slot, name_of_row}
-use Rattle.redo_ood.specs.NameSet.{size_of}
+use Rattle.redo_marks.specs.NameSet.{size_of}
 use Rattle.redo_ood.specs.Inside.Search.{IsSearch}
-use Rattle.redo_ood.proofs.Marking.{at_take_all}
+use Rattle.redo_model.proofs.Listing.{at_take_all}
 use Rattle.redo_ood.proofs.Searching.{StepsPartly, partly_begun, partly_more, partly_done, finds_sized, finds_behind, due_at}
 use Rattle.redo_ood.proofs.why.find_needs.Goals as goal
 

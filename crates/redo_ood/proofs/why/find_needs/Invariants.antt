@@ -1,7 +1,7 @@
 use Rattle.std.proofs.Common.{◌≡◌, ◌++◌, List, ℕ, take}
 use Rattle.redo_records.specs.Rows.{with_rows}
 use Rattle.redo_records.proofs.Walked.{slot_names}
-use Rattle.redo_ood.specs.NameSet.{size_of}
+use Rattle.redo_marks.specs.NameSet.{size_of}
 use Rattle.redo_ood.specs.Inside.Search.{IsSearch}
 use Rattle.redo_ood.proofs.Searching.{StepsPartly}
 use Rattle.redo_ood.proofs.why.find_needs.Given as goal

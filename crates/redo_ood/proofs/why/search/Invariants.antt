@@ -1,6 +1,6 @@
 use Rattle.std.proofs.Common.{◌≡◌, ◌<◌, ◌≤◌, ◌-◌, length, get_or}
 use Rattle.redo_records.specs.Rows.{with_rows, rows_count}
-use Rattle.redo_ood.specs.NameSet.{size_of}
+use Rattle.redo_marks.specs.NameSet.{size_of}
 use Rattle.redo_ood.specs.Inside.Search.{IsSearch, StepsBefore, HaveNoReason}
 use Rattle.redo_ood.proofs.why.search.Given as goal
 

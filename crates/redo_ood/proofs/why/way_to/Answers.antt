@@ -1,7 +1,7 @@
 use Rattle.std.proofs.Common.{◌<◌, ◌≡◌, ◌∙◌, [], ◌∷◌, get_or, length, reverse, sym, ap, subst, arith}
 use Rattle.std.proofs.lemmas.List.{get_or_default, reverse-append}
 use Rattle.redo_model.specs.Renaming.{AllBelow}
-use Rattle.redo_ood.specs.NameSet.{size_of}
+use Rattle.redo_marks.specs.NameSet.{size_of}
 use Rattle.redo_ood.specs.Inside.Search.{IsWay}
 use Rattle.redo_ood.proofs.why.way_to.Goals as goal
 

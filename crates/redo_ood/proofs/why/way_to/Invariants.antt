@@ -1,6 +1,6 @@
 use Rattle.std.proofs.Common.{◌<◌, length, reverse}
 use Rattle.redo_model.specs.Renaming.{AllBelow}
-use Rattle.redo_ood.specs.NameSet.{size_of}
+use Rattle.redo_marks.specs.NameSet.{size_of}
 use Rattle.redo_ood.specs.Inside.Search.{IsWay}
 use Rattle.redo_ood.proofs.why.way_to.Given as goal
 

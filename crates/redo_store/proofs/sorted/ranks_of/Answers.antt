@@ -1,6 +1,6 @@
 use Rattle.std.proofs.Common.{◌<◌, ◌∙◌, length, get_or, arith}
 use Rattle.std.proofs.lemmas.List.{length-set}
-use Rattle.redo_ood.proofs.Marking.{below_at}
+use Rattle.redo_model.proofs.Listing.{below_at}
 use Rattle.redo_store.proofs.Ranked.{ranked_more}
 use Rattle.redo_store.proofs.sorted.ranks_of.Goals as goal
 

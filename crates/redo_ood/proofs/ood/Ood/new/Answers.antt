@@ -1,4 +1,4 @@
-use Rattle.redo_ood.proofs.Deriving.{right_at_first}
+use Rattle.redo_marks.proofs.Deriving.{right_at_first}
 use Rattle.redo_ood.proofs.ood.Ood.new.Goals as goal
 
 pub returns-clause-right : goal.returns-clause-right

@@ -2,11 +2,11 @@ use Rattle.std.proofs.Common.{◌≡◌, ◌∙◌, ℕ, List, take, sym, subst}
 use Rattle.std.specs.List.{Contains}
 use Rattle.redo_model.specs.Inside.OutOfDate.{TouchesSeed}
 use Rattle.redo_records.specs.Rows.{with_rows}
-use Rattle.redo_ood.specs.NameSet.{IsMarked, size_of}
-use Rattle.redo_ood.specs.Inside.NameSet.{HoldsOnly}
-use Rattle.redo_ood.specs.Inside.Regions.{EntersDue}
-use Rattle.redo_ood.proofs.Deriving.{region_listed, closed_after, cleared_again, memo_right, region_counted}
-use Rattle.redo_ood.proofs.Marking.{holds_entered}
+use Rattle.redo_marks.specs.NameSet.{IsMarked, size_of}
+use Rattle.redo_marks.specs.Inside.NameSet.{HoldsOnly}
+use Rattle.redo_marks.specs.Inside.Regions.{EntersDue}
+use Rattle.redo_marks.proofs.Deriving.{region_listed, closed_after, cleared_again, memo_right, region_counted}
+use Rattle.redo_marks.proofs.Marking.{holds_entered}
 use Rattle.redo_ood.proofs.ood.Ood.refresh.Goals as goal
 
 pub derive-requires-clause-closed : goal.derive-requires-clause-closed

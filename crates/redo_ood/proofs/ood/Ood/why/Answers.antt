@@ -1,6 +1,6 @@
 use Rattle.std.proofs.Common.{◌∙◌}
-use Rattle.redo_ood.specs.NameSet.{size_of}
-use Rattle.redo_ood.proofs.Deriving.{cleared_again}
+use Rattle.redo_marks.specs.NameSet.{size_of}
+use Rattle.redo_marks.proofs.Deriving.{cleared_again}
 use Rattle.redo_ood.proofs.ood.Ood.why.Goals as goal
 
 pub invariant_of-self : goal.invariant_of-self

@@ -1,5 +1,5 @@
 use Rattle.std.proofs.Common.{rules, ◌≡◌, ◌∙◌, ℕ, List, get_or, ap, arith}
-use Rattle.redo_records.proofs.MorePlaces.{same_everywhere}
+use Rattle.redo_model.proofs.MorePlaces.{same_everywhere}
 use Rattle.redo_store.proofs.redo.Redo.blank.Goals as goal
 
 pub invariant_of-result : goal.invariant_of-result

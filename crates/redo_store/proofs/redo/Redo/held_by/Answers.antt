@@ -1,7 +1,6 @@
 use Rattle.std.proofs.Common.{◌≡◌, ◌+◌, ◌<◌, ◌↔◌, ℕ, IsTrue, length, subst, sym, ◌∙◌}
-use Rattle.redo_model.specs.Names.{IsListed}
-use Rattle.redo_ood.proofs.Listing.{listed_more, each_below}
-use Rattle.redo_records.specs.Rows.{by_number}
+use Rattle.redo_model.specs.Names.{IsListed, by_number}
+use Rattle.redo_model.proofs.Listing.{listed_more, each_below}
 use Rattle.redo_store.specs.Tables.{Tables, tables_count, locks_of}
 use Rattle.redo_store.proofs.Holding.{HeldBy, held_is, held_below, rising}
 use Rattle.redo_store.proofs.redo.Redo.held_by.Goals as goal

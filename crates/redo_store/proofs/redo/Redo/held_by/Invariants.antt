@@ -1,6 +1,5 @@
 use Rattle.std.proofs.Common.{◌<◌}
-use Rattle.redo_model.specs.Names.{IsListed}
-use Rattle.redo_records.specs.Rows.{by_number}
+use Rattle.redo_model.specs.Names.{IsListed, by_number}
 use Rattle.redo_store.proofs.Holding.{HeldBy}
 use Rattle.redo_store.proofs.redo.Redo.held_by.Given as goal
 

@@ -1,7 +1,7 @@
 use Rattle.std.proofs.Common.{◌≡◌, ◌∙◌, ap, length, sym, subst, arith}
 use Rattle.std.proofs.Math.ListN.{length-replicate}
 use Rattle.redo_model.specs.State.{idle}
-use Rattle.redo_ood.specs.Memo.{IsRight}
+use Rattle.redo_marks.specs.Memo.{IsRight}
 use Rattle.redo_store.specs.Stored.{Stored}
 use Rattle.redo_store.proofs.Counting.{IsStored-by_number, none_built, ordered_by_number, ranked_by_number}
 use Rattle.redo_store.proofs.Refreshing.{empty_records}

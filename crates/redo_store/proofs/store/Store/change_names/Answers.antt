@@ -1,7 +1,8 @@
 use Rattle.std.proofs.Common.{◌≡◌, ◌≤◌, ◌∙◌, length, sym, ap, subst, inl, arith}
 use Rattle.redo_model.specs.OutOfDate.{HasChangeRow}
 use Rattle.redo_model.specs.Renaming.{AllBelow}
-use Rattle.redo_records.specs.Rows.{by_number, rows_count}
+use Rattle.redo_records.specs.Rows.{rows_count}
+use Rattle.redo_model.specs.Names.{by_number}
 use Rattle.redo_store.specs.Stored.{Stored, records_of, count_of}
 use Rattle.redo_store.proofs.Listed.{listed_next, listed_at_end, listed_below, named_below}
 use Rattle.redo_store.proofs.store.Store.change_names.Goals as goal

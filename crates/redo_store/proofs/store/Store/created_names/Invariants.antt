@@ -1,8 +1,7 @@
 use Rattle.std.proofs.Common.{take}
 use Rattle.std.specs.List.{Contains}
-use Rattle.redo_model.specs.Names.{IsListed}
+use Rattle.redo_model.specs.Names.{IsListed, by_number}
 use Rattle.redo_model.specs.OutOfDate.{HasCreatedRow}
-use Rattle.redo_records.specs.Rows.{by_number}
 use Rattle.redo_store.specs.Stored.{records_of}
 use Rattle.redo_store.proofs.store.Store.created_names.Given as goal
 

@@ -2,7 +2,7 @@ use Rattle.std.proofs.Common.{◌≡◌, ◌<◌, ◌^◌, ◌∙◌, ℕ, List,
 use Rattle.std.proofs.Math.ListN.{replicate, length-replicate}
 use Rattle.redo_model.specs.Renaming.{AllBelow}
 use Rattle.redo_model.specs.State.{idle}
-use Rattle.redo_ood.specs.Memo.{IsRight}
+use Rattle.redo_marks.specs.Memo.{IsRight}
 use Rattle.redo_store.specs.Orders.{AreRanks}
 use Rattle.redo_store.specs.Stored.{Stored}
 use Rattle.redo_store.proofs.Kept.{IsStored-new}

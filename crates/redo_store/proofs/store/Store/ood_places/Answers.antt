@@ -2,10 +2,11 @@ use Rattle.std.proofs.Common.{◌↔◌, ◌∙◌, false, IsTrue, get_or, repli
 use Rattle.std.specs.List.{Contains}
 use Rattle.std.proofs.lemmas.List.{length-replicate}
 use Rattle.redo_model.specs.OutOfDate.{HasFile, OutOfDate}
-use Rattle.redo_ood.specs.Bits.{IsSet}
-use Rattle.redo_ood.proofs.Marking.{at_take_all}
+use Rattle.redo_marks.specs.Bits.{IsSet}
+use Rattle.redo_model.proofs.Listing.{at_take_all}
 use Rattle.redo_store.specs.Stored.{records_of}
-use Rattle.redo_store.proofs.Ranked.{PlacesOf, places_none, none_marked, places_more, same_places}
+use Rattle.redo_store.proofs.Ranked.{PlacesOf, places_none, places_more, same_places}
+use Rattle.redo_marks.proofs.Marking.{none_marked}
 use Rattle.redo_store.proofs.store.Store.ood_places.Goals as goal
 
 pub loop-n-init : goal.loop-n-init

@@ -1,6 +1,6 @@
 use Rattle.std.proofs.Common.{◌≡◌, length, take}
 use Rattle.redo_model.specs.OutOfDate.{HasFile}
-use Rattle.redo_ood.specs.Bits.{IsSet}
+use Rattle.redo_marks.specs.Bits.{IsSet}
 use Rattle.redo_store.specs.Stored.{records_of, count_of}
 use Rattle.redo_store.proofs.Ranked.{PlacesOf}
 use Rattle.redo_store.proofs.store.Store.ood_places.Given as goal

@@ -1,8 +1,8 @@
 use Rattle.std.proofs.Common.{IsTrue, subst}
 use Rattle.std.proofs.lemmas.Result.{IfOk-weaker}
 use Rattle.redo_model.specs.OutOfDate.{OutOfDate}
-use Rattle.redo_ood.specs.Memo.{IsRight, is_out}
-use Rattle.redo_records.specs.Rows.{by_number}
+use Rattle.redo_marks.specs.Memo.{IsRight, is_out}
+use Rattle.redo_model.specs.Names.{by_number}
 use Rattle.redo_store.specs.Stored.{Stored, records_of}
 use Rattle.redo_store.proofs.Listed.{listed_alike}
 use Rattle.redo_store.proofs.store.Store.outdated.Goals as goal

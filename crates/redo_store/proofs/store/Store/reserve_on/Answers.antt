@@ -1,7 +1,7 @@
 use Rattle.std.proofs.Common.{ℕ, sym, subst}
 use Rattle.std.proofs.lemmas.Result.{on_ok_weaker}
 use Rattle.redo_model.specs.State.{Rows}
-use Rattle.redo_ood.specs.Memo.{IsRight}
+use Rattle.redo_marks.specs.Memo.{IsRight}
 use Rattle.redo_records.specs.Cells.{cell_at}
 use Rattle.redo_records.specs.Rows.{room_of}
 use Rattle.redo_store.specs.Inside.KeptStore.{stored_of}

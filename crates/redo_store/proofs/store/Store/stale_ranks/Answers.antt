@@ -2,7 +2,7 @@ use Rattle.std.proofs.Common.{◌++◌, ◌∷◌, [], cond, arith}
 use Rattle.std.specs.List.{Contains}
 use Rattle.redo_model.specs.OutOfDate.{IsStale}
 use Rattle.redo_store.specs.Stored.{records_of}
-use Rattle.redo_ood.proofs.Marking.{at_take_all}
+use Rattle.redo_model.proofs.Listing.{at_take_all}
 use Rattle.redo_store.proofs.Ranked.{PlacesOf, places_none, places_more, pushed_due}
 use Rattle.redo_store.proofs.store.Store.stale_ranks.Goals as goal
 

@@ -1,0 +1,5 @@
+pub mod Bits
+pub mod NameSet
+pub mod Regions
+pub mod KeptNames
+pub mod KeptBits

@@ -1,0 +1,4 @@
+pub mod Bits
+pub mod Inside
+pub mod Memo
+pub mod NameSet
