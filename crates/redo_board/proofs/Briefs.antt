@@ -11,7 +11,7 @@ use Rattle.redo_model.specs.Renaming.{IsBelow, IsReplyBelow}
 use Rattle.redo_model.proofs.VerdictsByName.{RefusesBelow, verdict_below}
 use Rattle.redo_terms.specs.Meaning.{reply_of}
 use Rattle.redo_terms.specs.declared.reply.Reply as coded
-use Rattle.redo_store.specs.Orders.{by_place}
+use Rattle.redo_order.specs.Orders.{by_place}
 use Rattle.redo_store.specs.Stored.{Stored, IsSameButRoom, count_of, order_of, records_of, lists_names}
 use Rattle.redo_board.specs.Inside.Own.{holds_its_target}
 use Rattle.redo_board.specs.Inside.Steps.{IsSaidBy, IsReadyBy}

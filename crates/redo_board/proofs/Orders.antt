@@ -14,7 +14,7 @@ use Rattle.redo_model.specs.Step.{Replies, Tells, verdict_of, records_after, sta
 use Rattle.redo_model.specs.Renaming.{IsReplyBelow, AllBelow}
 use Rattle.redo_model.proofs.Texts.{texts_are_names}
 use Rattle.redo_names.specs.Names.{text_at}
-use Rattle.redo_store.specs.Orders.{by_text}
+use Rattle.redo_order.specs.Orders.{by_text}
 
 -- numbers by their texts are distinguished and ordered strictly
 pub by_text_is_naming : (names : List Text) → IsNaming (by_text names)

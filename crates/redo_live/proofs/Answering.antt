@@ -20,7 +20,7 @@ use Rattle.redo_model.proofs.RepliesByName.{one_number}
 use Rattle.redo_model.proofs.AnswersByName.{answers_by_name}
 use Rattle.redo_model.proofs.StepsByName.{after_by_name}
 use Rattle.redo_terms.specs.Meaning.{by_text}
-use Rattle.redo_store.specs.Orders.{by_place, place}
+use Rattle.redo_order.specs.Orders.{by_place, place}
 use Rattle.redo_store.specs.Tables.{Tables, tables_order, state_of}
 use Rattle.redo_live.specs.Inside.Ordered.{IsSortedReply}
 use Rattle.redo_live.specs.Inside.Within.{IsStateWithin}

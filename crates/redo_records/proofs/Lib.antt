@@ -1,3 +1,4 @@
+pub mod Effects
 pub mod Refusals
 pub mod Begun
 pub mod Changed

@@ -1,23 +1,24 @@
 -- Writes that keep the invariant of the tables.
-use Rattle.std.proofs.Common.{◌≡◌, ℕ, zero, suc, ◌<◌, ◌≤◌, ◌+◌, ◌^◌, ◌==◌, Bool, cond, List, [], ◌∷◌, Option, Some, None, length, get_or, sym, ap, ◌∙◌, subst, arith, inl, inr}
+use Rattle.std.proofs.Common.{◌≡◌, ℕ, zero, suc, ◌<◌, ◌≤◌, ◌+◌, ◌^◌, List, [], ◌∷◌, Option, Some, None, length, get_or, sym, ap, ◌∙◌, subst, arith}
 use Rattle.std.proofs.Math.ListN.{set, length-set, replicate, length-replicate}
 use Rattle.std.proofs.Math.Path.{fun_ext}
-use Rattle.std.proofs.lemmas.Bool.{cases_eq, eq-eqb, ne_eqb}
-use Rattle.std.proofs.lemmas.Grind.{get_or-set_at}
-use Rattle.std.proofs.lemmas.List.{get_or_default, get_or-set_other}
-use Rattle.redo_model.specs.Names.{put, IsListed}
+use Rattle.std.proofs.lemmas.List.{get_or_default}
+use Rattle.redo_model.specs.Names.{put}
 use Rattle.redo_model.specs.State.{Cell, idle}
 use Rattle.redo_model.specs.Step.{after, locks_granted}
 use Rattle.redo_model.specs.Command as commands
-use Rattle.redo_store.specs.Orders.{AreSorted}
+use Rattle.redo_model.proofs.MorePlaces.{same_everywhere}
+use Rattle.redo_records.specs.Cells.{cell_at}
 use Rattle.redo_records.specs.Rows.{TargetRows, rows_count}
+use Rattle.redo_records.proofs.Effects.{set_is_put}
+use Rattle.redo_order.specs.Orders.{AreSorted}
+use Rattle.redo_order.specs.Inside.Orders.{IsOrderOf}
+use Rattle.redo_order.proofs.Counting.{up_to, listed_up_to}
+use Rattle.redo_order.proofs.Places.{listed_by_place}
 use Rattle.redo_store.specs.Stored.{Stored}
 use Rattle.redo_store.specs.Inside.Stored.{IsStored}
-use Rattle.redo_store.specs.Stored as stored
-use Rattle.redo_model.proofs.MorePlaces.{same_everywhere}
 use Rattle.redo_store.specs.Tables.{Tables, tables_records, locks_of, state_of}
 use Rattle.redo_store.specs.Inside.Tables.{tables_naming}
-use Rattle.redo_store.proofs.Places.{listed_by_place}
 
 -- what is true at every place still is after a write that keeps it
 each_set : {X : Type 0} (P : X → Type 0) (xs : List X) (i : ℕ) (x d : X)
@@ -48,6 +49,15 @@ IsStored-set_rows t to h same = record {
   few_names = h.few_names;
 }
 
+-- no cell is built at first
+pub none_built : (count : ℕ) (cells : List Cell) → cells ≡ replicate count idle
+    → (n : ℕ) → (cell_at cells n).builds ≤ 0
+none_built count cells all_idle n =
+    let none : (cell_at cells n).builds ≡ 0 =
+    ap (λ (xs : List Cell). (cell_at xs n).builds) all_idle
+    ∙ ap (λ (x : Cell). x.builds) (same_everywhere count n idle) in
+    omega arith
+
 -- a store in which nothing is known
 pub IsStored-new : (names : List (List ℕ)) (t : Stored) → AreSorted names t.sorted
     → t.cells ≡ replicate (length names) idle → rows_count t.rows ≡ length names
@@ -57,25 +67,23 @@ IsStored-new names t sorted cells each few =
     ap length cells ∙ length-replicate (length names) idle in
     record {
       rows_for_each = each ∙ sym count;
-      all_in_order = subst (λ (m : ℕ). IsListed (stored.naming_of t) (λ n. n < m) t.sorted)
-          (sym count) (listed_by_place sorted);
-      few_builds = λ n.
-          let none : (get_or t.cells n idle).builds ≡ 0 =
-          ap (λ (xs : List Cell). (get_or xs n idle).builds) cells
-          ∙ ap (λ (x : Cell). x.builds) (same_everywhere (length names) n idle) in
-          omega arith;
+      all_in_order = subst (λ (m : ℕ). IsOrderOf m t.sorted) (sym count) (listed_by_place sorted);
+      few_builds = λ n. omega (arith, none_built (length names) t.cells cells n);
       few_names = subst (λ (m : ℕ). m < 2 ^ 32) (sym count) few;
     }
 
--- a write to a list is a write to its function from places to values
-pub set_is_put : {X : Type 0} (xs : List X) (i : ℕ) (x d : X) → i < length xs → (k : ℕ)
-    → get_or (set xs i x) k d ≡ cond (i == k) x (get_or xs k d)
-set_is_put xs i x d below k = elim (cases_eq i k) [
-  | inl e ↦ get_or-set_at xs i k x d (sym e) below
-      ∙ ap (λ (b : Bool). cond b x (get_or xs k d)) (sym (eq-eqb i k e))
-  | inr ne ↦ get_or-set_other xs i k x d (λ e. ne (sym e))
-      ∙ ap (λ (b : Bool). cond b x (get_or xs k d)) (sym (ne_eqb i k ne))
-]
+-- a store whose numbers are in their own order
+pub IsStored-by_number : (t : Stored) (count : ℕ) → t.sorted ≡ up_to count
+    → length t.cells ≡ count → rows_count t.rows ≡ count
+    → ((n : ℕ) → (cell_at t.cells n).builds ≤ t.applied) → count < 2 ^ 32 → IsStored t
+IsStored-by_number t count sorted cells rows builds few = record {
+  rows_for_each = rows ∙ sym cells;
+  all_in_order =
+      subst (IsOrderOf (length t.cells)) (sym sorted)
+      (subst (λ (m : ℕ). IsOrderOf m (up_to count)) (sym cells) (listed_up_to count));
+  few_builds = builds;
+  few_names = omega (arith, cells);
+}
 
 -- a free lock is granted: g is the grants that were read
 pub granted : (t : Tables) (s n g : ℕ) → n < length t.holders → n < length t.grants

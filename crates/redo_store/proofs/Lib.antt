@@ -1,7 +1,3 @@
-pub mod Listed
-pub mod Sorting
-pub mod Places
-pub mod Ranked
 pub mod Kept
 pub mod Effects
 pub mod Refreshing
@@ -9,6 +5,5 @@ pub mod Rooms
 pub mod Refusals
 pub mod Obeyed
 pub mod Holding
-pub mod Counting
 pub mod Slots
 pub mod Unknown

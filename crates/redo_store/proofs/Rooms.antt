@@ -9,7 +9,7 @@ use Rattle.redo_model.specs.Names.{Naming, numbers}
 use Rattle.redo_model.specs.State.{Records}
 use Rattle.redo_model.specs.Step.{verdict_of, effect_of, records_after, unless_refused}
 use Rattle.redo_store.specs.Inside.Changes.{HasEffect}
-use Rattle.redo_store.specs.Orders.{by_place}
+use Rattle.redo_order.specs.Orders.{by_place}
 use Rattle.redo_store.specs.Stored.{Stored, records_of, naming_of, IsSameButRoom}
 use Rattle.redo_store.specs.Tables.{Tables, IsAsBefore, locks_of}
 

@@ -1,12 +1,23 @@
 -- Nothing is known of numbers past the end.
-use Rattle.std.proofs.Common.{◌≡◌, ℕ, ◌≤◌, None, sym, ap, subst}
+use Rattle.std.proofs.Common.{◌≡◌, ℕ, ◌<◌, ◌≤◌, ◌∙◌, None, is_some, sym, ap, subst, inl, inr}
+use Rattle.std.proofs.lemmas.Bool.{cases_lt, false≢true}
 use Rattle.std.proofs.lemmas.List.{get_or_past}
 use Rattle.redo_model.specs.Inside.Unknown.{IsUnknown}
+use Rattle.redo_model.specs.OutOfDate.{HasFile}
 use Rattle.redo_model.specs.State.{idle}
 use Rattle.redo_records.specs.Rows.{TargetRows, bare, slot_at, target_at}
 use Rattle.redo_store.specs.Inside.Stored.{IsStored}
+use Rattle.redo_store.specs.Stored.{Stored, count_of, records_of}
 use Rattle.redo_store.specs.Tables.{Tables, state_of, tables_count}
 use Rattle.redo_store.specs.Inside.Tables.{AreTables}
+
+-- only a number below the count has a file
+pub file_below : (t : Stored) (n : ℕ) → HasFile (records_of t) n → n < count_of t
+file_below t n h = elim (cases_lt n (count_of t)) [
+  | inl l ↦ l
+  | inr past ↦
+      absurd (false≢true (sym (ap (λ c. is_some c.file) (get_or_past t.cells n idle past)) ∙ h))
+]
 
 pub unknown_past : (tables : Tables) → IsStored tables.store → AreTables tables → (n : ℕ)
     → tables_count tables ≤ n → IsUnknown (state_of tables) n

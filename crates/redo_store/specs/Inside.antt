@@ -1,5 +1,4 @@
 pub mod Changes
-pub mod Numbered
 pub mod Stored
 pub mod Tables
 pub mod Kept

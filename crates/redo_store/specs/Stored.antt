@@ -6,7 +6,7 @@ use Rattle.std.specs.declared.cmp.Ordering.{Ordering}
 use Rattle.redo_model.specs.Names.{Naming, numbers}
 use Rattle.redo_model.specs.State.{Cell, Records}
 use Rattle.redo_records.specs.Rows.{TargetRows, room_of, with_rows}
-use Rattle.redo_store.specs.Orders.{by_place}
+use Rattle.redo_order.specs.Orders.{by_place}
 
 -- a cell and the rows for each name, the numbers of all names in order, and how many commands were
 -- applied

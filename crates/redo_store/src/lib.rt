@@ -3,7 +3,6 @@
 
 mod deps;
 mod redo;
-mod sorted;
 mod store;
 mod table;
 

@@ -8,10 +8,10 @@ ghost use Rattle.redo_model.specs.Renaming.{IsBelow, IsReplyBelow};
 ghost use Rattle.redo_model.specs.Inside.Renaming.{OrdersAlike, numbering};
 ghost use Rattle.redo_terms.specs.Meaning.{command_of, reply_of, refusal_of};
 
-use crate::sorted::{ranks_of, sorted_numbers};
 use crate::table::{answer, answers, effect, effects};
 use redo_names::Names;
 use redo_ood::Ood;
+use redo_order::{ranks_of, sorted_numbers};
 use redo_records::{DepRows, Records, digest_of};
 use redo_terms::{Command, FileStamp, Refusal, Reply, cases};
 use std::alloc::{AllocError, Global};

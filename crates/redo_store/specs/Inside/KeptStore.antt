@@ -1,7 +1,7 @@
 -- The value of the store's fields, and their invariant.
 use Rattle.std.specs.Prelude.{◌≡◌}
 use Rattle.redo_marks.specs.Memo.{memo_count, IsRight}
-use Rattle.redo_store.specs.Orders.{AreRanks}
+use Rattle.redo_order.specs.Orders.{AreRanks}
 use Rattle.redo_store.specs.Stored.{Stored, records_of, count_of}
 use Rattle.redo_store.specs.Inside.Stored.{IsStored}
 use Rattle.redo_store.specs.declared.store.Store.TheInside.{Inside}

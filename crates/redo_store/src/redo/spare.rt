@@ -2,7 +2,7 @@
 
 ghost use Rattle.std.specs.Prelude.{◌≡◌, ◌≤◌, IfOk, OnOk, OnErr};
 ghost use Rattle.redo_model.specs.State.{empty};
-ghost use Rattle.redo_store.specs.Orders.{IsByNumber};
+ghost use Rattle.redo_order.specs.Orders.{IsByNumber};
 ghost use Rattle.redo_store.specs.Tables.{state_of, tables_order, tables_count, calls_of, IsAsBefore};
 
 use crate::redo::Redo;

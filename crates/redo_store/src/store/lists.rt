@@ -9,11 +9,12 @@ ghost use Rattle.redo_model.specs.Renaming.{AllBelow, IsReplyBelow};
 ghost use Rattle.redo_marks.specs.Bits.{IsSet};
 ghost use Rattle.redo_terms.specs.Meaning.{reply_of};
 ghost use Rattle.redo_store.specs.Stored.{records_of, naming_of, count_of};
-ghost use Rattle.redo_store.specs.Inside.Stored.{IsStored, AreInOrder, ArePlaces};
+ghost use Rattle.redo_order.specs.Inside.Orders.{AreInOrder, ArePlaces};
+ghost use Rattle.redo_store.specs.Inside.Stored.{IsStored};
 
 use crate::store::Store;
-use crate::store::stale::names_at;
 use redo_marks::Bits;
+use redo_order::names_at;
 use redo_records::State;
 use redo_terms::{FileStamp, Reply};
 use std::alloc::{AllocError, Global};
@@ -86,8 +87,9 @@ impl Store {
     }
 
     fn ood(&self, alloc: Global) -> Result<Vec<u32>, AllocError>
-        ensures { IfOk result (λ names. AreInOrder self.now (λ t. HasFile (records_of self.now) t
-            × OutOfDate (records_of self.now) t) names.items) }
+        ensures { IfOk result (λ names. AreInOrder self.now.sorted (count_of self.now)
+            (λ t. HasFile (records_of self.now) t × OutOfDate (records_of self.now) t)
+            names.items) }
     {
         let marked = self.ood_places(alloc)?;
         let places = marked.list(alloc)?;
@@ -106,8 +108,9 @@ impl Store {
 
     /// The places of the out-of-date targets with a file.
     fn ood_places(&self, alloc: Global) -> Result<Bits, AllocError>
-        ensures { IfOk result (λ places. ArePlaces self.now (λ t. HasFile (records_of self.now) t
-            × OutOfDate (records_of self.now) t) (IsSet places)) }
+        ensures { IfOk result (λ places. ArePlaces self.now.sorted
+            (λ t. HasFile (records_of self.now) t × OutOfDate (records_of self.now) t)
+            (IsSet places)) }
     {
         let out = self.outdated(alloc)?;
         let mut places = Bits::new(alloc, self.count())?;
@@ -120,8 +123,8 @@ impl Store {
     }
 
     fn sources(&self, alloc: Global) -> Result<Vec<u32>, AllocError>
-        ensures { IfOk result
-            (λ names. AreInOrder self.now (IsSource (records_of self.now)) names.items) }
+        ensures { IfOk result (λ names. AreInOrder self.now.sorted (count_of self.now)
+            (IsSource (records_of self.now)) names.items) }
     {
         let mut names = Vec::new(alloc);
         for &n in self.sorted() {
@@ -132,7 +135,7 @@ impl Store {
     }
 
     fn targets(&self, alloc: Global) -> Result<Vec<u32>, AllocError>
-        ensures { IfOk result (λ names. AreInOrder self.now
+        ensures { IfOk result (λ names. AreInOrder self.now.sorted (count_of self.now)
             (λ t. HasFile (records_of self.now) t × IsTarget (records_of self.now) t) names.items) }
     {
         let mut names = Vec::new(alloc);

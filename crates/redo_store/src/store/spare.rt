@@ -1,22 +1,15 @@
 //! A store with numbers for names that come later.
 
 ghost use Rattle.std.specs.Prelude.{◌≡◌, ◌≤◌, IfOk, OnOk, OnErr};
-ghost use Rattle.std.specs.List.{range_with_len};
 ghost use Rattle.redo_model.specs.State.{empty};
-ghost use Rattle.redo_store.specs.Orders.{IsByNumber};
+ghost use Rattle.redo_order.specs.Orders.{IsByNumber};
 ghost use Rattle.redo_store.specs.Stored.{records_of, order_of, count_of, applied_of};
 
 use crate::store::Store;
 use redo_ood::Ood;
+use redo_order::numbers_below;
 use redo_records::{DepRows, Records};
 use std::alloc::{AllocError, Global};
-
-/// All numbers below the count, in order.
-fn numbers_below(alloc: Global, count: u32) -> Result<Vec<u32>, AllocError>
-    ensures { IfOk result (λ numbers. numbers.items ≡ range_with_len 0 count) }
-{
-    (0..count).collect(alloc)
-}
 
 impl Store {
     /// The empty store with that many numbers for names, in their own order: each is idle, and without a file.

@@ -3,7 +3,8 @@ use Rattle.std.proofs.Math.ListN.{length-replicate}
 use Rattle.redo_model.specs.State.{idle}
 use Rattle.redo_marks.specs.Memo.{IsRight}
 use Rattle.redo_store.specs.Stored.{Stored}
-use Rattle.redo_store.proofs.Counting.{IsStored-by_number, none_built, ordered_by_number, ranked_by_number}
+use Rattle.redo_order.proofs.Counting.{ordered_by_number, ranked_by_number}
+use Rattle.redo_store.proofs.Kept.{IsStored-by_number, none_built}
 use Rattle.redo_store.proofs.Refreshing.{empty_records}
 use Rattle.redo_store.proofs.store.Store.blank.Goals as goal
 

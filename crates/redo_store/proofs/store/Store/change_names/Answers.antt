@@ -4,7 +4,8 @@ use Rattle.redo_model.specs.Renaming.{AllBelow}
 use Rattle.redo_records.specs.Rows.{rows_count}
 use Rattle.redo_model.specs.Names.{by_number}
 use Rattle.redo_store.specs.Stored.{Stored, records_of, count_of}
-use Rattle.redo_store.proofs.Listed.{listed_next, listed_at_end, listed_below, named_below}
+use Rattle.redo_model.proofs.Listing.{below_in}
+use Rattle.redo_order.proofs.Listed.{listed_next, listed_at_end, listed_below}
 use Rattle.redo_store.proofs.store.Store.change_names.Goals as goal
 
 pub loop-n-preserved : goal.loop-n-preserved
@@ -34,6 +35,6 @@ returns-clause-below c =
     c.self.invariant.stored.rows_for_each ∙ ap count_of c.self.view_is in
     let below = subst (λ n. AllBelow n items) sized c.of-n-items.ensures.below in
     listed_below by_number (HasChangeRow (records_of c.args.self.now) t) count
-    (λ n row. named_below items n below ((c.of-n-items.ensures.listed.1 n).1
+    (λ n row. below_in count items n below ((c.of-n-items.ensures.listed.1 n).1
     (inl (subst (λ (s : Stored). HasChangeRow (records_of s) t n) (sym c.self.view_is) row))))
     c.loop-n.names.items (returns-clause-listed c)

@@ -3,7 +3,8 @@ use Rattle.redo_model.specs.State.{Cell}
 use Rattle.redo_records.specs.Rows.{TargetRows, with_rows}
 use Rattle.redo_store.specs.Inside.KeptStore.{KeepsStored}
 use Rattle.redo_store.specs.Stored.{Stored, records_of}
-use Rattle.redo_store.proofs.Counting.{IsStored-by_number, ordered_by_number, ranked_by_number}
+use Rattle.redo_order.proofs.Counting.{ordered_by_number, ranked_by_number}
+use Rattle.redo_store.proofs.Kept.{IsStored-by_number}
 use Rattle.redo_store.proofs.Slots.{same_records, still_right}
 use Rattle.redo_store.proofs.store.Store.grow.Goals as goal
 

@@ -2,7 +2,7 @@ use Rattle.std.proofs.Common.{subst}
 use Rattle.redo_model.specs.Names.{IsListed, by_number}
 use Rattle.redo_model.specs.OutOfDate.{HasChangeRow}
 use Rattle.redo_store.specs.Stored.{Stored, records_of}
-use Rattle.redo_store.proofs.Listed.{some_listed}
+use Rattle.redo_order.proofs.Listed.{some_listed}
 use Rattle.redo_store.proofs.store.Store.is_needed.Goals as goal
 
 pub returns : goal.returns

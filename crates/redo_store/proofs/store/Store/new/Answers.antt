@@ -3,12 +3,12 @@ use Rattle.std.proofs.Math.ListN.{replicate, length-replicate}
 use Rattle.redo_model.specs.Renaming.{AllBelow}
 use Rattle.redo_model.specs.State.{idle}
 use Rattle.redo_marks.specs.Memo.{IsRight}
-use Rattle.redo_store.specs.Orders.{AreRanks}
+use Rattle.redo_order.specs.Orders.{AreRanks}
 use Rattle.redo_store.specs.Stored.{Stored}
 use Rattle.redo_store.proofs.Kept.{IsStored-new}
-use Rattle.redo_store.proofs.Places.{orders_alike}
+use Rattle.redo_order.proofs.Places.{orders_alike}
 use Rattle.redo_store.proofs.Refreshing.{empty_records}
-use Rattle.redo_store.proofs.Sorting.{sorted_below}
+use Rattle.redo_order.proofs.Sorting.{sorted_below}
 use Rattle.redo_store.proofs.store.Store.new.Goals as goal
 
 pub ranks_of-requires-clause-below : goal.ranks_of-requires-clause-below

@@ -1,8 +1,9 @@
 use Rattle.std.proofs.Common.{◌<◌, ◌∙◌, ℕ, List, length, map, get_or, sym, ap, subst}
 use Rattle.std.specs.List.{All}
 use Rattle.std.proofs.lemmas.Result.{IfOk-weaker}
-use Rattle.redo_store.proofs.Listed.{file_below}
-use Rattle.redo_store.proofs.Ranked.{all_placed, in_order_by_places, rise_by_number}
+use Rattle.redo_order.proofs.Ranked.{all_placed, in_order_by_places, rise_by_number}
+use Rattle.redo_store.specs.Stored.{count_of}
+use Rattle.redo_store.proofs.Unknown.{file_below}
 use Rattle.redo_store.proofs.store.Store.ood.Goals as goal
 
 pub names_at-requires : goal.names_at-requires
@@ -19,7 +20,8 @@ returns c =
     let places = c.in_ok-places.places.items in
     let listed = c.in_ok-places.ensures.listed in
     IfOk-weaker c.names_at.result _ _ (λ v named.
-    in_order_by_places places v.items c.sorted-all.ensures.stored
+    in_order_by_places (count_of c.args.self.now) places v.items
+    c.sorted-all.ensures.stored.all_in_order
     (λ n p. file_below c.args.self.now n p.0)
     c.in_ok-marked.ensures (rise_by_number places listed.0) listed.1
     (named

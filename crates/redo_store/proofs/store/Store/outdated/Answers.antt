@@ -4,7 +4,7 @@ use Rattle.redo_model.specs.OutOfDate.{OutOfDate}
 use Rattle.redo_marks.specs.Memo.{IsRight, is_out}
 use Rattle.redo_model.specs.Names.{by_number}
 use Rattle.redo_store.specs.Stored.{Stored, records_of}
-use Rattle.redo_store.proofs.Listed.{listed_alike}
+use Rattle.redo_order.proofs.Listed.{listed_alike}
 use Rattle.redo_store.proofs.store.Store.outdated.Goals as goal
 
 pub returns-clause-listed : goal.returns-clause-listed

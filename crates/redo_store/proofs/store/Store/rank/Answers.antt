@@ -1,7 +1,7 @@
 use Rattle.std.proofs.Common.{◌≡◌, ◌<◌, get_or, length, vec_len, sym, subst, arith, rules}
 use Rattle.redo_store.specs.Inside.KeptStore.{stored_of}
 use Rattle.redo_store.specs.Stored.{Stored, count_of}
-use Rattle.redo_store.proofs.Ranked.{rank_read, sorted_few}
+use Rattle.redo_order.proofs.Ranked.{rank_read, sorted_few}
 use Rattle.redo_store.proofs.store.Store.rank.Goals as goal
 
 pub index-requires : goal.index-requires
@@ -39,5 +39,6 @@ returns-clause-few c =
     let below = subst (λ (t : Stored). n < count_of t) (sym c.self.view_is) c.requires in
     let there = (c.self.invariant.stored.all_in_order.1 n).1 below in
     let read = rank_read n rank c.self.invariant.ranked there c.index.ensures in
-    let few = sorted_few (stored_of c.self.inside) c.self.invariant.stored in
+    let few = sorted_few c.self.inside.sorted.items (count_of (stored_of c.self.inside))
+    c.self.invariant.stored.all_in_order in
     subst (λ (t : Stored). rank < count_of t) c.self.view_is (omega (arith, read.0, few))

@@ -1,8 +1,9 @@
 use Rattle.std.proofs.Common.{◌<◌, ◌∙◌, ℕ, List, length, map, get_or, sym, ap, subst}
 use Rattle.std.specs.List.{All}
 use Rattle.std.proofs.lemmas.Result.{IfOk-weaker}
-use Rattle.redo_store.proofs.Listed.{named_below}
-use Rattle.redo_store.proofs.Ranked.{all_placed, in_order_by_places}
+use Rattle.redo_model.proofs.Listing.{below_in}
+use Rattle.redo_order.proofs.Ranked.{all_placed, in_order_by_places}
+use Rattle.redo_store.specs.Stored.{count_of}
 use Rattle.redo_store.proofs.store.Store.stale.Goals as goal
 
 pub names_at-requires : goal.names_at-requires
@@ -17,9 +18,10 @@ names_at-requires c =
 pub returns : goal.returns
 returns c =
     let places = c.in_order-places in
+    let count = count_of c.args.self.now in
     IfOk-weaker c.names_at.result _ _ (λ v named.
-    in_order_by_places places.result.items v.items c.sorted-all.ensures.stored
-    (λ n p. named_below c.args.names.now n c.requires p.0)
+    in_order_by_places count places.result.items v.items c.sorted-all.ensures.stored.all_in_order
+    (λ n p. below_in count c.args.names.now n c.requires p.0)
     c.in_ok-ranks.ensures places.ensures.rising places.ensures.same
     (named
     ∙ ap (λ (ns : List ℕ). map (λ k. get_or ns k 0) c.deref.result.now) c.sorted-all.ensures.sorted

@@ -1,30 +1,29 @@
 -- The names of a kind, taken from the list of all names in order.
-use Rattle.std.proofs.Common.{◌≡◌, ◌==◌, ◌↔◌, ℕ, ◌<◌, ◌≤◌, ◌+◌, Bool, true, false, cond, not, IsTrue, List, [], ◌∷◌, ◌++◌, length, get_or, take, is_some, refl, sym, ap, ◌∙◌, subst, inl, inr, arith}
+use Rattle.std.proofs.Common.{◌≡◌, ◌==◌, ◌↔◌, ℕ, ◌<◌, ◌≤◌, ◌+◌, Bool, true, false, cond, not, IsTrue, List, [], ◌∷◌, ◌++◌, length, get_or, take, refl, sym, ap, ◌∙◌, subst, inl, inr, arith}
 use Rattle.std.specs.List.{Contains}
 use Rattle.std.specs.declared.cmp.Ordering.TheVariants.{Less}
-use Rattle.std.proofs.lemmas.Bool.{cases_lt, ne_eqb, false≢true}
-use Rattle.std.proofs.lemmas.List.{append-nil, take_more, take_all, get_or_past, get_or_default, get_or-take, length-take-le}
-use Rattle.std.proofs.lemmas.List.Elements.{All-contains, All-from_recursion, Contains-get_or, Contains-push, Contains-push_cases, Contains-append_left, All-contains_itself, All-weaker, recursion_from_All}
+use Rattle.std.proofs.lemmas.Bool.{ne_eqb, false≢true}
+use Rattle.std.proofs.lemmas.List.{append-nil, take_more, take_all, get_or_default, get_or-take, length-take-le}
+use Rattle.std.proofs.lemmas.List.Elements.{Contains-get_or, Contains-push, Contains-push_cases, Contains-append_left}
 use Rattle.std.proofs.lemmas.List.Quantifiers.{all_pairs_push}
-use Rattle.redo_model.specs.Names.{Naming, IsListed, Ascending}
-use Rattle.redo_model.specs.State.{idle}
-use Rattle.redo_model.specs.OutOfDate.{HasFile}
+use Rattle.redo_model.specs.Names.{Naming, IsListed, Ascending, numbers}
 use Rattle.redo_model.specs.Renaming.{AllBelow}
+use Rattle.redo_model.proofs.Listing.{each_below}
 use Rattle.redo_model.proofs.Members.{contains_first, contains_none}
-use Rattle.redo_store.specs.Stored.{Stored, records_of, naming_of, count_of}
-use Rattle.redo_store.specs.Inside.Stored.{IsStored, AreInOrder}
+use Rattle.redo_order.specs.Orders.{by_place}
+use Rattle.redo_order.specs.Inside.Orders.{IsOrderOf, AreInOrder}
 
 -- a number of the list is below the count
-pub number_below : {t : Stored} {items : List ℕ} (k d : ℕ) → IsStored t → items ≡ t.sorted
-    → k < length items → get_or items k d < count_of t
-number_below {t} {items} k d stored is below =
-    (stored.all_in_order.1 (get_or items k d)).0
+pub number_below : {sorted items : List ℕ} {count : ℕ} (k d : ℕ) → IsOrderOf count sorted
+    → items ≡ sorted → k < length items → get_or items k d < count
+number_below {sorted} {items} {count} k d order is below =
+    (order.1 (get_or items k d)).0
     (subst (λ (ns : List ℕ). Contains ns (get_or items k d)) is (Contains-get_or items k d below))
 
 -- those of the first k items that have P, in order
-pub record AreFirst (t : Stored) (P : ℕ → Type 0) (items : List ℕ) (k : ℕ)
+pub record AreFirst (sorted : List ℕ) (P : ℕ → Type 0) (items : List ℕ) (k : ℕ)
     (names : List ℕ) : Type 0 where
-  pub listed : IsListed (naming_of t) (λ n. Contains (take k items) n × P n) names
+  pub listed : IsListed (numbers (by_place sorted)) (λ n. Contains (take k items) n × P n) names
 
 module _ (naming : Naming ℕ) (P : ℕ → Type 0) (sorted : List ℕ) (k d : ℕ)
     (below : k < length sorted) where
@@ -104,16 +103,16 @@ listed_next naming P items k d below up names new_names due due_is added h =
     (subst (IsListed naming (λ n. Contains (take k items ++ get_or items k d ∷ []) n × P n))
     (sym added) (listed_more naming P items k d below up names due due_is h))
 
-pub first_more : {t : Stored} {P : ℕ → Type 0} {items names new_names : List ℕ} {due : Bool}
-    (k d : ℕ) → IsStored t → items ≡ t.sorted → k < length items → AreFirst t P items k names
-    → (IsTrue due ↔ P (get_or items k d)) → new_names ≡ names ++ cond due (get_or items k d ∷ []) []
-    → AreFirst t P items (k + 1) new_names
-first_more {t} {P} {items} {names} {new_names} {due} k d stored is below h due_is added =
-    let up : Ascending (naming_of t) items =
-    subst (Ascending (naming_of t)) (sym is) stored.all_in_order.0 in
+pub first_more : {sorted items names new_names : List ℕ} {P : ℕ → Type 0} {due : Bool}
+    (count k d : ℕ) → IsOrderOf count sorted → items ≡ sorted → k < length items
+    → AreFirst sorted P items k names → (IsTrue due ↔ P (get_or items k d))
+    → new_names ≡ names ++ cond due (get_or items k d ∷ []) []
+    → AreFirst sorted P items (k + 1) new_names
+first_more {sorted} {items} {names} {new_names} {P} {due} count k d order is below h due_is added =
+    let naming : Naming ℕ = numbers (by_place sorted) in
+    let up : Ascending naming items = subst (Ascending naming) (sym is) order.0 in
     record {
-      listed = listed_next (naming_of t) P items k d below up names new_names due due_is added
-          h.listed;
+      listed = listed_next naming P items k d below up names new_names due due_is added h.listed;
     }
 
 -- after all items, the list is that of the numbers with P, if each of these is an item
@@ -133,19 +132,18 @@ listed_at_end naming P items k whole all names h = (
 pub listed_below : (naming : Naming ℕ) (P : ℕ → Type 0) (count : ℕ) → ((n : ℕ) → P n → n < count)
     → (names : List ℕ) → IsListed naming P names → AllBelow count names
 listed_below naming P count below names h =
-    recursion_from_All (λ n. n < count) names
-    (All-weaker (Contains names) (λ n. n < count) (λ n c. below n ((h.1 n).0 c)) names
-    (All-contains_itself names))
+    each_below count names (λ n c. below n ((h.1 n).0 c))
 
 -- after all items, the list is that of the names with P
-pub first_all : {t : Stored} {P : ℕ → Type 0} {items names : List ℕ} {k : ℕ} → IsStored t
-    → items ≡ t.sorted → length items ≤ k → ((n : ℕ) → P n → n < count_of t)
-    → AreFirst t P items k names → AreInOrder t P names
-first_all {t} {P} {items} {names} {k} stored is whole below h =
+pub first_all : {sorted items names : List ℕ} {P : ℕ → Type 0} {k : ℕ} (count : ℕ)
+    → IsOrderOf count sorted → items ≡ sorted → length items ≤ k → ((n : ℕ) → P n → n < count)
+    → AreFirst sorted P items k names → AreInOrder sorted count P names
+first_all {sorted} {items} {names} {P} {k} count order is whole below h =
     let all : (n : ℕ) → P n → Contains items n = λ n p.
-    subst (λ (ns : List ℕ). Contains ns n) (sym is) ((stored.all_in_order.1 n).1 (below n p)) in
-    let listed = listed_at_end (naming_of t) P items k whole all names h.listed in
-    record { listed = listed; below = listed_below (naming_of t) P (count_of t) below names listed }
+    subst (λ (ns : List ℕ). Contains ns n) (sym is) ((order.1 n).1 (below n p)) in
+    let naming : Naming ℕ = numbers (by_place sorted) in
+    let listed = listed_at_end naming P items k whole all names h.listed in
+    record { listed = listed; below = listed_below naming P count below names listed }
 
 -- the names with P are those with Q
 pub listed_alike : (naming : Naming ℕ) (names : List ℕ) (P Q : ℕ → Type 0)
@@ -154,20 +152,6 @@ listed_alike naming names P Q same h = (
   h.0,
   λ n. (λ c. (same n).0 ((h.1 n).0 c), λ q. (h.1 n).1 ((same n).1 q)),
 )
-
--- only a number below the count has a file
-pub file_below : (t : Stored) (n : ℕ) → HasFile (records_of t) n → n < count_of t
-file_below t n h = elim (cases_lt n (count_of t)) [
-  | inl l ↦ l
-  | inr past ↦
-      absurd (false≢true (sym (ap (λ c. is_some c.file) (get_or_past t.cells n idle past)) ∙ h))
-]
-
--- a number among those that are below the count
-pub named_below : {count : ℕ} (names : List ℕ) (n : ℕ) → AllBelow count names → Contains names n
-    → n < count
-named_below {count} names n below h =
-    All-contains (λ m. m < count) names n (All-from_recursion (λ m. m < count) names below) h
 
 -- a name has P exactly if their list isn't empty
 some_in : {P : ℕ → Type 0} (naming : Naming ℕ) (names : List ℕ) → IsListed naming P names

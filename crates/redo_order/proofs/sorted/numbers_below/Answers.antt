@@ -1,6 +1,6 @@
 use Rattle.std.proofs.Common.{refl, arith}
 use Rattle.std.proofs.lemmas.Iterator.{items_from_collect, YieldsList-from_range}
-use Rattle.redo_store.proofs.store.spare.numbers_below.Goals as goal
+use Rattle.redo_order.proofs.sorted.numbers_below.Goals as goal
 
 pub returns : goal.returns
 returns c =

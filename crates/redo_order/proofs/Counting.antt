@@ -1,20 +1,13 @@
 -- The numbers below a count, in their own order.
-use Rattle.std.proofs.Common.{◌≡◌, ◌==◌, ◌∙◌, ℕ, ◌<◌, ◌≤◌, ◌^◌, List, length, get_or, sym, ap, subst, arith}
-use Rattle.std.proofs.Math.ListN.{replicate}
+use Rattle.std.proofs.Common.{◌≡◌, ◌==◌, ◌∙◌, ℕ, ◌<◌, List, length, get_or, sym, ap, subst, arith}
 use Rattle.std.specs.List.{Contains, range_with_len}
 use Rattle.std.specs.Ordering.{nat_cmp}
 use Rattle.std.proofs.lemmas.Bool.{eq-eqb, ne_eqb}
 use Rattle.std.proofs.lemmas.List.FromFn.{length-range_with_len, get_or-range_with_len}
 use Rattle.std.proofs.lemmas.List.Sums.{position_or_len_is}
-use Rattle.redo_model.specs.Names.{numbers, IsListed}
-use Rattle.redo_model.specs.State.{Cell, idle}
-use Rattle.redo_model.proofs.MorePlaces.{same_everywhere}
-use Rattle.redo_records.specs.Cells.{cell_at}
-use Rattle.redo_records.specs.Rows.{rows_count}
-use Rattle.redo_store.specs.Orders.{AreRanks, IsByNumber, place, by_place}
-use Rattle.redo_store.specs.Stored.{Stored}
-use Rattle.redo_store.specs.Inside.Stored.{IsStored}
-use Rattle.redo_store.proofs.Places.{below_by_numbers}
+use Rattle.redo_order.specs.Orders.{AreRanks, IsByNumber, place, by_place}
+use Rattle.redo_order.specs.Inside.Orders.{IsOrderOf}
+use Rattle.redo_order.proofs.Places.{below_by_numbers}
 
 abbrev pub up_to : ℕ → List ℕ
 up_to count = range_with_len 0 count
@@ -46,8 +39,7 @@ by_number count m n a b =
     ap (λ (i : ℕ). nat_cmp i (place (up_to count) n)) (place_is count m a)
     ∙ ap (nat_cmp m) (place_is count n b)
 
-pub listed_up_to : (count : ℕ)
-    → IsListed (numbers (by_place (up_to count))) (λ n. n < count) (up_to count)
+pub listed_up_to : (count : ℕ) → IsOrderOf count (up_to count)
 listed_up_to count = (
   λ i j d before in'.
       let later : j < count = omega (arith, length-up_to count) in
@@ -78,26 +70,3 @@ pub ordered_by_number : (count : ℕ) (sorted : List ℕ) → sorted ≡ up_to c
     → IsByNumber count (by_place sorted)
 ordered_by_number count sorted e =
     subst (λ (xs : List ℕ). IsByNumber count (by_place xs)) (sym e) (by_number count)
-
-pub none_built : (count : ℕ) (cells : List Cell) → cells ≡ replicate count idle
-    → (n : ℕ) → (cell_at cells n).builds ≤ 0
-none_built count cells all_idle n =
-    let none : (cell_at cells n).builds ≡ 0 =
-    ap (λ (xs : List Cell). (cell_at xs n).builds) all_idle
-    ∙ ap (λ (x : Cell). x.builds) (same_everywhere count n idle) in
-    omega arith
-
--- a store whose numbers are in their own order
-pub IsStored-by_number : (t : Stored) (count : ℕ) → t.sorted ≡ up_to count
-    → length t.cells ≡ count → rows_count t.rows ≡ count
-    → ((n : ℕ) → (cell_at t.cells n).builds ≤ t.applied) → count < 2 ^ 32 → IsStored t
-IsStored-by_number t count sorted cells rows builds few = record {
-  rows_for_each = rows ∙ sym cells;
-  all_in_order =
-      subst (λ (xs : List ℕ). IsListed (numbers (by_place xs)) (λ n. n < length t.cells) xs)
-      (sym sorted)
-      (subst (λ (m : ℕ). IsListed (numbers (by_place (up_to count))) (λ n. n < m) (up_to count))
-      (sym cells) (listed_up_to count));
-  few_builds = builds;
-  few_names = omega (arith, cells);
-}

@@ -10,11 +10,12 @@ use Rattle.std.proofs.lemmas.Cmp.{nat_cmp_total, nat_list_cmp_total, tied_itself
 use Rattle.std.proofs.lemmas.List.{get_or_default}
 use Rattle.std.proofs.lemmas.List.Elements.{Contains-get_or}
 use Rattle.std.proofs.lemmas.List.Sums.{position_or_len_is}
-use Rattle.redo_model.specs.Names.{texts, numbers, IsListed}
+use Rattle.redo_model.specs.Names.{texts}
 use Rattle.redo_model.specs.Inside.Renaming.{OrdersAlike, numbering}
 use Rattle.redo_model.proofs.Texts.{texts_are_names}
 use Rattle.redo_names.specs.Names.{text_at}
-use Rattle.redo_store.specs.Orders.{AreSorted, place, by_place}
+use Rattle.redo_order.specs.Orders.{AreSorted, place, by_place}
+use Rattle.redo_order.specs.Inside.Orders.{IsOrderOf}
 
 pub below_by_numbers : (m n : ℕ) → m < n → nat_cmp m n ≡ Less
 below_by_numbers m n h = grind (arith, nat_tests)
@@ -66,7 +67,7 @@ module _ {names : List (List ℕ)} {sorted : List ℕ} (are : AreSorted names so
   orders_alike = record { alike = by_place_is }
 
   -- the numbers are sorted by their own order too
-  pub listed_by_place : IsListed (numbers (by_place sorted)) (λ n. n < length names) sorted
+  pub listed_by_place : IsOrderOf (length names) sorted
   listed_by_place = (
     λ i j d before below.
         let first : i < length sorted = omega arith in

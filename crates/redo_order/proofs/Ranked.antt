@@ -15,12 +15,11 @@ use Rattle.std.proofs.lemmas.List.Sorted.{Contains-permutation, IsPermutation-sy
 use Rattle.std.proofs.lemmas.Map.Keys.{IsStrictlyIncreasing-dedup, IsDistinct-from_apart}
 use Rattle.std.proofs.lemmas.Map.Steps.{length-le_from_distinct_below}
 use Rattle.std.proofs.lemmas.Map.Views.{Contains-from_any}
-use Rattle.redo_model.specs.Names.{Ascending, by_number}
+use Rattle.redo_model.specs.Names.{Ascending, by_number, numbers}
 use Rattle.redo_model.proofs.Listing.{each_below, one_more}
-use Rattle.redo_store.specs.Orders.{AreRanks, by_place, place}
-use Rattle.redo_store.specs.Stored.{Stored, count_of, naming_of}
-use Rattle.redo_store.specs.Inside.Stored.{IsStored, AreInOrder, ArePlaces}
-use Rattle.redo_store.proofs.Sorting.{AllPairs-map}
+use Rattle.redo_order.specs.Orders.{AreRanks, by_place, place}
+use Rattle.redo_order.specs.Inside.Orders.{IsOrderOf, AreInOrder, ArePlaces}
+use Rattle.redo_order.proofs.Sorting.{AllPairs-map}
 
 -- the first k numbers of the list have their ranks
 abbrev pub HaveRanks : List ℕ → List ℕ → List ℕ → ℕ → Type 0
@@ -59,11 +58,12 @@ rank_read {sorted = sorted} {ranks = ranks} n rank are c read =
     )
 
 -- the places of those of the names that have Q
-abbrev pub PlacesOf : Stored → (ℕ → Type 0) → List ℕ → (ℕ → Type 0) → Type 0
-PlacesOf t Q names At = ArePlaces t (λ n. Contains names n × Q n) At
+abbrev pub PlacesOf : List ℕ → (ℕ → Type 0) → List ℕ → (ℕ → Type 0) → Type 0
+PlacesOf sorted Q names At = ArePlaces sorted (λ n. Contains names n × Q n) At
 
-pub places_none : (t : Stored) (Q At : ℕ → Type 0) → ((k : ℕ) → At k → ⊥) → PlacesOf t Q [] At
-places_none t Q At none = record {
+pub places_none : (sorted : List ℕ) (Q At : ℕ → Type 0) → ((k : ℕ) → At k → ⊥)
+    → PlacesOf sorted Q [] At
+places_none sorted Q At none = record {
   below = λ k at. absurd (none k at);
   from = λ k at. absurd (none k at);
   all = λ n p. absurd (omega (arith, p.0.1));
@@ -74,23 +74,23 @@ abbrev pub HasOneMore : (ℕ → Type 0) → (ℕ → Type 0) → ℕ → Bool �
 HasOneMore At To k due = (j : ℕ) → To j ↔ (At j ⊎ (IsTrue due × (j ≡ k)))
 
 -- the next name's place is marked if it has Q
-pub places_more : (t : Stored) (Q : ℕ → Type 0) (names : List ℕ) (i : ℕ) → i < length names
-    → (k : ℕ) (At To : ℕ → Type 0) (due : Bool) → k < length t.sorted
-    → get_or t.sorted k 0 ≡ get_or names i 0 → (IsTrue due ↔ Q (get_or names i 0))
-    → HasOneMore At To k due → PlacesOf t Q (take i names) At → PlacesOf t Q (take (i + 1) names) To
-places_more t Q names i in' k At To due below at is more h = record {
+pub places_more : (sorted : List ℕ) (Q : ℕ → Type 0) (names : List ℕ) (i : ℕ) → i < length names
+    → (k : ℕ) (At To : ℕ → Type 0) (due : Bool) → k < length sorted
+    → get_or sorted k 0 ≡ get_or names i 0 → (IsTrue due ↔ Q (get_or names i 0))
+    → HasOneMore At To k due → PlacesOf sorted Q (take i names) At → PlacesOf sorted Q (take (i + 1) names) To
+places_more sorted Q names i in' k At To due below at is more h = record {
   below = λ j c. elim ((more j).0 c) [
     | inl old ↦ h.below j old
-    | inr e ↦ subst (λ m. m < length t.sorted) (sym e.1) below
+    | inr e ↦ subst (λ m. m < length sorted) (sym e.1) below
   ];
   from = λ j c. elim ((more j).0 c) [
     | inl old ↦
         let was = h.from j old in
-        ((one_more names i 0 (get_or t.sorted j 0) in').1 (inl was.0), was.1)
+        ((one_more names i 0 (get_or sorted j 0) in').1 (inl was.0), was.1)
     | inr e ↦
-        let here : get_or t.sorted j 0 ≡ get_or names i 0 =
-        ap (λ m. get_or t.sorted m 0) e.1 ∙ at in
-        ((one_more names i 0 (get_or t.sorted j 0) in').1 (inr here), subst Q (sym here) (is.0 e.0))
+        let here : get_or sorted j 0 ≡ get_or names i 0 =
+        ap (λ m. get_or sorted m 0) e.1 ∙ at in
+        ((one_more names i 0 (get_or sorted j 0) in').1 (inr here), subst Q (sym here) (is.0 e.0))
   ];
   all = λ n p. elim ((one_more names i 0 n in').0 p.0) [
     | inl earlier ↦
@@ -122,11 +122,11 @@ pushed_due ranks k false j = (
 )
 
 -- the same places, of names with the same property
-pub same_places : {t : Stored} {At : ℕ → Type 0} (P Q : ℕ → Type 0) → ((n : ℕ) → P n ↔ Q n)
-    → ArePlaces t P At → ArePlaces t Q At
-same_places {t = t} P Q same h = record {
+pub same_places : {sorted : List ℕ} {At : ℕ → Type 0} (P Q : ℕ → Type 0) → ((n : ℕ) → P n ↔ Q n)
+    → ArePlaces sorted P At → ArePlaces sorted Q At
+same_places {sorted = sorted} P Q same h = record {
   below = h.below;
-  from = λ k at. (same (get_or t.sorted k 0)).0 (h.from k at);
+  from = λ k at. (same (get_or sorted k 0)).0 (h.from k at);
   all = λ n q. h.all n ((same n).1 q);
 }
 
@@ -154,8 +154,8 @@ module _ (from sorted to : List ℕ) (moved : IsPermutation from sorted)
     )
 
 -- each place is one of the order
-pub all_placed : {t : Stored} {P At : ℕ → Type 0} (rising : List ℕ) → ArePlaces t P At
-    → ((k : ℕ) → Contains rising k ↔ At k) → All (λ k. k < length t.sorted) rising
+pub all_placed : {sorted : List ℕ} {P At : ℕ → Type 0} (rising : List ℕ) → ArePlaces sorted P At
+    → ((k : ℕ) → Contains rising k ↔ At k) → All (λ k. k < length sorted) rising
 all_placed rising h same i d in' =
     h.below (get_or rising i d) ((same (get_or rising i d)).0 (Contains-get_or rising i d in'))
 
@@ -170,17 +170,17 @@ named_more sorted places names i in' named =
     ∙ sym (map_more (λ (k : ℕ). get_or sorted k 0) places i 0 in')
 
 -- the names with P by their places in order
-pub in_order_by_places : {t : Stored} {P At : ℕ → Type 0} (rising names : List ℕ)
-    → IsStored t → ((n : ℕ) → P n → n < count_of t) → ArePlaces t P At
+pub in_order_by_places : {sorted : List ℕ} {P At : ℕ → Type 0} (count : ℕ) (rising names : List ℕ)
+    → IsOrderOf count sorted → ((n : ℕ) → P n → n < count) → ArePlaces sorted P At
     → AllPairs (λ j k. j < k) rising → ((k : ℕ) → Contains rising k ↔ At k)
-    → names ≡ map (λ k. get_or t.sorted k 0) rising → AreInOrder t P names
-in_order_by_places {t = t} {P = P} rising names stored below h up same is =
-    let name = λ (k : ℕ). get_or t.sorted k 0 in
-    let placed : All (λ k. k < length t.sorted) rising =
+    → names ≡ map (λ k. get_or sorted k 0) rising → AreInOrder sorted count P names
+in_order_by_places {sorted = sorted} {P = P} count rising names order below h up same is =
+    let name = λ (k : ℕ). get_or sorted k 0 in
+    let placed : All (λ k. k < length sorted) rising =
     all_placed rising h same in
-    let ascending : Ascending (naming_of t) (map name rising) =
-    AllPairs-map name (λ m n. (naming_of t).order m n ≡ Less) rising
-    (λ i j d before in'. stored.all_in_order.0 (get_or rising i d) (get_or rising j d) 0
+    let ascending : Ascending (numbers (by_place sorted)) (map name rising) =
+    AllPairs-map name (λ m n. by_place sorted m n ≡ Less) rising
+    (λ i j d before in'. order.0 (get_or rising i d) (get_or rising j d) 0
     (up i j d before in') (placed j d in')) in
     let has : (n : ℕ) → Contains (map name rising) n → P n = λ n c.
     let in' : c.0 < length rising = omega (arith, c.1, length-map rising name) in
@@ -195,9 +195,9 @@ in_order_by_places {t = t} {P = P} rising names stored below h up same is =
       omega (arith, c.1, length-map rising name),
       get_or-map name rising c.0 place.0 n c.1 ∙ ap name c.2 ∙ place.2,
     ) in
-    subst (AreInOrder t P) (sym is) (record {
+    subst (AreInOrder sorted count P) (sym is) (record {
       listed = (ascending, λ n. (has n, all n));
-      below = each_below (count_of t) (map name rising) (λ n c. below n (has n c));
+      below = each_below count (map name rising) (λ n c. below n (has n c));
     })
 
 -- numbers that rise by their order
@@ -215,16 +215,16 @@ rise_by_number ks up i j d before in' =
     less_by_number (get_or ks i d) (get_or ks j d) (up i j d before in')
 
 -- no more numbers are in the order than there are names
-pub sorted_few : (t : Stored) → IsStored t → length t.sorted ≤ count_of t
+pub sorted_few : (sorted : List ℕ) (count : ℕ) → IsOrderOf count sorted → length sorted ≤ count
 unfolding by_place
-sorted_few t stored =
-    let differ : (i j : ℕ) (d : ℕ) → i < j → j < length t.sorted
-    → eqb (get_or t.sorted i d) (get_or t.sorted j d) ≡ false = λ i j d before in'.
-    let m : ℕ = get_or t.sorted i d in
-    let n : ℕ = get_or t.sorted j d in
+sorted_few sorted count order =
+    let differ : (i j : ℕ) (d : ℕ) → i < j → j < length sorted
+    → eqb (get_or sorted i d) (get_or sorted j d) ≡ false = λ i j d before in'.
+    let m : ℕ = get_or sorted i d in
+    let n : ℕ = get_or sorted j d in
     ne_eqb m n (λ e.
-    let less : place t.sorted m < place t.sorted n =
-    less_by_number (place t.sorted m) (place t.sorted n) (stored.all_in_order.0 i j d before in') in
-    omega (arith, less, ap (place t.sorted) e)) in
-    length-le_from_distinct_below t.sorted (count_of t) (IsDistinct-from_apart eqb t.sorted differ)
-    (λ q has. (stored.all_in_order.1 q).0 (Contains-from_any eqb-true q t.sorted has))
+    let less : place sorted m < place sorted n =
+    less_by_number (place sorted m) (place sorted n) (order.0 i j d before in') in
+    omega (arith, less, ap (place sorted) e)) in
+    length-le_from_distinct_below sorted count (IsDistinct-from_apart eqb sorted differ)
+    (λ q has. (order.1 q).0 (Contains-from_any eqb-true q sorted has))

@@ -1,0 +1,8 @@
+//! The order of numbers by the texts that they stand for, and lists in that order.
+#![tactic(auto)]
+
+mod lists;
+mod sorted;
+
+pub use lists::{in_order, names_at};
+pub use sorted::{numbers_below, ranks_of, sorted_numbers};
