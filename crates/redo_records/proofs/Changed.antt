@@ -1,10 +1,12 @@
 -- The rows if one target is replaced by another.
-use Rattle.std.proofs.Common.{◌≡◌, ◌≢◌, ℕ, ◌<◌, Bool, true, false, cond, ◌||◌, List, length, set, refl, sym, ap, ◌∙◌, subst, get_or, inl, inr, Option, Some, eqb, ne_eqb, eq-eqb}
+use Rattle.std.proofs.Common.{◌≡◌, ◌≢◌, ℕ, ◌<◌, Bool, true, false, cond, ◌||◌, List, length, set, refl, sym, ap, ◌∙◌, subst, get_or, inl, inr, Option, Some, None, eqb, ne_eqb, eq-eqb}
 use Rattle.std.proofs.Math.Path.{fun_ext}
 use Rattle.std.proofs.lemmas.Bool.{cases_eq}
 use Rattle.redo_model.specs.Names.{put}
 use Rattle.redo_model.specs.State.{Mark, Rows}
-use Rattle.redo_records.specs.Rows.{Slot, TargetRows, slot_at, has_slot, target_at, rows_of, with_change, with_created, by_number}
+use Rattle.redo_records.specs.Rows.{Slot, TargetRows, slot_at, has_slot, target_at, room_of, rows_of, with_change, with_created, without_rows, by_number}
+use Rattle.redo_records.specs.Inside.Target.{cleared}
+use Rattle.redo_records.proofs.Cleared.{slot_at-blanked, has_slot-blanked}
 use Rattle.redo_records.proofs.Inverses.{found_target, target_same, target_other}
 
 -- rows with the same values are the same
@@ -147,6 +149,26 @@ rows_stay targets t n new below w = rows_set targets t new (rows_of targets) bel
   other_always = λ u off. refl;
 })
 
+cleared_set : (targets : List TargetRows) (t : ℕ) → t < length targets
+    → rows_of (set targets t (cleared (target_at targets t))) ≡ without_rows (rows_of targets) t
+cleared_set targets t below =
+    let rows : Rows ℕ = rows_of targets in
+    let slots : List Slot = (target_at targets t).slots in
+    rows_set targets t (cleared (target_at targets t)) (without_rows rows t) below (record {
+      change = λ n. ap (λ (s : Slot). s.change) (slot_at-blanked slots n)
+          ∙ sym (ap (λ (f : ℕ → Option Mark). f n) (put_same t (λ m. None) rows.change));
+      created = λ n. ap (λ (s : Slot). s.created) (slot_at-blanked slots n)
+          ∙ sym (ap (λ (f : ℕ → Bool). f n) (put_same t (λ m. false) rows.created));
+      always = sym (put_same t false rows.always);
+      other_change =
+          λ u n off. sym (ap (λ (f : ℕ → Option Mark). f n)
+          (put_other t u (λ m. None) rows.change off));
+      other_created =
+          λ u n off. sym (ap (λ (f : ℕ → Bool). f n)
+          (put_other t u (λ m. false) rows.created off));
+      other_always = λ u off. sym (put_other t u false rows.always off);
+    })
+
 -- the same in the terms of the code
 pub change_written : (targets now : List TargetRows) (t n : ℕ) (old new : TargetRows) (mark : Mark)
     → targets ≡ now → t < length now → old ≡ get_or targets t old → WritesChange old new n mark
@@ -170,3 +192,21 @@ pub slot_added_rows : (targets now : List TargetRows) (t n : ℕ) (old new : Tar
 slot_added_rows targets now t n old new is t_in at w =
     let found = found_target targets now t old is t_in at in
     rows_stay targets t n new found.0 (subst (λ x. AddsSlot x new n) found.1 w) ∙ ap rows_of is
+
+pub rows_cleared : (targets now : List TargetRows) (t : ℕ) (old new : TargetRows) → targets ≡ now
+    → t < length now → old ≡ get_or targets t old → new ≡ cleared old
+    → rows_of (set targets t new) ≡ without_rows (rows_of now) t
+rows_cleared targets now t old new is t_in at blank =
+    let found = found_target targets now t old is t_in at in
+    ap (λ x. rows_of (set targets t x)) (blank ∙ ap cleared found.1)
+    ∙ (cleared_set targets t found.0 ∙ ap (λ ts. without_rows (rows_of ts) t) is)
+
+pub room_cleared : (targets now : List TargetRows) (t : ℕ) (old new : TargetRows) → targets ≡ now
+    → t < length now → old ≡ get_or targets t old → new ≡ cleared old
+    → (u k : ℕ) → room_of (set targets t new) u k ≡ room_of now u k
+room_cleared targets now t old new is t_in at blank u k =
+    let found = found_target targets now t old is t_in at in
+    each_target (λ x. has_slot x.slots k) (λ v. room_of targets v k) targets t new found.0
+    (ap (λ (x : TargetRows). has_slot x.slots k) (blank ∙ ap cleared found.1)
+    ∙ has_slot-blanked (target_at targets t).slots k) (λ v off. refl) u
+    ∙ ap (λ ts. room_of ts u k) is

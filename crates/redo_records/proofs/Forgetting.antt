@@ -1,12 +1,15 @@
 -- The invariant of the rows, if one target is replaced by another.
-use Rattle.std.proofs.Common.{◌≡◌, ◌≢◌, ◌↔◌, ℕ, ◌<◌, ◌+◌, Bool, true, false, cond, ◌||◌, List, [], ◌∷◌, length, get_or, set, drop, refl, sym, ap, ◌∙◌, subst, inl, inr, arith, IsTrue, eqb, ne_eqb, eq-eqb, ◌^◌, suc}
-use Rattle.std.proofs.lemmas.Bool.{cases_eq, or_right}
-use Rattle.std.proofs.lemmas.List.{length-set, set-set, get_or_default, drop_more, get_or-drop, length-drop}
+use Rattle.std.proofs.Common.{◌≡◌, ◌≢◌, ◌↔◌, ℕ, ◌<◌, ◌≤◌, ◌+◌, Bool, true, false, ◌||◌, List, [], ◌∷◌, length, get_or, set, drop, refl, sym, ap, ◌∙◌, subst, inl, inr, arith, IsTrue, eqb, ne_eqb, eq-eqb, ◌^◌, suc}
+use Rattle.std.proofs.lemmas.Bool.{cases_eq, or_right, false≢true}
+use Rattle.std.proofs.lemmas.List.{length-set, get_or_default, drop_all, drop_more, get_or-drop, length-drop}
 use Rattle.std.specs.List.{Contains, AllPairs}
 use Rattle.redo_records.specs.Rows.{Slot, TargetRows, slot_at, has_slot, target_at, bare, room_of}
 use Rattle.redo_records.specs.Numbers.{NumberList}
-use Rattle.redo_records.specs.Inside.Kept.{has_change, has_created, passes_on, sits_on, numbers_at, IsInverse, IsKept, FollowsOn}
-use Rattle.redo_records.proofs.Inverses.{flag, IsRowTest, target_same, target_other, inverse_stays, inverse_set, counts_set, counts_stay, no_slot_no_row, slot_counted}
+use Rattle.redo_records.specs.Inside.Kept.{has_change, has_created, passes_on, sits_on, cleared_at, numbers_at, IsInverse, IsKept, Follows, FollowsOn}
+use Rattle.redo_records.specs.Inside.Target.{cleared}
+use Rattle.redo_records.proofs.Inverses.{flag, IsRowTest, found_target, target_same, target_other, follows_same, inverse_on_set, inverse_stays, counts_stay, no_slot_no_row}
+use Rattle.redo_records.proofs.Cleared.{slot_at-blanked, has_slot-blanked}
+use Rattle.redo_records.proofs.Slots.{slot_found}
 
 pub below_set : (targets : List TargetRows) (t : ℕ) (new : TargetRows) → t < length targets
     → ((u n : ℕ) → IsTrue (room_of targets u n) → n < length targets)
@@ -37,68 +40,6 @@ kept_stays targets t new needed awaited slotted below rows sits h = record {
   counts = counts_stay targets t new slotted below sits h.counts;
 }
 
--- the first slot goes
-inverse_drop : (test : Slot → Bool) → IsRowTest test → (targets : List TargetRows) (t : ℕ)
-    (slot : Slot) (rest : List Slot) (lists lists' : List NumberList) → t < length targets
-    → (target_at targets t).slots ≡ slot ∷ rest → has_slot rest slot.name ≡ false
-    → FollowsOn slot.name t (test slot) false lists lists'
-    → IsInverse test targets lists
-    → IsInverse test (set targets t (record { slots = rest; always = false })) lists'
-inverse_drop test blank targets t slot rest lists lists' below e none f h =
-    let n : ℕ = slot.name in
-    let old : TargetRows = target_at targets t in
-    let new : TargetRows = record { slots = rest; always = false } in
-    let here : eqb n n ≡ true = eq-eqb n n refl in
-    let off : (k : ℕ) → k ≢ n → eqb n k ≡ false = λ k d. ne_eqb n k (λ s. d (sym s)) in
-    let old_row : passes_on test n old ≡ test slot =
-    ap (λ ss. test (slot_at ss n)) e ∙ ap (λ b. test (cond b slot (slot_at rest n))) here in
-    let old_sits : sits_on n old ≡ true =
-    ap (λ ss. has_slot ss n) e ∙ ap (λ b. b || has_slot rest n) here in
-    let new_row : passes_on test n new ≡ false = no_slot_no_row test blank rest n none in
-    inverse_set test targets t new n lists lists' below
-    (λ k d. sym
-    (ap (λ ss. test (slot_at ss k)) e ∙ ap (λ b. test (cond b slot (slot_at rest k))) (off k d)))
-    (λ k d. sym (ap (λ ss. has_slot ss k) e ∙ ap (λ b. b || has_slot rest k) (off k d)))
-    (subst (λ b. FollowsOn n t (passes_on test n old) b lists lists') (sym new_row)
-    (subst (λ b. FollowsOn n t b false lists lists') (sym old_row) f))
-    (λ n_in. omega (arith, (h.each n n_in).room, f.own.room, ap flag old_sits, ap flag none))
-    h
-
-kept_drop : (targets : List TargetRows) (t : ℕ) (slot : Slot) (rest : List Slot)
-    (needed awaited needed' awaited' : List NumberList) (slotted : List ℕ) (m : ℕ)
-    → t < length targets
-    → (target_at targets t).slots ≡ slot ∷ rest → has_slot rest slot.name ≡ false
-    → FollowsOn slot.name t (has_change slot) false needed needed' → FollowsOn slot.name t
-    (has_created slot) false awaited awaited' → m + 1 ≡ get_or slotted slot.name 0
-    → IsKept targets needed awaited slotted
-    → IsKept (set targets t (record { slots = rest; always = false })) needed' awaited'
-    (set slotted slot.name m)
-kept_drop targets t slot rest needed awaited needed' awaited' slotted m below e none f g less h =
-    let n : ℕ = slot.name in
-    let new : TargetRows = record { slots = rest; always = false } in
-    let here : eqb n n ≡ true = eq-eqb n n refl in
-    let old_sits : sits_on n (target_at targets t) ≡ true =
-    ap (λ ss. has_slot ss n) e ∙ ap (λ b. b || has_slot rest n) here in
-    record {
-      small = subst (λ k. k < 2 ^ 32) (sym (length-set targets t new)) h.small;
-      below = below_set targets t new below h.below (λ k s. h.below t k
-          (ap (λ ss. has_slot ss k) e ∙ or_right (eqb n k) (has_slot rest k) s));
-      needs = inverse_drop has_change
-          (λ k. refl) targets t slot rest needed needed' below e none f h.needs;
-      awaits = inverse_drop has_created
-          (λ k. refl) targets t slot rest awaited awaited' below e none g h.awaits;
-      counts = counts_set targets t new n m slotted below
-          (λ k d. sym (ap (λ ss. has_slot ss k) e
-          ∙ ap (λ b. b || has_slot rest k) (ne_eqb n k (λ s. d (sym s)))))
-          (λ n_in. omega (arith, less, ap flag old_sits, ap flag none))
-          h.counts;
-    }
-
--- the targets, where t has its slots from the i-th on
-abbrev pub with_rest : List TargetRows → ℕ → ℕ → List TargetRows
-with_rest targets t i =
-    set targets t (record { slots = drop i (target_at targets t).slots; always = false })
-
 none_named : (slots : List Slot) (n : ℕ)
     → ((k : ℕ) (d : Slot) → k < length slots → (get_or slots k d).name ≡ n → ⊥)
     → has_slot slots n ≡ false
@@ -119,117 +60,174 @@ no_later slots i slot rise in' at = none_named (drop (i + 1) slots) slot.name (�
     ap (λ (s : Slot). s.name) (sym (get_or-drop (i + 1) slots k d)) ∙ e in
     omega (arith, low, high, rise i (i + 1 + k) d (omega arith) inside))
 
-rest_slots : (targets : List TargetRows) (t i : ℕ) (slot : Slot) → t < length targets
-    → i < length (target_at targets t).slots → slot ≡ get_or (target_at targets t).slots i slot
-    → (target_at (with_rest targets t i) t).slots ≡ slot ∷ drop (i + 1) (target_at targets t).slots
-rest_slots targets t i slot below in' at =
-    let slots : List Slot = (target_at targets t).slots in
-    ap (λ (x : TargetRows). x.slots)
-    (target_same targets t (record { slots = drop i slots; always = false }) below)
-    ∙ drop_more slots i slot in' ∙ ap (λ s. s ∷ drop (i + 1) slots) (sym at)
+abbrev pub slots_at : List TargetRows → ℕ → List Slot
+slots_at targets t = (target_at targets t).slots
 
--- the i-th slot of t, its name, and its rows
-pub record AtSlot (targets : List TargetRows) (t i : ℕ) (slot : Slot) (n : ℕ)
-    (changed created : Bool) : Type 0 where
-  pub below : t < length targets
-  pub inside : i < length (target_at targets t).slots
-  pub rise : AllPairs (λ x y. x.name < y.name) (target_at targets t).slots
-  pub found : slot ≡ get_or (target_at targets t).slots i slot
+-- t was taken out of the lists of its slots' names, but for the slots in `rest`
+pub record IsTakenOut (test : Slot → Bool) (targets : List TargetRows) (t : ℕ) (rest : List Slot)
+    (old new : List NumberList) : Type 0 where
+  pub sized : length new ≡ length old
+  pub out : (n : ℕ) → n < length old → has_slot rest n ≡ false
+      → Follows t (passes_on test n (target_at targets t)) false (numbers_at old n)
+      (numbers_at new n)
+  pub later : (n : ℕ) → has_slot rest n ≡ true → numbers_at new n ≡ numbers_at old n
+
+module _ (test : Slot → Bool) (blank : IsRowTest test) (targets : List TargetRows) (t : ℕ)
+    (old : List NumberList) (inverse : IsInverse test targets old)
+  where
+    -- before the first slot
+    pub taken_begins : IsTakenOut test targets t (slots_at targets t) old old
+    taken_begins = record {
+      sized = refl;
+      out = λ n in' none.
+          let same = follows_same test targets t n (numbers_at old n) (numbers_at old n)
+          (inverse.each n (omega (arith, in', inverse.sized))) refl (omega arith) in
+          subst (λ b. Follows t (passes_on test n (target_at targets t)) b (numbers_at old n)
+          (numbers_at old n))
+          (no_slot_no_row test blank (slots_at targets t) n none) same;
+      later = λ n there. refl;
+    }
+
+    -- after the last, the inverse is that of the rows without t's
+    pub all_taken : (new : List NumberList) → t < length targets
+        → IsTakenOut test targets t [] old new → IsInverse test (cleared_at targets t) new
+    all_taken new below taken =
+        let is : TargetRows = cleared (target_at targets t) in
+        let count : length (set targets t is) ≡ length targets = length-set targets t is in
+        record {
+          sized = taken.sized ∙ (inverse.sized ∙ sym count);
+          each = λ n in'.
+              let n_in : n < length targets = subst (λ m. n < m) count in' in
+              let none : passes_on test n is ≡ false =
+              ap test (slot_at-blanked (slots_at targets t) n) ∙ blank n in
+              let out = taken.out n (omega (arith, n_in, inverse.sized)) refl in
+              let sits = has_slot-blanked (slots_at targets t) n in
+              inverse_on_set test targets t is n (numbers_at old n) (numbers_at new n) below
+              (inverse.each n n_in)
+              (subst (λ b. Follows t (passes_on test n (target_at targets t)) b (numbers_at old n)
+              (numbers_at new n)) (sym none) out)
+              (omega (arith, (inverse.each n n_in).room, out.room, ap flag sits));
+        }
+
+-- the i-th slot of t, whose name is n; and whether it passes
+pub record AtSlot (test : Slot → Bool) (targets : List TargetRows) (t i : ℕ) (n : ℕ)
+    (was : Bool) : Type 0 where
+  pub slot : Slot
+  pub begins : drop i (slots_at targets t) ≡ slot ∷ drop (i + 1) (slots_at targets t)
   pub name : slot.name ≡ n
-  pub change : has_change slot ≡ changed
-  pub create : has_created slot ≡ created
+  pub row : passes_on test n (target_at targets t) ≡ was
+  pub sits : sits_on n (target_at targets t) ≡ true
+  pub last : has_slot (drop (i + 1) (slots_at targets t)) n ≡ false
 
-pub at_slot : (targets : List TargetRows) (t i : ℕ) (target : TargetRows) (slots : List Slot)
-    (slot : Slot) (n : ℕ) (changed created : Bool) → t < length targets
+at_own : (test : Slot → Bool) (targets : List TargetRows) (t i : ℕ) (slot : Slot)
+    → AllPairs (λ x y. x.name < y.name) (slots_at targets t) → i < length (slots_at targets t)
+    → slot ≡ get_or (slots_at targets t) i slot
+    → AtSlot test targets t i slot.name (test slot)
+at_own test targets t i slot rise in' found =
+    let slots : List Slot = slots_at targets t in
+    let at = slot_found slots i slot rise in' in
+    record {
+      slot = slot;
+      begins = drop_more slots i slot in' ∙ ap (λ s. s ∷ drop (i + 1) slots) (sym found);
+      name = refl;
+      row = ap test (ap (λ (s : Slot). slot_at slots s.name) found ∙ (at.0 ∙ sym found));
+      sits = ap (λ (s : Slot). has_slot slots s.name) found ∙ at.1;
+      last = no_later slots i slot rise in' found;
+    }
+
+-- in the terms of the code, the slots that are read are those of t
+read_slots : (targets : List TargetRows) (t : ℕ) (target : TargetRows) (slots : List Slot)
+    → t < length targets → target ≡ get_or targets t target → slots ≡ target.slots
+    → slots ≡ slots_at targets t
+read_slots targets t target slots below at is =
+    is ∙ ap (λ (x : TargetRows). x.slots) (at ∙ get_or_default targets t target bare below)
+
+pub all_slots : (targets : List TargetRows) (t i : ℕ) (target : TargetRows) (slots : List Slot)
+    → t < length targets → target ≡ get_or targets t target → slots ≡ target.slots
+    → length slots ≤ i → drop i (slots_at targets t) ≡ []
+all_slots targets t i target slots below at is end =
+    ap (drop i) (sym (read_slots targets t target slots below at is)) ∙ drop_all i slots end
+
+pub at_slot : (test : Slot → Bool) (targets : List TargetRows) (t i : ℕ) (target : TargetRows)
+    (slots : List Slot) (slot : Slot) (n : ℕ) (was : Bool) → t < length targets
     → target ≡ get_or targets t target → slots ≡ target.slots
     → AllPairs (λ x y. x.name < y.name) slots → i < length slots → slot ≡ get_or slots i slot
-    → n ≡ slot.name → changed ≡ has_change slot → created ≡ has_created slot
-    → AtSlot targets t i slot n changed created
-at_slot targets t i target slots slot n changed created below at is rise in' found name change
-    create =
-    let e : slots ≡ (target_at targets t).slots =
-    is ∙ ap (λ (x : TargetRows). x.slots) (at ∙ get_or_default targets t target bare below) in
-    record {
-      below = below;
-      inside = subst (λ ss. i < length ss) e in';
-      rise = subst (AllPairs (λ (x y : Slot). x.name < y.name)) e rise;
-      found = subst (λ ss. slot ≡ get_or ss i slot) e found;
-      name = sym name;
-      change = sym change;
-      create = sym create;
+    → n ≡ slot.name → was ≡ test slot → AtSlot test targets t i n was
+at_slot test targets t i target slots slot n was below at is rise in' found name row =
+    let e = read_slots targets t target slots below at is in
+    subst (λ m. AtSlot test targets t i m was) (sym name)
+    (subst (AtSlot test targets t i slot.name) (sym row) (at_own test targets t i slot
+    (subst (AllPairs (λ (x y : Slot). x.name < y.name)) e rise)
+    (subst (λ ss. i < length ss) e in')
+    (subst (λ ss. slot ≡ get_or ss i slot) e found)))
+
+module _ (test : Slot → Bool) (targets : List TargetRows) (t i n : ℕ) (was : Bool)
+    (at : AtSlot test targets t i n was) (old mid : List NumberList)
+    (taken : IsTakenOut test targets t (drop i (slots_at targets t)) old mid)
+  where
+    has_later : ℕ → Bool
+    has_later = has_slot (drop (i + 1) (slots_at targets t))
+
+    begins_with : (k : ℕ) → has_slot (drop i (slots_at targets t)) k ≡ (eqb n k || has_later k)
+    unfolding has_later
+    begins_with k =
+        ap (λ ss. has_slot ss k) at.begins ∙ ap (λ m. eqb m k || has_later k) at.name
+
+    not_yet : numbers_at mid n ≡ numbers_at old n
+    not_yet =
+        taken.later n (begins_with n ∙ ap (λ b. b || has_later n) (eq-eqb n n refl))
+
+    -- the list of the slot's name, before t is taken out of it
+    pub slot_known : ((k : ℕ) → IsTrue (room_of targets t k) → k < length targets)
+        → IsInverse test targets old
+        → (n < length mid) × (Contains (numbers_at mid n).items t ↔ IsTrue was)
+    slot_known below inverse =
+        let n_in : n < length targets = below n at.sits in (
+          omega (arith, n_in, inverse.sized, taken.sized),
+          subst (λ (list : NumberList). Contains list.items t ↔ IsTrue was) (sym not_yet)
+              (subst (λ b. Contains (numbers_at old n).items t ↔ IsTrue b) at.row
+              ((inverse.each n n_in).listed t)),
+        )
+
+    -- the lists after it
+    pub slot_taken : (new : List NumberList) → FollowsOn n t was false mid new
+        → IsTakenOut test targets t (drop (i + 1) (slots_at targets t)) old new
+    unfolding has_later
+    slot_taken new f = record {
+      sized = f.sized ∙ taken.sized;
+      out = λ k in' none. elim (cases_eq n k) [
+        | inl e ↦
+            subst (λ m. Follows t (passes_on test m (target_at targets t)) false (numbers_at old m)
+            (numbers_at new m)) e
+            (subst (λ b. Follows t b false (numbers_at old n) (numbers_at new n)) (sym at.row)
+            (subst (λ list. Follows t was false list (numbers_at new n)) not_yet f.own))
+        | inr off ↦
+            subst (Follows t (passes_on test k (target_at targets t)) false (numbers_at old k))
+            (sym (f.others k (λ e. off (sym e)))) (taken.out k in'
+            (begins_with k ∙ (ap (λ b. b || has_later k) (ne_eqb n k off) ∙ none)))
+      ];
+      later = λ k there.
+          f.others k (λ e. false≢true (sym at.last ∙ subst (λ m. has_later m ≡ true) e there))
+          ∙ taken.later k (begins_with k ∙ or_right (eqb n k) (has_later k) there);
     }
 
-pub kept_rest : (targets : List TargetRows) (t i : ℕ) (slot : Slot) (n : ℕ) (changed created : Bool)
-    (needed awaited needed' awaited' : List NumberList) (slotted : List ℕ) (m : ℕ)
-    → AtSlot targets t i slot n changed created
-    → FollowsOn n t changed false needed needed' → FollowsOn n t created false awaited awaited'
-    → m + 1 ≡ get_or slotted n 0
-    → IsKept (with_rest targets t i) needed awaited slotted
-    → IsKept (with_rest targets t (i + 1)) needed' awaited' (set slotted n m)
-kept_rest targets t i slot n changed created needed awaited needed' awaited' slotted m a f g less h =
-    let slots : List Slot = (target_at targets t).slots in
-    let old : TargetRows = record { slots = drop i slots; always = false } in
-    let new : TargetRows = record { slots = drop (i + 1) slots; always = false } in
-    let f' : FollowsOn slot.name t (has_change slot) false needed needed' =
-    subst (λ b. FollowsOn slot.name t b false needed needed') (sym a.change)
-    (subst (λ k. FollowsOn k t changed false needed needed') (sym a.name) f) in
-    let g' : FollowsOn slot.name t (has_created slot) false awaited awaited' =
-    subst (λ b. FollowsOn slot.name t b false awaited awaited') (sym a.create)
-    (subst (λ k. FollowsOn k t created false awaited awaited') (sym a.name) g) in
-    let less' : m + 1 ≡ get_or slotted slot.name 0 =
-    subst (λ k. m + 1 ≡ get_or slotted k 0) (sym a.name) less in
-    subst (λ k. IsKept (with_rest targets t (i + 1)) needed' awaited' (set slotted k m)) a.name
-    (subst (λ targets'. IsKept targets' needed' awaited' (set slotted slot.name m))
-    (set-set targets t old new)
-    (kept_drop (with_rest targets t i) t slot (drop (i + 1) slots) needed awaited needed' awaited'
-    slotted m (subst (λ k. t < k) (sym (length-set targets t old)) a.below)
-    (rest_slots targets t i slot a.below a.inside a.found)
-    (no_later slots i slot a.rise a.inside a.found) f' g' less' h))
-
--- the fields' facts about a slot of t, if those before it are gone
-pub record KnowsSlot (t n : ℕ) (changed created : Bool) (needed awaited : List NumberList)
-    (slotted : List ℕ) : Type 0 where
-  pub needed_in : n < length needed
-  pub awaited_in : n < length awaited
-  pub slotted_in : n < length slotted
-  pub needs : Contains (numbers_at needed n).items t ↔ IsTrue changed
-  pub awaits : Contains (numbers_at awaited n).items t ↔ IsTrue created
-  pub counted : 0 < get_or slotted n 0
-
-pub knows_slot : (targets : List TargetRows) (t i : ℕ) (slot : Slot) (n : ℕ)
-    (changed created : Bool) (needed awaited : List NumberList) (slotted : List ℕ)
-    → AtSlot targets t i slot n changed created
-    → IsKept (with_rest targets t i) needed awaited slotted
-    → KnowsSlot t n changed created needed awaited slotted
-knows_slot targets t i slot n changed created needed awaited slotted a h =
-    let rest : List Slot = drop (i + 1) (target_at targets t).slots in
-    let targets' : List TargetRows = with_rest targets t i in
-    let e : (target_at targets' t).slots ≡ slot ∷ rest =
-    rest_slots targets t i slot a.below a.inside a.found in
-    let here : eqb slot.name n ≡ true = eq-eqb slot.name n a.name in
-    let sits : sits_on n (target_at targets' t) ≡ true =
-    ap (λ ss. has_slot ss n) e ∙ ap (λ b. b || has_slot rest n) here in
-    let stands : slot_at (target_at targets' t).slots n ≡ slot =
-    ap (λ ss. slot_at ss n) e ∙ ap (λ b. cond b slot (slot_at rest n)) here in
-    let n_in : n < length targets' = h.below t n sits in
-    let t_in : t < length targets' =
-    subst (λ k. t < k) (sym (length-set targets t
-    (record { slots = drop i (target_at targets t).slots; always = false }))) a.below in
+-- t has no rows
+pub kept_cleared : (targets now : List TargetRows) (t : ℕ) (old new : TargetRows)
+    (needed awaited needed' awaited' : List NumberList) (slotted : List ℕ) → targets ≡ now
+    → t < length now → old ≡ get_or targets t old → new ≡ cleared old
+    → IsInverse has_change (cleared_at targets t) needed'
+    → IsInverse has_created (cleared_at targets t) awaited'
+    → IsKept targets needed awaited slotted → IsKept (set targets t new) needed' awaited' slotted
+kept_cleared targets now t old new needed awaited needed' awaited' slotted is t_in at blank needs
+    awaits h =
+    let found = found_target targets now t old is t_in at in
+    let is_new : cleared (target_at targets t) ≡ new = sym (blank ∙ ap cleared found.1) in
+    let sits : (k : ℕ) → sits_on k new ≡ sits_on k (target_at targets t) =
+    λ k. ap (sits_on k) (sym is_new) ∙ has_slot-blanked (target_at targets t).slots k in
     record {
-      needed_in = omega (arith, n_in, h.needs.sized);
-      awaited_in = omega (arith, n_in, h.awaits.sized);
-      slotted_in = omega (arith, n_in, h.counts.sized);
-      needs = subst (λ b. Contains (numbers_at needed n).items t ↔ IsTrue b)
-          (ap has_change stands ∙ a.change) ((h.needs.each n n_in).listed t);
-      awaits = subst (λ b. Contains (numbers_at awaited n).items t ↔ IsTrue b)
-          (ap has_created stands ∙ a.create) ((h.awaits.each n n_in).listed t);
-      counted = omega (arith, h.counts.each n n_in, slot_counted targets' t n t_in sits);
+      small = subst (λ m. m < 2 ^ 32) (sym (length-set targets t new)) h.small;
+      below = below_set targets t new found.0 h.below (λ n s. h.below t n (sym (sits n) ∙ s));
+      needs = subst (λ x. IsInverse has_change (set targets t x) needed') is_new needs;
+      awaits = subst (λ x. IsInverse has_created (set targets t x) awaited') is_new awaits;
+      counts = counts_stay targets t new slotted found.0 sits h.counts;
     }
-
--- before the first slot goes, and after the last
-pub rest_begins : (targets : List TargetRows) (t : ℕ) (needed awaited : List NumberList)
-    (slotted : List ℕ) → t < length targets → IsKept targets needed awaited slotted
-    → IsKept (with_rest targets t 0) needed awaited slotted
-rest_begins targets t needed awaited slotted below h =
-    kept_stays targets t (record { slots = drop 0 (target_at targets t).slots; always = false })
-    needed awaited slotted below (λ k. refl) (λ k. refl) h

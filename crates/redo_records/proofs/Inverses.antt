@@ -2,7 +2,7 @@
 use Rattle.std.proofs.Common.{◌≡◌, ◌≢◌, ◌⊎◌, ◌↔◌, ℕ, ◌<◌, ◌≤◌, ◌+◌, Bool, true, false, cond, List, [], ◌∷◌, length, get_or, set, refl, sym, ap, ◌∙◌, subst, inl, inr, arith, IsTrue, eqb, ne_eqb, eq-eqb}
 use Rattle.std.proofs.lemmas.Bool.{cases_eq, cases_Bool, false≢true}
 use Rattle.std.proofs.lemmas.List.{get_or-set_same, get_or-set_other, length-set, get_or_default}
-use Rattle.std.proofs.lemmas.List.Sums.{sum_by-set, sum_by-cons, get_or-le-sum_by}
+use Rattle.std.proofs.lemmas.List.Sums.{sum_by-set, sum_by-cons}
 use Rattle.std.specs.List.{count_by, Contains}
 use Rattle.redo_records.specs.Rows.{Slot, TargetRows, slot_at, has_slot, target_at, bare}
 use Rattle.redo_records.specs.Numbers.{NumberList}
@@ -258,12 +258,6 @@ has_room_for test blank targets t n list below h sits no_row =
       ap flag no_row,
       ap flag (blank n),
     )
-
--- one target has a slot if the count is not 0
-pub slot_counted : (targets : List TargetRows) (t n : ℕ) → t < length targets
-    → sits_on n (target_at targets t) ≡ true → 0 < slots_on targets n
-slot_counted targets t n below sits =
-    omega (arith, get_or-le-sum_by (λ x. flag (sits_on n x)) targets t bare below, ap flag sits)
 
 -- t comes into the list of n
 pub follows_insert : (n t : ℕ) (was : Bool) (lists : List NumberList) (old new : NumberList)

@@ -2,6 +2,7 @@ pub mod Effects
 pub mod Refusals
 pub mod Begun
 pub mod Changed
+pub mod Cleared
 pub mod Forgetting
 pub mod Growing
 pub mod Inverses

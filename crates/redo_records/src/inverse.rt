@@ -1,6 +1,6 @@
-ghost use Rattle.std.specs.Prelude.{◌≡◌, ◌<◌, ◌↔◌, true, false, IsTrue, IsFalse, length, slice_set, Contains};
-ghost use Rattle.redo_records.specs.Rows.{bare};
-ghost use Rattle.redo_records.specs.Inside.Kept.{IsKept, numbers_at, FollowsOn};
+ghost use Rattle.std.specs.Prelude.{◌≡◌, ◌<◌, ◌↔◌, ℕ, true, false, IsTrue, IsFalse, length, Contains};
+ghost use Rattle.redo_records.specs.Rows.{room_of};
+ghost use Rattle.redo_records.specs.Inside.Kept.{IsInverse, has_change, has_created, cleared_at, numbers_at, FollowsOn};
 
 use crate::numbers::Numbers;
 use crate::target::Target;
@@ -29,23 +29,24 @@ pub(crate) fn take_out(lists: &mut Vec<Numbers>, n: u32, t: u32, was: bool)
     }
 }
 
-/// Takes the rows of `t` out of the inverses, and its slots out of the count.
+/// Takes the rows of `t` out of the inverses.
 pub(crate) fn forget(
     targets: &Vec<Target>,
     t: u32,
     needed: &mut Vec<Numbers>,
     awaited: &mut Vec<Numbers>,
-    slotted: &mut Vec<usize>,
 )
     requires target { t < length targets.now.items }
-    requires kept { IsKept targets.now.items needed.old.items awaited.old.items slotted.old.items }
-    ensures { IsKept
-        (slice_set targets.now.items t bare) needed.new.items awaited.new.items slotted.new.items }
+    requires names { (n : ℕ)
+        → IsTrue (room_of targets.now.items t n) → n < length targets.now.items }
+    requires needs { IsInverse has_change targets.now.items needed.old.items }
+    requires awaits { IsInverse has_created targets.now.items awaited.old.items }
+    ensures needs { IsInverse has_change (cleared_at targets.now.items t) needed.new.items }
+    ensures awaits { IsInverse has_created (cleared_at targets.now.items t) awaited.new.items }
 {
     for slot in targets[t as usize].slots() {
         let n = slot.name();
         take_out(needed, n, t, slot.has_change());
         take_out(awaited, n, t, slot.created());
-        slotted[n as usize] -= 1;
     }
 }

@@ -1,4 +1,4 @@
-ghost use Rattle.std.specs.Prelude.{◌≡◌, ◌⊎◌, ◌↔◌, ℕ, ◌<◌, ◌≤◌, ◌==◌, ◌&&◌, not, true, false, IsTrue, length, Contains, ◌||◌, option_map, IfOk, IfSome, MatchOption, OnOk, OnErr};
+ghost use Rattle.std.specs.Prelude.{◌≡◌, ◌⊎◌, ◌↔◌, ℕ, ◌<◌, ◌≤◌, ◌==◌, ◌&&◌, true, false, IsTrue, length, Contains, ◌||◌, option_map, IfOk, IfSome, MatchOption, OnOk, OnErr};
 ghost use Rattle.redo_model.specs.Names.{IsListed};
 ghost use Rattle.redo_model.specs.OutOfDate.{SomeAppeared, SomeChanged};
 ghost use Rattle.redo_model.specs.State.{no_rows};
@@ -166,20 +166,14 @@ impl DepRows {
         self.targets[t as usize].put_always();
     }
 
-    /// Removes the rows of `t`, and their slots.
+    /// Removes the rows of `t`, and keeps their slots.
     pub fn clear(&mut self, t: u32)
         requires { t < rows_count self.old }
         ensures rows { rows_of self.new ≡ without_rows (rows_of self.old) t }
-        ensures room { (u k : ℕ) → room_of self.new u k ≡ (not (u == t) && room_of self.old u k) }
+        ensures room { (u k : ℕ) → room_of self.new u k ≡ room_of self.old u k }
         ensures count { rows_count self.new ≡ rows_count self.old }
     {
-        inverse::forget(
-            &self.targets,
-            t,
-            &mut self.needed,
-            &mut self.awaited,
-            &mut self.slotted,
-        );
+        inverse::forget(&self.targets, t, &mut self.needed, &mut self.awaited);
         self.targets[t as usize].clear();
     }
 

@@ -4,7 +4,7 @@ ghost use Rattle.redo_model.specs.State.{mark_in};
 ghost use Rattle.redo_records.specs.Meaning.{row_mark_of};
 ghost use Rattle.redo_records.specs.Rows.{bare, slot_at, has_slot, by_number};
 ghost use Rattle.redo_records.specs.Target.{HasRowIn, HasChangeBut, Ascending};
-ghost use Rattle.redo_records.specs.Inside.Target.{has_row, blank, IsSlotOf, IsGapFor};
+ghost use Rattle.redo_records.specs.Inside.Target.{has_row, blank, blanked, cleared, IsSlotOf, IsGapFor};
 
 use crate::cell::Cell;
 use crate::kept_mark::KeptMark;
@@ -100,6 +100,22 @@ impl Slot {
         ensures { self.new ≡ record self.old { created = true } }
     {
         self.created = true;
+    }
+
+    fn clear(&mut self)
+        ensures { self.new ≡ blank self.old.name }
+    {
+        self.change = None;
+        self.created = false;
+    }
+}
+
+/// Removes the rows of the slots.
+fn clear_each(slots: &mut Vec<Slot>)
+    ensures { slots.new.items ≡ blanked slots.old.items }
+{
+    for slot in slots.iter_mut() {
+        slot.clear();
     }
 }
 
@@ -287,11 +303,11 @@ impl Target {
         self.always = true;
     }
 
-    /// Removes the rows and their slots.
+    /// Removes the rows, and keeps their slots.
     pub fn clear(&mut self)
-        ensures { self.new ≡ bare }
+        ensures { self.new ≡ cleared self.old }
     {
-        self.slots.clear();
+        clear_each(&mut self.slots);
         self.names.clear();
         self.always = false;
     }

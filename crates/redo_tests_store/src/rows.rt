@@ -83,7 +83,28 @@ fn check_rest(rt: &impl Abort, rows: &DepRows)
     assert!(rt; rows.of(0).is_empty());
     assert!(rt; rows.change_of(3, 1) == Some(Mark::Pending));
     assert!(rt; !rows.always(0));
-    assert!(rt; !rows.has_room(0, 1) && rows.has_room(3, 1));
+    let slots = rows.slots_of(0);
+    assert!(rt; slots.len() == 2);
+    assert!(rt; slots[0].name() == 1 && !slots[0].has_change() && !slots[0].created());
+    assert!(rt; slots[1].name() == 2 && !slots[1].has_change() && !slots[1].created());
+    assert!(rt; rows.has_room(0, 1) && rows.has_room(0, 2) && rows.has_room(3, 1));
+    assert!(rt; !rows.has_room(0, 0) && !rows.has_room(0, 3));
+}
+
+/// Puts a row of the other kind on each of the two names on which 0 had one.
+fn put_again(rt: &impl Abort, rows: &mut DepRows)
+    requires { rows_count rows.old ≡ NAMES }
+    ensures { rows_count rows.new ≡ NAMES }
+{
+    assert!(rt; rows.has_room(0, 1));
+    rows.put_created(0, 1);
+    put_change(rt, rows, 0, 2, Mark::Builds(7));
+    assert!(rt; rows.needed_by(1) == [3].as_slice() && rows.awaited_by(1) == [0].as_slice());
+    assert!(rt; rows.needed_by(2) == [0].as_slice() && rows.awaited_by(2).is_empty());
+    assert!(rt; rows.of(0) == [1, 2].as_slice());
+    assert!(rt; rows.change_of(0, 1).is_none() && rows.created(0, 1));
+    assert!(rt; rows.change_of(0, 2) == Some(Mark::Builds(7)) && !rows.created(0, 2));
+    assert!(rt; rows.slots_of(0).len() == 2 && !rows.always(0));
 }
 
 /// Reserves memory for more rows. A refused try changes nothing, and the next try succeeds.
@@ -110,5 +131,8 @@ fn inverse_rows(rt: HostRuntime) -> Result<(), AllocError> {
     rows.clear(0);
     check_rest(&rt, &rows);
     assert!(rt; rows.has_room(3, 0) && rows.has_room(3, 2));
+    put_again(&rt, &mut rows);
+    rows.clear(0);
+    check_rest(&rt, &rows);
     Ok(())
 }

@@ -1,7 +1,8 @@
 -- The invariant of the rows: their inverses, and how many targets have a slot for each name.
-use Rattle.std.specs.Prelude.{◌≡◌, ◌≢◌, ◌↔◌, ◌≤◌, ◌+◌, ℕ, Bool, List, [], IsTrue, cond, length, Contains, ◌<◌, ◌^◌, is_some, slice_index_or, count_by}
+use Rattle.std.specs.Prelude.{◌≡◌, ◌≢◌, ◌↔◌, ◌≤◌, ◌+◌, ℕ, Bool, List, [], IsTrue, cond, length, Contains, ◌<◌, ◌^◌, is_some, slice_index_or, slice_set, count_by}
 use Rattle.redo_records.specs.Numbers.{NumberList}
 use Rattle.redo_records.specs.Rows.{Slot, TargetRows, slot_at, has_slot, target_at, room_of}
+use Rattle.redo_records.specs.Inside.Target.{cleared}
 
 -- the slot has a change row
 abbrev pub has_change : Slot → Bool
@@ -22,6 +23,10 @@ sits_on n target = has_slot target.slots n
 -- how many targets have a slot for n
 abbrev pub slots_on : List TargetRows → ℕ → ℕ
 slots_on targets n = count_by (sits_on n) targets
+
+-- the same targets, but t without rows
+abbrev pub cleared_at : List TargetRows → ℕ → List TargetRows
+cleared_at targets t = slice_set targets t (cleared (target_at targets t))
 
 -- no numbers and no memory for any
 abbrev pub no_numbers : NumberList

@@ -1,12 +1,20 @@
 -- The invariant of the rows of one target.
-use Rattle.std.specs.Prelude.{◌≡◌, ℕ, ◌<◌, ◌≤◌, false, List, None, length, slice_index_or, ◌↔◌, ◌+◌, Bool, not, ◌||◌, is_some, Contains, count_by}
-use Rattle.redo_records.specs.Rows.{Slot}
+use Rattle.std.specs.Prelude.{◌≡◌, ℕ, ◌<◌, ◌≤◌, false, List, None, length, map, slice_index_or, ◌↔◌, ◌+◌, Bool, not, ◌||◌, is_some, Contains, count_by}
+use Rattle.redo_records.specs.Rows.{Slot, TargetRows}
 use Rattle.redo_records.specs.Numbers.{NumberList}
 use Rattle.redo_records.specs.Target.{HasRowIn, Ascending}
 
 -- reserved memory for rows on the name, and no row
 abbrev pub blank : ℕ → Slot
 blank n = record { name = n; change = None; created = false }
+
+-- the same slots, without rows
+abbrev pub blanked : List Slot → List Slot
+blanked slots = map (λ slot. blank slot.name) slots
+
+-- the same memory reserved, and no row
+abbrev pub cleared : TargetRows → TargetRows
+cleared target = record { slots = blanked target.slots; always = false }
 
 abbrev pub name_at : List Slot → ℕ → ℕ
 name_at slots i = (slice_index_or slots i (blank 0)).name

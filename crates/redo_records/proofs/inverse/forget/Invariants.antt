@@ -1,8 +1,12 @@
-use Rattle.redo_records.specs.Inside.Kept.{IsKept}
-use Rattle.redo_records.proofs.Forgetting.{with_rest}
+use Rattle.std.proofs.Common.{drop}
+use Rattle.redo_records.specs.Inside.Kept.{has_change, has_created}
+use Rattle.redo_records.proofs.Forgetting.{IsTakenOut, slots_at}
 use Rattle.redo_records.proofs.inverse.forget.Given as goal
 
 abbrev pub invariant-loop-slot : goal.invariant-loop-slot
 invariant-loop-slot l =
-    IsKept
-    (with_rest l.targets.items l.t l.slot-index) l.needed.items l.awaited.items l.slotted.items
+    let rest = drop l.slot-index (slots_at l.targets.items l.t) in
+    record {
+      needs : IsTakenOut has_change l.targets.items l.t rest l.fn.needed.items l.needed.items;
+      awaits : IsTakenOut has_created l.targets.items l.t rest l.fn.awaited.items l.awaited.items;
+    }
