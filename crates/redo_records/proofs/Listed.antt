@@ -5,10 +5,9 @@ use Rattle.std.proofs.lemmas.List.{get_or_past, get_or_default}
 use Rattle.std.specs.List.{Contains}
 use Rattle.redo_model.specs.Renaming.{AllBelow}
 use Rattle.redo_records.specs.Rows.{Slot, TargetRows, has_slot, target_at, bare}
-use Rattle.redo_records.specs.Target.{HasRowIn}
 use Rattle.redo_records.specs.Numbers.{NumberList}
-use Rattle.redo_records.specs.Inside.Kept.{passes_on, has_change, has_created, IsKept, IsInverse, numbers_at, no_numbers}
-use Rattle.redo_records.proofs.Inverses.{found_target, IsRowTest, slotted_row}
+use Rattle.redo_records.specs.Inside.Kept.{passes_on, IsKept, IsInverse, numbers_at, no_numbers}
+use Rattle.redo_records.proofs.Inverses.{found_target, IsRowTest}
 
 -- a list whose members are below the count
 all_below : (count : ℕ) (xs : List ℕ) → ((x : ℕ) → Contains xs x → x < count) → AllBelow count xs
@@ -25,15 +24,6 @@ target_below test blank targets t n row = elim (cases_lt t (length targets)) [
       (sym (blank n) ∙ (ap (passes_on test n) (sym (get_or_past targets t bare past)) ∙ row)))
 ]
 
--- and only on names
-pub name_below : (targets : List TargetRows) (needed awaited : List NumberList) (slotted : List ℕ)
-    (t n : ℕ) → IsKept targets needed awaited slotted → HasRowIn (target_at targets t).slots n
-    → n < length targets
-name_below targets needed awaited slotted t n h row = h.below t n (elim row [
-  | inl change ↦ slotted_row has_change (λ k. refl) (target_at targets t).slots n change
-  | inr created ↦ slotted_row has_created (λ k. refl) (target_at targets t).slots n created
-])
-
 -- the same in the terms of the code
 pub inverse_below : (test : Slot → Bool) → IsRowTest test → (targets now : List TargetRows) (n : ℕ)
     (lists : List NumberList) (list : NumberList) (xs : List ℕ) → targets ≡ now → n < length now
@@ -47,17 +37,6 @@ inverse_below test blank targets now n lists list xs is n_in at items h =
     subst (λ (ts : List TargetRows). AllBelow (length ts) xs) is
     (all_below (length targets) xs (λ t in'. target_below test blank targets t n
     (((h.each n name).listed t).0 (subst (λ ys. Contains ys t) same in'))))
-
-pub names_below : (targets now : List TargetRows) (t : ℕ) (target : TargetRows)
-    (needed awaited : List NumberList) (slotted : List ℕ) (xs : List ℕ) → targets ≡ now
-    → t < length now → target ≡ get_or targets t target
-    → ((n : ℕ) → Contains xs n → HasRowIn target.slots n) → IsKept targets needed awaited slotted
-    → AllBelow (length now) xs
-names_below targets now t target needed awaited slotted xs is t_in at rows h =
-    let found = found_target targets now t target is t_in at in
-    subst (λ (ts : List TargetRows). AllBelow (length ts) xs) is
-    (all_below (length targets) xs (λ n in'. name_below targets needed awaited slotted t n h
-    (subst (λ (x : TargetRows). HasRowIn x.slots n) found.1 (rows n in'))))
 
 pub slots_below : (targets now : List TargetRows) (t : ℕ) (target : TargetRows) (slots : List Slot)
     (needed awaited : List NumberList) (slotted : List ℕ) → targets ≡ now → t < length now

@@ -1,5 +1,5 @@
 -- The rows of the targets, and the memory that is reserved for more.
-use Rattle.std.specs.Prelude.{ℕ, Bool, true, false, List, [], ◌∷◌, Option, Some, None, IsSome, IsTrue, ◌⊎◌, ◌==◌, if◌then◌else◌, slice_index_or, length}
+use Rattle.std.specs.Prelude.{ℕ, Bool, true, false, List, [], ◌∷◌, Option, Some, None, IsSome, IsTrue, ◌==◌, if◌then◌else◌, slice_index_or, length}
 use Rattle.std.specs.List.{list_any}
 use Rattle.redo_model.specs.Names.{put}
 use Rattle.redo_model.specs.State.{Cell, Mark, Records, Rows}
@@ -75,10 +75,6 @@ HasChangeRowOn rows t n = IsSome (rows.change t n)
 
 abbrev pub HasCreatedRowOn : Rows ℕ → ℕ → ℕ → Type 0
 HasCreatedRowOn rows t n = IsTrue (rows.created t n)
-
--- t has a row on n
-abbrev pub HasRowOn : Rows ℕ → ℕ → ℕ → Type 0
-HasRowOn rows t n = HasChangeRowOn rows t n ⊎ HasCreatedRowOn rows t n
 
 -- what is known of each name, with these rows
 abbrev pub with_rows : List Cell → List TargetRows → Records ℕ

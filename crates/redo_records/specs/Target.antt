@@ -1,11 +1,7 @@
 -- The invariant of the rows of one target.
-use Rattle.std.specs.Prelude.{◌≡◌, ◌≢◌, ◌⊎◌, ℕ, ◌<◌, List, Some, IsSome, IsTrue, AllPairs}
+use Rattle.std.specs.Prelude.{◌≡◌, ◌≢◌, ℕ, ◌<◌, List, Some, AllPairs}
 use Rattle.redo_model.specs.State.{Mark}
-use Rattle.redo_records.specs.Rows.{Slot, slot_at}
-
--- a change row or a created row on the name
-abbrev pub HasRowIn : List Slot → ℕ → Type 0
-HasRowIn slots n = IsSome (slot_at slots n).change ⊎ IsTrue (slot_at slots n).created
+use Rattle.redo_records.specs.Rows.{Slot}
 
 -- there is a change row with another mark
 abbrev pub HasChangeBut : Mark → Slot → Type 0

@@ -86,12 +86,4 @@ impl Numbers {
         let place = number_place(self.items.as_slice(), x);
         let _removed = self.items.remove(place);
     }
-
-    /// Keeps its capacity.
-    pub fn clear(&mut self)
-        ensures items { self.new.items ≡ [] }
-        ensures room { self.old.room ≤ self.new.room }
-    {
-        self.items.clear();
-    }
 }

@@ -6,7 +6,7 @@ ghost use Rattle.redo_model.specs.Renaming.{AllBelow};
 ghost use Rattle.redo_records.specs.Meaning.{row_mark_of};
 ghost use Rattle.redo_records.specs.News.{IsNews, name_of};
 ghost use Rattle.redo_records.specs.Target.{Ascending};
-ghost use Rattle.redo_records.specs.Rows.{rows_count, rows_of, room_of, target_at, has_slot, with_change, with_created, with_always, without_rows, HasRowOn, HasChangeRowOn, HasCreatedRowOn, by_number, with_rows};
+ghost use Rattle.redo_records.specs.Rows.{rows_count, rows_of, room_of, target_at, has_slot, with_change, with_created, with_always, without_rows, HasChangeRowOn, HasCreatedRowOn, by_number, with_rows};
 
 use crate::lists::extended;
 use crate::mark::Mark;
@@ -199,15 +199,6 @@ impl DepRows {
         ensures { result ≡ (rows_of self.now).always t }
     {
         self.targets[t as usize].always()
-    }
-
-    /// The names on which `t` has a row, by ascending number.
-    pub fn of(&self, t: u32) -> &[u32]
-        requires { t < rows_count self.now }
-        ensures listed { IsListed by_number (λ n. HasRowOn (rows_of self.now) t n) result.now }
-        ensures below { AllBelow (rows_count self.now) result.now }
-    {
-        self.targets[t as usize].names()
     }
 
     /// The slots of `t`, by their names' ascending numbers: each has the rows of `t` on its name.

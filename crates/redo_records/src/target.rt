@@ -1,15 +1,13 @@
-ghost use Rattle.std.specs.Prelude.{◌≡◌, ◌⊎◌, ◌↔◌, ℕ, ◌+◌, ◌<◌, ◌≤◌, ◌==◌, ◌||◌, Some, true, false, not, is_some, IsTrue, length, Contains, option_map, MatchOption, IfOk, IfErr, OnOk, OnErr, if◌then◌else◌};
-ghost use Rattle.redo_model.specs.Names.{IsListed};
+ghost use Rattle.std.specs.Prelude.{◌≡◌, ◌↔◌, ℕ, ◌<◌, ◌≤◌, ◌==◌, ◌||◌, Some, true, false, is_some, IsTrue, option_map, MatchOption, IfOk, IfErr, OnOk, OnErr, if◌then◌else◌};
 ghost use Rattle.redo_model.specs.State.{mark_in};
 ghost use Rattle.redo_records.specs.Meaning.{row_mark_of};
-ghost use Rattle.redo_records.specs.Rows.{bare, slot_at, has_slot, by_number};
-ghost use Rattle.redo_records.specs.Target.{HasRowIn, HasChangeBut, Ascending};
-ghost use Rattle.redo_records.specs.Inside.Target.{has_row, blank, blanked, cleared, IsSlotOf, IsGapFor};
+ghost use Rattle.redo_records.specs.Rows.{bare, slot_at, has_slot};
+ghost use Rattle.redo_records.specs.Target.{HasChangeBut, Ascending};
+ghost use Rattle.redo_records.specs.Inside.Target.{blank, blanked, cleared, IsSlotOf, IsGapFor};
 
 use crate::cell::Cell;
 use crate::kept_mark::KeptMark;
 use crate::mark::Mark;
-use crate::numbers::Numbers;
 use std::alloc::{AllocError, Global};
 use std::marker::Model;
 use std::mem::size_of;
@@ -84,12 +82,6 @@ impl Slot {
         self.created
     }
 
-    fn has_row(&self) -> bool
-        ensures { result ≡ has_row self.now }
-    {
-        self.change.is_some() || self.created
-    }
-
     fn put_change(&mut self, mark: Mark)
         ensures { self.new ≡ record self.old { change = Some (row_mark_of mark) } }
     {
@@ -140,36 +132,22 @@ fn slot_place(slots: &[Slot], n: u32) -> usize
     }
 }
 
-/// Lists a name that may be listed already.
-fn list_name(names: &mut Numbers, n: u32, listed: bool)
-    requires listed { IsTrue listed ↔ Contains names.old.items n }
-    requires room { listed ≡ false → length names.old.items < names.old.room }
-    ensures each { (u : ℕ) → Contains names.new.items u ↔ (Contains names.old.items u ⊎ (u ≡ n)) }
-    ensures length { length names.new.items ≡ length names.old.items + (if listed then 0 else 1) }
-    ensures room { names.old.room ≤ names.new.room }
-{
-    if !listed {
-        names.insert(n);
-    }
-}
-
 /// The rows of one target, and reserved memory for more.
 #[derive(Drop)]
 pub struct Target {
     slots: Vec<Slot>,
-    names: Numbers,
     always: bool,
 }
 
 impl Model for Target {
     ghost use Rattle.redo_records.specs.Rows.{TargetRows};
-    ghost use Rattle.redo_records.specs.Inside.Target.{IsKept};
+    ghost use Rattle.redo_records.specs.Target.{Ascending};
 
     ghost Value = { TargetRows };
 
     ghost view = { λ inside. record { slots = inside.slots.items; always = inside.always } };
 
-    ghost invariant = { λ inside. IsKept inside.slots.items inside.names };
+    ghost invariant = { λ inside. Ascending inside.slots.items };
 }
 
 impl Target {
@@ -179,7 +157,6 @@ impl Target {
     {
         Target {
             slots: Vec::new(alloc),
-            names: Numbers::new(alloc),
             always: false,
         }
     }
@@ -229,13 +206,6 @@ impl Target {
         self.always
     }
 
-    /// The names with a row, by ascending number.
-    pub fn names(&self) -> &[u32]
-        ensures listed { IsListed by_number (λ n. HasRowIn self.now.slots n) result.now }
-    {
-        self.names.as_slice()
-    }
-
     /// The slots, by their names' ascending numbers.
     pub fn slots(&self) -> &[Slot]
         ensures same { result.now ≡ self.now.slots }
@@ -253,7 +223,6 @@ impl Target {
             ((k : ℕ) → has_slot self.new.slots k ≡ (k == n || has_slot self.old.slots k)) }
         ensures err { OnErr result (self.new ≡ self.old) }
     {
-        self.names.reserve(self.slots.len() + 1)?;
         let place = slot_place(self.slots.as_slice(), n);
         Ok(self.slots.insert(place, Slot::blank(n))?)
     }
@@ -271,9 +240,7 @@ impl Target {
         let place = slot_place(self.slots.as_slice(), n);
         let slot = &mut self.slots[place];
         let was = slot.has_change();
-        let listed = slot.has_row();
         slot.put_change(mark);
-        list_name(&mut self.names, n, listed);
         was
     }
 
@@ -290,9 +257,7 @@ impl Target {
         let place = slot_place(self.slots.as_slice(), n);
         let slot = &mut self.slots[place];
         let was = slot.created();
-        let listed = slot.has_row();
         slot.put_created();
-        list_name(&mut self.names, n, listed);
         was
     }
 
@@ -308,7 +273,6 @@ impl Target {
         ensures { self.new ≡ cleared self.old }
     {
         clear_each(&mut self.slots);
-        self.names.clear();
         self.always = false;
     }
 }

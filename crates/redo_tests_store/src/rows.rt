@@ -62,7 +62,6 @@ fn check_rows(rt: &impl Abort, rows: &DepRows)
 {
     assert!(rt; rows.needed_by(1) == [0, 3].as_slice());
     assert!(rt; rows.awaited_by(2) == [0].as_slice());
-    assert!(rt; rows.of(0) == [1, 2].as_slice());
     assert!(rt; rows.change_of(0, 1) == Some(Mark::Absent));
     assert!(rt; rows.change_of(0, 2).is_none());
     let slots = rows.slots_of(0);
@@ -80,7 +79,7 @@ fn check_rest(rt: &impl Abort, rows: &DepRows)
 {
     assert!(rt; rows.needed_by(1) == [3].as_slice());
     assert!(rt; rows.awaited_by(2).is_empty());
-    assert!(rt; rows.of(0).is_empty());
+    assert!(rt; rows.change_of(0, 1).is_none() && !rows.created(0, 2));
     assert!(rt; rows.change_of(3, 1) == Some(Mark::Pending));
     assert!(rt; !rows.always(0));
     let slots = rows.slots_of(0);
@@ -101,7 +100,6 @@ fn put_again(rt: &impl Abort, rows: &mut DepRows)
     put_change(rt, rows, 0, 2, Mark::Builds(7));
     assert!(rt; rows.needed_by(1) == [3].as_slice() && rows.awaited_by(1) == [0].as_slice());
     assert!(rt; rows.needed_by(2) == [0].as_slice() && rows.awaited_by(2).is_empty());
-    assert!(rt; rows.of(0) == [1, 2].as_slice());
     assert!(rt; rows.change_of(0, 1).is_none() && rows.created(0, 1));
     assert!(rt; rows.change_of(0, 2) == Some(Mark::Builds(7)) && !rows.created(0, 2));
     assert!(rt; rows.slots_of(0).len() == 2 && !rows.always(0));

@@ -1,8 +1,6 @@
--- The invariant of the rows of one target.
-use Rattle.std.specs.Prelude.{◌≡◌, ℕ, ◌<◌, ◌≤◌, false, List, None, length, map, slice_index_or, ◌↔◌, ◌+◌, Bool, not, ◌||◌, is_some, Contains, count_by}
+-- Slots without rows, and the places of the slots of a target.
+use Rattle.std.specs.Prelude.{◌≡◌, ℕ, ◌<◌, ◌≤◌, false, List, None, length, map, slice_index_or}
 use Rattle.redo_records.specs.Rows.{Slot, TargetRows}
-use Rattle.redo_records.specs.Numbers.{NumberList}
-use Rattle.redo_records.specs.Target.{HasRowIn, Ascending}
 
 -- reserved memory for rows on the name, and no row
 abbrev pub blank : ℕ → Slot
@@ -29,13 +27,3 @@ pub record IsGapFor (slots : List Slot) (n i : ℕ) : Type 0 where
   pub within : i ≤ length slots
   pub before : (k : ℕ) → k < i → name_at slots k < n
   pub after : (k : ℕ) → i ≤ k → k < length slots → n < name_at slots k
-
-abbrev pub has_row : Slot → Bool
-has_row slot = is_some slot.change || slot.created
-
--- the names are those with a row, and memory is reserved for all that have a slot
-pub record IsKept (slots : List Slot) (names : NumberList) : Type 0 where
-  pub ascending : Ascending slots
-  pub listed : (n : ℕ) → Contains names.items n ↔ HasRowIn slots n
-  pub counted : length names.items + count_by (λ slot. not (has_row slot)) slots ≡ length slots
-  pub room : length slots ≤ names.room

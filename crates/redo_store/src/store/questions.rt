@@ -1,5 +1,5 @@
 //! Questions about the store.
-ghost use Rattle.std.specs.Prelude.{◌≡◌, ◌↔◌, ◌<◌, IsTrue, IfOk, IfSome, IsOk, option_map};
+ghost use Rattle.std.specs.Prelude.{◌≡◌, ◌<◌, IfOk, IfSome, IsOk, option_map};
 ghost use Rattle.redo_model.specs.Deps.{AreDeps};
 ghost use Rattle.redo_model.specs.Inside.Deps.{AreDepsBelow};
 ghost use Rattle.redo_model.specs.Why.{TellsWhy};
@@ -66,22 +66,6 @@ impl Store {
         self.records.file(n)
     }
 
-    /// Whether the target has a change row on the name.
-    fn has_change(&self, t: u32, n: u32) -> bool
-        requires { t < count_of self.now }
-        ensures { IsTrue result ↔ HasChangeRow (records_of self.now) t n }
-    {
-        self.rows.change_of(t, n).is_some()
-    }
-
-    /// Whether the target has a created row on the name.
-    fn has_created(&self, t: u32, n: u32) -> bool
-        requires { t < count_of self.now }
-        ensures { IsTrue result ↔ HasCreatedRow (records_of self.now) t n }
-    {
-        self.rows.created(t, n)
-    }
-
     /// The names on which the target has a change row.
     fn change_names(&self, alloc: Global, t: u32) -> Result<Vec<u32>, AllocError>
         requires { t < count_of self.now }
@@ -90,9 +74,8 @@ impl Store {
         ensures below { IfOk result (λ names. AllBelow (count_of self.now) names.items) }
     {
         let mut names = Vec::new(alloc);
-        for &n in self.rows.of(t) {
-            let is_due = self.has_change(t, n);
-            push_if(&mut names, n, is_due)?;
+        for slot in self.rows.slots_of(t) {
+            push_if(&mut names, slot.name(), slot.has_change())?;
         }
         Ok(names)
     }
@@ -105,9 +88,8 @@ impl Store {
         ensures below { IfOk result (λ names. AllBelow (count_of self.now) names.items) }
     {
         let mut names = Vec::new(alloc);
-        for &n in self.rows.of(t) {
-            let is_due = self.has_created(t, n);
-            push_if(&mut names, n, is_due)?;
+        for slot in self.rows.slots_of(t) {
+            push_if(&mut names, slot.name(), slot.created())?;
         }
         Ok(names)
     }

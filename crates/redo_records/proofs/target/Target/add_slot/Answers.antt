@@ -1,9 +1,9 @@
-use Rattle.std.proofs.Common.{◌≡◌, ◌∙◌, ◌||◌, ap, sym, subst, arith, false, eqb, List, length}
+use Rattle.std.proofs.Common.{◌≡◌, ◌∙◌, ◌||◌, ap, sym, subst, refl, false, eqb, List}
 use Rattle.std.specs.List.{insert}
 use Rattle.redo_records.specs.Rows.{Slot, TargetRows, slot_at, has_slot}
-use Rattle.redo_records.specs.Inside.Target.{IsKept, blank, IsGapFor}
-use Rattle.redo_records.proofs.SlotEdits.{slot_at-insert, has_slot-insert}
-use Rattle.redo_records.proofs.Keeping.{kept_added}
+use Rattle.redo_records.specs.Target.{Ascending}
+use Rattle.redo_records.specs.Inside.Target.{blank, IsGapFor}
+use Rattle.redo_records.proofs.SlotEdits.{slot_at-insert, has_slot-insert, insert_ascends}
 use Rattle.redo_records.proofs.target.Target.add_slot.Goals as goal
 use Rattle.redo_records.proofs.target.Target.add_slot.Goals.{In_ok-insert}
 
@@ -25,11 +25,8 @@ placed c =
 pub invariant_of-self-2 : goal.invariant_of-self-2
 invariant_of-self-2 c =
     let w = (goal.at.invariant_of-self-2 c).In_ok-insert in
-    let same = ap (λ (slots : List Slot). length slots) c.as_slice.ensures.value in
-    subst (λ (slots : List Slot). IsKept slots c.reserve.new.self) (sym (placed w))
-    (kept_added c.self.inside.slots.items c.self.inside.names c.reserve.new.self c.args.n
-    c.slot_place-place.result c.self.invariant (gap w) c.in_ok-reserve.ensures.items
-    (omega (arith, c.in_ok-reserve.ensures.ok, c.len.ensures, c.as_slice.ensures.len, same)))
+    subst Ascending (sym (placed w)) (insert_ascends c.self.inside.slots.items c.args.n
+    c.slot_place-place.result (blank c.args.n) c.self.invariant (gap w) refl)
 
 pub returns-clause-rows : goal.returns-clause-rows
 returns-clause-rows c k =

@@ -10,7 +10,7 @@ returns-in-Ok-clause-slot c =
     subst (λ slots. IsSlotOf slots c.args.n c.in-Ok.place) c.as_slice.ensures.value
     c.in-Ok.ensures.found in
     c.index.ensures ∙ (slot_stands c.self.inside.slots.items c.args.n c.in-Ok.place
-    c.index.result.now c.self.invariant.ascending at).0
+    c.index.result.now c.self.invariant at).0
     ∙ ap (λ (rows : TargetRows). slot_at rows.slots c.args.n) c.self.view_is
 
 pub returns-in-Err-clause-there : goal.returns-in-Err-clause-there

@@ -1,10 +1,9 @@
 use Rattle.std.proofs.Common.{◌≡◌, ◌∙◌, ap, subst, refl, true, is_some, List, cond, eqb}
-use Rattle.std.proofs.lemmas.Bool.{or_right}
 use Rattle.redo_records.specs.Rows.{Slot, TargetRows, slot_at, has_slot}
-use Rattle.redo_records.specs.Inside.Target.{has_row, IsSlotOf}
+use Rattle.redo_records.specs.Inside.Target.{IsSlotOf}
 use Rattle.redo_records.proofs.Slots.{slot_stands}
-use Rattle.redo_records.proofs.SlotEdits.{has_slot-set}
-use Rattle.redo_records.proofs.Keeping.{row_listed, kept_written, new_named, rows_written}
+use Rattle.redo_records.proofs.SlotEdits.{has_slot-set, set_ascends}
+use Rattle.redo_records.proofs.Keeping.{new_named, rows_written}
 use Rattle.redo_records.proofs.target.Target.put_created.Goals as goal
 use Rattle.redo_records.proofs.target.Target.put_created.Goals.{After-put_created}
 
@@ -26,7 +25,7 @@ stood : (c : After-put_created)
     → c.index_mut-slot.result.now ≡ slot_at c.self.inside.slots.items c.args.n
 stood c =
     c.index_mut-slot.ensures.value ∙ (slot_stands c.self.inside.slots.items c.args.n
-    c.slot_place-place.result c.index_mut-slot.result.now c.self.invariant.ascending (at c)).0
+    c.slot_place-place.result c.index_mut-slot.result.now c.self.invariant (at c)).0
 
 stands : (c : After-put_created)
     → c.put_created.new.self ≡ with_created (slot_at c.self.inside.slots.items c.args.n)
@@ -37,25 +36,11 @@ named c =
     new_named (with_created) (λ slot. refl) c.self.inside.slots.items c.args.n
     c.slot_place-place.result c.put_created.new.self (at c) (stands c)
 
-listed : (c : After-put_created)
-    → c.has_row-listed.result ≡ has_row (slot_at c.self.inside.slots.items c.args.n)
-listed c = c.has_row-listed.ensures ∙ ap has_row (stood c)
-
-pub list_name-requires-clause-listed : goal.list_name-requires-clause-listed
-list_name-requires-clause-listed c =
-    row_listed c.self.inside.slots.items c.self.inside.names c.args.n c.has_row-listed.result
-    c.self.invariant (listed (goal.at.list_name-requires-clause-listed c).After-put_created)
-
 pub invariant_of-self : goal.invariant_of-self
 invariant_of-self c =
     let w = (goal.at.invariant_of-self c).After-put_created in
-    let rowed : has_row c.put_created.new.self ≡ true =
-    ap has_row (stands w)
-    ∙ or_right (is_some (slot_at c.self.inside.slots.items c.args.n).change) true refl in
-    kept_written c.self.inside.slots.items c.self.inside.names c.list_name.new.names c.args.n
-    c.slot_place-place.result c.put_created.new.self c.has_row-listed.result c.self.invariant (at w)
-    (named w) rowed
-    (listed w) c.list_name.ensures.each c.list_name.ensures.length c.list_name.ensures.room
+    set_ascends c.self.inside.slots.items c.args.n c.slot_place-place.result c.put_created.new.self
+    c.self.invariant (at w) (named w)
 
 pub returns-clause-was : goal.returns-clause-was
 returns-clause-was c =
@@ -67,7 +52,7 @@ pub returns-clause-rows : goal.returns-clause-rows
 returns-clause-rows c k =
     let w = (goal.at.returns-clause-rows c).After-put_created in
     rows_written (with_created) (λ slot. refl) c.self.inside.slots.items c.args.n
-    c.slot_place-place.result c.put_created.new.self (at w) (stands w) c.self.invariant.ascending k
+    c.slot_place-place.result c.put_created.new.self (at w) (stands w) c.self.invariant k
     ∙ ap (λ (rows : TargetRows). cond (eqb c.args.n k) (with_created (slot_at rows.slots k))
     (slot_at rows.slots k)) c.self.view_is
 
