@@ -111,6 +111,20 @@ impl Cell {
         self.file
     }
 
+    /// The stamp of its file, in place.
+    pub(crate) fn file_ref(&self) -> Option<&FileStamp>
+        ensures { option_map (λ stamp. stamp.now) result ≡ self.now.file }
+    {
+        self.file.as_ref()
+    }
+
+    /// The digest of its last build, in place.
+    pub(crate) fn digest_ref(&self) -> Option<&[u8; 20]>
+        ensures { option_map (λ digest. digest.now) result ≡ self.now.digest }
+    {
+        self.digest.as_ref()
+    }
+
     pub fn state(&self) -> State
         ensures { target_state_of result ≡ self.now.state }
     {

@@ -3,6 +3,7 @@ ghost use Rattle.redo_model.specs.State.{mark_in};
 ghost use Rattle.redo_records.specs.Meaning.{row_mark_of};
 ghost use Rattle.redo_records.specs.Rows.{bare, slot_at, has_slot};
 ghost use Rattle.redo_records.specs.Target.{HasChangeBut, Ascending};
+ghost use Rattle.redo_records.specs.Inside.KeptMark.{kept_mark_of};
 ghost use Rattle.redo_records.specs.Inside.Target.{blank, blanked, cleared, IsSlotOf, IsGapFor};
 
 use crate::cell::Cell;
@@ -82,10 +83,10 @@ impl Slot {
         self.created
     }
 
-    fn put_change(&mut self, mark: Mark)
-        ensures { self.new ≡ record self.old { change = Some (row_mark_of mark) } }
+    fn put_change(&mut self, mark: KeptMark)
+        ensures { self.new ≡ record self.old { change = Some (kept_mark_of mark) } }
     {
-        self.change = Some(KeptMark::new(mark));
+        self.change = Some(mark);
     }
 
     fn put_created(&mut self)
@@ -228,12 +229,12 @@ impl Target {
     }
 
     /// A change row on a name with a slot, which replaces an earlier one. Returns whether there was one.
-    pub fn put_change(&mut self, n: u32, mark: Mark) -> bool
+    pub fn put_change(&mut self, n: u32, mark: KeptMark) -> bool
         requires { has_slot self.old.slots n ≡ true }
         ensures was { result ≡ is_some (slot_at self.old.slots n).change }
         ensures rows { (k : ℕ)
             → slot_at self.new.slots k ≡ (if n == k then record (slot_at self.old.slots k)
-            { change = Some (row_mark_of mark) } else slot_at self.old.slots k) }
+            { change = Some (kept_mark_of mark) } else slot_at self.old.slots k) }
         ensures room { (k : ℕ) → has_slot self.new.slots k ≡ has_slot self.old.slots k }
         ensures always { self.new.always ≡ self.old.always }
     {

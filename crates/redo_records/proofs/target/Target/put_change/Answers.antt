@@ -1,6 +1,6 @@
 use Rattle.std.proofs.Common.{◌≡◌, ◌∙◌, ap, subst, refl, true, Some, is_some, List, cond, eqb}
-use Rattle.redo_records.specs.declared.mark.Mark.{Mark}
-use Rattle.redo_records.specs.Meaning.{row_mark_of}
+use Rattle.redo_records.specs.declared.kept_mark.KeptMark.{KeptMark}
+use Rattle.redo_records.specs.Inside.KeptMark.{kept_mark_of}
 use Rattle.redo_records.specs.Rows.{Slot, TargetRows, slot_at, has_slot}
 use Rattle.redo_records.specs.Inside.Target.{IsSlotOf}
 use Rattle.redo_records.proofs.Slots.{slot_stands}
@@ -10,8 +10,8 @@ use Rattle.redo_records.proofs.target.Target.put_change.Goals as goal
 use Rattle.redo_records.proofs.target.Target.put_change.Goals.{After-put_change}
 
 -- the slot after the call
-abbrev with_mark : Mark → Slot → Slot
-with_mark mark slot = record slot { change = Some (row_mark_of mark) }
+abbrev with_mark : KeptMark → Slot → Slot
+with_mark mark slot = record slot { change = Some (kept_mark_of mark) }
 
 -- the place is that of the name's slot
 at : (c : After-put_change) → IsSlotOf c.self.inside.slots.items c.args.n c.slot_place-place.result
