@@ -12,8 +12,8 @@ use Rattle.redo_talk.specs.Inside.Replies.{LogsPrefix, WouldTell}
 use Rattle.redo_talk.specs.Inside.Steps.{Known, IsStep}
 use Rattle.redo_c.specs.declared.answering.Told.{Told}
 use Rattle.redo_c.specs.declared.calls.Counts.{Counts}
-use Rattle.redo_c.specs.declared.held.Held.{Held}
-use Rattle.redo_c.specs.declared.held.Held.TheVariants.{Closed, Open}
+use Rattle.redo_c.specs.declared.contents.Contents.{Contents}
+use Rattle.redo_c.specs.declared.contents.Contents.TheVariants.{Closed, Open}
 
 -- the line was read; its answer is at the beginning of the buffer, and a prefix of that is to be
 -- logged
@@ -37,26 +37,26 @@ Answers status old new heard room room_after told =
     ⊎ ((status ≡ 3) × (told.size ≡ 0) × (told.logged ≡ 0))))
 
 -- a database is open there, and answers; or none is
-abbrev pub AnswersAt : ℕ → Held → Held → Text → Text → Text → Told → Type 0
+abbrev pub AnswersAt : ℕ → Contents → Contents → Text → Text → Text → Told → Type 0
 AnswersAt status (Open old) now heard room room_after told =
     (new : LiveState) × (now ≡ Open new) × Answers status old new heard room room_after told
 AnswersAt status Closed now heard room room_after told =
     (status ≡ 6) × (now ≡ Closed) × (room_after ≡ room)
 
 -- an empty database is open there; or memory ran out, and nothing was done
-abbrev pub Opens : ℕ → Held → Held → Type 0
-Opens status held now =
+abbrev pub Opens : ℕ → Contents → Contents → Type 0
+Opens status contents now =
     ((status ≡ 0)
     × ((live : LiveState) × (now ≡ Open live) × (live.names ≡ []) × (state_in live ≡ empty)))
-    ⊎ ((status ≡ 3) × (now ≡ held))
+    ⊎ ((status ≡ 3) × (now ≡ contents))
 
 -- the log's lines were done again, and the database is open there; or the log has a fault, or
 -- memory ran out, and nothing was done
-abbrev pub Restores : ℕ → Held → Held → Text → Counts → Type 0
-Restores status held now log counts =
+abbrev pub Restores : ℕ → Contents → Contents → Text → Counts → Type 0
+Restores status contents now log counts =
     ((status ≡ 0) × ((restored : Restored) × IsRestored log restored × (now ≡ Open restored.live)
     × (counts.lines ≡ restored.lines) × (counts.bytes ≡ restored.bytes) × (counts.line ≡ 0)))
-    ⊎ ((now ≡ held)
+    ⊎ ((now ≡ contents)
     × ((status ≡ 3)
     ⊎ (((status ≡ 4) × DiffersAt log counts.line counts.lines counts.bytes)
     ⊎ ((status ≡ 5) × HasTooMany log))))

@@ -1,7 +1,7 @@
 ghost use Rattle.std.specs.Prelude.{◌≡◌, ◌≤◌, ◌++◌, drop, length};
 ghost use Rattle.redo_c.specs.Calls.{Answers};
 
-use crate::held::Opened;
+use crate::contents::Opened;
 use crate::status::{FAULT, MEMORY, OK, TOO_SMALL};
 use redo_live::Withheld;
 use redo_talk::{Replied, reply};

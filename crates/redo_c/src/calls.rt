@@ -4,11 +4,11 @@ ghost use Rattle.std.specs.Prelude.{◌≡◌, [], IfOk};
 ghost use Rattle.redo_model.specs.State.{empty};
 ghost use Rattle.redo_live.specs.Inside.LiveState.{state_in};
 ghost use Rattle.redo_c.specs.Calls.{AnswersAt, Opens, Restores};
-ghost use Rattle.redo_c.specs.declared.held.Held.TheVariants.{Closed};
+ghost use Rattle.redo_c.specs.declared.contents.Contents.TheVariants.{Closed};
 
 use crate::answering::{Told, answer};
+use crate::contents::{Contents, Opened};
 use crate::handle::Handle;
-use crate::held::{Held, Opened};
 use crate::status::{DIFFERS, MEMORY, MISUSE, OK, WORN};
 use redo_live::Live;
 use redo_log::{RestoreFault, Restored, restore};
@@ -18,7 +18,7 @@ use std::mem::size_of;
 /// How many bytes of memory the caller gives a handle.
 #[unsafe(no_mangle)]
 pub extern "C" fn redo_c_room() -> usize {
-    size_of::<Held>()
+    size_of::<Contents>()
 }
 
 /// An empty database.
@@ -33,11 +33,11 @@ fn opened(alloc: Global) -> Result<Opened, AllocError>
 /// Opens an empty database.
 #[unsafe(no_mangle)]
 pub extern "C" fn redo_c_open(alloc: Global, handle: &mut Handle) -> u32
-    ensures { Opens result handle.old.held handle.new.held }
+    ensures { Opens result handle.old.contents handle.new.contents }
 {
     match opened(alloc) {
         Ok(opened) => {
-            handle.replace(Held::Open(opened));
+            handle.replace(Contents::Open(opened));
             OK
         }
         Err(_) => MEMORY,
@@ -61,7 +61,7 @@ pub extern "C" fn redo_c_restore(
     log: &[u8],
     counts: &mut Counts,
 ) -> u32
-    ensures { Restores result handle.old.held handle.new.held log.now counts.new }
+    ensures { Restores result handle.old.contents handle.new.contents log.now counts.new }
 {
     match restore(alloc, log) {
         Ok(Restored { live, lines, bytes }) => match Opened::new(alloc, live) {
@@ -69,7 +69,7 @@ pub extern "C" fn redo_c_restore(
                 counts.lines = lines;
                 counts.bytes = bytes;
                 counts.line = 0;
-                handle.replace(Held::Open(opened));
+                handle.replace(Contents::Open(opened));
                 OK
             }
             Err(_) => MEMORY,
@@ -94,20 +94,20 @@ pub extern "C" fn redo_c_answer(
     room: &mut [u8],
     told: &mut Told,
 ) -> u32
-    ensures { AnswersAt result handle.old.held handle.new.held line.now room.old room.new told.new }
+    ensures { AnswersAt result handle.old.contents handle.new.contents line.now room.old room.new told.new }
 {
-    let Held::Open(mut opened) = handle.replace(Held::Closed) else {
+    let Contents::Open(mut opened) = handle.replace(Contents::Closed) else {
         return MISUSE;
     };
     let status = answer(alloc, &mut opened, line, room, told);
-    handle.replace(Held::Open(opened));
+    handle.replace(Contents::Open(opened));
     status
 }
 
 /// Closes the database, if one is open.
 #[unsafe(no_mangle)]
 pub extern "C" fn redo_c_close(handle: &mut Handle)
-    ensures { handle.new.held ≡ Closed }
+    ensures { handle.new.contents ≡ Closed }
 {
-    handle.replace(Held::Closed);
+    handle.replace(Contents::Closed);
 }

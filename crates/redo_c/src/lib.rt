@@ -3,6 +3,6 @@
 
 mod answering;
 mod calls;
+mod contents;
 mod handle;
-mod held;
 mod status;

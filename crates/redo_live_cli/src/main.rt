@@ -73,7 +73,7 @@ fn talk_to<L: Write>(
 }
 
 /// Holds the conversation of the arguments.
-fn hold(rt: &HostRuntime, conversation: &Conversation) -> Result<(), Fault> {
+fn converse(rt: &HostRuntime, conversation: &Conversation) -> Result<(), Fault> {
     match &conversation.log {
         Some(asked) => {
             let Begun {
@@ -93,7 +93,7 @@ fn hold(rt: &HostRuntime, conversation: &Conversation) -> Result<(), Fault> {
 fn main(rt: HostRuntime) -> ExitCode {
     let (name, done) = match asked(&rt) {
         Ok(conversation) => {
-            let done = hold(&rt, &conversation);
+            let done = converse(&rt, &conversation);
             (conversation.log.map(|log| log.name), done)
         }
         Err(fault) => (None, Err(fault)),

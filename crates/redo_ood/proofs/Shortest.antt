@@ -4,7 +4,7 @@ use Rattle.std.proofs.lemmas.Bool.{cases_lt}
 use Rattle.redo_model.specs.State.{Records}
 use Rattle.redo_model.specs.OutOfDate.{HasReason, Depends, Chain, OutOfDate}
 use Rattle.redo_model.specs.Why.{Reason, IsReason, Explains, end_of}
-use Rattle.redo_model.proofs.Reasons.{reason_holds}
+use Rattle.redo_model.proofs.Reasons.{reason_applies}
 use Rattle.redo_marks.specs.NameSet.{Marked, IsMarked}
 use Rattle.redo_ood.specs.Inside.Search.{IsSearchTree, IsSearch, StepsBefore, IsWay}
 
@@ -79,7 +79,7 @@ module _ (r : Records ℕ) (out seen : Marked) (parents : List ℕ) (at place : 
           → Explains r t (record { names = ns; reason = reason })
       way_explains in' reason is ns way =
           let tree = search.tree in
-          let own = reason_holds r (get_or seen.queue place 0) reason is in
+          let own = reason_applies r (get_or seen.queue place 0) reason is in
           let deeper = way_deeper r seen.queue parents tree place ns 0 way in
           record {
             chain = subst (λ m. Chain (Depends r) (HasReason r) m ns) (sym first)

@@ -19,10 +19,6 @@ pub ok_by_four : {T E : Type 0} (r : Result T E) (P Q R S Z : Type 0) → OnOk r
 ok_by_four (Ok x) P Q R S Z p q t s f = f p q t s
 ok_by_four (Err e) P Q R S Z p q t s f = tt
 
-pub ok_holds : {T E : Type 0} (r : Result T E) (x : T) (P : Type 0) → r ≡ Ok x → OnOk r P → P
-ok_holds (Ok y) x P e p = p
-ok_holds (Err why) x P e p = absurd cc
-
 pub any_err : {T E : Type 0} (r : Result T E) (P : E → Type 0) → ((e : E) → P e) → IfErr r P
 any_err (Ok x) P f = tt
 any_err (Err e) P f = f e

@@ -3,8 +3,8 @@ use Rattle.redo_c.proofs.Steps.{List, [], ◌∷◌, refl, lit<, proved, full_sh
 use denote.Enum.Row.{tagged_with}
 use denote.Enum.Enum.{form_of, in_a_row}
 use denote.Enum.Declared.{shape}
-use Rattle.redo_c.specs.declared.held.Held.TheVariants.{Closed}
-use Rattle.redo_c.specs.contracts.held.Held as held
+use Rattle.redo_c.specs.declared.contents.Contents.TheVariants.{Closed}
+use Rattle.redo_c.specs.contracts.contents.Contents as contents
 use Rattle.redo_c.specs.contracts.handle.redo_c_place as f
 use Rattle.redo_c.proofs.handle.redo_c_place.Statement.{statement}
 use Rattle.redo_c.proofs.handle.redo_c_place.Code as code
@@ -14,18 +14,18 @@ stayed = (stay_dropped _ yes, tt)
 
 -- nothing is owned if no database is open
 closed_of : {M : Type 1} {𝓤 : Ura M} (𝓛 : Logic 𝓤)
-    → ent 𝓤 (emp 𝓤) (sem 𝓛 (held.the_row.own_val Closed (live 0 (of_list []) ∷ [])))
+    → ent 𝓤 (emp 𝓤) (sem 𝓛 (contents.the_row.own_val Closed (live 0 (of_list []) ∷ [])))
 closed_of 𝓛 =
-    let form = form_of (shape held.the_type) in
+    let form = form_of (shape contents.the_type) in
     qed 𝓛 [] ∵ nothing ! $ feq_i ! (List Val) [] [] refl $ fjoin ! $
     fpack ! (Valss []) (in_a_row [] (owns [] tt) []) tt $
     feq_i ! (List Val) (live 0 (of_list []) ∷ []) (live 0 (of_list []) ∷ []) refl $ fjoin ! $
     fpack ! (List Val)
-    (tagged_with form form.payload (held.the_type.to Closed) (live 0 (of_list []) ∷ [])) [] $ done !
+    (tagged_with form form.payload (contents.the_type.to Closed) (live 0 (of_list []) ∷ [])) [] $ done !
 
 pub redo_c_place_spec : {M : Type 1} → statement M
 redo_c_place_spec 𝓤 𝓛 𝓜 𝓡 wired =
-    let X = held.the_row in let closed : Val = live 0 (of_list []) in
+    let X = contents.the_row in let closed : Val = live 0 (of_list []) in
     let c = f.clauses 𝓛 𝓜.mem 𝓡.returns in let W = walk_of 𝓛 f.ended stayed c in
     let 𝓣 = tables 𝓤 𝓛.H 𝓜 𝓡 𝓡.env in
     proved 𝓛 f.ended stayed c 𝓜 𝓡 (Goes-dropped 𝓛 0 (plain (λ _. RawPtr)) yes (λ κs x w. refl), tt)

@@ -4,14 +4,14 @@ use denote.Exit.{Last, left, rest, yes}
 use denote.Param.Mute.{blank}
 use Rattle.std.proofs.VecSteps.Shapes.{after}
 use Rattle.std.proofs.alloc.Calls.{Goes-blank}
-use Rattle.redo_c.specs.declared.held.Held.TheVariants.{Closed, Open}
+use Rattle.redo_c.specs.declared.contents.Contents.TheVariants.{Closed, Open}
 use Rattle.redo_c.specs.contracts.handle.Handle.replace as f
 use Rattle.redo_c.proofs.handle.Handle.replace.Statement.{statement}
 use Rattle.redo_c.proofs.handle.Handle.replace.Code as code
 use Rattle.redo_c.specs.contracts.handle.Handle.{the_row as R}
 use Rattle.redo_c.proofs.handle.Handle.TheLaws.{lowers}
-use Rattle.redo_c.specs.contracts.held.Held.{the_row as X}
-use Rattle.redo_c.proofs.held.Held.TheLaws.{the_row_laws as laws}
+use Rattle.redo_c.specs.contracts.contents.Contents.{the_row as X}
+use Rattle.redo_c.proofs.contents.Contents.TheLaws.{the_row_laws as laws}
 
 abbrev τ : Ty
 τ = lone X.mir
@@ -70,10 +70,10 @@ replace_spec 𝓤 𝓛 𝓜 𝓡 wired =
     alloc_all ! (λ l. pass_all ! refl ((tt, tt), (good, tt)) $
     fsplit3 ! $ move ! (1 ∷ 2 ∷ 3 ∷ []) $ opens ! tt R b o (λ us.
     move ! (1 ∷ []) $ peeks ! R _ (shows 𝓛 R) h us (λ is. fsplit ! $ move ! (1 ∷ []) $
-    in_a_block ! h.at (λ p. lies_at X full_share p h.held) (id⊢ 𝓤 _) (λ b' o' e.
+    in_a_block ! h.at (λ p. lies_at X full_share p h.contents) (id⊢ 𝓤 _) (λ b' o' e.
     use1 𝓛 (some (λ (v : Val). given (Good v)
-    (‵ (fat full_share τ b' o' v) ⊛ ‵ (X.own_val h.held (v ∷ [])))))
-    (lies_out 𝓛 h.held b' o') $ pick ! (λ v. learn ! (λ tv. split ! $
+    (‵ (fat full_share τ b' o' v) ⊛ ‵ (X.own_val h.contents (v ∷ [])))))
+    (lies_out 𝓛 h.contents b' o') $ pick ! (λ v. learn ! (λ tv. split ! $
     let word = lowers.val_is h us is
     ∙ ap (λ (p : Ptr). lowers.lowered (record h { at = p }) ∷ []) e in
     let Cell = λ (ws : List Val). ‵ (cell_at full_share R.mir ws b o) in
@@ -95,10 +95,10 @@ replace_spec 𝓤 𝓛 𝓜 𝓡 wired =
     rewrite ! 0 (λ (p : Ptr). ‵ (lies_at X full_share p new)) (sym e) refl $
     rewrite ! 3 Cell (sym word) refl $
     move ! (2 ∷ 0 ∷ []) $ fjoin ! $ move ! (2 ∷ 0 ∷ 3 ∷ 4 ∷ 5 ∷ []) $
-    closes ! tt R (record h { held = new }) us b o $
+    closes ! tt R (record h { contents = new }) us b o $
     -- [two parts of self; the token; what the old value owns; self's first part]
     returns ! (look_at ! 0 refl) $ free_all ! refl $
-    suffices ! _ (ends_at 𝓛 f.ended stayed c z v h.held (record h { held = new }, (rest (X.exit yes) new, tt)) (tt, (tt, tt))) $
+    suffices ! _ (ends_at 𝓛 f.ended stayed c z v h.contents (record h { contents = new }, (rest (X.exit yes) new, tt)) (tt, (tt, tt))) $
     says ! (refl, refl) $
     nothing ! $ move ! (3 ∷ 0 ∷ []) $ join ! $ frame ! $ move ! (3 ∷ 0 ∷ 1 ∷ []) $ fjoin3 ! $
     nothing ! $ nothing ! $ fjoin ! $ move ! (1 ∷ 0 ∷ []) $ fjoin ! $ done !)))))))

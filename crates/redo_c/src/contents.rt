@@ -37,7 +37,7 @@ impl Opened {
 
 /// The value in the memory of a handle.
 #[derive(Drop)]
-pub enum Held {
+pub enum Contents {
     Closed,
     Open(Opened),
 }
