@@ -10,7 +10,7 @@ use std::marker::Model;
 pub const LONGEST_STAMP: usize = 64;
 
 /// What a file looked like: 1 to 64 visible bytes of ASCII, not `-` and not `=>`.
-#[derive(Clone, Copy, Debug, PartialEq, Eq)]
+#[derive(Clone, Copy, Debug, PartialEq, Eq, Hash)]
 pub struct FileStamp {
     bytes: [u8; LONGEST_STAMP],
     len: u8,

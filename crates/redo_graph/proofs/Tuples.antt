@@ -1,0 +1,124 @@
+-- Pairs of numbers, as the code compares them.
+use Rattle.std.proofs.Common.{◌≡◌, ◌&&◌, ℕ, ◌<◌, Bool, true, List, [], length, get_or, refl, sym, ap, ◌∙◌, subst, inl, inr, arith}
+use Rattle.std.specs.Prelude.{nat_eq}
+use Rattle.std.specs.Cmp.{IsTotalOrder, IsEquivalence}
+use Rattle.std.specs.List.{Contains, dedup}
+use Rattle.std.specs.List.Retain.{IsFiltered, DiffersFromLast}
+use Rattle.std.specs.List.Sorted.{IsPermutation, IsSorted}
+use Rattle.std.specs.Ordering.{MatchOrdering, nat_cmp, is_eq, eq_by_cmp, ordering_then}
+use Rattle.std.specs.declared.cmp.Ordering.{Ordering}
+use Rattle.std.specs.declared.cmp.Ordering.TheVariants.{Less, Equal, Greater}
+use Rattle.std.proofs.lemmas.Bool.{and_parts, eqb-true, eq-eqb, ne_eqb}
+use Rattle.std.proofs.lemmas.Cmp.{ranked, by_ranked, nat_cmp_total, nat_eq_equiv, on_total, then_total, on_equiv, and_equiv}
+use Rattle.std.proofs.lemmas.List.Filters.{dedup_is}
+use Rattle.std.proofs.lemmas.List.Kept.{Contains-dedup, Contains-from_dedup, IsStrictlySortedBy-dedup}
+use Rattle.std.proofs.lemmas.List.Sorted.{Contains-permutation, IsPermutation-sym}
+use Rattle.std.proofs.lemmas.Map.Keys.{Less-from_sorted}
+use Rattle.redo_graph.specs.Pairs.{ComesBefore, AreAscending, AreThose}
+
+abbrev pub pair_cmp : ℕ × ℕ → ℕ × ℕ → Ordering
+pair_cmp p q = ordering_then (nat_cmp p.0 q.0) (nat_cmp p.1 q.1)
+
+abbrev pub pair_eq : ℕ × ℕ → ℕ × ℕ → Bool
+pair_eq p q = nat_eq p.0 q.0 && nat_eq p.1 q.1
+
+pub pair_total : IsTotalOrder pair_cmp
+pair_total =
+    then_total (on_total (λ (p : ℕ × ℕ). p.0) nat_cmp_total)
+    (on_total (λ (p : ℕ × ℕ). p.1) nat_cmp_total)
+
+pub pair_equiv : IsEquivalence pair_eq
+pair_equiv =
+    and_equiv (on_equiv (λ (p : ℕ × ℕ). p.0) nat_eq_equiv)
+    (on_equiv (λ (p : ℕ × ℕ). p.1) nat_eq_equiv)
+
+pub same_from_eq : (p q : ℕ × ℕ) → pair_eq p q ≡ true → p ≡ q
+same_from_eq (a, b) (c, d) e =
+    let both = and_parts (nat_eq a c) (nat_eq b d) e in
+    let first : a ≡ c = eqb-true a c both.0 in
+    let second : b ≡ d = eqb-true b d both.1 in
+    cc
+
+ties_eq : (m n : ℕ) → nat_eq m n ≡ is_eq (nat_cmp m n)
+ties_eq m n =
+    by_ranked (m < n) (m ≡ n) (n < m) (nat_cmp m n) (ranked m n (nat_cmp m n) refl)
+    (λ e less. ne_eqb m n (λ same. omega (arith, less, same)) ∙ sym (ap is_eq e))
+    (λ e same. eq-eqb m n same ∙ sym (ap is_eq e))
+    (λ e more. ne_eqb m n (λ same. omega (arith, more, same)) ∙ sym (ap is_eq e))
+
+ties_then : (o r : Ordering) → (is_eq o && is_eq r) ≡ is_eq (ordering_then o r)
+ties_then Less r = refl
+ties_then Equal r = refl
+ties_then Greater r = refl
+
+pub pair_ties : (p q : ℕ × ℕ) → pair_eq p q ≡ eq_by_cmp pair_cmp p q
+pair_ties p q =
+    ap (λ b. b && nat_eq p.1 q.1) (ties_eq p.0 q.0)
+    ∙ ap (λ b. is_eq (nat_cmp p.0 q.0) && b) (ties_eq p.1 q.1)
+    ∙ ties_then (nat_cmp p.0 q.0) (nat_cmp p.1 q.1)
+
+less_number : (m n : ℕ) → nat_cmp m n ≡ Less → m < n
+less_number m n e =
+    subst (λ o. MatchOrdering o (m < n) (m ≡ n) (n < m)) e (ranked m n (nat_cmp m n) refl)
+
+pub before_from_less : (p q : ℕ × ℕ) → pair_cmp p q ≡ Less → ComesBefore p q
+before_from_less p q less =
+    by_ranked (p.0 < q.0) (p.0 ≡ q.0) (q.0 < p.0) (nat_cmp p.0 q.0)
+    (ranked p.0 q.0 (nat_cmp p.0 q.0) refl)
+    (λ e first. inl first)
+    (λ e same. inr (
+      same,
+      less_number p.1 q.1
+          (ap (λ o. ordering_then o (nat_cmp p.1 q.1)) (sym e) ∙ less),
+    ))
+    (λ e more.
+    let wrong : Greater ≡ Less = ap (λ o. ordering_then o (nat_cmp p.1 q.1)) (sym e) ∙ less in
+    absurd cc)
+
+number_less : (m n : ℕ) → m < n → nat_cmp m n ≡ Less
+number_less m n less =
+    by_ranked (m < n) (m ≡ n) (n < m) (nat_cmp m n) (ranked m n (nat_cmp m n) refl)
+    (λ e h. e) (λ e same. absurd (omega (arith, less, same)))
+    (λ e more. absurd (omega (arith, less, more)))
+
+number_equal : (m n : ℕ) → m ≡ n → nat_cmp m n ≡ Equal
+number_equal m n same =
+    by_ranked (m < n) (m ≡ n) (n < m) (nat_cmp m n) (ranked m n (nat_cmp m n) refl)
+    (λ e less. absurd (omega (arith, less, same))) (λ e h. e)
+    (λ e more. absurd (omega (arith, more, same)))
+
+pub less_from_before : (p q : ℕ × ℕ) → ComesBefore p q → pair_cmp p q ≡ Less
+less_from_before p q before = elim before [
+  | inl first ↦ ap (λ o. ordering_then o (nat_cmp p.1 q.1)) (number_less p.0 q.0 first)
+  | inr second ↦
+      ap (λ o. ordering_then o (nat_cmp p.1 q.1)) (number_equal p.0 q.0 second.0)
+      ∙ number_less p.1 q.1 second.1
+]
+
+-- pairs that were sorted, each kept once
+module _ (from sorted to : List (ℕ × ℕ)) (moved : IsPermutation from sorted)
+    (filtered : IsFiltered (DiffersFromLast pair_eq) [] sorted to)
+  where
+    kept : to ≡ dedup pair_eq sorted
+    kept = dedup_is pair_eq sorted to filtered
+
+    pub ascend_once : IsSorted pair_cmp sorted → AreAscending to
+    ascend_once up i j d before in' =
+        let strictly = IsStrictlySortedBy-dedup pair_total pair_ties sorted up in
+        let pairs = dedup pair_eq sorted in
+        let within : j < length pairs = subst (λ (ps : List (ℕ × ℕ)). j < length ps) kept in' in
+        subst (λ (ps : List (ℕ × ℕ)). ComesBefore (get_or ps i d) (get_or ps j d)) (sym kept)
+        (before_from_less (get_or pairs i d) (get_or pairs j d)
+        (Less-from_sorted pair_cmp pairs i j d strictly before within))
+
+    pub same_once : AreThose from to
+    same_once p = (
+      λ c.
+          let left = subst (λ (ps : List (ℕ × ℕ)). Contains ps p) kept c in
+          let there = Contains-from_dedup pair_eq sorted p left in
+          Contains-permutation sorted from p (IsPermutation-sym from sorted moved) there,
+      λ c.
+          let there = Contains-permutation from sorted p moved c in
+          subst (λ (ps : List (ℕ × ℕ)). Contains ps p) (sym kept)
+          (Contains-dedup pair_equiv same_from_eq sorted p there),
+    )

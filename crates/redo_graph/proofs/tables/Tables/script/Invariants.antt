@@ -1,0 +1,13 @@
+use Rattle.std.proofs.Common.{take}
+use Rattle.std.specs.List.{AllZip}
+use Rattle.redo_terms.specs.Meaning.{command_of}
+use Rattle.redo_graph.specs.Steps.{Means}
+use Rattle.redo_graph.specs.Inside.Tables.{Grows}
+use Rattle.redo_graph.proofs.tables.Tables.script.Given as goal
+
+abbrev pub invariant-loop-item : goal.invariant-loop-item
+invariant-loop-item l = record {
+  means : AllZip (λ item step. Means l.self step (command_of item.command))
+      (take l.item-index l.item-items) l.steps.items;
+  grows : Grows l.fn.self l.self;
+}

@@ -1,0 +1,4 @@
+pub mod Pairs
+pub mod Named
+pub mod Tables
+pub mod Kept
