@@ -1,5 +1,5 @@
 -- The invariant of the rows, if one target is replaced by another.
-use Rattle.std.proofs.Common.{◌≡◌, ◌≢◌, ◌↔◌, ℕ, ◌<◌, ◌≤◌, ◌+◌, Bool, true, false, ◌||◌, List, [], ◌∷◌, length, get_or, set, drop, refl, sym, ap, ◌∙◌, subst, inl, inr, arith, IsTrue, eqb, ne_eqb, eq-eqb, ◌^◌, suc}
+use Rattle.std.proofs.Common.{◌≡◌, ◌↔◌, ℕ, ◌<◌, ◌≤◌, ◌+◌, Bool, true, false, ◌||◌, List, [], ◌∷◌, length, get_or, set, drop, refl, sym, ap, ◌∙◌, subst, inl, inr, arith, IsTrue, eqb, ne_eqb, eq-eqb, ◌^◌, suc}
 use Rattle.std.proofs.lemmas.Bool.{cases_eq, or_right, false≢true}
 use Rattle.std.proofs.lemmas.List.{length-set, get_or_default, drop_all, drop_more, get_or-drop, length-drop}
 use Rattle.std.specs.List.{Contains, AllPairs}

@@ -8,8 +8,8 @@ use Rattle.std.specs.List.{count_by, Contains}
 use Rattle.redo_model.proofs.MorePlaces.{get_or-extended}
 use Rattle.redo_records.specs.Rows.{Slot, TargetRows, slot_at, has_slot, target_at, bare, room_of, rows_of}
 use Rattle.redo_records.specs.Numbers.{NumberList}
-use Rattle.redo_records.specs.Inside.Kept.{has_change, has_created, no_numbers, passes_on, sits_on, slots_on, numbers_at, IsInverseOn, IsInverse, CountsSlots, IsKept, AreEmpty}
-use Rattle.redo_records.proofs.Inverses.{flag, IsRowTest, no_slot_no_row, slotted_row}
+use Rattle.redo_records.specs.Inside.Kept.{has_change, has_created, no_numbers, passes_on, sits_on, numbers_at, IsInverseOn, IsInverse, CountsSlots, IsKept, AreEmpty}
+use Rattle.redo_records.proofs.Inverses.{flag, IsRowTest, no_slot_no_row}
 
 -- the lists, and empty ones after them
 lists_more : (lists more : List NumberList) → AreEmpty more → (n : ℕ)

@@ -1,5 +1,5 @@
 -- The slots of a target, if one of them is changed.
-use Rattle.std.proofs.Common.{◌≡◌, ℕ, cond, eqb, eq-eqb, ne_eqb, List, set, sym, ap, ◌∙◌, inl, inr}
+use Rattle.std.proofs.Common.{◌≡◌, ℕ, cond, eqb, ne_eqb, List, set, sym, ap, ◌∙◌, inl, inr}
 use Rattle.std.proofs.lemmas.Bool.{cases_eq}
 use Rattle.redo_records.specs.Rows.{Slot, slot_at}
 use Rattle.redo_records.specs.Target.{Ascending}

@@ -1,5 +1,5 @@
 -- The invariant of the rows of one target.
-use Rattle.std.specs.Prelude.{◌≡◌, ◌≢◌, ℕ, ◌<◌, List, Some, AllPairs}
+use Rattle.std.specs.Prelude.{◌≡◌, ◌≢◌, ◌<◌, List, Some, AllPairs}
 use Rattle.redo_model.specs.State.{Mark}
 use Rattle.redo_records.specs.Rows.{Slot}
 

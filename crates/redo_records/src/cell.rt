@@ -1,7 +1,6 @@
 ghost use Rattle.std.specs.Prelude.{◌≡◌, ◌+◌, ◌<◌, ◌^◌, ◌↔◌, IsTrue, option_map};
 ghost use Rattle.redo_model.specs.State as states;
-ghost use Rattle.redo_model.specs.State.{idle, mark_in, is_building};
-ghost use Rattle.redo_model.specs.Step.{is_built_by};
+ghost use Rattle.redo_model.specs.State.{idle, mark_in};
 ghost use Rattle.redo_terms.specs.Meaning.{refusal_of};
 ghost use Rattle.redo_records.specs.Meaning.{row_mark_of, target_state_of};
 ghost use Rattle.redo_records.specs.Cells.{IsBuiltAndEdited};
@@ -9,7 +8,7 @@ ghost use Rattle.redo_records.specs.Refusals.{refusal_by_target};
 
 use crate::mark::Mark;
 use crate::state::State;
-use redo_terms::{FileStamp, Kind, Refusal, cases};
+use redo_terms::{FileStamp, Kind, Refusal};
 use std::marker::Model;
 use std::mem::size_of;
 
@@ -48,47 +47,6 @@ fn is_same_stamp(one: &Option<FileStamp>, other: &Option<FileStamp>) -> bool
         (None, None) => true,
         _ => false,
     }
-}
-
-/// Returns the refusal of a need, if the need is not met. A need about the names after the target is skipped.
-macro_rules! refuse_unless {
-    (held $refusal:ident $cell:ident $s:ident $holds:ident) => {
-        if !$holds {
-            return Some(Refusal::$refusal);
-        }
-    };
-    (resting $refusal:ident $cell:ident $s:ident $holds:ident) => {
-        if $cell.is_building() {
-            return Some(Refusal::$refusal);
-        }
-    };
-    (own_build $refusal:ident $cell:ident $s:ident $holds:ident) => {
-        if !$cell.is_built_by($s) {
-            return Some(Refusal::$refusal);
-        }
-    };
-    (others $refusal:ident $cell:ident $s:ident $holds:ident) => {};
-    (missing $refusal:ident $cell:ident $s:ident $holds:ident) => {};
-}
-
-/// The refusal of the first need of the kind that is not met, of those about the target alone.
-macro_rules! first_refusal {
-    (
-        [$cell:ident $s:ident $holds:ident $kind:ident]
-        $((
-            $case:ident $(($($field:ident),*))?,
-            $word:literal,
-            [$($need:ident $refusal:ident),*],
-            $($rest:tt)*
-        ))*
-    ) => {
-        match $kind {
-            $(Kind::$case => {
-                $(refuse_unless!($need $refusal $cell $s $holds);)*
-                None
-            })*
-        }
-    };
 }
 
 impl Cell {
@@ -215,25 +173,7 @@ impl Cell {
     pub fn refusal(&self, s: u8, kind: Kind, holds: bool) -> Option<Refusal>
         ensures { option_map refusal_of result ≡ refusal_by_target self.now.state s holds kind }
     {
-        cases!(first_refusal self s holds kind)
-    }
-
-    fn is_building(&self) -> bool
-        ensures { result ≡ is_building self.now.state }
-    {
-        match self.state {
-            State::Building(_) => true,
-            _ => false,
-        }
-    }
-
-    fn is_built_by(&self, s: u8) -> bool
-        ensures { result ≡ is_built_by s self.now.state }
-    {
-        match self.state {
-            State::Building(builder) => builder == s,
-            _ => false,
-        }
+        self.state.refusal(s, kind, holds)
     }
 
     pub fn set_file(&mut self, file: Option<FileStamp>)

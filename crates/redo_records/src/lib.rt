@@ -14,6 +14,7 @@ mod mark;
 mod news;
 mod numbers;
 mod records;
+mod refusal;
 mod rows;
 mod state;
 mod target;

@@ -1,4 +1,4 @@
-use Rattle.std.proofs.Common.{◌≡◌, ◌∙◌, ap, subst, refl, true, Some, is_some, List, cond, eqb}
+use Rattle.std.proofs.Common.{◌≡◌, ◌∙◌, ap, subst, refl, Some, is_some, List, cond, eqb}
 use Rattle.redo_records.specs.declared.kept_mark.KeptMark.{KeptMark}
 use Rattle.redo_records.specs.Inside.KeptMark.{kept_mark_of}
 use Rattle.redo_records.specs.Rows.{Slot, TargetRows, slot_at, has_slot}

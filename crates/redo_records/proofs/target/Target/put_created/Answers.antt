@@ -1,4 +1,4 @@
-use Rattle.std.proofs.Common.{◌≡◌, ◌∙◌, ap, subst, refl, true, is_some, List, cond, eqb}
+use Rattle.std.proofs.Common.{◌≡◌, ◌∙◌, ap, subst, refl, true, List, cond, eqb}
 use Rattle.redo_records.specs.Rows.{Slot, TargetRows, slot_at, has_slot}
 use Rattle.redo_records.specs.Inside.Target.{IsSlotOf}
 use Rattle.redo_records.proofs.Slots.{slot_stands}

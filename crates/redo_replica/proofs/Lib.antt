@@ -1,0 +1,15 @@
+mod Marks
+mod Places
+mod Written
+mod Blocks
+mod Effects
+mod Layouts
+mod Listed
+mod NamesOn
+mod RowsOn
+mod Tells
+mod Verdicts
+mod Walks
+mod News
+mod Seeds
+mod Fitting

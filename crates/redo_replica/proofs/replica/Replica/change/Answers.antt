@@ -1,0 +1,40 @@
+use Rattle.std.proofs.Common.{length, sym, subst}
+use Rattle.redo_replica.specs.Replicas.{ReplicaOf, IsStepBelow, count_of}
+use Rattle.redo_replica.specs.Inside.Changes.{IsReady}
+use Rattle.redo_replica.specs.Inside.Entries.{HasNumber}
+use Rattle.redo_replica.proofs.Fitting.{has_number}
+use Rattle.redo_replica.proofs.Listed.{ready}
+use Rattle.redo_replica.proofs.Seeds.{right_but}
+use Rattle.redo_replica.proofs.replica.Replica.change.Goals as goal
+
+pub seed_of-seed-requires : goal.seed_of-seed-requires
+seed_of-seed-requires c = (
+  c.self.inside.graph.now.tables,
+  subst (λ (r : ReplicaOf). IsReady r.graph.tables (count_of r) c.args.step.now)
+      (sym c.self.view_is)
+      (ready c.args.self.now.graph.tables (count_of c.args.self.now) c.args.step.now
+      c.requires.step),
+)
+
+pub obey-requires-clause-ready : goal.obey-requires-clause-ready
+obey-requires-clause-ready c =
+    subst (λ (r : ReplicaOf). IsReady r.graph.tables (count_of r) c.args.step.now)
+    (sym c.self.view_is)
+    (ready c.args.self.now.graph.tables (count_of c.args.self.now) c.args.step.now
+    c.requires.step)
+
+pub obey-requires-clause-entry : goal.obey-requires-clause-entry
+obey-requires-clause-entry c =
+    subst (λ (r : ReplicaOf). HasNumber r.graph.tables c.args.step.now) (sym c.self.view_is)
+    (has_number c.args.self.now.graph.tables c.args.step.now c.requires.step.0 c.requires.step.1)
+
+pub correct-requires-clause-right : goal.correct-requires-clause-right
+correct-requires-clause-right c =
+    let inside = c.self.inside in
+    let tables = inside.graph.now.tables in
+    let below =
+    subst (λ (r : ReplicaOf). IsStepBelow r.graph.tables (count_of r) c.args.step.now)
+    (sym c.self.view_is) c.requires.step in
+    right_but tables (length inside.cells) c.args.step.now inside.cells c.obey.new.cells
+    inside.rows c.obey.new.rows inside.memo c.args.s c.seed_of-seed.result below
+    c.self.invariant.right (c.seed_of-seed.ensures.seed tables inside.rows) c.obey.ensures.effect

@@ -1,0 +1,9 @@
+pub mod Entries
+pub mod Changes
+pub mod Steps
+pub mod Replicas
+pub mod Lists
+pub mod Fits
+pub mod News
+pub mod KeptMemo
+pub mod Seeds

@@ -1,0 +1,31 @@
+-- A graph with the cells and rows that stand on it.
+use Rattle.std.specs.Prelude.{◌≡◌, ◌↔◌, ◌<◌, ◌^◌, ℕ, List, Contains, length}
+use Rattle.redo_order.specs.Orders.{AreRanks}
+use Rattle.redo_order.specs.Inside.Orders.{IsOrderOf}
+use Rattle.redo_graph.specs.Graphs.{GraphOf, AreNumbers, IsOn, IsOnce}
+use Rattle.redo_graph.specs.Pairs.{AreAscending}
+use Rattle.redo_replica.specs.declared.rows.Row.{Row}
+use Rattle.redo_replica.specs.declared.cell.CompactCell.{CompactCell}
+use Rattle.redo_replica.specs.Inside.Changes.{AreSized}
+use Rattle.redo_replica.specs.Inside.Entries.{HaveEntries, HaveMarks}
+
+-- what a graph with this count of names has: their order; pairs of numbers below the count, each
+-- once, and in `on` the places of those on each name; equal stamps have one number, and equal digests
+pub record IsLinked (count : ℕ) (graph : GraphOf) : Type 0 where
+  pub order : IsOrderOf count graph.sorted
+  pub ranks : AreRanks graph.sorted graph.ranks
+  pub below : (p : ℕ × ℕ) → Contains graph.tables.pairs.items p → AreNumbers count p
+  pub one_pair : AreAscending graph.tables.pairs.items
+  pub pairs_on : (n i : ℕ) → Contains graph.on.items (n, i) ↔ IsOn graph.tables.pairs.items i n
+  pub one_stamp : IsOnce graph.tables.stamps
+  pub one_digest : IsOnce graph.tables.digests
+  pub targets : graph.tables.pairs.count ≡ count
+  pub names : graph.on.count ≡ count
+
+-- one cell for each name and rows for each pair of the graph, with numbers that its tables have
+pub record IsFit (graph : GraphOf) (cells : List CompactCell) (rows : List Row) : Type 0 where
+  pub sized : AreSized graph.tables cells rows
+  pub number : length cells < 2 ^ 32
+  pub linked : IsLinked (length cells) graph
+  pub entries : HaveEntries graph.tables cells
+  pub marks : HaveMarks graph.tables rows

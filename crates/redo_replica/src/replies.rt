@@ -1,0 +1,183 @@
+//! The reply to a step, from cells, rows and the marks of what is out of date.
+
+ghost use Rattle.std.specs.Prelude.{◌≡◌, ◌<◌, ℕ, List, None, Some, IfOk, IsOk, IsSome, false, length, slice_get};
+ghost use Rattle.redo_model.specs.Command as commands;
+ghost use Rattle.redo_model.specs.Command.{asked_lock};
+ghost use Rattle.redo_model.specs.Renaming.{IsReplyBelow};
+ghost use Rattle.redo_model.specs.Step.{Replies, Tells, stale_reply, verdict_of};
+ghost use Rattle.redo_terms.specs.Meaning.{reply_of};
+ghost use Rattle.redo_marks.specs.Memo.{IsRight};
+ghost use Rattle.redo_marks.specs.NameSet.{size_of};
+ghost use Rattle.redo_graph.specs.Steps.{AreListed, Means};
+ghost use Rattle.redo_replica.specs.declared.rows.Row.{Row};
+ghost use Rattle.redo_replica.specs.Replicas.{IsStepBelow, records_in};
+ghost use Rattle.redo_replica.specs.Replies.{lists_names, naming_in};
+ghost use Rattle.redo_replica.specs.Inside.Changes.{IsListReady};
+ghost use Rattle.redo_replica.specs.Inside.Lists.{IsLaidOut};
+
+use crate::cells::CompactCells;
+use crate::lists::{ood, sources, stale, targets};
+use crate::rows::PairRows;
+use crate::verdict::verdict;
+use redo_graph::{Graph, Listed, Step};
+use redo_marks::NameSet;
+use redo_terms::Reply;
+use std::alloc::{AllocError, Global};
+
+fn reply_to_ifchange(stale: Vec<u32>) -> Reply
+    ensures { reply_of result ≡ stale_reply stale.items }
+{
+    if stale.is_empty() {
+        Reply::Okay
+    } else {
+        Reply::Stale(stale)
+    }
+}
+
+/// Which of the listed names are stale, if any.
+fn stale_among(
+    alloc: Global,
+    graph: &Graph,
+    cells: &CompactCells,
+    out: &NameSet,
+    list: &Listed,
+) -> Result<Reply, AllocError>
+    requires laid_out { IsLaidOut graph.now (length cells.now) }
+    requires marks { size_of out.now ≡ length cells.now }
+    requires list { IsListReady graph.now.tables (length cells.now) list.now }
+    ensures tells { (rows : List Row) (t : ℕ) (names : List ℕ)
+        → IsRight out.now.marks (records_in graph.now.tables cells.now rows)
+        → AreListed graph.now.tables t names list.now
+        → IfOk result (λ reply. Tells (naming_in graph.now)
+        (records_in graph.now.tables cells.now rows) (commands.IfChange t names)
+        (reply_of reply)) }
+    ensures below { (rows : List Row)
+        → IsRight out.now.marks (records_in graph.now.tables cells.now rows)
+        → IfOk result (λ reply. IsReplyBelow (length cells.now) (reply_of reply)) }
+{
+    let places = graph.listed(list);
+    let names = stale(alloc, graph, cells, out, places)?;
+    Ok(reply_to_ifchange(names))
+}
+
+/// The targets that have a file and are out of date.
+fn ood_reply(
+    alloc: Global,
+    graph: &Graph,
+    cells: &CompactCells,
+    out: &NameSet,
+) -> Result<Reply, AllocError>
+    requires laid_out { IsLaidOut graph.now (length cells.now) }
+    requires marks { size_of out.now ≡ length cells.now }
+    ensures tells { (rows : List Row)
+        → IsRight out.now.marks (records_in graph.now.tables cells.now rows)
+        → IfOk result (λ reply. Tells (naming_in graph.now)
+        (records_in graph.now.tables cells.now rows) commands.Ood (reply_of reply)) }
+    ensures below { (rows : List Row)
+        → IsRight out.now.marks (records_in graph.now.tables cells.now rows)
+        → IfOk result (λ reply. IsReplyBelow (length cells.now) (reply_of reply)) }
+{
+    Ok(Reply::Ood(ood(alloc, graph, cells, out)?))
+}
+
+/// The targets that have a file.
+fn targets_reply(alloc: Global, graph: &Graph, cells: &CompactCells) -> Result<Reply, AllocError>
+    requires { IsLaidOut graph.now (length cells.now) }
+    ensures tells { (rows : List Row) → IfOk result (λ reply. Tells (naming_in graph.now)
+        (records_in graph.now.tables cells.now rows) commands.Targets (reply_of reply)) }
+    ensures below { IfOk result (λ reply. IsReplyBelow (length cells.now) (reply_of reply)) }
+{
+    Ok(Reply::Targets(targets(alloc, graph, cells)?))
+}
+
+/// The idle names that have a file and on which a target has a row.
+fn sources_reply(
+    alloc: Global,
+    graph: &Graph,
+    cells: &CompactCells,
+    rows: &PairRows,
+) -> Result<Reply, AllocError>
+    requires laid_out { IsLaidOut graph.now (length cells.now) }
+    requires sized { length rows.now ≡ length graph.now.tables.pairs.items }
+    ensures tells { IfOk result (λ reply. Tells (naming_in graph.now)
+        (records_in graph.now.tables cells.now rows.now) commands.Sources (reply_of reply)) }
+    ensures below { IfOk result (λ reply. IsReplyBelow (length cells.now) (reply_of reply)) }
+{
+    Ok(Reply::Sources(sources(alloc, graph, cells, rows)?))
+}
+
+/// The digest with this number.
+fn digest_at(graph: &Graph, number: u32) -> [u8; 20]
+    requires { number < length graph.now.tables.digests }
+    ensures { slice_get graph.now.tables.digests number ≡ Some result }
+{
+    graph.digests()[number as usize]
+}
+
+/// The reply to an accepted step. Only the lists of names allocate.
+pub(crate) fn answer(
+    alloc: Global,
+    graph: &Graph,
+    cells: &CompactCells,
+    rows: &PairRows,
+    out: &NameSet,
+    step: &Step,
+) -> Result<Reply, AllocError>
+    requires laid_out { IsLaidOut graph.now (length cells.now) }
+    requires sized { length rows.now ≡ length graph.now.tables.pairs.items }
+    requires marks { size_of out.now ≡ length cells.now }
+    requires memo { IsRight out.now.marks (records_in graph.now.tables cells.now rows.now) }
+    requires numbers { IsStepBelow graph.now.tables (length cells.now) step.now }
+    requires no_lock { (x : commands.Command ℕ) → Means graph.now.tables step.now x
+        → asked_lock x ≡ None }
+    ensures tells { (x : commands.Command ℕ) → Means graph.now.tables step.now x
+        → IfOk result (λ reply. Tells (naming_in graph.now)
+        (records_in graph.now.tables cells.now rows.now) x (reply_of reply)) }
+    ensures below { IfOk result (λ reply. IsReplyBelow (length cells.now) (reply_of reply)) }
+    ensures ok { (x : commands.Command ℕ) → Means graph.now.tables step.now x
+        → lists_names x ≡ false → IsOk result }
+{
+    match step {
+        Step::Lock(_) => unreachable!(),
+        Step::IfChange(_, list) => stale_among(alloc, graph, cells, out, list),
+        Step::Stamp(_, digest) => Ok(Reply::Stamped(digest_at(graph, *digest))),
+        Step::Ood => ood_reply(alloc, graph, cells, out),
+        Step::Targets => targets_reply(alloc, graph, cells),
+        Step::Sources => sources_reply(alloc, graph, cells, rows),
+        _ => Ok(Reply::Okay),
+    }
+}
+
+/// The reply to a session's step, which is no lock. Only the lists of names allocate, and a refusal doesn't.
+pub(crate) fn reply(
+    alloc: Global,
+    graph: &Graph,
+    cells: &CompactCells,
+    rows: &PairRows,
+    out: &NameSet,
+    s: u8,
+    step: &Step,
+    holds: bool,
+) -> Result<Reply, AllocError>
+    requires laid_out { IsLaidOut graph.now (length cells.now) }
+    requires sized { length rows.now ≡ length graph.now.tables.pairs.items }
+    requires marks { size_of out.now ≡ length cells.now }
+    requires memo { IsRight out.now.marks (records_in graph.now.tables cells.now rows.now) }
+    requires numbers { IsStepBelow graph.now.tables (length cells.now) step.now }
+    requires no_lock { (x : commands.Command ℕ) → Means graph.now.tables step.now x
+        → asked_lock x ≡ None }
+    ensures replies { (x : commands.Command ℕ) → Means graph.now.tables step.now x
+        → IfOk result (λ reply. Replies (naming_in graph.now)
+        (records_in graph.now.tables cells.now rows.now) s holds x (reply_of reply)) }
+    ensures below { IfOk result (λ reply. IsReplyBelow (length cells.now) (reply_of reply)) }
+    ensures ok { (x : commands.Command ℕ) → Means graph.now.tables step.now x
+        → lists_names x ≡ false → IsOk result }
+    ensures refused { (x : commands.Command ℕ) → Means graph.now.tables step.now x
+        → IsSome (verdict_of (naming_in graph.now)
+        (records_in graph.now.tables cells.now rows.now) s holds x) → IsOk result }
+{
+    match verdict(graph, cells, s, step, holds) {
+        Some(refusal) => Ok(Reply::Refused(refusal)),
+        None => answer(alloc, graph, cells, rows, out, step),
+    }
+}
