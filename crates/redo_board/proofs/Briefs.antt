@@ -1,5 +1,5 @@
 -- A command whose reply lists no names has a reply, whatever the records are.
-use Rattle.std.proofs.Common.{◌≡◌, ℕ, Bool, false, List, Option, Some, None, refl, sym, subst}
+use Rattle.std.proofs.Common.{◌≡◌, ℕ, Bool, false, Option, Some, None, refl, sym, subst}
 use Rattle.std.specs.Prelude.{MatchOption}
 use Rattle.std.specs.declared.cmp.Ordering.{Ordering}
 use Rattle.redo_model.specs.Names.{numbers}
@@ -12,9 +12,11 @@ use Rattle.redo_model.proofs.VerdictsByName.{RefusesBelow, verdict_below}
 use Rattle.redo_terms.specs.Meaning.{reply_of}
 use Rattle.redo_terms.specs.declared.reply.Reply as coded
 use Rattle.redo_order.specs.Orders.{by_place}
-use Rattle.redo_store.specs.Stored.{Stored, IsSameButRoom, count_of, order_of, records_of, lists_names}
+use Rattle.redo_graph.specs.declared.step.Step.{Step}
+use Rattle.redo_replica.specs.Replicas.{count_of, records_of}
+use Rattle.redo_replica.specs.Replies.{lists_names}
 use Rattle.redo_board.specs.Inside.Own.{holds_its_target}
-use Rattle.redo_board.specs.Inside.Steps.{IsSaidBy, IsReadyBy}
+use Rattle.redo_board.specs.Inside.Steps.{IsStepOf, IsSaidBy, IsReadyBy}
 use Rattle.redo_board.specs.declared.worker.Worker.{Worker}
 
 module _ (count : ℕ) (order : ℕ → ℕ → Ordering) (r : Records ℕ) (s : ℕ) (h : Bool) where
@@ -63,23 +65,11 @@ module _ (count : ℕ) (order : ℕ → ℕ → Ordering) (r : Records ℕ) (s :
       )
 
 -- what is ready has a reply
-pub ready_said : (w : Worker) (x : Command ℕ) (list : Option coded.Reply) → asked_lock x ≡ None
-    → IsBelow (count_of w.store) x → IsReadyBy w x list → (reply : Reply ℕ) × IsSaidBy w x reply
-ready_said w x (Some reply) a below ready = (reply_of reply, ready)
-ready_said w x None a below ready =
+pub ready_said : (w : Worker) (step : Step) (x : Command ℕ) (list : Option coded.Reply)
+    → IsStepOf w step x → IsReadyBy w x list → (reply : Reply ℕ) × IsSaidBy w x reply
+ready_said w step x (Some reply) is ready = (reply_of reply, ready)
+ready_said w step x None is ready =
     let y =
-    briefly (count_of w.store) (order_of w.store) (records_of w.store) w.session (holds_its_target w.own x) x a
-    ready below in
+    briefly (count_of w.replica) (by_place w.replica.graph.sorted) (records_of w.replica)
+    w.session (holds_its_target w.own x) x is.no_lock ready is.numbers in
     (y.0, record { replies = y.1; below = y.2 })
-
--- what is ready stays so when memory is reserved
-pub ready_in_room : (w : Worker) (to : Stored) (x : Command ℕ) (list : Option coded.Reply)
-    → IsSameButRoom w.store to → IsReadyBy w x list → IsReadyBy (record w { store = to }) x list
-ready_in_room w to x None same ready = ready
-ready_in_room w to x (Some reply) same ready = record {
-  replies =
-      subst (λ (z : List ℕ × Records ℕ). Replies (numbers (by_place z.0)) z.1 w.session
-      (holds_its_target w.own x) x (reply_of reply))
-      (λ i. (sym same.sorted i, sym same.records i)) ready.replies;
-  below = subst (λ n. IsReplyBelow n (reply_of reply)) (sym same.count) ready.below;
-}

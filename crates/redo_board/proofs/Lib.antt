@@ -17,6 +17,7 @@ pub mod Lone
 pub mod Rooms
 pub mod Kept
 pub mod Lent
+pub mod Lines
 pub mod Placing
 pub mod Rows
 pub mod ClaimWords

@@ -1,14 +1,17 @@
--- A worker's store: it is up to date with the row words that were seen, or one behind.
+-- A worker's replica: it is up to date with the row words that were seen, or one behind.
 use Rattle.std.proofs.Common.{◌≡◌, ℕ, ◌+◌, ◌<◌, ◌≤◌, ◌^◌, Bool, List, [], ◌∷◌, ◌++◌, length, get_or, Option, Some, None, refl, sym, ap, ◌∙◌, subst, arith, length-append}
 use Rattle.std.proofs.lemmas.List.{length_push}
-use Rattle.redo_model.specs.Names.{texts}
 use Rattle.redo_model.specs.State.{Records}
 use Rattle.redo_model.specs.Command.{Command}
 use Rattle.redo_model.specs.Reply.{Reply}
 use Rattle.redo_model.specs.Step.{Replies, records_after}
 use Rattle.redo_model.specs.Renaming.{IsReplyBelow}
-use Rattle.redo_model.specs.Inside.Renaming.{OrdersAlike, numbering}
-use Rattle.redo_store.specs.Stored.{Stored, records_of, count_of, order_of, applied_of, naming_of}
+use Rattle.redo_order.specs.Orders.{by_place}
+use Rattle.redo_order.proofs.Places.{by_place_is}
+use Rattle.redo_records.specs.Rows.{by_number}
+use Rattle.redo_graph.specs.Graphs.{IsGraphOf}
+use Rattle.redo_replica.specs.Replicas.{ReplicaOf, records_of, count_of}
+use Rattle.redo_replica.specs.Replies.{naming_in}
 use Rattle.redo_journal.specs.Plans.{PlanOf, script_of}
 use Rattle.redo_board.specs.Rows as rows
 use Rattle.redo_board.specs.Core.{replay, row_words, Begins}
@@ -55,31 +58,31 @@ few_seen v told =
     let e = length-append v.seen told.fits.seen.0 in
     omega arith
 
-pub lags_few : (p : PlanOf) (v : ViewOf) (stored : Stored) (pending : Option ℕ) → Told v
-    → Lags p stored pending v.seen → applied_of stored + 1 < 2 ^ 32
-lags_few p v stored None told lags = let a = few_seen v told in
+pub lags_few : (p : PlanOf) (v : ViewOf) (replica : ReplicaOf) (pending : Option ℕ) → Told v
+    → Lags p replica pending v.seen → replica.applied + 1 < 2 ^ 32
+lags_few p v replica None told lags = let a = few_seen v told in
     let b = ap length lags.behind in
     let c = lags.applied in
     omega arith
-lags_few p v stored (Some n) told lags = let a = few_seen v told in
+lags_few p v replica (Some n) told lags = let a = few_seen v told in
     let b = ap length lags.behind in
     let d = length_push lags.words n in
     let c = lags.applied in
     omega arith
 
-module _ (p : PlanOf) (old new : Stored) (seen : List ℕ)
-    (count : count_of new ≡ count_of old) (order : order_of new ≡ order_of old)
-    (applied : applied_of new ≡ applied_of old + 1) where
+module _ (p : PlanOf) (old new : ReplicaOf) (seen : List ℕ)
+    (count : count_of new ≡ count_of old) (graph : new.graph ≡ old.graph)
+    (applied : new.applied ≡ old.applied + 1) where
   -- the pending word is applied
   pub lags_caught : (n : ℕ) → Lags p old (Some n) seen
-      → records_of new ≡ after_row (naming_of old) (script_of p) (records_of old) (decoded n)
+      → records_of new ≡ after_row by_number (script_of p) (records_of old) (decoded n)
       → Lags p new None seen
   lags_caught n lags after = record {
     words = seen;
     behind = refl;
     records =
         after
-        ∙ same_records (order_of old) (rows.naming_of p).order (records_of old)
+        ∙ same_records by_number.order (rows.naming_of p).order (records_of old)
         (session_of (decoded n)) (holds_in (decoded n)) (command_of (script_of p) (decoded n))
         ∙ ap (λ r. after_row (rows.naming_of p) (script_of p) r (decoded n)) lags.records
         ∙ sym (replay-push p lags.words n)
@@ -89,20 +92,20 @@ module _ (p : PlanOf) (old new : Stored) (seen : List ℕ)
         let d = length_push lags.words n in
         omega arith;
     count = count ∙ lags.count;
-    order = subst (OrdersAlike (numbering p.names) texts) (sym order) lags.order;
+    graph = subst (IsGraphOf p) (sym graph) lags.graph;
   }
 
   -- the session's own command is applied
   pub lags_won : (s : ℕ) (w : ℕ) (h : Bool) (x : Command ℕ) → Lags p old None seen
       → replay p (seen ++ w ∷ []) ≡ records_after (rows.naming_of p) (replay p seen) s h x
-      → records_of new ≡ records_after (naming_of old) (records_of old) s h x
+      → records_of new ≡ records_after by_number (records_of old) s h x
       → Lags p new None (seen ++ w ∷ [])
   lags_won s w h x lags tells after = record {
     words = seen ++ w ∷ [];
     behind = refl;
     records =
         after
-        ∙ same_records (order_of old) (rows.naming_of p).order (records_of old) s h x
+        ∙ same_records by_number.order (rows.naming_of p).order (records_of old) s h x
         ∙ ap (λ r. records_after (rows.naming_of p) r s h x)
         (lags.records ∙ ap (replay p) (sym lags.behind))
         ∙ sym tells;
@@ -111,23 +114,23 @@ module _ (p : PlanOf) (old new : Stored) (seen : List ℕ)
         let d = length_push seen w in
         omega arith;
     count = count ∙ lags.count;
-    order = subst (OrdersAlike (numbering p.names) texts) (sym order) lags.order;
+    graph = subst (IsGraphOf p) (sym graph) lags.graph;
   }
 
--- the store's reply is the database's after the words that were seen
-pub says : (p : PlanOf) (stored : Stored) (seen : List ℕ) (s : ℕ) (h g : Bool) (x : Command ℕ)
+-- the replica's reply is the database's after the words that were seen
+pub says : (p : PlanOf) (replica : ReplicaOf) (seen : List ℕ) (s : ℕ) (h g : Bool) (x : Command ℕ)
     (reply : Reply ℕ)
-    → Lags p stored None seen → h ≡ g
-    → Replies (naming_of stored) (records_of stored) s h x reply
-    → IsReplyBelow (count_of stored) reply
+    → Lags p replica None seen → h ≡ g
+    → Replies (naming_in replica.graph) (records_of replica) s h x reply
+    → IsReplyBelow (count_of replica) reply
     → Replies (rows.naming_of p) (replay p seen) s g x reply × IsReplyBelow (length p.names) reply
-says p stored seen s h g x reply lags same r below =
+says p replica seen s h g x reply lags same r below =
     let b : IsReplyBelow (length p.names) reply =
     subst (λ n. IsReplyBelow n reply) lags.count below in (
       subst
           (λ (z : Records ℕ × Bool). Replies (rows.naming_of p) z.0 s z.1 x reply)
           (λ i. ((lags.records ∙ ap (replay p) (sym lags.behind)) i, same i))
-          (replies_too (order_of stored) (rows.naming_of p).order (length p.names)
-          (λ k m. lags.order.alike k m) (records_of stored) s h x reply b r),
+          (replies_too (by_place replica.graph.sorted) (rows.naming_of p).order (length p.names)
+          (λ k m. by_place_is lags.graph.sorted k m) (records_of replica) s h x reply b r),
       b,
     )

@@ -11,7 +11,7 @@ use Rattle.redo_model.specs.Journals.{Numbered}
 use Rattle.redo_model.specs.Inside.Room.{room_of}
 use Rattle.redo_terms.specs.Meaning.{command_of, reply_of}
 use Rattle.redo_terms.specs.declared.command.Command as terms
-use Rattle.redo_store.specs.Stored.{Stored}
+use Rattle.redo_replica.specs.Replicas.{ReplicaOf}
 use Rattle.redo_journal.specs.Plans.{PlanOf, script_of}
 use Rattle.redo_journal.specs.Holds.{Says, Notes}
 use Rattle.redo_journal.specs.Journals.{place_of, line_told, command_told, IsMarked}
@@ -46,7 +46,7 @@ entered old new x e enters P holds = subst P (λ i. record {
   session = sym enters.session i;
   entries = new.entries;
   own = new.own;
-  store = sym enters.store i;
+  replica = sym enters.replica i;
   pending = sym enters.pending i;
   tries = sym enters.tries i;
 }) holds
@@ -142,7 +142,7 @@ module _ (p : PlanOf) (b : Board) (w w' : Worker) (n : Numbered ℕ) (reply : Re
 
   module _ (tries : w'.tries ≡ length seen)
       (spent : w'.tries ≡ past place (rows_up_to 0 (journal_of p w)))
-      (lags : Lags p w'.store w'.pending seen) where
+      (lags : Lags p w'.replica w'.pending seen) where
     spent' : w'.tries ≡ rows_up_to 0 (journal_of p w')
     spent' = spent ∙ sym (rows-push 0 (journal_of p w) l₀) ∙ ap (rows_up_to 0) (sym grown)
 
@@ -163,7 +163,7 @@ module _ (p : PlanOf) (b : Board) (w w' : Worker) (n : Numbered ℕ) (reply : Re
         own = says';
         marked = marked';
         told = keeps.told;
-        lags = subst (Lags p w'.store w'.pending) (sym keeps.saw) lags;
+        lags = subst (Lags p w'.replica w'.pending) (sym keeps.saw) lags;
         spent = λ _. spent';
       };
     }
@@ -202,17 +202,17 @@ module _ (p : PlanOf) (b : Board) (w w' : Worker) (n : Numbered ℕ) (reply : Re
     (session : w'.session ≡ w.session) (table : w'.seat.table_id ≡ w.seat.table_id)
     (slots : w'.seat.me.1 ≡ w.seat.me.1)
     (capacity : vec_capacity w.entries ≤ vec_capacity w'.entries)
-    (tries : w'.tries ≡ w.tries) (store : w'.store ≡ w.store) (pending : w'.pending ≡ w.pending)
+    (tries : w'.tries ≡ w.tries) (replica : w'.replica ≡ w.replica) (pending : w'.pending ≡ w.pending)
     (no-row : own_way (journal_of p w) n.command ≢ row) (still : (m : ℕ) → past place m ≡ m) where
   spent₁ : w'.tries ≡ past place (rows_up_to 0 (journal_of p w))
   spent₁ =
       tries ∙ k.works.spent (needs-none p w n is-next no-row)
       ∙ sym (still (rows_up_to 0 (journal_of p w)))
 
-  lags₁ : Lags p w'.store w'.pending (seen_by w)
+  lags₁ : Lags p w'.replica w'.pending (seen_by w)
   lags₁ =
-      subst (λ (x : Stored × Option ℕ). Lags p x.0 x.1 (seen_by w))
-      (λ i. (sym store i, sym pending i)) k.works.lags
+      subst (λ (x : ReplicaOf × Option ℕ). Lags p x.0 x.1 (seen_by w))
+      (λ i. (sym replica i, sym pending i)) k.works.lags
 
   pub claimed : WorksAt p b w' × Made p w w'
   claimed =
@@ -251,9 +251,9 @@ module _ (p : PlanOf) (b : Board) (w w' : Worker) (found : ℕ) (k : WorksAt p b
 
   pub works_lost : (n : Numbered ℕ) → next_by p w ≡ Some n
       → own_way (journal_of p w) n.command ≡ row → w'.seat.table_id ≡ w.seat.table_id
-      → w'.tries ≡ w.tries + 1 → w'.store ≡ w.store → w'.pending ≡ Some found
+      → w'.tries ≡ w.tries + 1 → w'.replica ≡ w.replica → w'.pending ≡ Some found
       → w.pending ≡ None → WorksAt p b w'
-  works_lost n is-next in-row table tries store pending none = record {
+  works_lost n is-next in-row table tries replica pending none = record {
     table = table ∙ k.table;
     works = record {
       view =
@@ -278,15 +278,15 @@ module _ (p : PlanOf) (b : Board) (w w' : Worker) (found : ℕ) (k : WorksAt p b
           (λ i. (sym session i, (sym same i).items)) k.works.marked;
       told = kept.told;
       lags =
-          subst (λ (x : Stored × Option ℕ). Lags p x.0 x.1 (seen_by w'))
-          (λ i. (sym store i, sym pending i)) (
-          let l = subst (λ o. Lags p w.store o (seen_by w)) none k.works.lags in record {
+          subst (λ (x : ReplicaOf × Option ℕ). Lags p x.0 x.1 (seen_by w'))
+          (λ i. (sym replica i, sym pending i)) (
+          let l = subst (λ o. Lags p w.replica o (seen_by w)) none k.works.lags in record {
             words = l.words;
             behind = kept.saw ∙ ap (λ x. x ++ found ∷ []) l.behind;
             records = l.records;
             applied = l.applied;
             count = l.count;
-            order = l.order;
+            graph = l.graph;
           });
       spent =
           λ no.

@@ -1,10 +1,9 @@
 -- What fits together, and the invariants of boards, seats and workers.
 use Rattle.std.specs.Prelude.{◌≡◌, ℕ, ◌+◌, ◌-◌, ◌<◌, ◌≤◌, List, [], ◌∷◌, ◌++◌, length, map, All, Option, MatchOption, vec_capacity}
-use Rattle.redo_model.specs.Names.{texts}
 use Rattle.redo_model.specs.Placed.{line_of}
-use Rattle.redo_model.specs.Inside.Renaming.{OrdersAlike, numbering}
 use Rattle.redo_model.specs.Inside.Room.{room_of}
-use Rattle.redo_store.specs.Stored.{Stored, records_of, count_of, order_of, applied_of}
+use Rattle.redo_graph.specs.Graphs.{IsGraphOf}
+use Rattle.redo_replica.specs.Replicas.{ReplicaOf, records_of, count_of}
 use Rattle.redo_journal.specs.Plans.{PlanOf, IsPlan, script_of}
 use Rattle.redo_journal.specs.Holds.{Says}
 use Rattle.redo_journal.specs.Journals.{IsMarked}
@@ -17,13 +16,14 @@ use Rattle.redo_board.specs.Views.{ViewOf, view}
 use Rattle.redo_board.specs.Rule.{Told, range}
 use Rattle.redo_board.specs.Shown.{plan_of, first_of, end_of, journal_of, entries_of, seen_by, rows_up_to, NeedsNoRow}
 
--- the words of a board: one for the seats, one for each row, one for each name
+-- the plan's graph, and the words of a board: one for the seats, one for each row, one for each name
 pub record IsBoardOf (p : PlanOf) (b : Board) : Type 0 where
   pub key : plan_of b ≡ p
   pub plan : IsPlan p
   pub rows : b.rows ≡ rows_of p
   pub words : b.table.shared.table_id.words ≡ rows_of p + 1 + length p.names
   pub slots : b.table.shared.table_id.slots ≡ 0
+  pub graph : IsGraphOf p b.graph
 
 -- a seat that knows this plan
 pub record IsSeatOf (p : PlanOf) (s : Seat) : Type 0 where
@@ -46,14 +46,16 @@ pub record IsFreshOf (from below : ℕ) (s : Seat) : Type 0 where
   pub first : first_of s ≡ from
   pub end : end_of s ≡ below
 
--- the store is the replay of the row words that were seen, or of all but the last, which is pending
-pub record Lags (p : PlanOf) (stored : Stored) (pending : Option ℕ) (seen : List ℕ) : Type 0 where
+-- the replica, on the plan's graph, is the replay of the row words that were seen, or of all but the
+-- last, which is pending
+pub record Lags (p : PlanOf) (replica : ReplicaOf) (pending : Option ℕ) (seen : List ℕ) :
+    Type 0 where
   pub words : List ℕ
   pub behind : MatchOption pending (seen ≡ words) (λ word. seen ≡ words ++ word ∷ [])
-  pub records : records_of stored ≡ replay p words
-  pub applied : applied_of stored ≡ length words
-  pub count : count_of stored ≡ length p.names
-  pub order : OrdersAlike (numbering p.names) texts (order_of stored)
+  pub records : records_of replica ≡ replay p words
+  pub applied : replica.applied ≡ length words
+  pub count : count_of replica ≡ length p.names
+  pub graph : IsGraphOf p replica.graph
 
 -- what the worker knows
 abbrev pub view_of : Worker → ViewOf
@@ -69,7 +71,7 @@ pub record Works (p : PlanOf) (w : Worker) : Type 0 where
   pub own : Says p.names w.own (map line_of (journal_of p w))
   pub marked : All (IsMarked (script_of p w.session)) (entries_of w)
   pub told : Told (view_of w)
-  pub lags : Lags p w.store w.pending (seen_by w)
+  pub lags : Lags p w.replica w.pending (seen_by w)
   pub spent : NeedsNoRow p w → w.tries ≡ rows_up_to 0 (journal_of p w)
 
 -- a worker at this board

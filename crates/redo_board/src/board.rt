@@ -11,19 +11,22 @@ use crate::rule::Running;
 use crate::seat::Seat;
 use crate::view::View;
 use atomic_table::{Closed, Table};
+use redo_graph::Graph;
 use redo_journal::Plan;
 use std::alloc::{AllocError, Global};
 
-/// The words that all workers share: one for the seats, one for each row, one for each name's
-/// claim.
+/// What all workers share: the words, one for the seats, one for each row, one for each name's
+/// claim; and the graph of the plan.
 #[derive(Drop)]
 pub struct Board {
     pub(crate) table: Table<(), View, Plan, Running, Global>,
     pub(crate) rows: usize,
+    pub(crate) graph: Graph,
 }
 
 impl Board {
-    /// The board of a plan, all words 0, and a fresh seat for all sessions.
+    /// The board of a plan, all words 0, and a fresh seat for all sessions. If memory runs out nothing
+    /// is kept.
     pub fn open(alloc: Global, plan: &Plan) -> Result<(Board, Seat), AllocError>
         ensures board { IfOk result (λ r. IsBoardOf plan.now r.0) }
         ensures seat { IfOk result (λ r. SitsAt plan.now r.0 r.1) }
@@ -31,10 +34,11 @@ impl Board {
     {
         let rows = rows(plan);
         let end = sessions(plan);
+        let graph = Graph::new(alloc, plan)?;
         let words = vec![in alloc; 0u64; rows + 1 + plan.names().len() as usize]?;
         let (table, seat) = Table::of_words(alloc, words.as_slice(), plan)?;
         Ok((
-            Board { table, rows },
+            Board { table, rows, graph },
             Seat {
                 seat,
                 first: 0,
@@ -70,7 +74,11 @@ impl Board {
             ≡ rows_of (plan_of self) + 1 + length (plan_of self).names }
         ensures slots { slots_len result.slots ≡ 0 }
     {
-        let Board { table, rows: _ } = self;
+        let Board {
+            table,
+            rows: _,
+            graph: _,
+        } = self;
         let Seat {
             seat,
             first: _,

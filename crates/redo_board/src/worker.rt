@@ -1,6 +1,7 @@
 ghost use Rattle.std.specs.Prelude.{◌≡◌, ◌+◌, ◌<◌, [], ◌++◌, ◌∷◌, length, IfOk, IfErr, IsOk};
 ghost use Rattle.std.specs.Prelude.{OnErr, MatchBool, None, IfSome, vec_len, vec_capacity};
 ghost use Rattle.std.specs.Borrow.{sem};
+ghost use mir.Syntax.{named};
 ghost use Rattle.std.specs.Option.{IfNone};
 ghost use Rattle.redo_model.specs.Renaming.{IsBelow};
 ghost use Rattle.redo_terms.specs.Meaning.{command_of};
@@ -22,7 +23,7 @@ use crate::plan::{command_next, items, room_for, script, session_number};
 use crate::seat::{Seat, Token};
 use crate::worker::ways::{Way, way_for};
 use redo_journal::{Entry, Holds, Journal, Next, Plan, next_step};
-use redo_store::Store;
+use redo_replica::Replica;
 use redo_terms::{Command, Reply};
 use std::alloc::{AllocError, Global};
 
@@ -32,21 +33,22 @@ mod ways;
 mod words;
 
 /// A worker of one session: its journal, what it holds and builds by that, the rows that it saw,
-/// and a store of its own that is up to date with these rows, or one row behind.
+/// and a replica of its own that is up to date with these rows, or one row behind.
 #[derive(Drop)]
-pub struct Worker {
+pub struct Worker<'a> {
     pub(crate) seat: Token,
     pub(crate) session: u8,
     pub(crate) entries: Vec<Entry>,
     pub(crate) own: Holds,
-    pub(crate) store: Store,
+    pub(crate) replica: Replica<'a>,
     pub(crate) pending: Option<u64>,
     pub(crate) tries: u32,
 }
 
-impl Worker {
-    /// A worker of the seat's one session. If memory runs out the seat comes back.
-    pub fn new(alloc: Global, plan: &Plan, seat: Seat) -> Result<Worker, Seat>
+impl<'a> Worker<'a> {
+    /// A worker of the seat's one session, which reads the board's graph. If memory runs out the seat comes back.
+    pub fn new(alloc: Global, board: &'a Board, plan: &Plan, seat: Seat) -> Result<Worker<'a>, Seat>
+        requires board { IsBoardOf plan.now board.now }
         requires fresh { IsFresh seat × (end_of seat ≡ first_of seat + 1) }
         requires plan { IsSeatOf plan.now seat × (first_of seat < length plan.now.scripts) }
         ensures session { IfOk result (λ worker. session_of worker ≡ first_of seat) }
@@ -63,7 +65,7 @@ impl Worker {
         let Ok(own) = Holds::new(alloc, plan.names()) else {
             return Err(seat);
         };
-        let Ok(store) = Store::new(alloc, plan.names()) else {
+        let Ok(replica) = Replica::new(alloc, &board.graph, plan.names().len()) else {
             return Err(seat);
         };
         let Seat {
@@ -76,7 +78,7 @@ impl Worker {
             session,
             entries,
             own,
-            store,
+            replica,
             pending: None,
             tries: 0,
         })
@@ -94,7 +96,7 @@ impl Worker {
         gate: &G,
     ) -> Result<Option<&Entry>, AllocError>
         requires { IsBoardOf plan.now board.now × WorksAt plan.now board.now self.old }
-        ensures* after { sem 𝓛 (Rests the_row self.entry
+        ensures* after { sem 𝓛 (Rests (the_row (record { mir = named 0; lft = [] })) self.entry
             (Stepped plan.now board.now self.old result)) }
         ensures no_memory { NeedsNoRow plan.now self.old → IsOk result }
     {
@@ -178,16 +180,17 @@ impl Worker {
 
     /// The seat, which isn't fresh, and the journal.
     pub fn leave(self) -> (Seat, Journal)
-        ensures journal { (result.1.session ≡ session_of self) × (result.1.tries ≡ tries_of self) }
-        ensures leaves { (plan : PlanOf) (board : BoardOf) → WorksAt plan board self
-            → Leaves plan board self result.0 result.1 }
+        ensures journal { (result.1.session ≡ session_of self.entry)
+            × (result.1.tries ≡ tries_of self.entry) }
+        ensures leaves { (plan : PlanOf) (board : BoardOf) → WorksAt plan board self.entry
+            → Leaves plan board self.entry result.0 result.1 }
     {
         let Worker {
             seat,
             session,
             entries,
             own: _,
-            store: _,
+            replica: _,
             pending: _,
             tries,
         } = self;

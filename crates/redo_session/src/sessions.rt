@@ -59,7 +59,7 @@ fn work<G: Gate>(
     ensures { IfOk result (λ done. AreDone plan.now board.now
         sessions.first sessions.end done.0 (done.1 ∷ [])) }
 {
-    let Ok(mut worker) = Worker::new(alloc, plan, sessions.seat) else {
+    let Ok(mut worker) = Worker::new(alloc, board, plan, sessions.seat) else {
         return Err(AllocError);
     };
     while let Some(_entry) = worker.step(alloc, board, plan, gate)? {}

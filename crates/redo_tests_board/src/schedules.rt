@@ -50,12 +50,12 @@ const PLANS: [&[&str]; 5] = [
 const COUNTS: [usize; 5] = [924, 924, 4_200, 1_680, 2_520];
 
 /// A worker for each session.
-fn workers_of(
+fn workers_of<'a>(
     alloc: Global,
-    board: &Board,
+    board: &'a Board,
     plan: &Plan,
     seat: Seat,
-) -> Result<Vec<Worker>, AllocError>
+) -> Result<Vec<Worker<'a>>, AllocError>
     requires board { IsBoardOf plan.now board.now × SitsAt plan.now board.now seat }
     requires fresh { IsFreshOf 0 (length plan.now.scripts) seat }
     ensures { IfOk result (λ workers. All (WorksAt plan.now board.now) workers.items) }
@@ -92,7 +92,7 @@ fn take_turn(
     board: &Board,
     plan: &Plan,
     gate: &Counts,
-    worker: &mut Worker,
+    worker: &mut Worker<'_>,
     passed: u32,
 ) -> Result<u32, AllocError>
     requires { IsBoardOf plan.now board.now × WorksAt plan.now board.now worker.old }
@@ -113,7 +113,7 @@ fn take_turns(
     board: &Board,
     plan: &Plan,
     gate: &Counts,
-    workers: &mut [Worker],
+    workers: &mut [Worker<'_>],
     turns: &[usize],
 ) -> Result<(), AllocError>
     requires board { IsBoardOf plan.now board.now }
@@ -129,7 +129,7 @@ fn take_turns(
 }
 
 /// The journals of the sessions, whose workers leave.
-fn journals_of(alloc: Global, workers: Vec<Worker>) -> Result<Vec<Journal>, AllocError> {
+fn journals_of(alloc: Global, workers: Vec<Worker<'_>>) -> Result<Vec<Journal>, AllocError> {
     let mut journals = Vec::new(alloc);
     for worker in workers {
         journals.push(worker.leave().1)?;
@@ -138,15 +138,15 @@ fn journals_of(alloc: Global, workers: Vec<Worker>) -> Result<Vec<Journal>, Allo
 }
 
 /// The workers of the sessions, which have taken their steps in this order.
-fn turned(
+fn turned<'a>(
     rt: &impl Abort,
     alloc: Global,
-    board: &Board,
+    board: &'a Board,
     plan: &Plan,
     gate: &Counts,
     seat: Seat,
     turns: &[usize],
-) -> Result<Vec<Worker>, AllocError>
+) -> Result<Vec<Worker<'a>>, AllocError>
     requires board { IsBoardOf plan.now board.now × SitsAt plan.now board.now seat }
     requires fresh { IsFreshOf 0 (length plan.now.scripts) seat }
 {

@@ -14,22 +14,23 @@ use std::process::Abort;
 pub(crate) const MOST_STEPS: u32 = 16;
 
 /// The worker of a seat. If memory is refused, the seat comes back, and the next try succeeds.
-pub(crate) fn worker_of(
+pub(crate) fn worker_of<'a>(
     alloc: Global,
-    _board: &Board,
+    board: &'a Board,
     plan: &Plan,
     seat: Seat,
-) -> Result<Worker, AllocError>
+) -> Result<Worker<'a>, AllocError>
+    requires board { IsBoardOf plan.now board.now }
     requires fresh { IsFresh seat × (end_of seat ≡ first_of seat + 1) }
-    requires sits { SitsAt plan.now _board.now seat × (first_of seat < length plan.now.scripts) }
+    requires sits { SitsAt plan.now board.now seat × (first_of seat < length plan.now.scripts) }
     ensures session { IfOk result (λ worker. session_of worker ≡ first_of seat) }
-    ensures works { IfOk result (WorksAt plan.now _board.now) }
+    ensures works { IfOk result (WorksAt plan.now board.now) }
 {
-    match Worker::new(alloc, plan, seat) {
+    match Worker::new(alloc, board, plan, seat) {
         Ok(worker) => Ok(worker),
         Err(seat) => {
             tell(alloc);
-            match Worker::new(alloc, plan, seat) {
+            match Worker::new(alloc, board, plan, seat) {
                 Ok(worker) => Ok(worker),
                 Err(_) => Err(AllocError),
             }
@@ -77,7 +78,7 @@ fn step<G: Gate>(
     board: &Board,
     plan: &Plan,
     gate: &G,
-    worker: &mut Worker,
+    worker: &mut Worker<'_>,
     steps: &mut Steps,
 ) -> Result<(), AllocError>
     requires { IsBoardOf plan.now board.now × WorksAt plan.now board.now worker.old }

@@ -1,13 +1,16 @@
 -- What the code's values say of a step.
-use Rattle.std.specs.Prelude.{◌≡◌, ◌≤◌, ℕ, false, List, Option, Some, None, ◌∷◌, [], ◌++◌, vec_capacity}
+use Rattle.std.specs.Prelude.{◌≡◌, ◌≤◌, ℕ, false, List, Option, Some, None, ◌∷◌, [], ◌++◌, length, vec_capacity}
 use Rattle.redo_terms.specs.Meaning.{reply_of}
 use Rattle.redo_model.specs.Names.{Text}
-use Rattle.redo_model.specs.Command.{Command, Failed, Unlock}
+use Rattle.redo_model.specs.Command.{Command, Failed, Unlock, asked_lock}
 use Rattle.redo_model.specs.Reply.{Reply}
 use Rattle.redo_model.specs.Step.{Replies}
-use Rattle.redo_model.specs.Renaming.{IsReplyBelow}
+use Rattle.redo_model.specs.Renaming.{IsBelow, IsReplyBelow}
 use Rattle.redo_terms.specs.declared.reply.Reply as commands
-use Rattle.redo_store.specs.Stored.{records_of, naming_of, count_of, lists_names}
+use Rattle.redo_graph.specs.declared.step.Step.{Step}
+use Rattle.redo_graph.specs.Steps.{Means}
+use Rattle.redo_replica.specs.Replicas.{records_of, count_of}
+use Rattle.redo_replica.specs.Replies.{naming_in, lists_names}
 use Rattle.redo_journal.specs.Journals.{place_of}
 use Rattle.redo_journal.specs.Holds.{Notes}
 use Rattle.redo_journal.specs.declared.entry.Entry.{Entry}
@@ -36,10 +39,18 @@ LetsGo (Failed t) = Unit {0}
 LetsGo (Unlock t) = Unit {0}
 LetsGo command = ⊥
 
--- the reply is that of the worker's store, by what the session holds
+-- the step stands for the command, which is no lock, by the worker's replica and what it holds
+pub record IsStepOf (w : Worker) (step : Step) (x : Command ℕ) : Type 0 where
+  pub means : Means w.replica.graph.tables step x
+  pub numbers : IsBelow (count_of w.replica) x
+  pub no_lock : asked_lock x ≡ None
+  pub names : length w.own ≡ count_of w.replica
+
+-- the reply is that of the worker's replica, by what the session holds
 pub record IsSaidBy (w : Worker) (x : Command ℕ) (reply : Reply ℕ) : Type 0 where
-  pub replies : Replies (naming_of w.store) (records_of w.store) w.session (holds_its_target w.own x) x reply
-  pub below : IsReplyBelow (count_of w.store) reply
+  pub replies : Replies (naming_in w.replica.graph) (records_of w.replica) w.session
+      (holds_its_target w.own x) x reply
+  pub below : IsReplyBelow (count_of w.replica) reply
 
 -- the reply is there, or takes no allocation
 abbrev pub IsReadyBy : Worker → Command ℕ → Option commands.Reply → Type 0
@@ -53,6 +64,6 @@ pub record Enters (old : Worker) (x : Command ℕ) (entry : Entry) (new : Worker
   pub notes : (names : List Text) → Notes names old.own x (reply_of entry.reply) new.own
   pub seat : new.seat ≡ old.seat
   pub session : new.session ≡ old.session
-  pub store : new.store ≡ old.store
+  pub replica : new.replica ≡ old.replica
   pub pending : new.pending ≡ old.pending
   pub tries : new.tries ≡ old.tries

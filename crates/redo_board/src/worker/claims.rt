@@ -17,7 +17,7 @@ use crate::worker::words::again;
 use redo_journal::{Entry, Next, Place, Plan};
 use redo_terms::{Command, Reply};
 
-impl Worker {
+impl<'a> Worker<'a> {
     /// One `fetch_or` on the claim word of a target.
     pub(crate) fn lock(&mut self, board: &Board, plan: &Plan, number: u32, target: u32)
         requires belongs { IsBoardOf plan.now board.now × WorksAt plan.now board.now self.old }

@@ -1,10 +1,9 @@
-ghost use Rattle.std.specs.Prelude.{◌≡◌, ◌+◌, ◌^◌, ◌<◌, true, None, IsTrue, IsFalse, IfOk, OnOk, OnErr};
+ghost use Rattle.std.specs.Prelude.{◌≡◌, ◌+◌, ◌^◌, ◌<◌, false, None, IsOk, IsTrue, IsFalse, IfOk, OnOk, OnErr};
 ghost use Rattle.std.specs.Prelude.{MatchBool, length};
-ghost use Rattle.redo_model.specs.Command.{asked_lock};
-ghost use Rattle.redo_model.specs.Renaming.{IsBelow};
 ghost use Rattle.redo_terms.specs.Meaning.{command_of, reply_of};
-ghost use Rattle.redo_store.specs.Stored.{records_of, naming_of, order_of, applied_of, count_of};
-ghost use Rattle.redo_store.specs.Stored.{has_room_for, IsSameButRoom};
+ghost use Rattle.redo_records.specs.Rows.{by_number};
+ghost use Rattle.redo_graph.specs.Graphs.{IsGraphOf};
+ghost use Rattle.redo_replica.specs.Replicas.{records_of, count_of};
 ghost use Rattle.redo_joint.specs.RowWord.{after_row, decoded};
 ghost use Rattle.redo_journal.specs.Plans.{IsPlan, script_of};
 ghost use Rattle.redo_board.specs.Rows.{rows_of};
@@ -14,33 +13,34 @@ ghost use Rattle.redo_board.specs.Plays.{own_way};
 ghost use Rattle.redo_board.specs.Shown.{session_of, journal_of, tries_of};
 ghost use Rattle.redo_board.specs.Kept.{IsBoardOf, Works, WorksAt};
 ghost use Rattle.redo_board.specs.Inside.Shown.{IsNextBy};
-ghost use Rattle.redo_board.specs.Inside.Steps.{IsSaidBy, IsReadyBy};
+ghost use Rattle.redo_board.specs.Inside.Steps.{IsStepOf, IsSaidBy, IsReadyBy};
+ghost use Rattle.redo_replica.specs.Replies.{lists_names};
 ghost use Rattle.redo_board.specs.Outcomes.{Made, Waits};
 
 use crate::board::Board;
 use crate::gate::Gate;
-use crate::plan::command_at;
 use crate::rule::{Miss, Pass, Try};
 use crate::worker::Worker;
 use crate::worker::ways::holds_its_target;
-use crate::worker::words::{again, word_of};
+use crate::worker::words::{again, line_step, word_of};
+use redo_graph::Step;
 use redo_joint::RowWord;
 use redo_journal::{Entry, Next, Place, Plan};
-use redo_store::Store;
+use redo_replica::Replica;
 use redo_terms::{Command, Reply};
 use std::alloc::{AllocError, Global};
 
 /// Applies the command that a row word names.
-fn apply_word(store: &mut Store, plan: &Plan, word: u64) -> Result<(), AllocError>
+fn apply_word<'a>(replica: &mut Replica<'a>, plan: &Plan, word: u64)
     requires word { IsPlan plan.now × IsWord plan.now word }
-    requires names { count_of store.old ≡ length plan.now.names }
-    requires applied { applied_of store.old + 1 < 2 ^ 32 }
-    ensures after { OnOk result (records_of store.new ≡ after_row (naming_of store.old)
-        (script_of plan.now) (records_of store.old) (decoded word)) }
-    ensures applied { OnOk result (applied_of store.new ≡ applied_of store.old + 1) }
-    ensures count { count_of store.new ≡ count_of store.old }
-    ensures order { order_of store.new ≡ order_of store.old }
-    ensures err { OnErr result (IsSameButRoom store.old store.new) }
+    requires graph { IsGraphOf plan.now replica.old.graph }
+    requires names { count_of replica.old ≡ length plan.now.names }
+    requires applied { replica.old.applied + 1 < 2 ^ 32 }
+    ensures after { records_of replica.new ≡ after_row by_number (script_of plan.now)
+        (records_of replica.old) (decoded word) }
+    ensures applied { replica.new.applied ≡ replica.old.applied + 1 }
+    ensures count { count_of replica.new ≡ count_of replica.old }
+    ensures graph { replica.new.graph ≡ replica.old.graph }
 {
     match RowWord::decode(word) {
         RowWord::Line {
@@ -48,70 +48,93 @@ fn apply_word(store: &mut Store, plan: &Plan, word: u64) -> Result<(), AllocErro
             number,
             holds,
         } => {
-            let command = command_at(plan, session, number as usize);
-            store.apply(session, command, holds)
+            let step = line_step(replica.graph(), plan, session, number);
+            replica.apply(session, &step, holds);
         }
         RowWord::Closing { session, target } => {
-            store.apply(session, &Command::Failed(target), false)
+            replica.apply(session, &Step::Failed(target), false);
         }
     }
 }
 
-impl Worker {
+impl<'a> Worker<'a> {
     /// Applies the word that a lost exchange found, if it isn't applied yet.
-    fn catch_up(&mut self, plan: &Plan) -> Result<(), AllocError>
+    fn catch_up(&mut self, plan: &Plan)
         requires { Works plan.now self.old }
         ensures works { Works plan.now self.new }
         ensures seat { self.new.seat ≡ self.old.seat }
         ensures same { (self.new.session ≡ self.old.session) × (self.new.entries ≡ self.old.entries)
             × (self.new.tries ≡ self.old.tries) }
-        ensures ok { OnOk result (self.new.pending ≡ None) }
+        ensures caught_up { self.new.pending ≡ None }
     {
-        let Some(word) = self.pending else {
-            return Ok(());
-        };
-        apply_word(&mut self.store, plan, word)?;
-        self.pending = None;
-        Ok(())
+        if let Some(word) = self.pending {
+            apply_word(&mut self.replica, plan, word);
+            self.pending = None;
+        }
+    }
+
+    /// The step of what the session does next, on a row: that of the line, or a closing `failed`.
+    fn step_next(&self, plan: &Plan, next: &Next, command: &Command) -> Step
+        requires works { Works plan.now self.now }
+        requires command { IsNextBy plan.now self.now next.now.number next.now.closing
+            (command_of command.now) }
+        requires way { own_way (journal_of plan.now self.now) (command_of command.now) ≡ row }
+        ensures { IsStepOf self.now result (command_of command.now) }
+    {
+        match next.closing {
+            None => line_step(self.replica.graph(), plan, self.session, next.number),
+            Some(_) => Step::Failed(command.target().unwrap_or(0)),
+        }
+    }
+
+    /// The reply of a step, by what the session holds.
+    fn reply(&self, alloc: Global, step: &Step, command: &Command) -> Result<Reply, AllocError>
+        requires step { IsStepOf self.now step.now (command_of command.now) }
+        ensures said { IfOk result
+            (λ reply. IsSaidBy self.now (command_of command.now) (reply_of reply)) }
+        ensures ok { lists_names (command_of command.now) ≡ false → IsOk result }
+    {
+        let holds = holds_its_target(&self.own, command);
+        self.replica.reply(alloc, self.session, step, holds)
     }
 
     /// The reply of a command whose reply lists names, if it isn't refused. Other replies allocate nothing, and are
     /// made after the exchange.
-    fn list_first(&self, alloc: Global, command: &Command) -> Result<Option<Reply>, AllocError>
-        requires numbers { IsBelow (count_of self.now.store) (command_of command.now) }
-        requires names { length self.now.own ≡ count_of self.now.store }
-        requires no_lock { asked_lock (command_of command.now) ≡ None }
-        ensures { IfOk result (λ list. IsReadyBy self.now (command_of command.now) list) }
+    fn list_first(
+        &self,
+        alloc: Global,
+        step: &Step,
+        command: &Command,
+    ) -> Result<Option<Reply>, AllocError>
+        requires step { IsStepOf self.now step.now (command_of command.now) }
+        ensures ready { IfOk result (λ list. IsReadyBy self.now (command_of command.now) list) }
+        ensures ok { lists_names (command_of command.now) ≡ false → IsOk result }
     {
         match command {
             Command::IfChange(..) | Command::Ood | Command::Targets | Command::Sources => {
-                let holds = holds_its_target(&self.own, command);
-                Ok(Some(self.store.reply(alloc, self.session, command, holds)?))
+                Ok(Some(self.reply(alloc, step, command)?))
             }
             _ => Ok(None),
         }
     }
 
     /// The reply that was made first, or else the one that allocates nothing.
-    fn reply_to(&self, alloc: Global, command: &Command, list: Option<Reply>) -> Reply
-        requires numbers { IsBelow (count_of self.now.store) (command_of command.now) }
-        requires names { length self.now.own ≡ count_of self.now.store }
-        requires no_lock { asked_lock (command_of command.now) ≡ None }
+    fn reply_to(&self, alloc: Global, step: &Step, command: &Command, list: Option<Reply>) -> Reply
+        requires step { IsStepOf self.now step.now (command_of command.now) }
         requires ready { IsReadyBy self.now (command_of command.now) list }
         ensures { IsSaidBy self.now (command_of command.now) (reply_of result) }
     {
         if let Some(reply) = list {
             return reply;
         }
-        let holds = holds_its_target(&self.own, command);
-        let Ok(reply) = self.store.reply(alloc, self.session, command, holds) else {
+        let Ok(reply) = self.reply(alloc, step, command) else {
             unreachable!()
         };
         reply
     }
 
-    /// Looks at the first unseen row. If it is filled, tries the exchange there, which is lost, without making a list
-    /// or reserving memory. Returns whether it was filled.
+    /// Looks at the first unseen row. If it is filled, tries the exchange there, which is lost, without making a list.
+    /// Returns whether it was filled.
     fn pass_row<G: Gate>(
         &mut self,
         board: &Board,
@@ -160,6 +183,7 @@ impl Worker {
         board: &Board,
         plan: &Plan,
         next: &Next,
+        step: &Step,
         command: &Command,
         list: Option<Reply>,
     ) -> bool
@@ -168,7 +192,7 @@ impl Worker {
             (command_of command.now) }
         requires way { own_way (journal_of plan.now self.old) (command_of command.now) ≡ row }
         requires none { self.old.pending ≡ None }
-        requires room { has_room_for self.old.store (command_of command.now) ≡ true }
+        requires step { IsStepOf self.old step.now (command_of command.now) }
         requires ready { IsReadyBy self.old (command_of command.now) list }
         ensures works { WorksAt plan.now board.now self.new }
         ensures session { session_of self.new ≡ session_of self.old }
@@ -189,8 +213,8 @@ impl Worker {
             self.pending = Some(found);
             return false;
         }
-        let reply = self.reply_to(alloc, command, list);
-        self.store.change(self.session, command, &reply);
+        let reply = self.reply_to(alloc, step, command, list);
+        self.replica.apply(self.session, step, holds);
         let entry = Entry {
             number: next.number,
             closing: again(&next.closing),
@@ -221,14 +245,14 @@ impl Worker {
         ensures err { OnErr result (Waits plan.now self.old self.new) }
     {
         'rows: loop {
-            self.catch_up(plan)?;
+            self.catch_up(plan);
             if self.pass_row(board, plan, gate, next, command) {
                 continue;
             }
-            let list = self.list_first(alloc, command)?;
-            self.store.reserve(command)?;
+            let step = self.step_next(plan, next, command);
+            let list = self.list_first(alloc, &step, command)?;
             gate.ready(self.session, next.number, self.tries);
-            if self.try_row(alloc, board, plan, next, command, list) {
+            if self.try_row(alloc, board, plan, next, &step, command, list) {
                 return Ok(());
             }
         }

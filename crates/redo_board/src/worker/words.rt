@@ -1,12 +1,16 @@
-// The row word of what a session does next.
-ghost use Rattle.std.specs.Prelude.{◌≡◌, ◌≤◌, ◌↔◌, IfSome, IsSome, length, option_map};
+// Row words, and the steps that they name.
+ghost use Rattle.std.specs.Prelude.{◌≡◌, ◌<◌, ◌≤◌, ◌↔◌, IfSome, IsSome, length, option_map};
 ghost use Rattle.redo_terms.specs.Meaning.{command_of};
 ghost use Rattle.redo_journal.specs.Plans.{PlanOf, script_of};
+ghost use Rattle.redo_graph.specs.Graphs.{IsGraphOf};
+ghost use Rattle.redo_graph.specs.Steps.{Means};
+ghost use Rattle.redo_board.specs.Rows.{command};
 ghost use Rattle.redo_board.specs.Core.{word};
 ghost use Rattle.redo_board.specs.Inside.Steps.{LetsGo};
 
+use redo_graph::{Graph, Step};
 use redo_joint::RowWord;
-use redo_journal::Next;
+use redo_journal::{Next, Plan};
 use redo_terms::Command;
 
 /// The word of what the session does next.
@@ -38,4 +42,13 @@ pub(crate) fn again(closing: &Option<Command>) -> Option<Command>
         Some(Command::Unlock(target)) => Some(Command::Unlock(*target)),
         _ => None,
     }
+}
+
+/// The step of a line of a session.
+pub(crate) fn line_step(graph: &Graph, plan: &Plan, session: u8, number: u32) -> Step
+    requires graph { IsGraphOf plan.now graph.now }
+    requires line { number < length (script_of plan.now session) }
+    ensures { Means graph.now.tables result (command plan.now session number) }
+{
+    graph.step(session as usize, number as usize)
 }

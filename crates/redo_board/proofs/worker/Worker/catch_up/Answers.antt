@@ -9,8 +9,8 @@ use Rattle.redo_board.proofs.Stores.{seen_word, lags_few, lags_caught}
 use Rattle.redo_board.proofs.worker.Worker.catch_up.Goals as goal
 
 lags_at : (p : PlanOf) (w : Worker) (n : ℕ) → Works p w → w.pending ≡ Some n
-    → Lags p w.store (Some n) (view_of w).seen
-lags_at p w n k e = subst (λ o. Lags p w.store o (view_of w).seen) e k.lags
+    → Lags p w.replica (Some n) (view_of w).seen
+lags_at p w n k e = subst (λ o. Lags p w.replica o (view_of w).seen) e k.lags
 
 word_at : (p : PlanOf) (w : Worker) (n : ℕ) → Works p w → w.pending ≡ Some n → IsWord p n
 word_at p w n k e =
@@ -25,16 +25,15 @@ apply_word-requires-clause-word c =
 
 pub apply_word-requires-clause-applied : goal.apply_word-requires-clause-applied
 apply_word-requires-clause-applied c =
-    lags_few c.args.plan.now (view_of c.args.self.now) c.args.self.now.store c.args.self.now.pending
+    lags_few c.args.plan.now (view_of c.args.self.now) c.args.self.now.replica c.args.self.now.pending
     c.requires.told c.requires.lags
 
-pub returns-clause-works : goal.returns-clause-works
-returns-clause-works c =
+pub returns-in-Some-clause-works : goal.returns-in-Some-clause-works
+returns-in-Some-clause-works c =
     let p = c.args.plan.now in
     let w = c.args.self.now in
     let n : ℕ = c.in-Some.word in
     let k = c.requires in
-    let e = c.in_ok-apply_word.ensures in
     let f = c.apply_word.ensures in
     record {
       view = k.view;
@@ -47,6 +46,6 @@ returns-clause-works c =
       told = k.told;
       spent = k.spent;
       lags =
-          lags_caught p w.store c.apply_word.new.store (view_of w).seen f.count f.order e.applied n
-          (lags_at p w n k c.in-Some.is) e.after;
+          lags_caught p w.replica c.apply_word.new.replica (view_of w).seen f.count f.graph f.applied n
+          (lags_at p w n k c.in-Some.is) f.after;
     }

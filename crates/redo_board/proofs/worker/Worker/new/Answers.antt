@@ -1,9 +1,7 @@
 use Rattle.std.proofs.Common.{◌≡◌, ℕ, List, ◌-◌, ◌<◌, sym, ap, subst, ◌∙◌, arith, [], ◌∷◌, length, map, All}
 use Rattle.std.proofs.lemmas.List.{length-map}
 use Rattle.std.proofs.lemmas.List.Elements.{All-nil}
-use Rattle.redo_model.specs.Names.{texts}
-use Rattle.redo_model.specs.Inside.Renaming.{OrdersAlike, numbering}
-use Rattle.redo_store.specs.Stored.{order_of}
+use Rattle.redo_graph.specs.Graphs.{IsGraphOf}
 use Rattle.redo_terms.specs.Inside.Meaning.{item_of}
 use Rattle.redo_model.specs.Inside.Room.{room_of}
 use Rattle.redo_model.specs.Names.{Text}
@@ -74,10 +72,8 @@ returns-clause-works c board sits =
               behind = sym seen;
               records = d.empty;
               applied = d.applied;
-              count = d.count ∙ ap length c.names-2.ensures;
-              order = subst
-                  (λ names. OrdersAlike (numbering names) texts (order_of c.in-Ok-new-2.store))
-                  c.names-2.ensures d.order;
+              count = d.count ∙ c.len.ensures.count ∙ ap length c.names-2.ensures;
+              graph = subst (IsGraphOf p) (sym d.graph) f.board.graph;
             };
         spent = λ _. ap (rows_up_to 0) (sym none-yet);
       };

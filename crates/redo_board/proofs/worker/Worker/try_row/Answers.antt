@@ -1,16 +1,15 @@
 use Rattle.std.proofs.Common.{◌≡◌, ℕ, ◌+◌, ◌∷◌, [], ◌++◌, length, List, arith, refl, sym, ap, ◌∙◌, subst, None, Some, Bool}
 use Rattle.std.proofs.lemmas.List.{length_push}
-use Rattle.redo_model.specs.Command.{asked_lock}
 use Rattle.redo_model.specs.Placed.{Row}
-use Rattle.redo_model.specs.Renaming.{IsBelow}
 use Rattle.redo_model.specs.Journals.{Numbered}
 use Rattle.redo_model.specs.Step.{records_after}
-use Rattle.redo_store.specs.Stored.{records_of, naming_of, count_of}
+use Rattle.redo_records.specs.Rows.{by_number}
+use Rattle.redo_replica.specs.Replicas.{records_of}
 use Rattle.redo_terms.specs.Meaning.{command_of, reply_of}
 use Rattle.redo_journal.specs.Plans.{PlanOf}
 use Rattle.redo_board.specs.Core.{word}
 use Rattle.redo_board.specs.Views.{view}
-use Rattle.redo_board.specs.Plays.{own, own_build}
+use Rattle.redo_board.specs.Plays.{own}
 use Rattle.redo_board.specs.Inside.Plays.{SaysRow, Goes, row_line}
 use Rattle.redo_board.specs.Shown.{journal_of, seen_by}
 use Rattle.redo_board.specs.Kept.{Works, WorksAt, Lags, view_of}
@@ -20,16 +19,15 @@ use Rattle.redo_board.specs.declared.worker.Worker.{Worker}
 use Rattle.redo_board.proofs.Rooms.{next_word}
 use Rattle.redo_board.proofs.Steps.{tries_as, won_goes}
 use Rattle.redo_board.proofs.Stores.{says, lags_few, lags_won}
-use Rattle.redo_board.proofs.Told.{way-row}
 use Rattle.redo_board.proofs.Briefs.{ready_said}
-use Rattle.redo_board.proofs.NextSteps.{few_words, plan_is, lines_names, next_below, own_below, own_has, row_next, room_next, closing_lets_go}
+use Rattle.redo_board.proofs.NextSteps.{few_words, plan_is, lines_names, own_below, own_has, row_next, room_next, closing_lets_go}
 use Rattle.redo_board.proofs.Works.{is_entry, entered, both_on, works_lost, waits_lost}
 use Rattle.redo_board.proofs.worker.Worker.try_row.Goals as goal
 use Rattle.redo_board.proofs.worker.Worker.try_row.Goals.{After-enter}
 
 lags_now : (p : PlanOf) (w : Worker) → Works p w → w.pending ≡ None
-    → Lags p w.store None (seen_by w)
-lags_now p w k e = subst (λ o. Lags p w.store o (seen_by w)) e k.lags
+    → Lags p w.replica None (seen_by w)
+lags_now p w k e = subst (λ o. Lags p w.replica o (seen_by w)) e k.lags
 
 pub compare_exchange-found-requires : goal.compare_exchange-found-requires
 compare_exchange-found-requires c =
@@ -43,11 +41,7 @@ compare_exchange-found-requires c =
     let near = row_next p w n k.works is-next c.requires.way in
     let holds : c.holds_its_target-holds.result ≡ own (journal_of p w) x =
     c.holds_its_target-holds.ensures ∙ own_has p w n k.works is-next in
-    let no-lock : asked_lock x ≡ None =
-    way-row x (own (journal_of p w) x) (own_build (journal_of p w) x) c.requires.way in
-    let below : IsBelow (count_of w.store) x =
-    subst (λ m. IsBelow m x) (sym k.works.lags.count) (next_below p w n k.works is-next) in
-    let some = ready_said w x c.args.list no-lock below c.requires.ready in (
+    let some = ready_said w c.args.step.now x c.args.list c.requires.step c.requires.ready in (
       k.table,
       (let x = b.words in omega arith),
       tries_as p c.args.board.now.table.shared.key c.args.board.now.table.shared.table_id.slots
@@ -58,7 +52,7 @@ compare_exchange-found-requires c =
           ∙ ap (word p w.session c.args.next.now.number x) holds)
           k.works.tries near c.requires.way
           some.0
-          (says p w.store (seen_by w) w.session (holds_its_target w.own x) (own (journal_of p w) x) x some.0
+          (says p w.replica (seen_by w) w.session (holds_its_target w.own x) (own (journal_of p w) x) x some.0
           (lags_now p w k.works c.requires.none) (own_has p w n k.works is-next) some.1.replies
           some.1.below),
     )
@@ -88,26 +82,15 @@ returns-clause-row c =
     row_next c.args.plan.now c.args.self.now n c.requires.belongs.1.works c.requires.command.next
     c.requires.way
 
-pub change-requires-clause-numbers : goal.change-requires-clause-numbers
-change-requires-clause-numbers c =
-    let p = c.args.plan.now in
-    let w = c.args.self.now in
-    let k = c.requires.belongs.1.works in
-    let n : Numbered ℕ =
-    record { number = c.args.next.now.number; command = command_of c.args.command.now } in
-    subst (λ m. IsBelow m n.command) (sym k.lags.count)
-    (next_below p w n k c.requires.command.next)
+pub apply-requires-clause-step : goal.apply-requires-clause-step
+apply-requires-clause-step c =
+    let is = c.requires.step in
+    (command_of c.args.command.now, is.means, is.numbers)
 
-pub change-requires-clause-replies : goal.change-requires-clause-replies
-change-requires-clause-replies c = (
-  holds_its_target c.args.self.now.own (command_of c.args.command.now),
-  c.reply_to-reply.ensures.replies,
-)
-
-pub change-requires-clause-applied : goal.change-requires-clause-applied
-change-requires-clause-applied c =
+pub apply-requires-clause-applied : goal.apply-requires-clause-applied
+apply-requires-clause-applied c =
     let k = c.requires.belongs.1.works in
-    lags_few c.args.plan.now (view_of c.args.self.now) c.args.self.now.store c.args.self.now.pending
+    lags_few c.args.plan.now (view_of c.args.self.now) c.args.self.now.replica c.args.self.now.pending
     k.told k.lags
 
 pub returns-then-found-ne0-clause-works : goal.returns-then-found-ne0-clause-works
@@ -125,7 +108,7 @@ returns-then-found-ne0-clause-works c =
       session = w.session;
       entries = w.entries;
       own = w.own;
-      store = w.store;
+      replica = w.replica;
       pending = Some found;
       tries = w.tries + 1;
     } in
@@ -145,7 +128,7 @@ returns-then-found-ne0-clause-result c =
       session = w.session;
       entries = w.entries;
       own = w.own;
-      store = w.store;
+      replica = w.replica;
       pending = Some found;
       tries = w.tries + 1;
     } in
@@ -172,7 +155,7 @@ done c =
     let w₁ : Worker =
     record w {
       seat = c.compare_exchange-found.new.seat;
-      store = c.change.new.self;
+      replica = c.apply.new.self;
       tries = w.tries + 1;
     } in
     let w' : Worker =
@@ -180,21 +163,20 @@ done c =
     let held : holds_its_target w.own x ≡ h = own_has p w n k.works is-next in
     let said : SaysRow (view p ((w.session, journal_of p w) ∷ []) (seen_by w) (view_of w).also)
     w.session (journal_of p w) x reply =
-    says p w.store (seen_by w) w.session (holds_its_target w.own x) h x reply lags
+    says p w.replica (seen_by w) w.session (holds_its_target w.own x) h x reply lags
     held r.replies r.below in
     let goes : Goes (view_of w) w.session (journal_of p w) (row_line (view_of w) w.session n reply)
     seen (view_of w') =
     won_goes p w.session (journal_of p w) (view_of w) (view_of w') n reply k.works.view
     (e.2.0 c.if-found-ne0.false) is-next said in
-    let won : Lags p c.change.new.self None seen =
-    lags_won p w.store c.change.new.self (seen_by w) c.change.ensures.count c.change.ensures.order
-    c.change.ensures.applied w.session (word p w.session c.args.next.now.number x h) h x lags
+    let won : Lags p c.apply.new.self None seen =
+    lags_won p w.replica c.apply.new.self (seen_by w) c.apply.ensures.count c.apply.ensures.graph
+    c.apply.ensures.applied w.session (word p w.session c.args.next.now.number x h) h x lags
     (next_word p w.session (journal_of p w) n h (seen_by w) (plan_is p w k.works) k.works.session
     (lines_names p w k.works) is-next c.requires.way)
-    (c.change.ensures.after (holds_its_target w.own x) r.replies
-    ∙ ap
-    (λ z. records_after (naming_of w.store) (records_of w.store) w.session z x)
-    held) in
+    (c.apply.ensures.after x c.requires.step.means
+    ∙ ap (λ z. records_after by_number (records_of w.replica) w.session z x)
+    (c.holds_its_target-holds.ensures ∙ held)) in
     let tried : w.tries + 1 ≡ length seen =
     let a = k.works.tries in
     let b = length_push (seen_by w) (word p w.session c.args.next.now.number x h) in
@@ -207,7 +189,7 @@ done c =
     refl c.again.ensures refl (ap Row k.works.tries))
     (cap.notes p.names) refl e.0 e.2.2
     (let m = cap.capacity in omega arith) tried (ap (λ m. m + 1) k.works.tries)
-    (subst (λ o. Lags p c.change.new.self o seen) (sym c.requires.none) won)
+    (subst (λ o. Lags p c.apply.new.self o seen) (sym c.requires.none) won)
     (word p w.session c.args.next.now.number x h ∷ [], refl))
 
 pub returns-clause-works : goal.returns-clause-works
@@ -221,16 +203,6 @@ holds_its_target-holds-requires c =
     let n : Numbered ℕ =
     record { number = c.args.next.now.number; command = command_of c.args.command.now } in
     own_below c.args.plan.now c.args.self.now n c.requires.belongs.1.works c.requires.command.next
-
-pub reply_to-reply-requires-clause-numbers : goal.reply_to-reply-requires-clause-numbers
-reply_to-reply-requires-clause-numbers c =
-    let p = c.args.plan.now in
-    let w = c.args.self.now in
-    let k = c.requires.belongs.1.works in
-    let n : Numbered ℕ =
-    record { number = c.args.next.now.number; command = command_of c.args.command.now } in
-    subst (λ m. IsBelow m n.command) (sym k.lags.count)
-    (next_below p w n k c.requires.command.next)
 
 pub enter-requires-clause-names : goal.enter-requires-clause-names
 enter-requires-clause-names c =
