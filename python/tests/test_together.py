@@ -14,24 +14,26 @@ from redodb.replies import Granted
 from served import PATIENCE, ServedTree, eventually
 
 BUILDER = """
-import random, sys, time
+import fcntl, itertools, random, sys, time
 from redodb import Client
 from redodb.replies import Granted
 top, seed, folder = sys.argv[1:]
 chance = random.Random(seed)
+files = [open(f"{folder}/t{number}", "w") for number in range(5)]
 with Client(top) as client:
-    for turn in range(1000):
-        name = f"t{chance.randrange(5)}"
+    for turn in itertools.count():
+        number = chance.randrange(5)
+        name = f"t{number}"
         if isinstance(client.wait(name), Granted):
-            with open(f"{folder}/{name}.{client.session}", "x"):
-                pass
+            fcntl.lockf(files[number], fcntl.LOCK_EX | fcntl.LOCK_NB)
             client.start(name)
             time.sleep(chance.random() / 500)
             client.done(name, f"{seed}-{turn}")
-            import os
-            os.unlink(f"{folder}/{name}.{client.session}")
+            fcntl.lockf(files[number], fcntl.LOCK_UN)
             client.unlock(name)
 """
+"""A builder that fails if another one builds its target. The kernel releases the file locks of a
+killed process before it closes its connection."""
 
 
 class Together(ServedTree):
@@ -48,12 +50,10 @@ class Together(ServedTree):
             enough = len(self.log()) + 10
             self.assertTrue(eventually(lambda: len(self.log()) >= enough))
             victim = chance.choice(list(builders))
-            builders[victim].send_signal(signal.SIGKILL)
-            builders.pop(victim).wait(PATIENCE)
+            self.kill(builders.pop(victim))
             builders[seed] = self.builder(seed, folder)
         for builder in builders.values():
-            builder.send_signal(signal.SIGKILL)
-            builder.wait(PATIENCE)
+            self.kill(builder)
         for number in range(5):
             watcher.send(f"{number} wait t{number} -")
         self.assertEqual(sorted(line.split()[1] for line in watcher.lines(5)), ["granted"] * 5)
@@ -83,6 +83,11 @@ class Together(ServedTree):
             cwd=package_folder(),
             stderr=subprocess.DEVNULL,
         )
+
+    def kill(self, builder: subprocess.Popen[bytes]) -> None:
+        """Kill a builder, and fail if it had ended by itself."""
+        builder.send_signal(signal.SIGKILL)
+        self.assertEqual(builder.wait(PATIENCE), -signal.SIGKILL)
 
 
 class Crashes(ServedTree):
