@@ -19,7 +19,7 @@ use Rattle.redo_graph.specs.Steps.{TablesOf}
 use Rattle.redo_replica.specs.declared.rows.Row.{Row}
 use Rattle.redo_replica.specs.declared.cell.CompactCell.{CompactCell}
 use Rattle.redo_replica.specs.CompactCells.{cell_of, idle_cell, mark_for, cell_at}
-use Rattle.redo_replica.specs.PairRows.{bare, change_of, place_of, row_at, rows_of}
+use Rattle.redo_replica.specs.PairRows.{bare, change_of, pair_place, row_at, rows_of}
 use Rattle.redo_replica.specs.Replicas.{records_in}
 use Rattle.redo_replica.specs.Inside.Changes.{HasEffect, IsWithout}
 use Rattle.redo_replica.proofs.Written.{field_of_cond}
@@ -126,7 +126,7 @@ none_known tables names pairs =
     λ k. same_everywhere names k idle_cell in
     let row : (i : ℕ) → row_at (replicate pairs bare) i ≡ bare =
     λ i. same_everywhere pairs i bare in
-    let place : ℕ → ℕ → ℕ = place_of tables.pairs.items in
+    let place : ℕ → ℕ → ℕ = pair_place tables.pairs.items in
     let known_cells : (λ (k : ℕ). cell_of tables.stamps tables.digests
     (cell_at (replicate names idle_cell) k)) ≡ (λ k. states.idle) =
     fun_ext (λ k. ap (cell_of tables.stamps tables.digests) (cell k)) in

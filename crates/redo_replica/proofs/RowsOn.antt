@@ -13,7 +13,7 @@ use Rattle.redo_graph.specs.Steps.{TablesOf}
 use Rattle.redo_replica.specs.declared.rows.Row.{Row}
 use Rattle.redo_replica.specs.declared.cell.CompactCell.{CompactCell}
 use Rattle.redo_replica.specs.CompactCells.{mark_for}
-use Rattle.redo_replica.specs.PairRows.{bare, change_of, place_of, row_at}
+use Rattle.redo_replica.specs.PairRows.{bare, change_of, pair_place, row_at}
 use Rattle.redo_replica.specs.Replicas.{records_in}
 use Rattle.redo_replica.specs.Inside.Lists.{HasRowAt}
 use Rattle.redo_replica.proofs.Blocks.{once_of}
@@ -38,10 +38,10 @@ module _ (tables : TablesOf) (cells : List CompactCell) (rows : List Row) (n : �
 
     -- the rows of a target are at the pair's place
     row_there : (t : ℕ) → HasRow (records_in tables cells rows) t n
-        ↔ HasRowAt rows (place_of pairs t n)
+        ↔ HasRowAt rows (pair_place pairs t n)
     row_there t =
         let same = some_map (mark_for tables.stamps tables.digests)
-        (change_of (row_at rows (place_of pairs t n))) in (
+        (change_of (row_at rows (pair_place pairs t n))) in (
           λ h. elim h [
             | inl change ↦ inl (sym same ∙ change)
             | inr created ↦ inr created
@@ -55,7 +55,7 @@ module _ (tables : TablesOf) (cells : List CompactCell) (rows : List Row) (n : �
     pub place_with_row : (t : ℕ) → HasRow (records_in tables cells rows) t n
         → (i : ℕ) × IsOn pairs i n × HasRowAt rows i
     place_with_row t h =
-        let i : ℕ = place_of pairs t n in
+        let i : ℕ = pair_place pairs t n in
         let there : HasRowAt rows i = (row_there t).0 h in
         elim (cases_lt i (length pairs)) [
           | inl below ↦ (

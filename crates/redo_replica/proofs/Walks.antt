@@ -14,7 +14,7 @@ use Rattle.redo_graph.specs.Graphs.{GraphOf, AreNumbers}
 use Rattle.redo_replica.specs.declared.rows.Row.{Row}
 use Rattle.redo_replica.specs.declared.cell.CompactCell.{CompactCell}
 use Rattle.redo_replica.specs.CompactCells.{mark_for}
-use Rattle.redo_replica.specs.PairRows.{IsBlock, bare, change_of, place_of, row_at}
+use Rattle.redo_replica.specs.PairRows.{IsBlock, bare, change_of, pair_place, row_at}
 use Rattle.redo_replica.specs.Replicas.{records_in}
 use Rattle.redo_replica.specs.Inside.Fits.{IsFit}
 use Rattle.redo_replica.proofs.Blocks.{once_of}
@@ -31,8 +31,8 @@ number_at graph cells rows place q fit below read =
 
 -- no row of t at a place between these has P with its name
 abbrev pub NoneBetween : List (ℕ × ℕ) → List Row → ℕ → (Row → ℕ → Type 0) → ℕ → ℕ → Type 0
-NoneBetween pairs rows t P from to = (n : ℕ) → from ≤ place_of pairs t n
-    → place_of pairs t n < to → P (row_at rows (place_of pairs t n)) n → ⊥
+NoneBetween pairs rows t P from to = (n : ℕ) → from ≤ pair_place pairs t n
+    → pair_place pairs t n < to → P (row_at rows (pair_place pairs t n)) n → ⊥
 
 module _ (pairs : List (ℕ × ℕ)) (rows : List Row) (t from to : ℕ) (P : Row → ℕ → Type 0) where
   -- nor does the next one
@@ -40,10 +40,10 @@ module _ (pairs : List (ℕ × ℕ)) (rows : List Row) (t from to : ℕ) (P : Ro
       → q ≡ get_or pairs place (0, 0) → (P (row_at rows place) q.1 → ⊥)
       → NoneBetween pairs rows t P from place → NoneBetween pairs rows t P from (place + 1)
   none_more place q below read off before n low less has =
-      elim (cases_lt (place_of pairs t n) place) [
+      elim (cases_lt (pair_place pairs t n) place) [
         | inl lt ↦ before n low lt has
         | inr le ↦
-            let here : place_of pairs t n ≡ place = omega (arith, less, le) in
+            let here : pair_place pairs t n ≡ place = omega (arith, less, le) in
             let at : get_or pairs place (0, 0) ≡ (t, n) =
             ap (λ i. get_or pairs i (0, 0)) (sym here)
             ∙ place_found pairs t n (0, 0) (omega (arith, here, below)) in
@@ -55,31 +55,31 @@ module _ (pairs : List (ℕ × ℕ)) (rows : List Row) (t from to : ℕ) (P : Ro
     -- one that has P is of t on some name
     pub row_found : (place : ℕ) (q : ℕ × ℕ) → AllPairs ◌≢◌ pairs → place < length pairs
         → from ≤ place → place < to → q ≡ get_or pairs place (0, 0) → P (row_at rows place) q.1
-        → (n : ℕ) × P (row_at rows (place_of pairs t n)) n
+        → (n : ℕ) × P (row_at rows (pair_place pairs t n)) n
     row_found place q once below low less read has =
         let at : slice_get pairs place ≡ Some q =
         slice_get-get_or pairs place (0, 0) below ∙ ap Some (sym read) in
         let own : q.0 ≡ t = (block place q.0 q.1 at).1 (low, less) in
-        let there : place ≡ place_of pairs t q.1 =
+        let there : place ≡ pair_place pairs t q.1 =
         sym (place_first pairs t q.1 place once (at ∙ ap (λ (u : ℕ). Some (u, q.1)) own)) in
         (q.1, subst (λ i. P (row_at rows i) q.1) there has)
 
     -- if none up to the end has P, there is none
     pub none_found : (place : ℕ) → length rows ≡ length pairs → ((n : ℕ) → P bare n → ⊥)
         → to ≤ place → NoneBetween pairs rows t P from place
-        → ((n : ℕ) × P (row_at rows (place_of pairs t n)) n) → ⊥
+        → ((n : ℕ) × P (row_at rows (pair_place pairs t n)) n) → ⊥
     none_found place sized nothing past none w =
         let n : ℕ = w.0 in
-        elim (cases_lt (place_of pairs t n) (length pairs)) [
+        elim (cases_lt (pair_place pairs t n) (length pairs)) [
           | inl lt ↦
-              let at : slice_get pairs (place_of pairs t n) ≡ Some (t, n) =
-              slice_get-get_or pairs (place_of pairs t n) (0, 0) lt
+              let at : slice_get pairs (pair_place pairs t n) ≡ Some (t, n) =
+              slice_get-get_or pairs (pair_place pairs t n) (0, 0) lt
               ∙ ap Some (place_found pairs t n (0, 0) lt) in
-              let within = (block (place_of pairs t n) t n at).0 refl in
+              let within = (block (pair_place pairs t n) t n at).0 refl in
               none n within.0 (omega (arith, within.1, past)) w.1
           | inr le ↦
-              let empty : row_at rows (place_of pairs t n) ≡ bare =
-              get_or_past rows (place_of pairs t n) bare (omega (arith, le, sized)) in
+              let empty : row_at rows (pair_place pairs t n) ≡ bare =
+              get_or_past rows (pair_place pairs t n) bare (omega (arith, le, sized)) in
               nothing n (subst (λ row. P row n) empty w.1)
         ]
 
@@ -93,7 +93,7 @@ targets_on pairs list = map (target_at pairs) list
 -- it is a target, and its row on n has P
 abbrev pub Holds : GraphOf → List CompactCell → List Row → ℕ → (Row → Type 0) → ℕ → Type 0
 Holds graph cells rows n P t = IsTarget (records_in graph.tables cells rows) t
-    × P (row_at rows (place_of graph.tables.pairs.items t n))
+    × P (row_at rows (pair_place graph.tables.pairs.items t n))
 
 module _ (graph : GraphOf) (cells : List CompactCell) (rows : List Row) (fit : IsFit graph cells rows)
     (n : ℕ) (list : List (ℕ × ℕ))
@@ -126,10 +126,10 @@ module _ (graph : GraphOf) (cells : List CompactCell) (rows : List Row) (fit : I
 
   module _ (P : Row → Type 0) where
     -- a target whose row on n has P has an entry
-    all_on : (P bare → ⊥) → (t : ℕ) → P (row_at rows (place_of pairs t n))
+    all_on : (P bare → ⊥) → (t : ℕ) → P (row_at rows (pair_place pairs t n))
         → Contains (targets_on pairs list) t
     all_on nothing t has =
-        let place : ℕ = place_of pairs t n in
+        let place : ℕ = pair_place pairs t n in
         elim (cases_lt place (length pairs)) [
           | inl lt ↦
               let found : get_or pairs place (0, 0) ≡ (t, n) = place_found pairs t n (0, 0) lt in
@@ -161,7 +161,7 @@ module _ (graph : GraphOf) (cells : List CompactCell) (rows : List Row) (fit : I
         let own : t ≡ target_at pairs q = target ∙ ap (λ i. (get_or pairs i (0, 0)).0) at in
         let same : t ≡ get_or (targets_on pairs list) k 0 =
         own ∙ sym (get_or-map (target_at pairs) list k (0, 0) 0 below) in
-        let there : place ≡ place_of pairs t n =
+        let there : place ≡ pair_place pairs t n =
         at ∙ sym (place_first pairs t n q.1 (once_of pairs fit.linked.one_pair)
         (pair ∙ ap (λ (u : ℕ). Some (u, n)) (sym own))) in
         enters_one_more (Holds graph cells rows n P) (targets_on pairs list) k 0 due
@@ -204,7 +204,7 @@ module _ (graph : GraphOf) (cells : List CompactCell) (rows : List Row) (fit : I
 
 module _ (graph : GraphOf) (cells : List CompactCell) (rows : List Row) (n t : ℕ) where
   abbrev own : Row
-  own = row_at rows (place_of graph.tables.pairs.items t n)
+  own = row_at rows (pair_place graph.tables.pairs.items t n)
 
   pub change_is : HasChangeRow (records_in graph.tables cells rows) t n ↔ IsSome (change_of own)
   change_is =

@@ -12,7 +12,7 @@ use Rattle.redo_records.specs.Rows.{by_number, with_change, with_created, withou
 use Rattle.redo_replica.specs.declared.mark.Mark.{Mark}
 use Rattle.redo_replica.specs.declared.rows.Row.{Row}
 use Rattle.redo_replica.specs.CompactCells.{mark_for}
-use Rattle.redo_replica.specs.PairRows.{IsBlock, IsChanged, IsCleared, IsMade, IsPut, bare, change_of, place_of, row_at, rows_of}
+use Rattle.redo_replica.specs.PairRows.{IsBlock, IsChanged, IsCleared, IsMade, IsPut, bare, change_of, pair_place, row_at, rows_of}
 use Rattle.redo_replica.proofs.Places.{place_found, place_is}
 
 pub field_of_cond : {X Y : Type 0} (f : X → Y) (b : Bool) (x y : X)
@@ -52,11 +52,11 @@ module _ (rows : List Row) (place : ℕ) (row : Row) (below : place < length row
   -- the row is that of t on n, and each other pair keeps its own
   row_is : (pairs : List (ℕ × ℕ)) (t n : ℕ) → AllPairs ◌≢◌ pairs
       → slice_get pairs place ≡ Some (t, n) → (u k : ℕ)
-      → row_at (set rows place row) (place_of pairs u k)
-      ≡ cond ((t == u) && (n == k)) row (row_at rows (place_of pairs u k))
+      → row_at (set rows place row) (pair_place pairs u k)
+      ≡ cond ((t == u) && (n == k)) row (row_at rows (pair_place pairs u k))
   row_is pairs t n once at u k =
-      let old : Row = row_at rows (place_of pairs u k) in
-      written (place_of pairs u k)
+      let old : Row = row_at rows (pair_place pairs u k) in
+      written (pair_place pairs u k)
       ∙ ap (λ b. cond b row old) (place_is pairs place t n once at u k)
     where
       written : (i : ℕ)
@@ -74,14 +74,14 @@ module _ (rows : List Row) (place : ℕ) (row : Row) (below : place < length row
   field_put : {X : Type 0} (f : Row → X) (x : X) → f row ≡ x
       → (pairs : List (ℕ × ℕ)) (t n : ℕ) → AllPairs ◌≢◌ pairs
       → slice_get pairs place ≡ Some (t, n)
-      → (λ (u k : ℕ). f (row_at (set rows place row) (place_of pairs u k)))
-      ≡ put by_number t (put by_number n x (λ k. f (row_at rows (place_of pairs t k))))
-      (λ u k. f (row_at rows (place_of pairs u k)))
+      → (λ (u k : ℕ). f (row_at (set rows place row) (pair_place pairs u k)))
+      ≡ put by_number t (put by_number n x (λ k. f (row_at rows (pair_place pairs t k))))
+      (λ u k. f (row_at rows (pair_place pairs u k)))
   field_put {X = X} f x is pairs t n once at =
-      let old : ℕ → ℕ → X = λ u k. f (row_at rows (place_of pairs u k)) in
+      let old : ℕ → ℕ → X = λ u k. f (row_at rows (pair_place pairs u k)) in
       fun_ext (λ u. fun_ext (λ k.
       ap f (row_is pairs t n once at u k)
-      ∙ field_of_cond f ((t == u) && (n == k)) row (row_at rows (place_of pairs u k))
+      ∙ field_of_cond f ((t == u) && (n == k)) row (row_at rows (pair_place pairs u k))
       ∙ ap (λ (y : X). cond ((t == u) && (n == k)) y (old u k)) is
       ∙ put_two old t n x u k))
 
@@ -102,11 +102,11 @@ module _ (stamps digests : List Text) (pairs : List (ℕ × ℕ)) (old new : Lis
       field_put old place row below (λ r. option_map (mark_for stamps digests) (change_of r))
       (Some (mark_for stamps digests mark)) (ap (option_map (mark_for stamps digests)) written.1.0)
       pairs t n once at in
-      let created : (λ (u k : ℕ). (row_at (set old place row) (place_of pairs u k)).created)
-      ≡ (λ u k. (row_at old (place_of pairs u k)).created) =
+      let created : (λ (u k : ℕ). (row_at (set old place row) (pair_place pairs u k)).created)
+      ≡ (λ u k. (row_at old (pair_place pairs u k)).created) =
       fun_ext (λ u. fun_ext (λ k.
       field_stays old place row below (λ (r : Row). r.created) written.1.1
-      (place_of pairs u k))) in
+      (pair_place pairs u k))) in
       ap (λ (rows : List Row). rows_of stamps digests pairs rows always) written.2
       ∙ (λ i. record { change = change i; created = created i; always = always })
 
@@ -119,59 +119,59 @@ module _ (stamps digests : List Text) (pairs : List (ℕ × ℕ)) (old new : Lis
       let created =
       field_put old place row below (λ (r : Row). r.created) true written.1.1 pairs t n once at in
       let change : (λ (u k : ℕ). option_map (mark_for stamps digests)
-      (change_of (row_at (set old place row) (place_of pairs u k))))
+      (change_of (row_at (set old place row) (pair_place pairs u k))))
       ≡ (λ u k. option_map (mark_for stamps digests)
-      (change_of (row_at old (place_of pairs u k)))) =
+      (change_of (row_at old (pair_place pairs u k)))) =
       fun_ext (λ u. fun_ext (λ k.
       field_stays old place row below (λ r. option_map (mark_for stamps digests) (change_of r))
-      (ap (option_map (mark_for stamps digests)) written.1.0) (place_of pairs u k))) in
+      (ap (option_map (mark_for stamps digests)) written.1.0) (pair_place pairs u k))) in
       ap (λ (rows : List Row). rows_of stamps digests pairs rows always) written.2
       ∙ (λ i. record { change = change i; created = created i; always = always })
 
   module _ (t from to : ℕ) (sized : length old ≡ length pairs) (block : IsBlock pairs t from to)
       (within : to ≤ length pairs) (cleared : IsCleared from to old new) where
-    gone : (u k : ℕ) → u ≡ t → row_at new (place_of pairs u k) ≡ bare
-    gone u k own = elim (cases_lt (place_of pairs u k) (length pairs)) [
+    gone : (u k : ℕ) → u ≡ t → row_at new (pair_place pairs u k) ≡ bare
+    gone u k own = elim (cases_lt (pair_place pairs u k) (length pairs)) [
       | inl lt ↦
           let here =
-          (block (place_of pairs u k) u k (slice_get-get_or pairs (place_of pairs u k) (u, k) lt
+          (block (pair_place pairs u k) u k (slice_get-get_or pairs (pair_place pairs u k) (u, k) lt
           ∙ ap Some (place_found pairs u k (u, k) lt))).0 own in
-          cleared.gone (place_of pairs u k) here.0 here.1
-      | inr le ↦ get_or_past new (place_of pairs u k) bare (omega (arith, le, sized, cleared.sized))
+          cleared.gone (pair_place pairs u k) here.0 here.1
+      | inr le ↦ get_or_past new (pair_place pairs u k) bare (omega (arith, le, sized, cleared.sized))
     ]
 
     stays : (u k : ℕ) → u ≢ t
-        → row_at new (place_of pairs u k) ≡ row_at old (place_of pairs u k)
-    stays u k other = elim (cases_lt (place_of pairs u k) from) [
-      | inl before ↦ cleared.before (place_of pairs u k) before
-      | inr le ↦ elim (cases_lt (place_of pairs u k) to) [
+        → row_at new (pair_place pairs u k) ≡ row_at old (pair_place pairs u k)
+    stays u k other = elim (cases_lt (pair_place pairs u k) from) [
+      | inl before ↦ cleared.before (pair_place pairs u k) before
+      | inr le ↦ elim (cases_lt (pair_place pairs u k) to) [
         | inl lt ↦
-            let there : place_of pairs u k < length pairs = omega (arith, lt, within) in
-            absurd (other ((block (place_of pairs u k) u k
-            (slice_get-get_or pairs (place_of pairs u k) (u, k) there
+            let there : pair_place pairs u k < length pairs = omega (arith, lt, within) in
+            absurd (other ((block (pair_place pairs u k) u k
+            (slice_get-get_or pairs (pair_place pairs u k) (u, k) there
             ∙ ap Some (place_found pairs u k (u, k) there))).1 (le, lt)))
-        | inr past ↦ cleared.after (place_of pairs u k) past
+        | inr past ↦ cleared.after (pair_place pairs u k) past
       ]
     ]
 
-    row_cleared : (u k : ℕ) → row_at new (place_of pairs u k)
-        ≡ cond (t == u) bare (row_at old (place_of pairs u k))
+    row_cleared : (u k : ℕ) → row_at new (pair_place pairs u k)
+        ≡ cond (t == u) bare (row_at old (pair_place pairs u k))
     row_cleared u k = elim (cases_eq t u) [
       | inl e ↦
           gone u k (sym e)
-          ∙ ap (λ b. cond b bare (row_at old (place_of pairs u k))) (sym (eq-eqb t u e))
+          ∙ ap (λ b. cond b bare (row_at old (pair_place pairs u k))) (sym (eq-eqb t u e))
       | inr ne ↦
           stays u k (λ e. ne (sym e))
-          ∙ ap (λ b. cond b bare (row_at old (place_of pairs u k))) (sym (ne_eqb t u ne))
+          ∙ ap (λ b. cond b bare (row_at old (pair_place pairs u k))) (sym (ne_eqb t u ne))
     ]
 
     field_cleared : {X : Type 0} (f : Row → X)
-        → (λ (u k : ℕ). f (row_at new (place_of pairs u k)))
-        ≡ put {X = ℕ → X} by_number t (λ n. f bare) (λ u k. f (row_at old (place_of pairs u k)))
+        → (λ (u k : ℕ). f (row_at new (pair_place pairs u k)))
+        ≡ put {X = ℕ → X} by_number t (λ n. f bare) (λ u k. f (row_at old (pair_place pairs u k)))
     field_cleared {X = X} f = fun_ext (λ u. fun_ext (λ k.
         ap f (row_cleared u k)
-        ∙ field_of_cond f (t == u) bare (row_at old (place_of pairs u k))
-        ∙ cond_at (t == u) (λ n. f bare) (λ j. f (row_at old (place_of pairs u j))) k))
+        ∙ field_of_cond f (t == u) bare (row_at old (pair_place pairs u k))
+        ∙ cond_at (t == u) (λ n. f bare) (λ j. f (row_at old (pair_place pairs u j))) k))
 
     pub rows_cleared : rows_of stamps digests pairs new (put by_number t false always)
         ≡ without_rows (rows_of stamps digests pairs old always) t

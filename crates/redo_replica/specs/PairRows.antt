@@ -34,9 +34,9 @@ abbrev pub IsMade : Row → Row → Type 0
 IsMade old new = (change_of new ≡ change_of old) × (new.created ≡ true)
 
 -- the place of the pair of t on n; the end of the list if there is none
-abbrev pub place_of : List (ℕ × ℕ) → ℕ → ℕ → ℕ
-place_of [] t n = 0
-place_of (p ∷ pairs) t n = if (p.0 == t) && (p.1 == n) then 0 else suc (place_of pairs t n)
+abbrev pub pair_place : List (ℕ × ℕ) → ℕ → ℕ → ℕ
+pair_place [] t n = 0
+pair_place (p ∷ pairs) t n = if (p.0 == t) && (p.1 == n) then 0 else suc (pair_place pairs t n)
 
 -- the rows of the pair at this place
 abbrev pub row_at : List Row → ℕ → Row
@@ -46,8 +46,8 @@ row_at rows i = slice_index_or rows i bare
 abbrev pub rows_of : List Text → List Text → List (ℕ × ℕ) → List Row → (ℕ → Bool) → Rows ℕ
 rows_of stamps digests pairs rows always = record {
   change = λ t n.
-      option_map (mark_for stamps digests) (change_of (row_at rows (place_of pairs t n)));
-  created = λ t n. (row_at rows (place_of pairs t n)).created;
+      option_map (mark_for stamps digests) (change_of (row_at rows (pair_place pairs t n)));
+  created = λ t n. (row_at rows (pair_place pairs t n)).created;
   always = always;
 }
 

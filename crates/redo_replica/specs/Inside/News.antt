@@ -7,7 +7,7 @@ use Rattle.redo_graph.specs.Steps.{TablesOf}
 use Rattle.redo_replica.specs.declared.rows.Row.{Row}
 use Rattle.redo_replica.specs.declared.cell.CompactCell.{CompactCell}
 use Rattle.redo_replica.specs.CompactCells.{cell_of, mark_for, cell_at}
-use Rattle.redo_replica.specs.PairRows.{change_of, place_of, row_at}
+use Rattle.redo_replica.specs.PairRows.{change_of, pair_place, row_at}
 
 -- there is a created row, and the name has a file
 abbrev pub HasAppeared : TablesOf → Row → CompactCell → Type 0
@@ -27,4 +27,4 @@ IsNews tables row cell = HasAppeared tables row cell ⊎ HasChanged tables row c
 -- the rows of t on some name are such a reason
 abbrev pub HasNews : TablesOf → List CompactCell → List Row → ℕ → Type 0
 HasNews tables cells rows t = (n : ℕ)
-    × IsNews tables (row_at rows (place_of tables.pairs.items t n)) (cell_at cells n)
+    × IsNews tables (row_at rows (pair_place tables.pairs.items t n)) (cell_at cells n)
