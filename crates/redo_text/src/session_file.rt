@@ -11,10 +11,13 @@ ghost use Rattle.redo_text.specs.Inside.Faults.{IsReadFault};
 ghost use Rattle.redo_text.specs.Inside.Reading.{script_line_in};
 
 use crate::fault::{LineFault, ReadFault, Unread, at_line};
-use crate::read::read_script_line;
+use crate::read::{MOST_COMMANDS, read_script_line};
 use redo_names::{MOST_NAMES, Names};
 use redo_terms::{Item, Script};
 use std::alloc::Global;
+
+/// A command has at least this many bytes with its LF: `ood`.
+const SHORTEST_LINE: usize = 4;
 
 fn line_end(text: &[u8]) -> Option<usize>
     ensures { result ≡ position (λ b. b == 10) text.now }
@@ -32,6 +35,11 @@ fn cut(text: &[u8]) -> (&[u8], Option<&[u8]>)
         Some(end) => (&text[..end], Some(&text[end + 1..])),
         None => (text, None),
     }
+}
+
+/// A script of this text has no more items.
+fn most_items(text: &[u8]) -> usize {
+    (text.len() / SHORTEST_LINE + 1).min(MOST_COMMANDS)
 }
 
 /// Reads one more line.
@@ -77,7 +85,7 @@ pub fn read_script(alloc: Global, text: &[u8], names: &mut Names) -> Result<Scri
     ensures kept { Extends names.old names.new }
 {
     prove!(names.len() as usize <= MOST_NAMES);
-    let mut items = Vec::new(alloc);
+    let mut items = Vec::with_capacity(alloc, most_items(text))?;
     let mut rest = text;
     let mut number = 1usize;
     'lines: loop {
