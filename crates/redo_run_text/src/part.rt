@@ -1,4 +1,4 @@
-ghost use Rattle.std.specs.Prelude.{◌≡◌, ◌<◌, ◌≤◌, ◌+◌, ◌^◌, ◌++◌, ◌∷◌, ◌||◌, List, [], true, not, drop, length, map, OnOk, slice_index_or};
+ghost use Rattle.std.specs.Prelude.{◌≡◌, ◌<◌, ◌≤◌, ◌+◌, ◌^◌, ◌++◌, ◌∷◌, ◌||◌, List, [], true, not, drop, length, map, IfOk, OnOk, slice_index_or};
 ghost use Rattle.std.specs.List.{flat_map};
 ghost use Rattle.redo_model.specs.History as histories;
 ghost use Rattle.redo_model.specs.Names.{Text};
@@ -15,6 +15,16 @@ use redo_names::Names;
 use redo_terms::{Item, Line, Reply};
 use redo_text::{put_item, put_reply};
 use std::alloc::{AllocError, Global};
+
+/// Most lines have fewer bytes: memory is reserved for as many.
+const LINE_BYTES: usize = 48;
+
+/// An empty text, with memory for lines of the usual length.
+pub(crate) fn blank_text(alloc: Global, lines: usize) -> Result<Vec<u8>, AllocError>
+    ensures { IfOk result (λ text. text.items ≡ []) }
+{
+    Vec::with_capacity(alloc, lines.saturating_mul(LINE_BYTES))
+}
 
 /// Prints a line of a script that was not done.
 fn put_skipped(
@@ -121,16 +131,17 @@ pub(crate) struct Part {
 }
 
 impl Part {
-    /// Nothing is printed.
-    pub(crate) fn new(alloc: Global) -> Part
-        ensures { IsBlank result }
+    /// Nothing is printed of a script with so many lines.
+    pub(crate) fn new(alloc: Global, lines: usize) -> Result<Part, AllocError>
+        ensures { IfOk result IsBlank }
     {
-        Part {
+        let body = blank_text(alloc, lines)?;
+        Ok(Part {
             next: 0,
             through: true,
             closing: 0,
-            body: Vec::new(alloc),
-        }
+            body,
+        })
     }
 
     /// Prints the lines of the script that come before the next one to be done.

@@ -12,7 +12,7 @@ ghost use Rattle.redo_run_text.specs.RunTexts.{run_text_of, sessions_below};
 ghost use Rattle.redo_run_text.specs.Inside.Printed.{ArePrinted};
 
 use crate::outcome::Outcome;
-use crate::part::Part;
+use crate::part::{Part, blank_text};
 use redo_history::{put_answer, put_header, put_session};
 use redo_journal::Plan;
 use redo_names::Names;
@@ -34,8 +34,8 @@ fn blank_parts(alloc: Global, plan: &Plan) -> Result<Vec<Part>, AllocError>
         → ArePrinted (scripts_named plan.now) lines lines parts.items) }
 {
     let mut parts = Vec::new(alloc);
-    for _ in plan.scripts() {
-        parts.push(Part::new(alloc))?;
+    for script in plan.scripts() {
+        parts.push(Part::new(alloc, script.items().len())?)?;
     }
     Ok(parts)
 }
@@ -120,7 +120,8 @@ pub fn run_text(alloc: Global, plan: &Plan, outcome: &Outcome) -> Result<Vec<u8>
         ≡ run_text_of (scripts_named plan.now) (sessions_below (length plan.now.scripts))
         (map (line_at plan.now.names) outcome.now.history.items)) }
 {
-    let mut text = Vec::new(alloc);
+    // Each line is printed in the history and in its session's part.
+    let mut text = blank_text(alloc, outcome.history.len().saturating_mul(2))?;
     put_header(&mut text, outcome.history.len())?;
     let mut parts = blank_parts(alloc, plan)?;
     put_lines(alloc, &mut text, plan, &outcome.history, &mut parts)?;
