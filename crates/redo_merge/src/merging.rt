@@ -67,6 +67,13 @@ fn is_done(journals: &[Journal], next: &[usize]) -> bool
     true
 }
 
+/// How many entries the journals have.
+fn entries_in(journals: &[Journal]) -> usize {
+    journals.iter().fold(0usize, |count, journal| {
+        count.saturating_add(journal.entries.len())
+    })
+}
+
 /// The line of the entry of this session.
 fn told(alloc: Global, session: u8, script: &Script, entry: &Entry) -> Result<Line, AllocError>
     ensures { IfOk result (λ line. line_of line
@@ -131,7 +138,7 @@ pub fn merge(
     let claims = vec![in alloc; 0u64; plan.names().len() as usize]?;
     let mut turns = Turns { rows: 0, claims };
     let mut next: Vec<usize> = vec![in alloc; 0; journals.len()]?;
-    let mut lines: Vec<Line> = Vec::new(alloc);
+    let mut lines = Vec::with_capacity(alloc, entries_in(journals))?;
     'merging: while let Some(s) = least(&turns, &counts, journals, &next) {
         let k = next[s];
         next[s] = take_entry(

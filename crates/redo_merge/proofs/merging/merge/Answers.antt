@@ -21,11 +21,11 @@ busy_answers-requires-clause-short c =
 pub merging-init : goal.merging-init
 merging-init c =
     merging_first c.args.plan.now c.args.journals.now c.requires.journals
-    _ c.in_ok-counts.counts c.in_ok-next.next.items c.new-lines.result.items refl
+    _ c.in_ok-counts.counts c.in_ok-next.next.items c.in_ok-lines.lines.items refl
     (c.in_ok-claims.ensures.items_if_clones_equal (λ y e. e)
     ∙ ap (λ n. replicate n 0) (c.len.ensures.count ∙ ap length c.names.ensures))
     (c.in_ok-next.ensures.items_if_clones_equal (λ y e. e))
-    c.new-lines.ensures.items c.in_ok-counts.ensures
+    c.in_ok-lines.ensures.items c.in_ok-counts.ensures
 
 pub least-requires-clause-within : goal.least-requires-clause-within
 least-requires-clause-within c =
