@@ -7,9 +7,9 @@ use Rattle.std.proofs.lemmas.List.{take-append-drop}
 use Rattle.std.proofs.lemmas.List.Elements.{Contains-append_cases}
 use Rattle.redo_model.specs.State.{Records, empty}
 use Rattle.redo_model.specs.OutOfDate.{OutOfDate, Depends}
-use Rattle.redo_model.specs.Inside.OutOfDate.{TouchesSeed, InRegion}
+use Rattle.redo_model.specs.Inside.OutOfDate.{DifferAt, TouchesSeed, InRegion}
 use Rattle.redo_model.proofs.Members.{contains_first, contains_cases, contains_none}
-use Rattle.redo_model.proofs.Region.{out_of_date_by_step, as_before_outside, was_out_of_date, derived_along}
+use Rattle.redo_model.proofs.Region.{differ_nowhere, differ_then, out_of_date_by_step, as_before_outside, was_out_of_date, derived_along}
 use Rattle.redo_model.proofs.UpToDate.{idle_up_to_date}
 use Rattle.redo_model.proofs.MorePlaces.{same_everywhere}
 use Rattle.redo_marks.specs.NameSet.{Marked, IsMarked, IsQueued, IsQueue, Enters, Grows, Unmarks, size_of}
@@ -113,6 +113,17 @@ right_at_first names m at t =
       λ on. absurd (false≢true (sym off ∙ on)),
       λ out. absurd (idle_up_to_date empty.records t refl out),
     )
+
+-- a memo that is right is so but for seeds
+pub right_but_seeds : (seeds : List ℕ) (memo : List Bool) (r : Records ℕ) → IsRight memo r
+    → WasRight seeds memo r
+right_but_seeds seeds memo r right = (r, differ_nowhere seeds r, right)
+
+-- a memo that was right but for seeds is so after one more change, but for its seeds too
+pub right_but_more : {first second both : List ℕ} {old new : Records ℕ} (memo : List Bool)
+    → ((n : ℕ) → Contains first n ⊎ Contains second n → Contains both n)
+    → WasRight first memo old → DifferAt second old new → WasRight both memo new
+right_but_more memo within was d = (was.0, differ_then within was.1 d, was.2)
 
 -- the names of the queue are those of the region
 pub region_listed : (r : Records ℕ) (seeds ns : List ℕ) {region : Marked}

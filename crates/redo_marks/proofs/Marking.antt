@@ -11,7 +11,7 @@ use Rattle.redo_model.proofs.Listing.{one_more, each_below}
 use Rattle.redo_model.proofs.MorePlaces.{same_everywhere}
 use Rattle.redo_marks.specs.Bits.{IsSet}
 use Rattle.redo_marks.specs.NameSet.{Marked, IsMarked, IsQueued, IsQueue, Grows, Enters, Unmarks, size_of}
-use Rattle.redo_marks.specs.Inside.NameSet.{HoldsOnly}
+use Rattle.redo_marks.specs.Inside.NameSet.{AreQueued, HoldsOnly}
 
 fewer_by_one : (marks : List Bool) (t : ℕ) → t < length marks → get_or marks t false ≡ false
     → count_by not (set marks t true) + 1 ≡ count_by not marks
@@ -203,6 +203,27 @@ holds_entered {b = b} unmarked empty e =
       );
       marked = queued;
     }
+
+-- if each marked name was queued, each is after names entered
+pub still_queued : {P : ℕ → Type 0} {a b : Marked} → AreQueued a → Enters P a b → AreQueued b
+still_queued {a = a} kept e t on = elim (marked_or_not a t) [
+  | inl before ↦ (e.grown.queued t).1 (inl (kept t before))
+  | inr off ↦ (e.grown.queued t).1 (inr (on, off))
+]
+
+-- and the queue has what enters besides
+pub queued_too : {P : ℕ → Type 0} {a b : Marked} → AreQueued a → Enters P a b → (t : ℕ)
+    → IsQueued b t ↔ (IsQueued a t ⊎ P t)
+queued_too {a = a} kept e t = (
+  λ q. elim ((e.grown.queued t).0 q) [
+    | inl before ↦ inl before
+    | inr w ↦ elim ((e.each t).0 w.0) [ inl on ↦ absurd (w.1 on) | inr p ↦ inr p ]
+  ],
+  λ s. elim s [
+    | inl before ↦ (e.grown.queued t).1 (inl before)
+    | inr p ↦ still_queued kept e t ((e.each t).1 (inr p))
+  ],
+)
 
 -- the mark of one more name of a list is removed
 pub unmarked_one_more : (old marks : List Bool) (ts : List ℕ) (k d : ℕ) → k < length ts

@@ -15,6 +15,29 @@ differ_back d = record {
   always = λ t far. sym (d.always t far);
 }
 
+-- a state differs from itself nowhere
+pub differ_nowhere : {N : Type 0} (seeds : List N) (r : Records N) → DifferAt seeds r r
+differ_nowhere seeds r = record {
+  cell = λ n far. refl;
+  change = λ t n far. refl;
+  created = λ t n far. refl;
+  always = λ t far. refl;
+}
+
+-- after two changes states differ only at the seeds of both
+pub differ_then : {N : Type 0} {first second both : List N} {a b c : Records N}
+    → ((n : N) → Contains first n ⊎ Contains second n → Contains both n)
+    → DifferAt first a b → DifferAt second b c → DifferAt both a c
+differ_then within d e = record {
+  cell = λ n far. d.cell n (λ c. far (within n (inl c))) ∙ e.cell n (λ c. far (within n (inr c)));
+  change = λ t n far.
+      d.change t n (λ c. far (within t (inl c))) ∙ e.change t n (λ c. far (within t (inr c)));
+  created = λ t n far.
+      d.created t n (λ c. far (within t (inl c))) ∙ e.created t n (λ c. far (within t (inr c)));
+  always = λ t far.
+      d.always t (λ c. far (within t (inl c))) ∙ e.always t (λ c. far (within t (inr c)));
+}
+
 module _ {N : Type 0} {seeds : List N} {old new : Records N} (d : DifferAt seeds old new) where
   row_kept : (t n : N) → (Contains seeds t → ⊥) → HasRow old t n → HasRow new t n
   row_kept t n far row = elim row [

@@ -1,16 +1,18 @@
 -- A graph that cells and rows fit has what a reply reads of it.
-use Rattle.std.proofs.Common.{ℕ, ◌<◌, ◌^◌, arith}
+use Rattle.std.proofs.Common.{List, length, arith}
 use Rattle.redo_order.proofs.Ranked.{sorted_few}
 use Rattle.redo_graph.specs.Graphs.{GraphOf}
-use Rattle.redo_replica.specs.Inside.Fits.{IsLinked}
+use Rattle.redo_replica.specs.declared.rows.Row.{Row}
+use Rattle.redo_replica.specs.declared.cell.CompactCell.{CompactCell}
+use Rattle.redo_replica.specs.Inside.Fits.{IsFit}
 use Rattle.redo_replica.specs.Inside.Lists.{IsLaidOut}
 
-pub laid_out : (count : ℕ) (graph : GraphOf) → IsLinked count graph → count < 2 ^ 32
-    → IsLaidOut graph count
-laid_out count graph linked few = record {
-  order = linked.order;
-  ranks = linked.ranks;
-  names = linked.names;
-  few = omega (arith, sorted_few graph.sorted count linked.order, few);
-  pairs_on = linked.pairs_on;
+pub laid_out : (graph : GraphOf) (cells : List CompactCell) (rows : List Row)
+    → IsFit graph cells rows → IsLaidOut graph (length cells)
+laid_out graph cells rows fit = record {
+  order = fit.linked.order;
+  ranks = fit.linked.ranks;
+  names = fit.linked.names;
+  few = omega (arith, sorted_few graph.sorted (length cells) fit.linked.order, fit.number);
+  pairs_on = fit.linked.pairs_on;
 }

@@ -1,5 +1,5 @@
 -- A step changes the records at its seed.
-use Rattle.std.proofs.Common.{◌≡◌, ◌∙◌, ℕ, ◌<◌, Bool, true, false, cond, List, [], ◌∷◌, Option, Some, None, IfSome, refl, sym, ap, subst}
+use Rattle.std.proofs.Common.{◌≡◌, ◌⊎◌, ◌↔◌, ◌∙◌, ℕ, ◌<◌, Bool, true, false, cond, List, [], ◌∷◌, Option, Some, None, IfSome, refl, sym, ap, subst, inl, inr}
 use Rattle.std.specs.Prelude.{option_map}
 use Rattle.std.specs.List.{Contains}
 use Rattle.std.proofs.Math.Path.{fun_ext}
@@ -11,8 +11,10 @@ use Rattle.redo_model.specs.Inside.OutOfDate.{DifferAt}
 use Rattle.redo_model.specs.Names.{Text, put, by_number}
 use Rattle.redo_model.specs.State.{Cell, Mark, Records}
 use Rattle.redo_model.specs.Step.{effect_of, with_cell}
-use Rattle.redo_model.proofs.Members.{contains_first}
-use Rattle.redo_marks.specs.Memo.{IsRight}
+use Rattle.redo_model.proofs.Members.{contains_cases, contains_first, contains_none}
+use Rattle.redo_model.proofs.Region.{differ_nowhere}
+use Rattle.redo_marks.specs.Memo.{WasRight}
+use Rattle.redo_marks.proofs.Deriving.{right_but_more}
 use Rattle.redo_graph.specs.declared.step.Step.{Step}
 use Rattle.redo_graph.specs.declared.step.Step.TheVariants as steps
 use Rattle.redo_graph.specs.Steps.{TablesOf, Means}
@@ -21,7 +23,8 @@ use Rattle.redo_replica.specs.declared.cell.CompactCell.{CompactCell}
 use Rattle.redo_replica.specs.CompactCells.{entry_of, cell_at}
 use Rattle.redo_replica.specs.Replicas.{IsStepBelow, records_in}
 use Rattle.redo_replica.specs.Inside.Changes.{HasEffect, IsReady}
-use Rattle.redo_replica.specs.Inside.Seeds.{DifferBy, IsRightBut, IsSeed, step_seed}
+use Rattle.redo_replica.specs.Inside.Memos.{MemoOf}
+use Rattle.redo_replica.specs.Inside.Seeds.{DifferBy, IsSeed, step_seed}
 use Rattle.redo_replica.proofs.Effects.{put_own}
 
 -- a write at a name leaves the others
@@ -154,16 +157,38 @@ module _ (tables : TablesOf) (cells : List CompactCell) (rows : List Row) (n : �
       ap (effect_of by_number (records_in tables cells rows) s) m
       ∙ same_file None (ap (option_map (entry_of tables.stamps)) known)
 
--- a memo that was right before a step is right but for its seed
+-- a memo that is right but for seeds is so after one more change, but for its seed too
+right_but_noted : (seed : Option ℕ) (before after : Records ℕ) (old new : List ℕ) (memo : List Bool)
+    → WasRight old memo before → DifferBy seed before after
+    → ((n : ℕ) → Contains new n ↔ (Contains old n ⊎ (seed ≡ Some n))) → WasRight new memo after
+right_but_noted None before after old new memo was same noted =
+    right_but_more {first = old} {second = []} memo (λ n c. (noted n).1 (elim c [
+      | inl earlier ↦ inl earlier
+      | inr none ↦ absurd (contains_none n none)
+    ])) was (subst (DifferAt [] before) (sym same) (differ_nowhere [] before))
+right_but_noted (Some m) before after old new memo was differ noted =
+    right_but_more {first = old} {second = m ∷ []} memo (λ n c. (noted n).1 (elim c [
+      | inl earlier ↦ inl earlier
+      | inr one ↦ elim (contains_cases m [] n one) [
+        | inl here ↦ inr (ap Some here)
+        | inr none ↦ absurd (contains_none n none)
+      ]
+    ])) was differ
+
+-- a memo whose seeds were noted is right but for these after a step, if the step's seed is too
 pub right_but : (tables : TablesOf) (count : ℕ) (step : Step) (old_cells cells : List CompactCell)
-    (old_rows rows : List Row) (memo : List Bool) (s : ℕ) (seed : Option ℕ)
-    → IsStepBelow tables count step → IsRight memo (records_in tables old_cells old_rows)
+    (old_rows rows : List Row) (old new : MemoOf) (s : ℕ) (seed : Option ℕ)
+    → IsStepBelow tables count step
+    → WasRight old.seeds old.out (records_in tables old_cells old_rows)
     → IsSeed tables step (records_in tables old_cells old_rows) seed
-    → HasEffect tables old_cells old_rows cells rows s step
-    → IsRightBut seed memo (records_in tables cells rows)
-right_but tables count step old_cells cells old_rows rows memo s None below right seed effect =
-    subst (IsRight memo) (sym (effect below.0 below.1 ∙ seed s below.0 below.1)) right
-right_but tables count step old_cells cells old_rows rows memo s (Some n) below right seed effect =
-    let old : Records ℕ = records_in tables old_cells old_rows in
-    let differ = seed s below.0 below.1 in
-    (old, subst (DifferAt (n ∷ []) old) (sym (effect below.0 below.1)) differ, right)
+    → HasEffect tables old_cells old_rows cells rows s step → new.out ≡ old.out
+    → ((n : ℕ) → Contains new.seeds n ↔ (Contains old.seeds n ⊎ (seed ≡ Some n)))
+    → WasRight new.seeds new.out (records_in tables cells rows)
+right_but tables count step old_cells cells old_rows rows old new s seed below was is effect out
+    noted =
+    let before : Records ℕ = records_in tables old_cells old_rows in
+    let after : Records ℕ = records_in tables cells rows in
+    let differ : DifferBy seed before after =
+    subst (DifferBy seed before) (sym (effect below.0 below.1)) (is s below.0 below.1) in
+    subst (λ (memo : List Bool). WasRight new.seeds memo after) (sym out)
+    (right_but_noted seed before after old.seeds new.seeds old.out was differ noted)

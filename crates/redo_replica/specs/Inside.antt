@@ -5,5 +5,6 @@ pub mod Replicas
 pub mod Lists
 pub mod Fits
 pub mod News
+pub mod Memos
 pub mod KeptMemo
 pub mod Seeds

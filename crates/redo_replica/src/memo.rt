@@ -1,9 +1,9 @@
-ghost use Rattle.std.specs.Prelude.{◌≡◌, ◌<◌, [], ◌∷◌, IfOk, IfSome, length};
+ghost use Rattle.std.specs.Prelude.{◌≡◌, ◌↔◌, ◌⊎◌, ◌<◌, ℕ, Some, IfOk, IfSome, Contains};
 ghost use Rattle.redo_model.specs.State.{empty};
-ghost use Rattle.redo_marks.specs.Memo.{memo_count, is_out, IsRight, WasRight};
+ghost use Rattle.redo_marks.specs.Memo.{memo_count, IsRight};
 ghost use Rattle.redo_replica.specs.Replicas.{records_in};
 ghost use Rattle.redo_replica.specs.Inside.Fits.{IsFit};
-ghost use Rattle.redo_replica.specs.Inside.Seeds.{IsRightBut};
+ghost use Rattle.redo_replica.specs.Inside.Memos.{IsMemoOf};
 
 use crate::cells::CompactCells;
 use crate::derive::derive;
@@ -15,19 +15,21 @@ use std::alloc::{AllocError, Global};
 use std::marker::Model;
 
 /// Which targets are out of date: those from which a chain of change rows leads to a target with a reason of its own.
-/// Only `new` allocates.
+/// After a change its name, a seed, is noted, and the memo is made right by `settle`, for all seeds at once. Only `new`
+/// allocates.
 #[derive(Drop)]
 pub(crate) struct Memo {
     out: NameSet,
+    seeds: NameSet,
     // nothing is marked in these between two calls
     region: NameSet,
     outdated: NameSet,
 }
 
 impl Model for Memo {
-    ghost use Rattle.std.specs.Prelude.{List, Bool};
+    ghost use Rattle.redo_replica.specs.Inside.Memos.{MemoOf};
 
-    ghost Value = { List Bool };
+    ghost Value = { MemoOf };
 
     ghost use Rattle.redo_replica.specs.Inside.KeptMemo.{memo_of, KeepsMemo};
 
@@ -39,31 +41,44 @@ impl Model for Memo {
 impl Memo {
     /// Nothing is out of date.
     pub(crate) fn new(alloc: Global, names: u32) -> Result<Memo, AllocError>
-        ensures count { IfOk result (λ memo. memo_count memo ≡ names) }
-        ensures right { IfOk result (λ memo. IsRight memo empty.records) }
+        ensures count { IfOk result (λ memo. memo_count memo.out ≡ names) }
+        ensures right { IfOk result (λ memo. IsRight memo.out empty.records) }
     {
         let out = NameSet::new(alloc, names)?;
+        let seeds = NameSet::new(alloc, names)?;
         let region = NameSet::new(alloc, names)?;
         let outdated = NameSet::new(alloc, names)?;
         Ok(Memo {
             out,
+            seeds,
             region,
             outdated,
         })
     }
 
-    /// Makes the memo right for the cells and rows; it was right before they changed at this name. Looks only at its
-    /// region and the rows of that.
-    pub(crate) fn refresh(&mut self, graph: &Graph, cells: &CompactCells, rows: &PairRows, n: u32)
-        requires name { n < length cells.now }
-        requires fit { IsFit graph.now cells.now rows.now }
-        requires sized { memo_count self.old ≡ length cells.now }
-        requires right { WasRight (n ∷ []) self.old
-            (records_in graph.now.tables cells.now rows.now) }
-        ensures right { IsRight self.new (records_in graph.now.tables cells.now rows.now) }
-        ensures count { memo_count self.new ≡ memo_count self.old }
+    /// Notes a seed, if there is one.
+    pub(crate) fn note(&mut self, seed: Option<u32>)
+        requires { IfSome seed (λ n. n < memo_count self.old.out) }
+        ensures out { self.new.out ≡ self.old.out }
+        ensures seeds { (n : ℕ) → Contains self.new.seeds n
+            ↔ (Contains self.old.seeds n ⊎ (seed ≡ Some n)) }
     {
-        let touching = find_region(graph, cells, rows, n, &mut self.region);
+        if let Some(n) = seed {
+            self.seeds.enter(n);
+        }
+    }
+
+    /// Makes the memo right for the cells and rows; it was right before they changed at the seeds. Looks only at the
+    /// region of the seeds and the rows of that.
+    pub(crate) fn settle(&mut self, graph: &Graph, cells: &CompactCells, rows: &PairRows)
+        requires fit { IsFit graph.now cells.now rows.now }
+        requires memo { IsMemoOf graph.now.tables cells.now rows.now self.old }
+        ensures right { IsRight self.new.out (records_in graph.now.tables cells.now rows.now) }
+        ensures none { (n : ℕ) → Contains self.new.seeds n → ⊥ }
+        ensures memo { IsMemoOf graph.now.tables cells.now rows.now self.new }
+    {
+        let seeds = self.seeds.queue();
+        let touching = find_region(graph, cells, rows, seeds, &mut self.region);
         let region = self.region.queue();
         let (touched, others) = region.split_at(touching);
         enter_marked(&self.out, others, &mut self.outdated);
@@ -73,41 +88,13 @@ impl Memo {
         derive(graph, cells, rows, self.outdated.queue(), &mut self.out);
         self.outdated.unmark_queue();
         self.region.unmark_queue();
-    }
-
-    /// Makes the memo right for the cells and rows; it was right but for this name, or right if there is none.
-    pub(crate) fn correct(
-        &mut self,
-        graph: &Graph,
-        cells: &CompactCells,
-        rows: &PairRows,
-        seed: Option<u32>,
-    )
-        requires seed { IfSome seed (λ n. n < length cells.now) }
-        requires fit { IsFit graph.now cells.now rows.now }
-        requires sized { memo_count self.old ≡ length cells.now }
-        requires right { IsRightBut seed self.old
-            (records_in graph.now.tables cells.now rows.now) }
-        ensures right { IsRight self.new (records_in graph.now.tables cells.now rows.now) }
-        ensures count { memo_count self.new ≡ memo_count self.old }
-    {
-        if let Some(n) = seed {
-            self.refresh(graph, cells, rows, n);
-        }
+        self.seeds.unmark_queue();
     }
 
     /// The marks of the out-of-date targets.
     pub(crate) fn marks(&self) -> &NameSet
-        ensures { result.now.marks ≡ self.now }
+        ensures { result.now.marks ≡ self.now.out }
     {
         &self.out
-    }
-
-    /// Whether it is an out-of-date target.
-    pub(crate) fn is_out(&self, t: u32) -> bool
-        requires { t < memo_count self.now }
-        ensures { result ≡ is_out self.now t }
-    {
-        self.out.contains(t)
     }
 }

@@ -1,7 +1,7 @@
-//! The region of a name: this one, the targets with a row on it, and all targets from which a chain of change rows
-//! leads there.
+//! The region of some names: these, the targets with a row on one of them, and all targets from which a chain of
+//! change rows leads there.
 
-ghost use Rattle.std.specs.Prelude.{◌≡◌, ◌≢◌, ◌<◌, ◌≤◌, ◌↔◌, ◌⊎◌, ◌∷◌, [], ℕ, IsTrue, IsSome, length, take, Contains};
+ghost use Rattle.std.specs.Prelude.{◌≡◌, ◌≢◌, ◌<◌, ◌≤◌, ◌↔◌, ◌⊎◌, ℕ, IsTrue, IsSome, length, take, Contains};
 ghost use Rattle.redo_model.specs.OutOfDate.{IsTarget, Depends, HasRow};
 ghost use Rattle.redo_model.specs.Inside.OutOfDate.{TouchesSeed, InRegion};
 ghost use Rattle.redo_model.specs.Renaming.{AllBelow};
@@ -89,16 +89,34 @@ fn enter_holders(graph: &Graph, cells: &CompactCells, rows: &PairRows, n: u32, m
     }
 }
 
-/// Marks the name and the targets with a row on it.
-fn enter_touched(graph: &Graph, cells: &CompactCells, rows: &PairRows, n: u32, marks: &mut NameSet)
-    requires name { n < length cells.now }
+/// Marks the names.
+fn enter_each(names: &[u32], marks: &mut NameSet)
+    requires { AllBelow (size_of marks.old) names.now }
+    ensures { Enters (Contains names.now) marks.old marks.new }
+{
+    for &n in names {
+        marks.enter(n);
+    }
+}
+
+/// Marks the seeds and the targets with a row on one of them.
+fn enter_touched(
+    graph: &Graph,
+    cells: &CompactCells,
+    rows: &PairRows,
+    seeds: &[u32],
+    marks: &mut NameSet,
+)
+    requires seeds { AllBelow (size_of marks.old) seeds.now }
     requires fit { IsFit graph.now cells.now rows.now }
     requires sized { size_of marks.old ≡ length cells.now }
-    ensures { Enters (TouchesSeed (records_in graph.now.tables cells.now rows.now) (n ∷ []))
+    ensures { Enters (TouchesSeed (records_in graph.now.tables cells.now rows.now) seeds.now)
         marks.old marks.new }
 {
-    marks.enter(n);
-    enter_holders(graph, cells, rows, n, marks);
+    enter_each(seeds, marks);
+    for &n in seeds {
+        enter_holders(graph, cells, rows, n, marks);
+    }
 }
 
 /// Marks the targets from which a chain of change rows leads to a name that is queued from this place on. All that
@@ -126,29 +144,29 @@ pub(crate) fn spread(
     }
 }
 
-/// Marks the region of the name; nothing is marked before. Returns how many names at the beginning of the queue are
-/// the name or targets with a row on it.
+/// Marks the region of the seeds; nothing is marked before. Returns how many names at the beginning of the queue touch
+/// a seed.
 pub(crate) fn find_region(
     graph: &Graph,
     cells: &CompactCells,
     rows: &PairRows,
-    n: u32,
+    seeds: &[u32],
     marks: &mut NameSet,
 ) -> usize
-    requires name { n < length cells.now }
+    requires seeds { AllBelow (size_of marks.old) seeds.now }
     requires fit { IsFit graph.now cells.now rows.now }
     requires sized { size_of marks.old ≡ length cells.now }
     requires unmarked { (t : ℕ) → IsMarked marks.old t → ⊥ }
     requires empty { (t : ℕ) → IsQueued marks.old t → ⊥ }
-    ensures region { HoldsOnly (InRegion (records_in graph.now.tables cells.now rows.now) (n ∷ []))
+    ensures region { HoldsOnly (InRegion (records_in graph.now.tables cells.now rows.now) seeds.now)
         marks.new }
     ensures few { result ≤ length marks.new.queue }
     ensures touched { (t : ℕ)
-        → TouchesSeed (records_in graph.now.tables cells.now rows.now) (n ∷ []) t
+        → TouchesSeed (records_in graph.now.tables cells.now rows.now) seeds.now t
         → Contains (take result marks.new.queue) t }
     ensures sized { size_of marks.new ≡ size_of marks.old }
 {
-    enter_touched(graph, cells, rows, n, marks);
+    enter_touched(graph, cells, rows, seeds, marks);
     let touched = marks.queue_len();
     spread(graph, cells, rows, 0, marks);
     touched

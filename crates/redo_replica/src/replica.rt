@@ -1,6 +1,5 @@
-ghost use Rattle.std.specs.Prelude.{◌≡◌, ◌↔◌, ◌+◌, ◌<◌, ◌^◌, ℕ, IsTrue, IsSome, IsOk, None, false, option_map, IfOk};
+ghost use Rattle.std.specs.Prelude.{◌≡◌, ◌+◌, ◌<◌, ◌^◌, ℕ, IsSome, IsOk, None, false, option_map, IfOk};
 ghost use Rattle.redo_model.specs.Command as commands;
-ghost use Rattle.redo_model.specs.OutOfDate.{OutOfDate};
 ghost use Rattle.redo_model.specs.State.{empty};
 ghost use Rattle.redo_model.specs.Command.{asked_lock};
 ghost use Rattle.redo_model.specs.Renaming.{IsReplyBelow};
@@ -31,7 +30,7 @@ pub struct Replica<'a> {
     graph: &'a Graph,
     cells: CompactCells,
     rows: PairRows,
-    // what is out of date by the cells and rows
+    // what was out of date before the cells and rows of its seeds changed
     memo: Memo,
     applied: u32,
 }
@@ -96,28 +95,36 @@ impl<'a> Replica<'a> {
         verdict(self.graph, &self.cells, s, step, holds)
     }
 
-    /// The reply to a session's step, which is no lock. Only the lists of names allocate, and a refusal doesn't.
-    pub fn reply(&self, alloc: Global, s: u8, step: &Step, holds: bool) -> Result<Reply, AllocError>
-        requires numbers { IsStepBelow self.now.graph.tables (count_of self.now) step.now }
-        requires no_lock { (x : commands.Command ℕ) → Means self.now.graph.tables step.now x
+    /// The reply to a session's step, which is no lock. Only the lists of names allocate, and a refusal doesn't. If the
+    /// reply says what is out of date, that is derived now, for all changes since the last such reply.
+    pub fn reply(
+        &mut self,
+        alloc: Global,
+        s: u8,
+        step: &Step,
+        holds: bool,
+    ) -> Result<Reply, AllocError>
+        requires numbers { IsStepBelow self.old.graph.tables (count_of self.old) step.now }
+        requires no_lock { (x : commands.Command ℕ) → Means self.old.graph.tables step.now x
             → asked_lock x ≡ None }
-        ensures replies { (x : commands.Command ℕ) → Means self.now.graph.tables step.now x
-            → IfOk result (λ reply. Replies (naming_in self.now.graph) (records_of self.now) s holds
+        ensures replies { (x : commands.Command ℕ) → Means self.old.graph.tables step.now x
+            → IfOk result (λ reply. Replies (naming_in self.old.graph) (records_of self.old) s holds
             x (reply_of reply)) }
-        ensures below { IfOk result (λ reply. IsReplyBelow (count_of self.now) (reply_of reply)) }
-        ensures ok { (x : commands.Command ℕ) → Means self.now.graph.tables step.now x
+        ensures below { IfOk result (λ reply. IsReplyBelow (count_of self.old) (reply_of reply)) }
+        ensures ok { (x : commands.Command ℕ) → Means self.old.graph.tables step.now x
             → lists_names x ≡ false → IsOk result }
-        ensures refused { (x : commands.Command ℕ) → Means self.now.graph.tables step.now x
-            → IsSome (verdict_of (naming_in self.now.graph) (records_of self.now) s holds x)
+        ensures refused { (x : commands.Command ℕ) → Means self.old.graph.tables step.now x
+            → IsSome (verdict_of (naming_in self.old.graph) (records_of self.old) s holds x)
             → IsOk result }
+        ensures same { self.new ≡ self.old }
     {
-        let out = self.memo.marks();
+        let memo = &mut self.memo;
         reply(
             alloc,
             self.graph,
             &self.cells,
             &self.rows,
-            out,
+            memo,
             s,
             step,
             holds,
@@ -140,14 +147,6 @@ impl<'a> Replica<'a> {
         }
     }
 
-    /// Whether it is an out-of-date target.
-    pub fn is_out(&self, t: u32) -> bool
-        requires { t < count_of self.now }
-        ensures { IsTrue result ↔ OutOfDate (records_of self.now) t }
-    {
-        self.memo.is_out(t)
-    }
-
     /// Makes the change of a session's accepted step.
     fn change(&mut self, s: u8, step: &Step)
         requires step { IsStepBelow self.old.graph.tables (count_of self.old) step.now }
@@ -160,7 +159,7 @@ impl<'a> Replica<'a> {
     {
         let seed = seed_of(&self.cells, step);
         obey(self.graph, &mut self.cells, &mut self.rows, s, step);
-        self.memo.correct(self.graph, &self.cells, &self.rows, seed);
+        self.memo.note(seed);
         self.applied += 1;
     }
 }

@@ -1,4 +1,4 @@
-//! The reply to a step, from cells, rows and the marks of what is out of date.
+//! The reply to a step, from cells, rows and a memo of what is out of date, which is settled where a reply reads it.
 
 ghost use Rattle.std.specs.Prelude.{◌≡◌, ◌<◌, ℕ, List, None, Some, IfOk, IsOk, IsSome, false, length, slice_get};
 ghost use Rattle.redo_model.specs.Command as commands;
@@ -6,21 +6,21 @@ ghost use Rattle.redo_model.specs.Command.{asked_lock};
 ghost use Rattle.redo_model.specs.Renaming.{IsReplyBelow};
 ghost use Rattle.redo_model.specs.Step.{Replies, Tells, stale_reply, verdict_of};
 ghost use Rattle.redo_terms.specs.Meaning.{reply_of};
-ghost use Rattle.redo_marks.specs.Memo.{IsRight};
-ghost use Rattle.redo_marks.specs.NameSet.{size_of};
 ghost use Rattle.redo_graph.specs.Steps.{AreListed, Means};
 ghost use Rattle.redo_replica.specs.declared.rows.Row.{Row};
 ghost use Rattle.redo_replica.specs.Replicas.{IsStepBelow, records_in};
 ghost use Rattle.redo_replica.specs.Replies.{lists_names, naming_in};
 ghost use Rattle.redo_replica.specs.Inside.Changes.{IsListReady};
+ghost use Rattle.redo_replica.specs.Inside.Fits.{IsFit};
 ghost use Rattle.redo_replica.specs.Inside.Lists.{IsLaidOut};
+ghost use Rattle.redo_replica.specs.Inside.Memos.{IsMemoOf};
 
 use crate::cells::CompactCells;
 use crate::lists::{ood, sources, stale, targets};
+use crate::memo::Memo;
 use crate::rows::PairRows;
 use crate::verdict::verdict;
 use redo_graph::{Graph, Listed, Step};
-use redo_marks::NameSet;
 use redo_terms::Reply;
 use std::alloc::{AllocError, Global};
 
@@ -39,24 +39,23 @@ fn stale_among(
     alloc: Global,
     graph: &Graph,
     cells: &CompactCells,
-    out: &NameSet,
+    rows: &PairRows,
+    memo: &mut Memo,
     list: &Listed,
 ) -> Result<Reply, AllocError>
-    requires laid_out { IsLaidOut graph.now (length cells.now) }
-    requires marks { size_of out.now ≡ length cells.now }
+    requires fit { IsFit graph.now cells.now rows.now }
+    requires memo { IsMemoOf graph.now.tables cells.now rows.now memo.old }
     requires list { IsListReady graph.now.tables (length cells.now) list.now }
-    ensures tells { (rows : List Row) (t : ℕ) (names : List ℕ)
-        → IsRight out.now.marks (records_in graph.now.tables cells.now rows)
-        → AreListed graph.now.tables t names list.now
+    ensures tells { (t : ℕ) (names : List ℕ) → AreListed graph.now.tables t names list.now
         → IfOk result (λ reply. Tells (naming_in graph.now)
-        (records_in graph.now.tables cells.now rows) (commands.IfChange t names)
+        (records_in graph.now.tables cells.now rows.now) (commands.IfChange t names)
         (reply_of reply)) }
-    ensures below { (rows : List Row)
-        → IsRight out.now.marks (records_in graph.now.tables cells.now rows)
-        → IfOk result (λ reply. IsReplyBelow (length cells.now) (reply_of reply)) }
+    ensures below { IfOk result (λ reply. IsReplyBelow (length cells.now) (reply_of reply)) }
+    ensures memo { IsMemoOf graph.now.tables cells.now rows.now memo.new }
 {
+    memo.settle(graph, cells, rows);
     let places = graph.listed(list);
-    let names = stale(alloc, graph, cells, out, places)?;
+    let names = stale(alloc, graph, cells, memo.marks(), places)?;
     Ok(reply_to_ifchange(names))
 }
 
@@ -65,19 +64,18 @@ fn ood_reply(
     alloc: Global,
     graph: &Graph,
     cells: &CompactCells,
-    out: &NameSet,
+    rows: &PairRows,
+    memo: &mut Memo,
 ) -> Result<Reply, AllocError>
-    requires laid_out { IsLaidOut graph.now (length cells.now) }
-    requires marks { size_of out.now ≡ length cells.now }
-    ensures tells { (rows : List Row)
-        → IsRight out.now.marks (records_in graph.now.tables cells.now rows)
-        → IfOk result (λ reply. Tells (naming_in graph.now)
-        (records_in graph.now.tables cells.now rows) commands.Ood (reply_of reply)) }
-    ensures below { (rows : List Row)
-        → IsRight out.now.marks (records_in graph.now.tables cells.now rows)
-        → IfOk result (λ reply. IsReplyBelow (length cells.now) (reply_of reply)) }
+    requires fit { IsFit graph.now cells.now rows.now }
+    requires memo { IsMemoOf graph.now.tables cells.now rows.now memo.old }
+    ensures tells { IfOk result (λ reply. Tells (naming_in graph.now)
+        (records_in graph.now.tables cells.now rows.now) commands.Ood (reply_of reply)) }
+    ensures below { IfOk result (λ reply. IsReplyBelow (length cells.now) (reply_of reply)) }
+    ensures memo { IsMemoOf graph.now.tables cells.now rows.now memo.new }
 {
-    Ok(Reply::Ood(ood(alloc, graph, cells, out)?))
+    memo.settle(graph, cells, rows);
+    Ok(Reply::Ood(ood(alloc, graph, cells, memo.marks())?))
 }
 
 /// The targets that have a file.
@@ -120,13 +118,11 @@ pub(crate) fn answer(
     graph: &Graph,
     cells: &CompactCells,
     rows: &PairRows,
-    out: &NameSet,
+    memo: &mut Memo,
     step: &Step,
 ) -> Result<Reply, AllocError>
-    requires laid_out { IsLaidOut graph.now (length cells.now) }
-    requires sized { length rows.now ≡ length graph.now.tables.pairs.items }
-    requires marks { size_of out.now ≡ length cells.now }
-    requires memo { IsRight out.now.marks (records_in graph.now.tables cells.now rows.now) }
+    requires fit { IsFit graph.now cells.now rows.now }
+    requires memo { IsMemoOf graph.now.tables cells.now rows.now memo.old }
     requires numbers { IsStepBelow graph.now.tables (length cells.now) step.now }
     requires no_lock { (x : commands.Command ℕ) → Means graph.now.tables step.now x
         → asked_lock x ≡ None }
@@ -136,12 +132,13 @@ pub(crate) fn answer(
     ensures below { IfOk result (λ reply. IsReplyBelow (length cells.now) (reply_of reply)) }
     ensures ok { (x : commands.Command ℕ) → Means graph.now.tables step.now x
         → lists_names x ≡ false → IsOk result }
+    ensures memo { IsMemoOf graph.now.tables cells.now rows.now memo.new }
 {
     match step {
         Step::Lock(_) => unreachable!(),
-        Step::IfChange(_, list) => stale_among(alloc, graph, cells, out, list),
+        Step::IfChange(_, list) => stale_among(alloc, graph, cells, rows, memo, list),
         Step::Stamp(_, digest) => Ok(Reply::Stamped(digest_at(graph, *digest))),
-        Step::Ood => ood_reply(alloc, graph, cells, out),
+        Step::Ood => ood_reply(alloc, graph, cells, rows, memo),
         Step::Targets => targets_reply(alloc, graph, cells),
         Step::Sources => sources_reply(alloc, graph, cells, rows),
         _ => Ok(Reply::Okay),
@@ -154,15 +151,13 @@ pub(crate) fn reply(
     graph: &Graph,
     cells: &CompactCells,
     rows: &PairRows,
-    out: &NameSet,
+    memo: &mut Memo,
     s: u8,
     step: &Step,
     holds: bool,
 ) -> Result<Reply, AllocError>
-    requires laid_out { IsLaidOut graph.now (length cells.now) }
-    requires sized { length rows.now ≡ length graph.now.tables.pairs.items }
-    requires marks { size_of out.now ≡ length cells.now }
-    requires memo { IsRight out.now.marks (records_in graph.now.tables cells.now rows.now) }
+    requires fit { IsFit graph.now cells.now rows.now }
+    requires memo { IsMemoOf graph.now.tables cells.now rows.now memo.old }
     requires numbers { IsStepBelow graph.now.tables (length cells.now) step.now }
     requires no_lock { (x : commands.Command ℕ) → Means graph.now.tables step.now x
         → asked_lock x ≡ None }
@@ -175,9 +170,10 @@ pub(crate) fn reply(
     ensures refused { (x : commands.Command ℕ) → Means graph.now.tables step.now x
         → IsSome (verdict_of (naming_in graph.now)
         (records_in graph.now.tables cells.now rows.now) s holds x) → IsOk result }
+    ensures memo { IsMemoOf graph.now.tables cells.now rows.now memo.new }
 {
     match verdict(graph, cells, s, step, holds) {
         Some(refusal) => Ok(Reply::Refused(refusal)),
-        None => answer(alloc, graph, cells, rows, out, step),
+        None => answer(alloc, graph, cells, rows, memo, step),
     }
 }

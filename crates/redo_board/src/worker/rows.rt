@@ -88,11 +88,12 @@ impl<'a> Worker<'a> {
     }
 
     /// The reply of a step, by what the session holds.
-    fn reply(&self, alloc: Global, step: &Step, command: &Command) -> Result<Reply, AllocError>
-        requires step { IsStepOf self.now step.now (command_of command.now) }
+    fn reply(&mut self, alloc: Global, step: &Step, command: &Command) -> Result<Reply, AllocError>
+        requires step { IsStepOf self.old step.now (command_of command.now) }
         ensures said { IfOk result
-            (λ reply. IsSaidBy self.now (command_of command.now) (reply_of reply)) }
+            (λ reply. IsSaidBy self.old (command_of command.now) (reply_of reply)) }
         ensures ok { lists_names (command_of command.now) ≡ false → IsOk result }
+        ensures same { self.new ≡ self.old }
     {
         let holds = holds_its_target(&self.own, command);
         self.replica.reply(alloc, self.session, step, holds)
@@ -101,14 +102,15 @@ impl<'a> Worker<'a> {
     /// The reply of a command whose reply lists names, if it isn't refused. Other replies allocate nothing, and are
     /// made after the exchange.
     fn list_first(
-        &self,
+        &mut self,
         alloc: Global,
         step: &Step,
         command: &Command,
     ) -> Result<Option<Reply>, AllocError>
-        requires step { IsStepOf self.now step.now (command_of command.now) }
-        ensures ready { IfOk result (λ list. IsReadyBy self.now (command_of command.now) list) }
+        requires step { IsStepOf self.old step.now (command_of command.now) }
+        ensures ready { IfOk result (λ list. IsReadyBy self.old (command_of command.now) list) }
         ensures ok { lists_names (command_of command.now) ≡ false → IsOk result }
+        ensures same { self.new ≡ self.old }
     {
         match command {
             Command::IfChange(..) | Command::Ood | Command::Targets | Command::Sources => {
@@ -119,10 +121,17 @@ impl<'a> Worker<'a> {
     }
 
     /// The reply that was made first, or else the one that allocates nothing.
-    fn reply_to(&self, alloc: Global, step: &Step, command: &Command, list: Option<Reply>) -> Reply
-        requires step { IsStepOf self.now step.now (command_of command.now) }
-        requires ready { IsReadyBy self.now (command_of command.now) list }
-        ensures { IsSaidBy self.now (command_of command.now) (reply_of result) }
+    fn reply_to(
+        &mut self,
+        alloc: Global,
+        step: &Step,
+        command: &Command,
+        list: Option<Reply>,
+    ) -> Reply
+        requires step { IsStepOf self.old step.now (command_of command.now) }
+        requires ready { IsReadyBy self.old (command_of command.now) list }
+        ensures said { IsSaidBy self.old (command_of command.now) (reply_of result) }
+        ensures same { self.new ≡ self.old }
     {
         if let Some(reply) = list {
             return reply;

@@ -1,11 +1,10 @@
 -- Where a step changes records.
-use Rattle.std.specs.Prelude.{◌≡◌, ℕ, Bool, List, [], ◌∷◌, Option, Some, None}
+use Rattle.std.specs.Prelude.{◌≡◌, ℕ, [], ◌∷◌, Option, Some, None}
 use Rattle.redo_model.specs.Command.{Command}
 use Rattle.redo_model.specs.Inside.OutOfDate.{DifferAt}
 use Rattle.redo_model.specs.Names.{by_number}
 use Rattle.redo_model.specs.State.{Records}
 use Rattle.redo_model.specs.Step.{effect_of}
-use Rattle.redo_marks.specs.Memo.{IsRight, WasRight}
 use Rattle.redo_graph.specs.declared.step.Step.{Step}
 use Rattle.redo_graph.specs.declared.step.Step.TheVariants.{File, Gone, Lock, Unlock, Start, IfChange, IfCreate, Always, Stamp, Done, Failed, Ood, Targets, Sources}
 use Rattle.redo_graph.specs.Steps.{TablesOf, Means}
@@ -36,8 +35,3 @@ DifferBy (Some n) old new = DifferAt (n ∷ []) old new
 abbrev pub IsSeed : TablesOf → Step → Records ℕ → Option ℕ → Type 0
 IsSeed tables step r seed = (s : ℕ) (x : Command ℕ) → Means tables step x
     → DifferBy seed r (effect_of by_number r s x)
-
--- the memo is right but for the seed
-abbrev pub IsRightBut : Option ℕ → List Bool → Records ℕ → Type 0
-IsRightBut None memo r = IsRight memo r
-IsRightBut (Some n) memo r = WasRight (n ∷ []) memo r

@@ -7,7 +7,16 @@ use Rattle.redo_graph.specs.declared.step.Step.{Step}
 use Rattle.redo_graph.specs.Steps.{Means}
 use Rattle.redo_replica.specs.Replicas.{records_in}
 use Rattle.redo_replica.specs.Replies.{naming_in}
+use Rattle.redo_replica.proofs.Layouts.{laid_out}
 use Rattle.redo_replica.proofs.replies.answer.Goals as goal
+
+pub targets_reply-requires : goal.targets_reply-requires
+targets_reply-requires c =
+    laid_out c.args.graph.now c.args.cells.now c.args.rows.now c.requires.fit
+
+pub sources_reply-requires-clause-laid_out : goal.sources_reply-requires-clause-laid_out
+sources_reply-requires-clause-laid_out c =
+    laid_out c.args.graph.now c.args.cells.now c.args.rows.now c.requires.fit
 
 pub returns-in-IfChange-clause-tells : goal.returns-in-IfChange-clause-tells
 returns-in-IfChange-clause-tells c = λ x means.
@@ -16,7 +25,7 @@ returns-in-IfChange-clause-tells c = λ x means.
     let is = subst (λ (step : Step). Means g.tables step x) c.in-IfChange.is means in
     subst (λ (y : Command ℕ). IfOk c.stale_among.result (λ reply. Tells (naming_in g)
     (records_in g.tables c.args.cells.now rows) y (reply_of reply))) (sym is.1)
-    (c.stale_among.ensures.tells rows c.in-IfChange.field-0 is.0 c.requires.memo is.2)
+    (c.stale_among.ensures.tells c.in-IfChange.field-0 is.0 is.2)
 
 pub returns-in-Ood-clause-tells : goal.returns-in-Ood-clause-tells
 returns-in-Ood-clause-tells c = λ x means.
@@ -25,7 +34,7 @@ returns-in-Ood-clause-tells c = λ x means.
     let is = subst (λ (step : Step). Means g.tables step x) c.in-Ood.is means in
     subst (λ (y : Command ℕ). IfOk c.ood_reply.result (λ reply. Tells (naming_in g)
     (records_in g.tables c.args.cells.now rows) y (reply_of reply))) (sym is)
-    (c.ood_reply.ensures.tells rows c.requires.memo)
+    c.ood_reply.ensures.tells
 
 pub returns-in-Targets-clause-tells : goal.returns-in-Targets-clause-tells
 returns-in-Targets-clause-tells c = λ x means.

@@ -1,4 +1,4 @@
-use Rattle.std.proofs.Common.{◌≡◌, sym, subst}
+use Rattle.std.proofs.Common.{◌≡◌, ◌∙◌, sym, subst}
 use Rattle.std.proofs.lemmas.Result.{err_from_is_err_and}
 use Rattle.redo_journal.specs.Plans.{PlanOf}
 use Rattle.redo_board.specs.declared.worker.Worker.{Worker}
@@ -16,10 +16,10 @@ pub returns-in_err-list-clause-err : goal.returns-in_err-list-clause-err
 returns-in_err-list-clause-err g c =
     let p = c.args.plan.now in
     let w = c.args.self.now in
-    let x = c.pass_row.new.self in
+    let x = c.list_first.new.self in
     let e = c.catch_up.ensures in
     let failed = err_from_is_err_and c.from_residual.result
     c.from_residual.ensures.1 in
     rw failed.1
     (still p w c.rows.self c.catch_up.new.self x c.rows.invariant.2 e.same.0 e.same.1 e.seat
-    (c.pass_row.ensures.same c.if-pass_row.false))
+    (c.list_first.ensures.same ∙ c.pass_row.ensures.same c.if-pass_row.false))

@@ -1,12 +1,17 @@
-use Rattle.std.proofs.Common.{◌≡◌, ℕ, ◌+◌, ◌∷◌, [], ◌++◌, length, List, arith, refl, sym, ap, ◌∙◌, subst, None, Some, Bool}
+use Rattle.std.proofs.Common.{◌≡◌, ℕ, ◌+◌, ◌<◌, ◌^◌, ◌∷◌, [], ◌++◌, length, List, arith, refl, sym, ap, ◌∙◌, subst, None, Some, Bool}
+use Rattle.std.specs.Vec.{vec_len, vec_capacity}
 use Rattle.std.proofs.lemmas.List.{length_push}
+use Rattle.redo_model.specs.Command.{Command}
 use Rattle.redo_model.specs.Placed.{Row}
 use Rattle.redo_model.specs.Journals.{Numbered}
+use Rattle.redo_model.specs.Renaming.{IsBelow}
 use Rattle.redo_model.specs.Step.{records_after}
 use Rattle.redo_records.specs.Rows.{by_number}
-use Rattle.redo_replica.specs.Replicas.{records_of}
+use Rattle.redo_graph.specs.Steps.{Means}
+use Rattle.redo_replica.specs.Replicas.{ReplicaOf, IsStepBelow, count_of, records_of}
 use Rattle.redo_terms.specs.Meaning.{command_of, reply_of}
 use Rattle.redo_journal.specs.Plans.{PlanOf}
+use Rattle.redo_journal.specs.declared.entry.Entry.{Entry}
 use Rattle.redo_board.specs.Core.{word}
 use Rattle.redo_board.specs.Views.{view}
 use Rattle.redo_board.specs.Plays.{own}
@@ -15,6 +20,7 @@ use Rattle.redo_board.specs.Shown.{journal_of, seen_by}
 use Rattle.redo_board.specs.Kept.{Works, WorksAt, Lags, view_of}
 use Rattle.redo_board.specs.Outcomes.{Made}
 use Rattle.redo_board.specs.Inside.Own.{holds_its_target}
+use Rattle.redo_board.specs.Inside.Steps.{Enters}
 use Rattle.redo_board.specs.declared.worker.Worker.{Worker}
 use Rattle.redo_board.proofs.Rooms.{next_word}
 use Rattle.redo_board.proofs.Steps.{tries_as, won_goes}
@@ -85,13 +91,15 @@ returns-clause-row c =
 pub apply-requires-clause-step : goal.apply-requires-clause-step
 apply-requires-clause-step c =
     let is = c.requires.step in
-    (command_of c.args.command.now, is.means, is.numbers)
+    subst (λ (w : Worker). IsStepBelow w.replica.graph.tables (count_of w.replica) c.args.step.now)
+    (sym c.reply_to-reply.ensures.same) (command_of c.args.command.now, is.means, is.numbers)
 
 pub apply-requires-clause-applied : goal.apply-requires-clause-applied
 apply-requires-clause-applied c =
+    let w = c.args.self.now in
     let k = c.requires.belongs.1.works in
-    lags_few c.args.plan.now (view_of c.args.self.now) c.args.self.now.replica c.args.self.now.pending
-    k.told k.lags
+    subst (λ (v : Worker). v.replica.applied + 1 < 2 ^ 32) (sym c.reply_to-reply.ensures.same)
+    (lags_few c.args.plan.now (view_of w) w.replica w.pending k.told k.lags)
 
 pub returns-then-found-ne0-clause-works : goal.returns-then-found-ne0-clause-works
 returns-then-found-ne0-clause-works c =
@@ -134,6 +142,13 @@ returns-then-found-ne0-clause-result c =
     } in
     waits_lost p c.args.board.now w w' found k (e.2.1 c.if-found-ne0.true) refl refl refl e.2.2
 
+-- the reply left the worker as it was
+enters_same : (v w : Worker) (replica : ReplicaOf) (x : Command ℕ) (entry : Entry) (new : Worker)
+    → v ≡ w → Enters (record v { replica = replica }) x entry new
+    → Enters (record w { replica = replica }) x entry new
+enters_same v w replica x entry new =
+    subst (λ (u : Worker). Enters (record u { replica = replica }) x entry new)
+
 -- the worker after its entry
 done : (c : After-enter)
     → WorksAt c.args.plan.now c.args.board.now c.enter.new.self
@@ -143,8 +158,10 @@ done c =
     let w = c.args.self.now in
     let k = c.requires.belongs.1 in
     let e = c.compare_exchange-found.ensures in
-    let cap = c.enter.ensures in
-    let r = c.reply_to-reply.ensures in
+    let r = c.reply_to-reply.ensures.said in
+    let same = c.reply_to-reply.ensures.same in
+    let replica : c.reply_to-reply.new.self.replica ≡ w.replica =
+    ap (λ (v : Worker). v.replica) same in
     let x = command_of c.args.command.now in
     let n : Numbered ℕ = record { number = c.args.next.now.number; command = x } in
     let is-next = c.requires.command.next in
@@ -160,6 +177,12 @@ done c =
     } in
     let w' : Worker =
     record w₁ { entries = c.enter.new.self.entries; own = c.enter.new.self.own } in
+    let cap = enters_same _ _ c.apply.new.self x _ c.enter.new.self same c.enter.ensures in
+    let after = subst (λ (v : Worker). (y : Command ℕ)
+    → Means v.replica.graph.tables c.args.step.now y
+    → records_of c.apply.new.self
+    ≡ records_after by_number (records_of v.replica) v.session c.holds_its_target-holds.result y)
+    same c.apply.ensures.after in
     let held : holds_its_target w.own x ≡ h = own_has p w n k.works is-next in
     let said : SaysRow (view p ((w.session, journal_of p w) ∷ []) (seen_by w) (view_of w).also)
     w.session (journal_of p w) x reply =
@@ -170,11 +193,13 @@ done c =
     won_goes p w.session (journal_of p w) (view_of w) (view_of w') n reply k.works.view
     (e.2.0 c.if-found-ne0.false) is-next said in
     let won : Lags p c.apply.new.self None seen =
-    lags_won p w.replica c.apply.new.self (seen_by w) c.apply.ensures.count c.apply.ensures.graph
-    c.apply.ensures.applied w.session (word p w.session c.args.next.now.number x h) h x lags
+    lags_won p w.replica c.apply.new.self (seen_by w) (c.apply.ensures.count ∙ ap count_of replica)
+    (c.apply.ensures.graph ∙ ap (λ (v : ReplicaOf). v.graph) replica)
+    (c.apply.ensures.applied ∙ ap (λ (v : ReplicaOf). v.applied + 1) replica) w.session
+    (word p w.session c.args.next.now.number x h) h x lags
     (next_word p w.session (journal_of p w) n h (seen_by w) (plan_is p w k.works) k.works.session
     (lines_names p w k.works) is-next c.requires.way)
-    (c.apply.ensures.after x c.requires.step.means
+    (after x c.requires.step.means
     ∙ ap (λ z. records_after by_number (records_of w.replica) w.session z x)
     (c.holds_its_target-holds.ensures ∙ held)) in
     let tried : w.tries + 1 ≡ length seen =
@@ -208,13 +233,19 @@ pub enter-requires-clause-names : goal.enter-requires-clause-names
 enter-requires-clause-names c =
     let n : Numbered ℕ =
     record { number = c.args.next.now.number; command = command_of c.args.command.now } in
-    own_below c.args.plan.now c.args.self.now n c.requires.belongs.1.works c.requires.command.next
+    subst (λ (w : Worker). IsBelow (length w.own) (command_of c.args.command.now))
+    (sym c.reply_to-reply.ensures.same)
+    (own_below c.args.plan.now c.args.self.now n c.requires.belongs.1.works
+    c.requires.command.next)
 
 pub enter-requires-clause-room : goal.enter-requires-clause-room
 enter-requires-clause-room c =
     let n : Numbered ℕ =
     record { number = c.args.next.now.number; command = command_of c.args.command.now } in
-    room_next c.args.plan.now c.args.self.now n c.requires.belongs.1.works c.requires.command.next
+    subst (λ (w : Worker). vec_len w.entries < vec_capacity w.entries)
+    (sym c.reply_to-reply.ensures.same)
+    (room_next c.args.plan.now c.args.self.now n c.requires.belongs.1.works
+    c.requires.command.next)
 
 pub again-requires : goal.again-requires
 again-requires c =

@@ -4,6 +4,7 @@ use Rattle.std.proofs.Math.ListN.{replicate}
 use Rattle.redo_model.specs.State.{empty}
 use Rattle.redo_model.proofs.MorePlaces.{same_everywhere}
 use Rattle.redo_marks.specs.Memo.{IsRight}
+use Rattle.redo_marks.proofs.Deriving.{right_but_seeds}
 use Rattle.redo_replica.specs.declared.cell.CompactCell.{CompactCell}
 use Rattle.redo_replica.specs.CompactCells.{idle_cell}
 use Rattle.redo_replica.specs.PairRows.{bare}
@@ -47,8 +48,12 @@ invariant_of-result c =
           ap (λ (cell : CompactCell). cell.builds) (same_everywhere names n idle_cell),
         );
       });
-      remembered =
-          c.in_ok-memo.ensures.count
-          ∙ sym (ap length cells_are ∙ length-replicate names idle_cell);
-      right = subst (IsRight c.in_ok-memo.memo) (sym empty_known) c.in_ok-memo.ensures.right;
+      remembered = record {
+        sized =
+            c.in_ok-memo.ensures.count
+            ∙ sym (ap length cells_are ∙ length-replicate names idle_cell);
+        right =
+            right_but_seeds c.in_ok-memo.memo.seeds c.in_ok-memo.memo.out _
+            (subst (IsRight c.in_ok-memo.memo.out) (sym empty_known) c.in_ok-memo.ensures.right);
+      };
     }
