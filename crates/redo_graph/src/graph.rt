@@ -43,9 +43,7 @@ impl Graph {
         let on = Pairs::new(alloc, names.len(), by_name(alloc, pairs.as_slice())?)?;
         let mut tables = Tables::new(alloc, pairs);
         let steps = tables.scripts(alloc, scripts)?;
-        // These calls show that each stamp and each digest has one number.
-        let _ = tables.stamps();
-        let _ = tables.digests();
+        tables.are_once();
         let sorted = sorted_numbers(alloc, names)?;
         let ranks = ranks_of(alloc, &sorted)?;
         Ok(Graph {

@@ -57,7 +57,7 @@ pub(crate) fn by_name(alloc: Global, pairs: &[(u32, u32)]) -> Result<Vec<(u32, u
     requires { length pairs.now < 2 ^ 32 }
     ensures { IfOk result (λ keys. AreByName pairs.now (length pairs.now) keys.items) }
 {
-    let mut keys = Vec::new(alloc);
+    let mut keys = Vec::with_capacity(alloc, pairs.len())?;
     for place in 0..pairs.len() {
         keys.push((pairs[place].1, place as u32))?;
     }

@@ -32,7 +32,7 @@ pub(crate) fn starts_of(
     requires few { length pairs.now < 2 ^ 32 }
     ensures { IfOk result (λ starts. AreStarts pairs.now (count + 1) starts.items) }
 {
-    let mut starts = Vec::new(alloc);
+    let mut starts = Vec::with_capacity(alloc, count as usize + 1)?;
     for first in 0..count {
         starts.push(start_of(pairs, first) as u32)?;
     }

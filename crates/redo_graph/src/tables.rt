@@ -88,6 +88,15 @@ impl Tables {
         self.digests.as_slice()
     }
 
+    /// A law of the tables: no stamp and no digest has two numbers.
+    pub(crate) fn are_once(&self)
+        ensures stamps { IsOnce self.now.stamps }
+        ensures digests { IsOnce self.now.digests }
+    {
+        let _ = self.stamps();
+        let _ = self.digests();
+    }
+
     /// The number of a stamp.
     fn stamp(&mut self, stamp: FileStamp) -> Result<u32, AllocError>
         ensures number { IfOk result (λ number. slice_get self.new.stamps number ≡ Some stamp) }
@@ -159,8 +168,9 @@ impl Tables {
             AllMean self.new (map item_of script.now) steps.items) }
         ensures grows { OnOk result (Grows self.old self.new) }
     {
-        let mut steps = Vec::new(alloc);
-        for item in script.items() {
+        let items = script.items();
+        let mut steps = Vec::with_capacity(alloc, items.len())?;
+        for item in items {
             steps.push(self.step(&item.command)?)?;
         }
         Ok(steps)

@@ -95,8 +95,8 @@ returns c =
           → Contains c.in_ok-on.on.items (n, i) ↔ IsOn of.items i n) same on;
       one_on =
           subst (λ (of : PairsOf). AreAscending of.items) c.on.view_is c.on.invariant.ascending;
-      one_stamp = c.stamps.ensures.once;
-      one_digest = c.digests.ensures.once;
+      one_stamp = c.are_once.ensures.stamps;
+      one_digest = c.are_once.ensures.digests;
       sorted = subst (λ (ns : List Text). AreSorted ns c.in_ok-sorted.sorted.items) names
           c.in_ok-sorted.ensures;
       ranks = subst (λ (ns : List ℕ). AreRanks ns c.in_ok-ranks.ranks.items)

@@ -13,8 +13,8 @@ use Rattle.redo_graph.proofs.tables.Tables.script.Goals as goal
 
 pub step-requires : goal.step-requires
 step-requires c = λ p there.
-    let items : List Item = c.items-item-items.result.now in
-    let same : items ≡ c.args.script.now = c.items-item-items.ensures.items in
+    let items : List Item = c.items-items.result.now in
+    let same : items ≡ c.args.script.now = c.items-items.ensures.items in
     subst (λ (of : PairsOf). Contains of.items p) (sym c.loop-item.invariant.grows.pairs)
     (covers_part (λ (item : commands.Item ℕ). listed_in item.command) item_of
     c.args.self.now.pairs.items items c.loop-item.item-index c.item-item.result (omega arith)
@@ -24,7 +24,7 @@ pub loop-item-preserved : goal.loop-item-preserved
 loop-item-preserved c =
     let before = c.loop-item.self in
     let after = c.step.new.self in
-    let items : List Item = c.items-item-items.result.now in
+    let items : List Item = c.items-items.result.now in
     record {
       means = rw c.in_ok-push.ensures.items
           (all_next (λ item step. Means after step (command_of item.command)) items
@@ -41,9 +41,9 @@ loop-item-preserved c =
 
 pub returns-clause-steps : goal.returns-clause-steps
 returns-clause-steps c =
-    let items : List Item = c.items-item-items.result.now in
+    let items : List Item = c.items-items.result.now in
     let all : take c.loop-item.item-index items ≡ c.args.script.now =
-    take_all c.loop-item.item-index items (omega arith) ∙ c.items-item-items.ensures.items in
+    take_all c.loop-item.item-index items (omega arith) ∙ c.items-items.ensures.items in
     all_mapped (λ item step. Means c.loop-item.self step item.command) item_of c.args.script.now
     c.loop-item.steps.items
     (subst (λ (l : List Item).

@@ -8,6 +8,6 @@ use Rattle.redo_graph.proofs.tables.Tables.script.Given as goal
 abbrev pub invariant-loop-item : goal.invariant-loop-item
 invariant-loop-item l = record {
   means : AllZip (λ item step. Means l.self step (command_of item.command))
-      (take l.item-index l.item-items) l.steps.items;
+      (take l.item-index l.items) l.steps.items;
   grows : Grows l.fn.self l.self;
 }
