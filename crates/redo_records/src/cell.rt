@@ -13,7 +13,7 @@ use std::marker::Model;
 use std::mem::size_of;
 
 /// What is known of one name.
-#[derive(Clone, Copy, Debug)]
+#[derive(Clone, Copy)]
 pub struct Cell {
     file: Option<FileStamp>,
     state: State,

@@ -11,7 +11,7 @@ use redo_terms::FileStamp;
 use std::marker::Model;
 
 /// How often a name was built, in four bytes at any address.
-#[derive(Clone, Copy, Debug)]
+#[derive(Clone, Copy)]
 pub struct BuildCount {
     bytes: [u8; 4],
 }
@@ -48,7 +48,7 @@ impl BuildCount {
 }
 
 /// A mark in a slot, without the padding of a `Mark`.
-#[derive(Clone, Copy, Debug)]
+#[derive(Clone, Copy)]
 pub enum KeptMark {
     Digest([u8; 20]),
     Builds(BuildCount),

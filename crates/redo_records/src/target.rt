@@ -14,7 +14,7 @@ use std::marker::Model;
 use std::mem::size_of;
 
 /// Reserved memory for a target's rows on one name, and the rows that are there.
-#[derive(Clone, Copy, Debug)]
+#[derive(Clone, Copy)]
 pub struct Slot {
     name: u32,
     change: Option<KeptMark>,
