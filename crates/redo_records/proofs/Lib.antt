@@ -5,6 +5,7 @@ pub mod Changed
 pub mod Cleared
 pub mod Forgetting
 pub mod Growing
+pub mod Inserting
 pub mod Inverses
 pub mod Keeping
 pub mod Listed

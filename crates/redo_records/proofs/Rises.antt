@@ -1,8 +1,8 @@
 -- Numbers in ascending order, with one more and with one less.
-use Rattle.std.proofs.Common.{◌≡◌, ◌⊎◌, ◌↔◌, ℕ, ◌<◌, ◌≤◌, ◌+◌, ◌-◌, List, [], ◌∷◌, length, get_or, sym, ap, ◌∙◌, subst, inl, inr, arith, Ok, Err}
+use Rattle.std.proofs.Common.{◌≡◌, ◌⊎◌, ◌↔◌, ℕ, ◌<◌, ◌≤◌, ◌+◌, List, [], ◌∷◌, length, get_or, sym, ap, ◌∙◌, subst, inl, inr, arith, Ok, Err}
 use Rattle.std.proofs.lemmas.Bool.{cases_lt, cases_eq}
 use Rattle.std.proofs.lemmas.List.{get_or_default}
-use Rattle.std.proofs.lemmas.List.Edits.{get_or-insert_below, get_or-insert_at, get_or-insert_above, length-insert, length-remove, get_or-remove_below, get_or-remove_above}
+use Rattle.std.proofs.lemmas.List.Edits.{length-remove, get_or-remove_below, get_or-remove_above}
 use Rattle.std.proofs.lemmas.List.Elements.{Contains-get_or, Contains-append_cases, Contains-append_left, Contains-append_right, Contains-push}
 use Rattle.std.proofs.lemmas.List.Sorted.{IsPermutation-insert, IsPermutation-remove, Contains-permutation, IsPermutation-sym, searched}
 use Rattle.std.specs.List.{Contains, insert, remove}
@@ -10,6 +10,7 @@ use Rattle.std.specs.List.Sorted.{IsBinarySearchResult}
 use Rattle.std.specs.Ordering.{nat_cmp}
 use Rattle.redo_records.specs.Numbers.{Rising}
 use Rattle.redo_records.specs.Inside.Numbers.{IsPlaceOf}
+use Rattle.redo_records.proofs.Inserting.{all_pairs_insert}
 
 -- a later number is not smaller
 rises_to : (xs : List ℕ) → Rising xs → (i j : ℕ) → i ≤ j → j < length xs
@@ -51,31 +52,11 @@ above xs x i place out k le in' =
 -- one more number, put at its place
 pub insert_rises : (xs : List ℕ) (x i : ℕ) → Rising xs → IsPlaceOf xs x i → (Contains xs x → ⊥)
     → Rising (insert xs i x)
-insert_rises xs x i rising place out a b d before in' =
-    let new = insert xs i x in
-    let fit = place.within in
-    let longer = length-insert xs i x fit in
-    let low : (k : ℕ) → k < i → get_or new k d ≡ get_or xs k 0 =
-    λ k below. get_or-insert_below xs i x d k below fit ∙ get_or_default xs k d 0 (omega arith) in
-    let here : (k : ℕ) → k ≡ i → get_or new k d ≡ x = λ k e. rw e (get_or-insert_at xs i x d fit) in
-    let high : (k : ℕ) → i < k → k < length new → get_or new k d ≡ get_or xs (k - 1) 0 =
-    λ k over in_new. subst (λ q. get_or new q d ≡ get_or xs (k - 1) 0) {x = k - 1 + 1} (omega arith)
-    (get_or-insert_above xs i x d (k - 1) (omega arith) fit
-    ∙ get_or_default xs (k - 1) d 0 (omega arith)) in
-    grind (
-      arith,
-      low a,
-      here a,
-      high a,
-      low b,
-      here b,
-      high b,
-      rising a b 0,
-      rising a (b - 1) 0,
-      rising (a - 1) (b - 1) 0,
-      place.before a,
-      above xs x i place out (b - 1),
-    )
+insert_rises xs x i rising place out =
+    all_pairs_insert (λ u v. u < v) xs i x place.within rising
+    (λ k d below. rw (get_or_default xs k d 0 (omega (arith, below, place.within)))
+    (place.before k below))
+    (λ k d le in'. rw (get_or_default xs k d 0 in') (above xs x i place out k le in'))
 
 pub Contains-insert : (xs : List ℕ) (i x u : ℕ)
     → Contains (insert xs i x) u ↔ (Contains xs u ⊎ (u ≡ x))

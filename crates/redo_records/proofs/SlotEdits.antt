@@ -1,13 +1,13 @@
 -- Slots with one replaced, and with one more.
-use Rattle.std.proofs.Common.{◌≡◌, ℕ, zero, suc, ◌<◌, ◌+◌, ◌-◌, ◌||◌, Bool, true, false, cond, eqb, eq-eqb, ne_eqb, List, [], ◌∷◌, length, get_or, set, refl, sym, ap, ◌∙◌, subst, inl, inr, arith}
+use Rattle.std.proofs.Common.{◌≡◌, ℕ, zero, suc, ◌<◌, ◌||◌, Bool, true, false, cond, eqb, eq-eqb, ne_eqb, List, [], ◌∷◌, length, get_or, set, refl, sym, ap, ◌∙◌, subst, inl, inr, arith}
 use Rattle.std.proofs.lemmas.Bool.{cases_eq, or_parts}
 use Rattle.std.proofs.lemmas.List.{length-set, get_or-set_same, get_or-set_other}
-use Rattle.std.proofs.lemmas.List.Edits.{length-insert, get_or-insert_below, get_or-insert_at, get_or-insert_above}
 use Rattle.std.proofs.lemmas.List.Sorted.{IsPermutation-insert, list_any-IsPermutation}
 use Rattle.std.specs.List.{insert}
 use Rattle.redo_records.specs.Rows.{Slot, slot_at, has_slot}
 use Rattle.redo_records.specs.Target.{Ascending}
-use Rattle.redo_records.specs.Inside.Target.{blank, name_at, IsSlotOf, IsGapFor}
+use Rattle.redo_records.specs.Inside.Target.{blank, IsSlotOf, IsGapFor}
+use Rattle.redo_records.proofs.Inserting.{all_pairs_insert}
 use Rattle.redo_records.proofs.Slots.{name_read, nothing_stands}
 
 same_twice : {X : Type 0} (b : Bool) (x y z : X) → cond b x y ≡ cond b x (cond b z y)
@@ -94,31 +94,12 @@ has_slot-insert slots n i k =
 
 pub insert_ascends : (slots : List Slot) (n i : ℕ) (new : Slot) → Ascending slots
     → IsGapFor slots n i → new.name ≡ n → Ascending (insert slots i new)
-insert_ascends slots n i new ascending gap same a b d before in' =
-    let edited = insert slots i new in
-    let fit = gap.within in
-    let longer = length-insert slots i new fit in
-    let name = λ (slot : Slot). slot.name in
-    let low : (k : ℕ) → k < i → (get_or edited k d).name ≡ name_at slots k = λ k below. ap name
-    (get_or-insert_below slots i new d k below fit) ∙ name_read slots k d (omega arith) in
-    let here : (k : ℕ) → k ≡ i → (get_or edited k d).name ≡ n =
-    λ k e. rw e (ap name (get_or-insert_at slots i new d fit) ∙ same) in
-    let high : (k : ℕ) → i < k → k < length edited
-    → (get_or edited k d).name ≡ name_at slots (k - 1) =
-    λ k over in_new. subst (λ q. (get_or edited q d).name ≡ name_at slots (k - 1)) {x = k - 1 + 1}
-    (omega arith) (ap name (get_or-insert_above slots i new d (k - 1) (omega arith) fit)
-    ∙ name_read slots (k - 1) d (omega arith)) in
-    grind (
+insert_ascends slots n i new ascending gap same =
+    all_pairs_insert (λ one other. one.name < other.name) slots i new gap.within ascending
+    (λ k d below. omega (
       arith,
-      low a,
-      here a,
-      high a,
-      low b,
-      here b,
-      high b,
-      ascending a b (blank 0),
-      ascending a (b - 1) (blank 0),
-      ascending (a - 1) (b - 1) (blank 0),
-      gap.before a,
-      gap.after (b - 1),
-    )
+      same,
+      name_read slots k d (omega (arith, below, gap.within)),
+      gap.before k below,
+    ))
+    (λ k d le in'. omega (arith, same, name_read slots k d in', gap.after k le in'))

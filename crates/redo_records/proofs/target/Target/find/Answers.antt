@@ -4,6 +4,15 @@ use Rattle.redo_records.specs.Inside.Target.{IsSlotOf, IsGapFor}
 use Rattle.redo_records.proofs.Slots.{slot_stands, none_in_gap, nothing_stands}
 use Rattle.redo_records.proofs.target.Target.find.Goals as goal
 
+pub returns-in-Ok-clause-there : goal.returns-in-Ok-clause-there
+returns-in-Ok-clause-there c =
+    let at =
+    subst (λ slots. IsSlotOf slots c.args.n c.in-Ok.place) c.as_slice.ensures.value
+    c.in-Ok.ensures.found in
+    sym (slot_stands c.self.inside.slots.items c.args.n c.in-Ok.place c.index.result.now
+    c.self.invariant at).1
+    ∙ ap (λ (rows : TargetRows). has_slot rows.slots c.args.n) c.self.view_is
+
 pub returns-in-Ok-clause-slot : goal.returns-in-Ok-clause-slot
 returns-in-Ok-clause-slot c =
     let at =
