@@ -4,7 +4,7 @@ use std::alloc::AllocError;
 use thiserror::Error;
 
 /// Why the program fails.
-#[derive(Clone, Copy, Debug, PartialEq, Eq, Error)]
+#[derive(Clone, Copy, Debug, Error)]
 pub enum Fault {
     #[error("usage")]
     Usage,
@@ -21,7 +21,7 @@ pub enum Fault {
 }
 
 /// Why the log can't be used. Its text follows the name of the log.
-#[derive(Clone, Copy, Debug, PartialEq, Eq, Error)]
+#[derive(Clone, Copy, Debug, Error)]
 pub enum LogFault {
     #[error(": cannot open")]
     CannotOpen,
