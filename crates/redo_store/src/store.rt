@@ -64,11 +64,12 @@ impl Store {
             (order_of store)) }
         ensures applied { IfOk result (λ store. applied_of store ≡ 0) }
     {
+        let count = names.len();
         let sorted = sorted_numbers(alloc, names)?;
-        let records = Records::new(alloc, names.len())?;
-        let rows = DepRows::new(alloc, names.len())?;
-        let memo = Ood::new(alloc, names.len())?;
         let ranks = ranks_of(alloc, &sorted)?;
+        let records = Records::new(alloc, count)?;
+        let rows = DepRows::new(alloc, count)?;
+        let memo = Ood::new(alloc, count)?;
         Ok(Store {
             records,
             rows,

@@ -19,11 +19,11 @@ impl Store {
         ensures order { IfOk result (λ store. IsByNumber numbers (order_of store)) }
         ensures applied { IfOk result (λ store. applied_of store ≡ 0) }
     {
+        let sorted = numbers_below(alloc, numbers)?;
+        let ranks = numbers_below(alloc, numbers)?;
         let records = Records::new(alloc, numbers)?;
         let rows = DepRows::new(alloc, numbers)?;
         let memo = Ood::new(alloc, numbers)?;
-        let sorted = numbers_below(alloc, numbers)?;
-        let ranks = numbers_below(alloc, numbers)?;
         Ok(Store {
             records,
             rows,
@@ -45,10 +45,10 @@ impl Store {
         ensures err { OnErr result (self.new ≡ self.old) }
     {
         let alloc = *self.sorted.allocator();
-        let records = self.records.grown(alloc, numbers)?;
-        let memo = self.memo.grown(alloc, numbers)?;
         let sorted = numbers_below(alloc, numbers)?;
         let ranks = numbers_below(alloc, numbers)?;
+        let records = self.records.grown(alloc, numbers)?;
+        let memo = self.memo.grown(alloc, numbers)?;
         self.rows.grow(numbers)?;
         self.records = records;
         self.memo = memo;

@@ -1,8 +1,8 @@
 use Rattle.std.proofs.Common.{◌∙◌, ◌≤◌, List, ap, sym, subst, arith}
 use Rattle.redo_model.specs.State.{Cell}
 use Rattle.redo_records.specs.Rows.{TargetRows, with_rows}
-use Rattle.redo_store.specs.Inside.KeptStore.{KeepsStored}
-use Rattle.redo_store.specs.Stored.{Stored, records_of}
+use Rattle.redo_store.specs.Inside.KeptStore.{KeepsStored, stored_of}
+use Rattle.redo_store.specs.Stored.{Stored, applied_of, records_of}
 use Rattle.redo_order.proofs.Counting.{ordered_by_number, ranked_by_number}
 use Rattle.redo_store.proofs.Kept.{IsStored-by_number}
 use Rattle.redo_store.proofs.Slots.{same_records, still_right}
@@ -37,6 +37,21 @@ invariant_of-self-2 c =
           (same_records old.records cells old.rows rows same c.grow.ensures.rows)
           c.self.invariant.memo_right;
     }
+
+pub returns-in_err-grow-clause-records : goal.returns-in_err-grow-clause-records
+returns-in_err-grow-clause-records c =
+    ap (λ (rows : List TargetRows). records_of (stored_of (record c.self.inside { rows = rows })))
+    c.in_err-grow.ensures.err
+    ∙ ap records_of c.self.view_is
+
+pub returns-in_err-grow-clause-applied : goal.returns-in_err-grow-clause-applied
+returns-in_err-grow-clause-applied c = ap applied_of c.self.view_is
+
+pub returns-clause-applied : goal.returns-clause-applied
+returns-clause-applied c = ap applied_of c.self.view_is
+
+pub returns-clause-count : goal.returns-clause-count
+returns-clause-count c = c.in_ok-records.ensures.count
 
 pub returns-clause-records : goal.returns-clause-records
 returns-clause-records c =

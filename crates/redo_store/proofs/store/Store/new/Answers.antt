@@ -19,7 +19,7 @@ ranks_of-requires-clause-below c =
 pub ranks_of-requires-clause-few : goal.ranks_of-requires-clause-few
 ranks_of-requires-clause-few c =
     let same = ap length c.deref.ensures.value in
-    omega (arith, c.in_ok-sorted.ensures.whole, same, c.len.ensures.count)
+    omega (arith, c.in_ok-sorted.ensures.whole, same, c.len-count.ensures.count)
 
 pub invariant_of-result : goal.invariant_of-result
 invariant_of-result c =
@@ -30,24 +30,24 @@ invariant_of-result c =
     let stored : Stored = record { cells = cells; rows = rows; sorted = sorted; applied = 0 } in
     let few : length names < 2 ^ 32 = omega arith in
     let all_idle : cells ≡ replicate (length names) idle =
-    c.in_ok-records.ensures ∙ ap (λ n. replicate n idle) c.len.ensures.count in
+    c.in_ok-records.ensures ∙ ap (λ n. replicate n idle) c.len-count.ensures.count in
     let count : length cells ≡ length names =
     ap length all_idle ∙ length-replicate (length names) idle in
-    let first = empty_records c.len.result cells rows c.in_ok-records.ensures
+    let first = empty_records c.len-count.result cells rows c.in_ok-records.ensures
     c.in_ok-rows.ensures.rows in
     record {
       stored = IsStored-new names stored c.in_ok-sorted.ensures all_idle
-          (c.in_ok-rows.ensures.count ∙ c.len-2.ensures.count) few;
+          (c.in_ok-rows.ensures.count ∙ c.len-count.ensures.count) few;
       ranked = subst (λ (ns : List ℕ). AreRanks ns c.in_ok-ranks.ranks.items)
           c.deref.ensures.value c.in_ok-ranks.ensures;
-      memo_for_each = c.in_ok-memo.ensures.count ∙ c.len-3.ensures.count ∙ sym count;
+      memo_for_each = c.in_ok-memo.ensures.count ∙ c.len-count.ensures.count ∙ sym count;
       memo_right = subst (IsRight c.in_ok-memo.memo) (sym first) c.in_ok-memo.ensures.right;
     }
 
 pub returns-clause-empty : goal.returns-clause-empty
 returns-clause-empty c =
-    empty_records c.len.result c.in_ok-records.records c.in_ok-rows.rows c.in_ok-records.ensures
-    c.in_ok-rows.ensures.rows
+    empty_records c.len-count.result c.in_ok-records.records c.in_ok-rows.rows
+    c.in_ok-records.ensures c.in_ok-rows.ensures.rows
 
 pub returns-clause-order : goal.returns-clause-order
 returns-clause-order c = orders_alike c.in_ok-sorted.ensures
