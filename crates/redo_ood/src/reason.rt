@@ -12,7 +12,7 @@ ghost use Rattle.redo_ood.specs.Meaning.{reason_of};
 use redo_records::{DepRows, News, Records, State};
 
 /// A reason of its own by which a target has to be built again.
-#[derive(Clone, Copy, Debug, PartialEq, Eq)]
+#[derive(Clone, Copy)]
 pub enum Reason {
     /// It is being built.
     Building,
