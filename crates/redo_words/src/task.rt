@@ -1,7 +1,7 @@
 use std::slice;
 
 /// What the words mean.
-#[derive(Debug, Drop)]
+#[derive(Drop)]
 pub enum Job {
     /// One session, from standard input.
     Input,
@@ -28,7 +28,7 @@ impl Job {
 }
 
 /// The log of a conversation.
-#[derive(Debug, Drop)]
+#[derive(Drop)]
 pub struct LogFile {
     pub name: String,
     /// Whether each line is synced to the disk before its answer.
@@ -38,7 +38,7 @@ pub struct LogFile {
 }
 
 /// What the words of `redodb-live` mean.
-#[derive(Debug, Drop)]
+#[derive(Drop)]
 pub struct Conversation {
     pub log: Option<LogFile>,
 }
