@@ -3,7 +3,7 @@ use Rattle.std.proofs.Common.{◌≡◌, ℕ, ◌+◌, ◌≤◌, List, [], ◌�
 use Rattle.std.specs.Prelude.{Contains}
 use Rattle.std.specs.List.{flat_map}
 use Rattle.std.proofs.lemmas.Grind.{flat_map-append}
-use Rattle.std.proofs.lemmas.List.{map_push, length-map}
+use Rattle.std.proofs.lemmas.List.{map_push}
 use Rattle.redo_names.specs.Inside.Names.{Extends}
 use Rattle.redo_model.specs.Names.{Text}
 use Rattle.redo_model.specs.History as histories
@@ -24,10 +24,10 @@ use Rattle.redo_history.proofs.RecordedLines.{recorded_lines}
 use Rattle.redo_history.proofs.MoreNames.{lines_at-Extends}
 
 -- these lines are read, with these names, and this is what is left of the input
-pub record IsReadSoFar (input : Text) (count : ℕ) (lines : List Line) (names : List Text)
-    (left : Text) : Type 0 where
+pub record IsReadSoFar (input : Text) (count : ℕ) (lines : List (histories.Line Text))
+    (names : List Text) (left : Text) : Type 0 where
   pub texts : List Text
-  pub read : AreLinesOf texts (map (line_at names) lines) names
+  pub read : AreLinesOf texts lines names
   pub parts : input ≡ header_of count ++ flat_map ended texts ++ left
 
 pub flat_map_push : {X : Type 0} (f : X → Text) (xs : List X) (x : X)
@@ -74,22 +74,12 @@ lines_named lines line names new are adds = (
 )
 
 -- one line more
-pub one_read : (input : Text) (count : ℕ) (lines : List Line) (names : List Text)
-    (left text after : Text) (line : Line) (new : List Text)
+pub one_read : (input : Text) (count : ℕ) (lines : List (histories.Line Text)) (names : List Text)
+    (left text after : Text) (line : histories.Line Text) (new : List Text)
     → IsReadSoFar input count lines names left → left ≡ text ++ 10 ∷ after
-    → AreLinesBelow names lines → Extends names new
-    → IsHistoryLine text (line_at new line) → AddsLineNames names (line_at new line) new
+    → IsHistoryLine text line → AddsLineNames names line new
     → IsReadSoFar input count (lines ++ line ∷ []) new after
-one_read input count lines names left text after line new so_far cut below kept is adds =
-    let said = line_at new line in
-    let same : map (line_at new) (lines ++ line ∷ []) ≡ map (line_at names) lines ++ said ∷ [] =
-    map_push (line_at new) lines line ∙ ap (λ (l : List (histories.Line Text)). l ++ said ∷ [])
-    (lines_at-Extends names new kept lines below) in
-    let read : AreLinesOf (so_far.texts ++ text ∷ []) (map (line_at names) lines ++ said ∷ []) new =
-    record {
-      each = each_more so_far.texts (map (line_at names) lines) text said so_far.read.each is;
-      named = lines_named (map (line_at names) lines) said names new so_far.read.named adds;
-    } in
+one_read input count lines names left text after line new so_far cut is adds =
     let prefix = header_of count ++ flat_map ended so_far.texts in
     let whole : header_of count ++ flat_map ended (so_far.texts ++ text ∷ [])
     ≡ prefix ++ ended text =
@@ -97,37 +87,50 @@ one_read input count lines names left text after line new so_far cut below kept 
     ∙ sym (append_assoc (header_of count) (flat_map ended so_far.texts) (ended text)) in
     record {
       texts = so_far.texts ++ text ∷ [];
-      read = subst (λ (l : List (histories.Line Text)). AreLinesOf (so_far.texts ++ text ∷ []) l
-          new) (sym same) read;
+      read = record {
+        each = each_more so_far.texts lines text line so_far.read.each is;
+        named = lines_named lines line names new so_far.read.named adds;
+      };
       parts = so_far.parts ∙ ap (λ (l : Text). prefix ++ l) (ended_cut left text after cut)
           ∙ sym (append_assoc prefix (ended text) after)
           ∙ ap (λ (l : Text). l ++ after) (sym whole);
     }
 
+-- one line of numbers more, if more names are known
+pub lines_push : (lines : List Line) (line : Line) (names new : List Text) → Extends names new
+    → AreLinesBelow names lines
+    → map (line_at new) (lines ++ line ∷ []) ≡ map (line_at names) lines ++ line_at new line ∷ []
+lines_push lines line names new kept below =
+    map_push (line_at new) lines line
+    ∙ ap (λ (l : List (histories.Line Text)). l ++ line_at new line ∷ [])
+    (lines_at-Extends names new kept lines below)
+
 -- all lines are read
-pub all_read : (input : Text) (count : ℕ) (lines : List Line) (names : List Text) (left : Text)
-    (history : Recorded)
-    → count ≤ 1048576 → length lines ≡ count → IsReadSoFar input count lines names left
+pub all_read : (input : Text) (count : ℕ) (lines : List (histories.Line Text)) (names : List Text)
+    (left : Text) → count ≤ 1048576 → length lines ≡ count
+    → IsReadSoFar input count lines names left → IsHistory input names lines
+all_read input count lines names left few counted so_far = record {
+  few = omega arith;
+  texts = so_far.texts;
+  rest = left;
+  parts = so_far.parts ∙ ap (λ (n : ℕ). header_of n ++ flat_map ended so_far.texts ++ left)
+      (sym counted);
+  read = so_far.read;
+}
+
+-- the same for the lines of numbers of a history
+pub history_read : (input : Text) (lines : List Line) (names : List Text) (history : Recorded)
+    → IsHistory input names (map (line_at names) lines)
     → history.names ≡ names → history.lines ≡ map line_of lines
     → IsHistory input history.names (lines_of history)
-all_read input count lines names left history few counted so_far named recorded =
-    let total : length (map (line_at names) lines) ≡ count = length-map lines (line_at names)
-    ∙ counted in
-    let whole : IsHistory input names (map (line_at names) lines) = record {
-      few = omega arith;
-      texts = so_far.texts;
-      rest = left;
-      parts = so_far.parts ∙ ap (λ (n : ℕ). header_of n ++ flat_map ended so_far.texts ++ left)
-          (sym total);
-      read = so_far.read;
-    } in
+history_read input lines names history whole named recorded =
     let lines_are : map (line_at names) lines ≡ lines_of history =
     recorded_lines history names lines (sym named) (sym recorded) in
     subst (λ (found : List Text × List (histories.Line Text)). IsHistory input found.0 found.1)
     (λ i. (sym named i, lines_are i)) whole
 
-pub read_up_to : (input : Text) (count number : ℕ) (lines : List Line) (names : List Text)
-    (left : Text)
+pub read_up_to : (input : Text) (count number : ℕ) (lines : List (histories.Line Text))
+    (names : List Text) (left : Text)
     → count ≤ 1048576 → number ≤ count → number ≡ length lines + 1
     → IsReadSoFar input count lines names left → IsReadUpTo input number names left
 read_up_to input count number lines names left few within counted so_far = record {
@@ -135,13 +138,9 @@ read_up_to input count number lines names left few within counted so_far = recor
   few = few;
   within = within;
   texts = so_far.texts;
-  lines = map (line_at names) lines;
+  lines = lines;
   read = so_far.read;
-  counted = omega (
-    arith,
-    texts_count so_far.texts (map (line_at names) lines) so_far.read.each,
-    length-map lines (line_at names),
-  );
+  counted = omega (arith, texts_count so_far.texts lines so_far.read.each);
   parts = so_far.parts;
 }
 

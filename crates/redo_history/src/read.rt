@@ -36,7 +36,7 @@ pub fn session_of(word: &[u8]) -> Option<u8>
 }
 
 /// How many lines the header counts, and what follows it.
-fn read_header(input: &[u8]) -> Result<(usize, &[u8]), HistoryFault>
+pub fn read_header(input: &[u8]) -> Result<(usize, &[u8]), HistoryFault>
     ensures read { IfOk result (λ header. (header.0 ≤ 1048576)
         × (input.now ≡ header_of header.0 ++ header.1.now)) }
     ensures fault { IfErr result (IsHistoryFault input.now) }
@@ -77,8 +77,9 @@ fn reply_fault(number: usize, fault: ReplyFault) -> HistoryFault
     }
 }
 
-/// The line of this number and this text.
-fn read_line(
+/// The line of this number and this text, with its names added. On a fault, some of its names may
+/// stay.
+pub fn read_line(
     alloc: Global,
     number: usize,
     text: &[u8],

@@ -3,6 +3,7 @@ pub mod MoreNames
 pub mod Reordered
 pub mod Answering
 pub mod Asking
+pub mod Calling
 pub mod Keeping
 pub mod Changing
 pub mod Obeying

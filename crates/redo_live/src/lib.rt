@@ -1,4 +1,4 @@
-//! The database of a conversation: it answers commands as they come, over the names in them.
+//! The database of a conversation or a replay: it answers commands as they come, over the names in them.
 #![tactic(auto)]
 
 mod asked;

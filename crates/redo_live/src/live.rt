@@ -20,6 +20,7 @@ use std::mem;
 
 mod asking;
 mod ending;
+mod replaying;
 
 /// How many numbers there are for names at first.
 const FIRST_NUMBERS: u32 = 64;

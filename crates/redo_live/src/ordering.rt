@@ -1,4 +1,4 @@
-ghost use Rattle.std.specs.Prelude.{◌≡◌};
+ghost use Rattle.std.specs.Prelude.{◌≡◌, IfOk};
 ghost use Rattle.std.specs.List.Sorted.{IsPermutation, IsSorted};
 ghost use Rattle.std.specs.Cmp.Lexicographic.{slice_cmp};
 ghost use Rattle.std.specs.Ordering.{nat_cmp};
@@ -8,6 +8,7 @@ ghost use Rattle.redo_live.specs.Inside.Ordered.{IsSortedReply};
 
 use redo_names::Names;
 use redo_terms::Reply;
+use std::alloc::{AllocError, Global};
 use std::cmp::Ordering;
 
 /// The text of a number; none if no name has it.
@@ -50,6 +51,76 @@ pub(crate) fn ordered(names: &Names, reply: Reply) -> Reply
         }
         Reply::Sources(mut list) => {
             sort(names, &mut list);
+            Reply::Sources(list)
+        }
+        other => other,
+    }
+}
+
+/// The reply's list of names; empty if it has none.
+pub(crate) fn list_of(reply: &Reply) -> &[u32] {
+    match reply {
+        Reply::Stale(list) | Reply::Ood(list) | Reply::Targets(list) | Reply::Sources(list) => list,
+        _ => &[],
+    }
+}
+
+/// The numbers in ascending order.
+pub(crate) fn ascending(alloc: Global, numbers: &[u32]) -> Result<Vec<u32>, AllocError>
+    ensures { IfOk result (λ copy. IsPermutation numbers.now copy.items) }
+{
+    let mut copy = Vec::from_slice(alloc, numbers)?;
+    copy.sort_unstable();
+    Ok(copy)
+}
+
+/// Puts the numbers into the order of the guess, if they are those of the guess in ascending order.
+fn rearrange(numbers: &mut Vec<u32>, guess: &[u32], ascending: &[u32])
+    requires { IsPermutation guess.now ascending.now }
+    ensures { IsPermutation numbers.old.items numbers.new.items }
+{
+    if ascending == numbers.as_slice() {
+        numbers.copy_from_slice(guess);
+    }
+}
+
+/// Sorts the numbers by their texts. This is fast if the guess is right.
+fn sort_guessed(names: &Names, numbers: &mut Vec<u32>, guess: &[u32], ascending: &[u32])
+    requires { IsPermutation guess.now ascending.now }
+    ensures same { IsPermutation numbers.old.items numbers.new.items }
+    ensures sorted { IsSorted (by_text names.now).order numbers.new.items }
+{
+    rearrange(numbers, guess, ascending);
+    sort(names, numbers);
+}
+
+/// The reply with its list of names, if it has one, in the order of their texts. Allocates nothing.
+/// This is fast if the guess is right: then texts are compared only to see that its list is sorted.
+/// Callers pass the guess in `ascending` order too.
+pub(crate) fn ordered_guessed(
+    names: &Names,
+    reply: Reply,
+    guess: &[u32],
+    ascending: &[u32],
+) -> Reply
+    requires { IsPermutation guess.now ascending.now }
+    ensures { IsSortedReply (by_text names.now).order (reply_of reply) (reply_of result) }
+{
+    match reply {
+        Reply::Stale(mut list) => {
+            sort_guessed(names, &mut list, guess, ascending);
+            Reply::Stale(list)
+        }
+        Reply::Ood(mut list) => {
+            sort_guessed(names, &mut list, guess, ascending);
+            Reply::Ood(list)
+        }
+        Reply::Targets(mut list) => {
+            sort_guessed(names, &mut list, guess, ascending);
+            Reply::Targets(list)
+        }
+        Reply::Sources(mut list) => {
+            sort_guessed(names, &mut list, guess, ascending);
             Reply::Sources(list)
         }
         other => other,

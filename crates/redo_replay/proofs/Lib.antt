@@ -1,3 +1,3 @@
 pub mod Inputs
+pub mod Judged
 pub mod OneVerdict
-pub mod Replayed

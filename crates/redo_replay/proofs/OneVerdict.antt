@@ -1,6 +1,5 @@
 -- Lines have one verdict.
-use Rattle.std.proofs.Common.{◌≡◌, ◌↔◌, ◌≢◌, ℕ, ◌+◌, suc, Result, Ok, Err, List, [], ◌∷◌, ◌++◌, refl, sym, ap, ◌∙◌, subst, length}
-use Rattle.std.specs.Prelude.{IfOk}
+use Rattle.std.proofs.Common.{◌≡◌, ◌↔◌, ◌≢◌, ℕ, ◌+◌, suc, List, [], ◌∷◌, ◌++◌, refl, sym, ap, ◌∙◌, subst, length}
 use Rattle.redo_model.specs.Names.{Text, texts}
 use Rattle.redo_model.specs.State.{State, empty}
 use Rattle.redo_model.specs.Reply.{Reply}
@@ -107,11 +106,8 @@ same_where_legal lines verdict is = (
 )
 
 -- the same for the code's verdict
-pub answered_same : {E : Type 0} (names : List Text) (lines : List (Line Text))
-    (result : Result declared.Verdict E)
-    → IfOk result (λ verdict. IsVerdict lines (verdict_at names verdict))
-    → IfOk result (λ verdict. IsSame verdict ↔ Legal texts lines)
-answered_same names lines (Ok (coded.Same count)) is = (λ same. is.1, λ legal. tt)
-answered_same names lines (Ok (coded.Differs number reply)) is =
+pub same_if_legal : (names : List Text) (lines : List (Line Text)) (verdict : declared.Verdict)
+    → IsVerdict lines (verdict_at names verdict) → IsSame verdict ↔ Legal texts lines
+same_if_legal names lines (coded.Same count) is = (λ same. is.1, λ legal. tt)
+same_if_legal names lines (coded.Differs number reply) is =
     (λ same. absurd same, λ legal. none_wrong lines number (reply_at names reply) legal is)
-answered_same names lines (Err e) is = tt

@@ -7,7 +7,7 @@ mod texts;
 mod verdict;
 
 pub use laws::{one_verdict, same_where_legal};
-pub use redo_history::{History, HistoryFault, read_history};
+pub use redo_history::HistoryFault;
 pub use replays::replay;
 pub use texts::{INPUT_LIMIT, replay_text};
 pub use verdict::{Verdict, verdict_text};

@@ -4,13 +4,12 @@ ghost use Rattle.redo_model.specs.History.{Line, Legal};
 ghost use Rattle.redo_whole.specs.Watched.{failures_of, has_failed};
 ghost use Rattle.redo_whole.specs.Devices.{known_in, WritesNothing};
 ghost use Rattle.redo_text.specs.Faults.{IsDeviceFault};
-ghost use Rattle.redo_history.specs.Inside.Recorded.{lines_of};
 ghost use Rattle.redo_replay.specs.Verdicts.{IsSame};
-ghost use Rattle.redo_replay.specs.Replays.{IsReadAs, IsKnownAs, HasVerdict, HasFault, WritesVerdict, WritesReplayPart, IsReplayCause};
+ghost use Rattle.redo_replay.specs.Replays.{IsKnownAs, HasVerdict, HasFault, WritesVerdict, WritesReplayPart, IsReplayCause};
 
 use crate::replays::replay;
 use crate::verdict::{Verdict, verdict_text};
-use redo_history::{History, HistoryFault, read_history};
+use redo_history::HistoryFault;
 use redo_text::Fault;
 use redo_whole::{Watched, WholeFault, WriteFault, read_whole, write_whole};
 use std::alloc::Global;
@@ -52,29 +51,6 @@ fn history_fault(fault: HistoryFault) -> Fault
     }
 }
 
-/// Reads all of the input as a history.
-fn history_of<R: Read>(alloc: Global, input: &mut Watched<R>) -> Result<History, Fault>
-    ensures read { IfOk result (λ history. IfSome (known_in R.remaining input.old)
-        (λ bytes. IsReadAs bytes history.names (lines_of history))) }
-    ensures only { (lines : List (Line Text)) → IsKnownAs (known_in R.remaining input.old) lines
-        → IfErr result (λ fault. (fault ≡ Fault.Memory) ⊎ IsDeviceFault fault) }
-    ensures same { (lines : List (Line Text)) → IsKnownAs (known_in R.remaining input.old) lines
-        → IfOk result (λ history. lines_of history ≡ lines) }
-    ensures cause { IfErr result
-        (IsReplayCause (known_in R.remaining input.old) (has_failed input.old input.new) false) }
-    ensures others { ¬ (IsErrAnd result IsDeviceFault)
-        → failures_of input.new ≡ failures_of input.old }
-{
-    let bytes = match read_whole(alloc, input, INPUT_LIMIT) {
-        Ok(bytes) => bytes,
-        Err(fault) => return Err(whole_fault(fault)),
-    };
-    match read_history(alloc, &bytes) {
-        Ok(history) => Ok(history),
-        Err(fault) => Err(history_fault(fault)),
-    }
-}
-
 /// The verdict on the input's lines, and its text.
 fn verdict_on_input<R: Read>(
     alloc: Global,
@@ -91,9 +67,15 @@ fn verdict_on_input<R: Read>(
     ensures others { ¬ (IsErrAnd result IsDeviceFault)
         → failures_of input.new ≡ failures_of input.old }
 {
-    let history = history_of(alloc, input)?;
-    let verdict = replay(alloc, &history)?;
-    let text = verdict_text(alloc, &verdict, history.names())?;
+    let bytes = match read_whole(alloc, input, INPUT_LIMIT) {
+        Ok(bytes) => bytes,
+        Err(fault) => return Err(whole_fault(fault)),
+    };
+    let (verdict, names) = match replay(alloc, &bytes) {
+        Ok(judged) => judged,
+        Err(fault) => return Err(history_fault(fault)),
+    };
+    let text = verdict_text(alloc, &verdict, &names)?;
     Ok((verdict, text))
 }
 

@@ -4,7 +4,7 @@ ghost use Rattle.std.specs.List.{AllByRecursion};
 ghost use Rattle.redo_model.specs.Renaming.{AllBelow, IsBelow, IsReplyBelow, IsLineBelow};
 ghost use Rattle.redo_terms.specs.Meaning.{command_of, reply_of, line_of};
 
-use redo_history::{History, HistoryFault, history_text, read_history};
+use redo_history::{HistoryFault, history_text};
 use redo_journal::{Entry, Journal, Place, Plan, are_journals};
 use redo_merge::merge;
 use redo_replay::{Verdict, replay};
@@ -91,29 +91,18 @@ pub(crate) fn history_of(
     text_of(rt, alloc, plan, &lines)
 }
 
-/// The history of this text, which has no fault.
-fn read(rt: &impl Abort, alloc: Global, history: &[u8]) -> Result<History, AllocError> {
-    match read_history(alloc, history) {
-        Ok(told) => Ok(told),
-        Err(HistoryFault::Memory) => Err(AllocError),
-        Err(_) => panic!(rt; "a faulty history"),
-    }
-}
-
-/// Whether the replay answers `same`, with this many lines.
-fn is_same(alloc: Global, told: &History, count: usize) -> Result<bool, AllocError> {
-    Ok(matches!(replay(alloc, told)?, Verdict::Same(lines) if lines == count))
-}
-
-/// Whether the history of this text replays as `same`, with this many lines.
+/// Whether the history of this text, which has no fault, replays as `same`, with this many lines.
 fn is_replayed(
     rt: &impl Abort,
     alloc: Global,
     history: &[u8],
     count: usize,
 ) -> Result<bool, AllocError> {
-    let told = read(rt, alloc, history)?;
-    is_same(alloc, &told, count)
+    match replay(alloc, history) {
+        Ok(judged) => Ok(matches!(judged.0, Verdict::Same(lines) if lines == count)),
+        Err(HistoryFault::Memory) => Err(AllocError),
+        Err(_) => panic!(rt; "a faulty history"),
+    }
 }
 
 /// The history of this text replays as `same`, with this many lines.

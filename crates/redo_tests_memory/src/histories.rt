@@ -1,5 +1,5 @@
 //! Histories are read, replayed and printed.
-ghost use Rattle.std.specs.Prelude.{length};
+ghost use Rattle.std.specs.Prelude.{length, IfOk};
 ghost use Rattle.redo_replay.specs.Inside.Verdicts.{IsVerdictBelow};
 
 use crate::devices::FaultyWriter;
@@ -48,15 +48,21 @@ fn check_verdict(
     Ok(())
 }
 
-/// The verdict on the history has this text.
-fn check_said(
-    rt: &impl Abort,
-    alloc: Global,
-    history: &History,
-    want: &str,
-) -> Result<(), AllocError> {
-    let verdict = again!(rt, alloc, AllocError, replay(alloc, history));
-    check_verdict(rt, alloc, &verdict, history.names(), want)
+/// The verdict on the history of the text, which has no fault, and the history's names.
+fn judged(rt: &impl Abort, alloc: Global, text: &str) -> Result<(Verdict, Names), AllocError>
+    ensures { IfOk result (λ judged. IsVerdictBelow (length judged.1) judged.0) }
+{
+    match replay(alloc, text.as_bytes()) {
+        Ok(judged) => Ok(judged),
+        Err(HistoryFault::Memory) => Err(AllocError),
+        Err(_) => panic!(rt; "a faulty history"),
+    }
+}
+
+/// The verdict on the history of the text has this text.
+fn check_said(rt: &impl Abort, alloc: Global, text: &str, want: &str) -> Result<(), AllocError> {
+    let (verdict, names) = again!(rt, alloc, AllocError, judged(rt, alloc, text));
+    check_verdict(rt, alloc, &verdict, &names, want)
 }
 
 /// The text begins with the history's text.
@@ -83,7 +89,7 @@ fn check_history(
     text: &str,
     want: &str,
 ) -> Result<(), AllocError> {
-    check_said(rt, alloc, history, want)?;
+    check_said(rt, alloc, text, want)?;
     check_told(rt, alloc, history, text)
 }
 

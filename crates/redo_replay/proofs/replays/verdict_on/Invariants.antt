@@ -1,14 +1,12 @@
-use Rattle.std.proofs.Common.{◌≡◌, length, take}
-use Rattle.redo_model.specs.Names.{texts}
-use Rattle.redo_model.specs.Inside.Renaming.{OrdersAlike, numbering}
-use Rattle.redo_store.specs.Tables.{state_of, tables_order, tables_count, calls_of}
-use Rattle.redo_replay.proofs.Replayed.{Replayed}
+use Rattle.std.proofs.Common.{◌<◌, ◌++◌}
+use Rattle.redo_history.specs.Histories.{header_of}
+use Rattle.redo_live.specs.Inside.LiveState.{calls_in}
+use Rattle.redo_replay.proofs.Judged.{IsReplayedSoFar}
 use Rattle.redo_replay.proofs.replays.verdict_on.Given as goal
 
-abbrev pub invariant-loop-at : goal.invariant-loop-at
-invariant-loop-at l = record {
-  replayed : Replayed (tables_order l.redo) (state_of l.redo) (take l.at l.lines);
-  orders : OrdersAlike (numbering l.names) texts (tables_order l.redo);
-  count : tables_count l.redo ≡ length l.names;
-  calls : calls_of l.redo ≡ l.at;
+abbrev pub invariant-lines : goal.invariant-lines
+invariant-lines l = record {
+  so_far : IsReplayedSoFar (header_of l.count ++ l.fn.rest) l.count l.number l.live l.left
+      l.verdict;
+  calls : calls_in l.live < l.number;
 }

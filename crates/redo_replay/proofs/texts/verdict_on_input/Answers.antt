@@ -1,30 +1,47 @@
-use Rattle.std.proofs.Common.{◌∙◌, ◌↔◌, List, ap, subst}
-use Rattle.std.proofs.lemmas.Result.{err_from_is_err_and}
-use Rattle.redo_model.specs.Names.{Text, texts}
-use Rattle.redo_model.specs.History.{Line, Legal}
-use Rattle.redo_history.specs.Inside.Recorded.{lines_of}
-use Rattle.redo_replay.specs.Verdicts.{IsSame, verdict_at, verdict_text_of}
+use Rattle.std.proofs.Common.{◌≡◌, ◌∙◌, false, sym, subst, inl}
+use Rattle.redo_model.specs.Names.{Text}
+use Rattle.redo_whole.specs.Watched.{has_failed, inner_of}
+use Rattle.redo_history.specs.HistoryTexts.{IsHistory}
+use Rattle.redo_history.specs.HistoryFaults.{IsHistoryFault}
+use Rattle.redo_replay.proofs.Inputs.{whole_known, has_fault, read_known}
 use Rattle.redo_replay.proofs.texts.verdict_on_input.Goals as goal
 
-pub returns-in_err-history-clause-only : goal.returns-in_err-history-clause-only
-returns-in_err-history-clause-only g c lines known =
-    let p = err_from_is_err_and c.from_residual.result c.from_residual.ensures.1 in
-    rw (p.1, p.2) (c.in_err-history.ensures.only lines known)
+pub returns-in-Err-replay-clause-only : goal.returns-in-Err-replay-clause-only
+returns-in-Err-replay-clause-only g c lines (bytes, names, is, read) =
+    let whole : bytes ≡ c.deref.result.now =
+    whole_known (g.R.Read.remaining (inner_of c.args.input.now)) c.in-Ok.bytes.items bytes is
+    c.in-Ok.ensures.whole ∙ sym c.deref.ensures.value in
+    let only = c.in-Err-replay.ensures.only names lines
+    (subst (λ (input : Text). IsHistory input names lines) whole read.1) in
+    inl (c.history_fault.ensures.memory.1 only)
+
+pub returns-in-Err-replay-clause-cause : goal.returns-in-Err-replay-clause-cause
+returns-in-Err-replay-clause-cause g c =
+    let fault = c.in-Err-replay.fault in
+    let known = g.R.Read.remaining (inner_of c.args.input.now) in
+    let is = subst (λ (input : Text). IsHistoryFault input fault) c.deref.ensures.value
+    c.in-Err-replay.ensures.fault in
+    c.history_fault.ensures.cause known (has_failed c.args.input.now c.read_whole.new.reader) false
+    (has_fault known c.in-Ok.bytes.items fault c.in-Ok.ensures.whole c.in-Ok.ensures.few is)
 
 pub returns-clause-verdict : goal.returns-clause-verdict
 returns-clause-verdict g c =
-    let history = c.in_ok-history.history in
-    let text = c.in_ok-text.ensures
-    ∙ ap (λ (names : List Text). verdict_text_of (verdict_at names c.in_ok-verdict.verdict))
-    c.names.ensures in (
-      history.names,
-      lines_of history,
-      c.in_ok-history.ensures.read,
-      c.in_ok-verdict.ensures.verdict,
-      text,
+    let (lines, read, right) = c.in-Ok-replay.ensures.verdict in
+    let known = g.R.Read.remaining (inner_of c.args.input.now) in
+    let names = c.in-Ok-replay.judged.1 in
+    let is = subst (λ (input : Text). IsHistory input names lines) c.deref.ensures.value read in (
+      names,
+      lines,
+      read_known known c.in-Ok.bytes.items names lines c.in-Ok.ensures.whole c.in-Ok.ensures.few
+          is,
+      right,
+      c.in_ok-text.ensures,
     )
 
 pub returns-clause-same : goal.returns-clause-same
-returns-clause-same g c lines known =
-    subst (λ (all : List (Line Text)). IsSame c.in_ok-verdict.verdict ↔ Legal texts all)
-    (c.in_ok-history.ensures.same lines known) c.in_ok-verdict.ensures.same
+returns-clause-same g c lines (bytes, names, is, read) =
+    let whole : bytes ≡ c.deref.result.now =
+    whole_known (g.R.Read.remaining (inner_of c.args.input.now)) c.in-Ok.bytes.items bytes is
+    c.in-Ok.ensures.whole ∙ sym c.deref.ensures.value in
+    c.in-Ok-replay.ensures.same names lines
+    (subst (λ (input : Text). IsHistory input names lines) whole read.1)
