@@ -4,7 +4,7 @@ use Rattle.std.specs.Prelude.{MatchOption}
 use Rattle.std.specs.declared.cmp.Ordering.{Ordering}
 use Rattle.redo_model.specs.Names.{numbers}
 use Rattle.redo_model.specs.State.{Records}
-use Rattle.redo_model.specs.Command.{Command, File, Gone, Lock, Unlock, Start, IfChange, IfCreate, Always, Stamp, Done, Failed, Ood, Targets, Sources, asked_lock}
+use Rattle.redo_model.specs.Command.{Command, Lock, IfChange, Stamp, Ood, Targets, Sources, asked_lock}
 use Rattle.redo_model.specs.Reply.{Reply, Refusal, Okay, Refused}
 use Rattle.redo_model.specs.Step.{Replies, Tells, verdict_of}
 use Rattle.redo_model.specs.Renaming.{IsBelow, IsReplyBelow}
@@ -22,20 +22,13 @@ use Rattle.redo_board.specs.declared.worker.Worker.{Worker}
 module _ (count : ℕ) (order : ℕ → ℕ → Ordering) (r : Records ℕ) (s : ℕ) (h : Bool) where
   accepted : (x : Command ℕ) → asked_lock x ≡ None → lists_names x ≡ false
       → (reply : Reply ℕ) × Tells (numbers order) r x reply × IsReplyBelow count reply
-  accepted (File n stamp) a b = (Okay, refl, tt)
-  accepted (Gone n) a b = (Okay, refl, tt)
   accepted (Lock t) a b = absurd cc
-  accepted (Unlock t) a b = (Okay, refl, tt)
-  accepted (Start t) a b = (Okay, refl, tt)
   accepted (IfChange t ns) a b = absurd cc
-  accepted (IfCreate t ns) a b = (Okay, refl, tt)
-  accepted (Always t) a b = (Okay, refl, tt)
   accepted (Stamp t content) a b = (_, refl, tt)
-  accepted (Done t stamp) a b = (Okay, refl, tt)
-  accepted (Failed t) a b = (Okay, refl, tt)
   accepted Ood a b = absurd cc
   accepted Targets a b = absurd cc
   accepted Sources a b = absurd cc
+  accepted x a b = (Okay, refl, tt)
 
   abbrev Answer : Command ℕ → Type 0
   Answer x =

@@ -8,7 +8,7 @@ use Rattle.std.proofs.lemmas.List.Elements.{All-from_recursion, All-contains, Co
 use Rattle.redo_model.specs.Names.{Text, IsListed, numbers}
 use Rattle.redo_model.specs.Inside.Names.{IsNaming}
 use Rattle.redo_model.specs.State.{Records}
-use Rattle.redo_model.specs.Command.{Command, File, Gone, Lock, Unlock, Start, IfChange, IfCreate, Always, Stamp, Done, Failed, Ood, Targets, Sources}
+use Rattle.redo_model.specs.Command.{Command, File, IfChange, Ood, Targets, Sources}
 use Rattle.redo_model.specs.Reply.{Reply, Refusal, Refused}
 use Rattle.redo_model.specs.Step.{Replies, Tells, verdict_of, records_after, stale_reply}
 use Rattle.redo_model.specs.Renaming.{IsReplyBelow, AllBelow}
@@ -30,36 +30,12 @@ module _ (one two : ℕ → ℕ → Ordering) where
   pub same_verdict : (r : Records ℕ) (s : ℕ) (holds : Bool) (x : Command ℕ)
       → verdict_of (numbers one) r s holds x ≡ verdict_of (numbers two) r s holds x
   same_verdict r s holds (File n stamp) = refl
-  same_verdict r s holds (Gone n) = refl
-  same_verdict r s holds (Lock t) = refl
-  same_verdict r s holds (Unlock t) = refl
-  same_verdict r s holds (Start t) = refl
-  same_verdict r s holds (IfChange t ns) = refl
-  same_verdict r s holds (IfCreate t ns) = refl
-  same_verdict r s holds (Always t) = refl
-  same_verdict r s holds (Stamp t content) = refl
-  same_verdict r s holds (Done t stamp) = refl
-  same_verdict r s holds (Failed t) = refl
-  same_verdict r s holds Ood = refl
-  same_verdict r s holds Targets = refl
-  same_verdict r s holds Sources = refl
+  same_verdict r s holds x = refl
 
   pub same_records : (r : Records ℕ) (s : ℕ) (holds : Bool) (x : Command ℕ)
       → records_after (numbers one) r s holds x ≡ records_after (numbers two) r s holds x
   same_records r s holds (File n stamp) = refl
-  same_records r s holds (Gone n) = refl
-  same_records r s holds (Lock t) = refl
-  same_records r s holds (Unlock t) = refl
-  same_records r s holds (Start t) = refl
-  same_records r s holds (IfChange t ns) = refl
-  same_records r s holds (IfCreate t ns) = refl
-  same_records r s holds (Always t) = refl
-  same_records r s holds (Stamp t content) = refl
-  same_records r s holds (Done t stamp) = refl
-  same_records r s holds (Failed t) = refl
-  same_records r s holds Ood = refl
-  same_records r s holds Targets = refl
-  same_records r s holds Sources = refl
+  same_records r s holds x = refl
 
   module _ (n : ℕ) (alike : (k m : ℕ) → k < n → m < n → one k m ≡ two k m) where
     at_place : (ns : List ℕ) (i d : ℕ) → AllBelow n ns → i < length ns → get_or ns i d < n
@@ -84,24 +60,15 @@ module _ (one two : ℕ → ℕ → Ordering) where
 
     tells_too : (r : Records ℕ) (x : Command ℕ) (reply : Reply ℕ) → IsReplyBelow n reply
         → Tells (numbers one) r x reply → Tells (numbers two) r x reply
-    tells_too r (File m stamp) reply below h = h
-    tells_too r (Gone m) reply below h = h
-    tells_too r (Lock t) reply below h = h
-    tells_too r (Unlock t) reply below h = h
-    tells_too r (Start t) reply below h = h
     tells_too r (IfChange t ns) reply below (names, listed, is) =
         (names, listed_too _ names (stale_below names (subst (IsReplyBelow n) is below)) listed, is)
-    tells_too r (IfCreate t ns) reply below h = h
-    tells_too r (Always t) reply below h = h
-    tells_too r (Stamp t content) reply below h = h
-    tells_too r (Done t stamp) reply below h = h
-    tells_too r (Failed t) reply below h = h
     tells_too r Ood reply below (names, listed, is) =
         (names, listed_too _ names (subst (IsReplyBelow n) is below) listed, is)
     tells_too r Targets reply below (names, listed, is) =
         (names, listed_too _ names (subst (IsReplyBelow n) is below) listed, is)
     tells_too r Sources reply below (names, listed, is) =
         (names, listed_too _ names (subst (IsReplyBelow n) is below) listed, is)
+    tells_too r x reply below h = h
 
     match_too : (v : Option (Refusal ℕ)) (r : Records ℕ) (x : Command ℕ) (reply : Reply ℕ)
         → IsReplyBelow n reply

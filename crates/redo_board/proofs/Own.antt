@@ -1,7 +1,7 @@
 -- A worker's table agrees with its session's own lines on a command.
 use Rattle.std.proofs.Common.{◌≡◌, ℕ, ◌<◌, List, length, map, Option, Some, None, refl, sym, ◌∙◌}
 use Rattle.redo_model.specs.Names.{Text}
-use Rattle.redo_model.specs.Command.{Command, File, Gone, Lock, Unlock, Start, IfChange, IfCreate, Always, Stamp, Done, Failed, Ood, Targets, Sources, target_of}
+use Rattle.redo_model.specs.Command.{Command, Lock, Unlock, Start, IfChange, IfCreate, Always, Stamp, Done, Failed, target_of}
 use Rattle.redo_model.specs.Renaming.{IsBelow}
 use Rattle.redo_model.specs.Placed.{line_of}
 use Rattle.redo_terms.specs.Meaning.{by_text}
@@ -15,8 +15,6 @@ use Rattle.redo_board.proofs.Held.{holds_alike, builds_alike}
 -- the command's target
 at_target : (count : ℕ) (x : Command ℕ) → IsBelow count x → (P : Option ℕ → Type 0) → P None
     → ((t : ℕ) → t < count → P (Some t)) → P (target_of x)
-at_target count (File n stamp) b P none some = none
-at_target count (Gone n) b P none some = none
 at_target count (Lock t) b P none some = some t b.0
 at_target count (Unlock t) b P none some = some t b.0
 at_target count (Start t) b P none some = some t b.0
@@ -26,9 +24,7 @@ at_target count (Always t) b P none some = some t b.0
 at_target count (Stamp t content) b P none some = some t b.0
 at_target count (Done t stamp) b P none some = some t b.0
 at_target count (Failed t) b P none some = some t b.0
-at_target count Ood b P none some = none
-at_target count Targets b P none some = none
-at_target count Sources b P none some = none
+at_target count x b P none some = none
 
 module _ (names : List Text) (o : List Hold) (ls : List Line) (x : Command ℕ)
     (says : Says names o (map line_of ls)) (below : IsBelow (length names) x) where

@@ -7,7 +7,7 @@ use mathlib.Core.Logic.{dite}
 use native.Mathlib.Decide.{dec_lt}
 use Rattle.redo_model.specs.Names.{Naming}
 use Rattle.redo_model.specs.State.{State, empty}
-use Rattle.redo_model.specs.Command.{Command, Item, File, Gone, Lock, Unlock, Start, IfChange, IfCreate, Always, Stamp, Done, Failed, Ood, Targets, Sources, asked_lock}
+use Rattle.redo_model.specs.Command.{Command, Item, Lock, asked_lock}
 use Rattle.redo_model.specs.Reply.{Reply}
 use Rattle.redo_model.specs.Step.{Answers, after, lock_reply}
 use Rattle.redo_model.specs.History.{LegalFrom}
@@ -36,23 +36,11 @@ lock_claims (Some h) grants t reply e = ap (is_claim (Lock t)) e
 no_lock : (naming : Naming ℕ) (state : State ℕ) (s : ℕ) (command : Command ℕ) (reply : Reply ℕ)
     → Answers naming state s command reply → is_claim command reply ≡ false
     → asked_lock command ≡ None
-no_lock naming state s (File n stamp) reply answers fits = refl
-no_lock naming state s (Gone n) reply answers fits = refl
 no_lock naming state s (Lock t) reply answers fits =
     absurd
     (false≢true
     (sym fits ∙ lock_claims (state.locks.holder t) (state.locks.grants t) t reply answers))
-no_lock naming state s (Unlock t) reply answers fits = refl
-no_lock naming state s (Start t) reply answers fits = refl
-no_lock naming state s (IfChange t ns) reply answers fits = refl
-no_lock naming state s (IfCreate t ns) reply answers fits = refl
-no_lock naming state s (Always t) reply answers fits = refl
-no_lock naming state s (Stamp t content) reply answers fits = refl
-no_lock naming state s (Done t stamp) reply answers fits = refl
-no_lock naming state s (Failed t) reply answers fits = refl
-no_lock naming state s Ood reply answers fits = refl
-no_lock naming state s Targets reply answers fits = refl
-no_lock naming state s Sources reply answers fits = refl
+no_lock naming state s x reply answers fits = refl
 
 -- so none has a row
 asked_at : (naming : Naming ℕ) (state : State ℕ) (s : ℕ) (place : Place ℕ) (command : Command ℕ)

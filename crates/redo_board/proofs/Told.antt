@@ -15,19 +15,7 @@ told-push s script xs ys x e =
 
 pub way-row : (x : commands.Command ℕ) (h b : Bool) → way x h b ≡ row → asked_lock x ≡ None
 way-row (commands.Lock u) h b e = absurd cc
-way-row (commands.Unlock u) h b e = refl
-way-row (commands.File n stamp) h b e = refl
-way-row (commands.Gone n) h b e = refl
-way-row (commands.Start u) h b e = refl
-way-row (commands.IfChange u ns) h b e = refl
-way-row (commands.IfCreate u ns) h b e = refl
-way-row (commands.Always u) h b e = refl
-way-row (commands.Stamp u content) h b e = refl
-way-row (commands.Done u stamp) h b e = refl
-way-row (commands.Failed u) h b e = refl
-way-row commands.Ood h b e = refl
-way-row commands.Targets h b e = refl
-way-row commands.Sources h b e = refl
+way-row x h b e = refl
 
 pub way-claim : (x : commands.Command ℕ) (h b : Bool) (t : ℕ) → way x h b ≡ claim t
     → x ≡ commands.Lock t
@@ -46,16 +34,4 @@ way-free (commands.Unlock u) h b t e = by (h && not b) e
     by : (c : Bool) → cond c (free u) row ≡ free t → commands.Unlock u ≡ commands.Unlock t
     by true e = cc
     by false e = absurd cc
-way-free (commands.Lock u) h b t e = absurd cc
-way-free (commands.File n stamp) h b t e = absurd cc
-way-free (commands.Gone n) h b t e = absurd cc
-way-free (commands.Start u) h b t e = absurd cc
-way-free (commands.IfChange u ns) h b t e = absurd cc
-way-free (commands.IfCreate u ns) h b t e = absurd cc
-way-free (commands.Always u) h b t e = absurd cc
-way-free (commands.Stamp u content) h b t e = absurd cc
-way-free (commands.Done u stamp) h b t e = absurd cc
-way-free (commands.Failed u) h b t e = absurd cc
-way-free commands.Ood h b t e = absurd cc
-way-free commands.Targets h b t e = absurd cc
-way-free commands.Sources h b t e = absurd cc
+way-free x h b t e = absurd cc

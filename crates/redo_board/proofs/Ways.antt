@@ -5,7 +5,7 @@ use Rattle.std.specs.declared.cmp.Ordering.{Ordering}
 use Rattle.redo_model.specs.Names.{numbers}
 use Rattle.redo_model.specs.State.{State, TargetState, Idle, Building, Built, target_state, is_building}
 use Rattle.redo_model.specs.State as states
-use Rattle.redo_model.specs.Command.{Command, File, Gone, Lock, Unlock, Start, IfChange, IfCreate, Always, Stamp, Done, Failed, Ood, Targets, Sources, asked_lock}
+use Rattle.redo_model.specs.Command.{Command, Lock, Unlock, asked_lock}
 use Rattle.redo_model.specs.Reply.{Refusal, NotLocked, Reply, Okay, Refused}
 use Rattle.redo_model.specs.Reply as replies
 use Rattle.redo_model.specs.Step.{Replies, verdict_of, locks_after, locks_freed, unless_refused, refusal_or, holds_target, is_held_by, is_built_by}
@@ -82,19 +82,8 @@ module _ (order : ℕ → ℕ → Ordering) (st : State ℕ) (s : ℕ) where
 
   pub goes : (x : Command ℕ) → BuildersHold st
       → Goes x (way x (holds_target st.locks s x) (builds_target st.records s x))
-  goes (File n stamp) l = (refl, refl, λ reply r. refl)
-  goes (Gone n) l = (refl, refl, λ reply r. refl)
   goes (Lock t) l = refl
   goes (Unlock t) l =
       unlocks t (is_held_by s (st.locks.holder t)) (is_built_by s (target_state st.records t)) refl
       refl l
-  goes (Start t) l = (refl, refl, λ reply r. refl)
-  goes (IfChange t ns) l = (refl, refl, λ reply r. refl)
-  goes (IfCreate t ns) l = (refl, refl, λ reply r. refl)
-  goes (Always t) l = (refl, refl, λ reply r. refl)
-  goes (Stamp t content) l = (refl, refl, λ reply r. refl)
-  goes (Done t stamp) l = (refl, refl, λ reply r. refl)
-  goes (Failed t) l = (refl, refl, λ reply r. refl)
-  goes Ood l = (refl, refl, λ reply r. refl)
-  goes Targets l = (refl, refl, λ reply r. refl)
-  goes Sources l = (refl, refl, λ reply r. refl)
+  goes x l = (refl, refl, λ reply r. refl)

@@ -3,7 +3,7 @@ use Rattle.std.proofs.Common.{◌≡◌, ◌∙◌, ℕ, suc, ◌<◌, List, [],
 use Rattle.std.specs.List.{AllByRecursion, Contains, flat_map}
 use Rattle.std.proofs.lemmas.List.{get_or-map, length-map}
 use Rattle.std.proofs.lemmas.List.Elements.{All-from_recursion, All-get_or, Contains-append_cases}
-use Rattle.redo_model.specs.Command.{Command, Item, File, Gone, Lock, Unlock, Start, IfChange, IfCreate, Always, Stamp, Done, Failed, Ood, Targets, Sources}
+use Rattle.redo_model.specs.Command.{Command, Item, IfChange, IfCreate}
 use Rattle.redo_model.specs.Renaming.{AllBelow, IsBelow}
 use Rattle.redo_journal.specs.Plans.{PlanOf, IsPlan}
 use Rattle.redo_graph.specs.Graphs.{AreNumbers}
@@ -29,18 +29,7 @@ module _ (n : ℕ) where
       → AreNumbers n p
   in_command (IfChange t ns) below p c = in_list t ns below p c
   in_command (IfCreate t ns) below p c = in_list t ns below p c
-  in_command (File m s) below p c = in_nothing p c
-  in_command (Gone m) below p c = in_nothing p c
-  in_command (Lock t) below p c = in_nothing p c
-  in_command (Unlock t) below p c = in_nothing p c
-  in_command (Start t) below p c = in_nothing p c
-  in_command (Always t) below p c = in_nothing p c
-  in_command (Stamp t content) below p c = in_nothing p c
-  in_command (Done t stamp) below p c = in_nothing p c
-  in_command (Failed t) below p c = in_nothing p c
-  in_command Ood below p c = in_nothing p c
-  in_command Targets below p c = in_nothing p c
-  in_command Sources below p c = in_nothing p c
+  in_command x below p c = in_nothing p c
 
   in_script : (script : List (Item ℕ)) → AllByRecursion (λ item. IsBelow n item.command) script
       → (p : ℕ × ℕ) → Contains (flat_map (λ item. listed_in item.command) script) p → AreNumbers n p

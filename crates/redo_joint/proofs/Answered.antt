@@ -5,7 +5,7 @@ use Rattle.std.proofs.lemmas.Bool.{false≢true}
 use Rattle.redo_model.specs.Names.{Naming}
 use Rattle.redo_model.specs.State.{State, Records, Locks, TargetState, Idle, Building, Built, target_state, is_building, empty}
 use Rattle.redo_model.specs.State as states
-use Rattle.redo_model.specs.Command.{Command, File, Gone, Lock, Unlock, Start, IfChange, IfCreate, Always, Stamp, Done, Failed, Ood, Targets, Sources, target_of}
+use Rattle.redo_model.specs.Command.{Command, Lock, Unlock, target_of}
 use Rattle.redo_model.specs.Reply.{Refusal, Reply, Okay, Refused, NotLocked}
 use Rattle.redo_model.specs.Reply as replies
 use Rattle.redo_model.specs.Step.{verdict_of, after, Answers, Replies, records_after, unless_refused, locks_after, locks_granted, locks_freed, holds_target, is_held_by, is_built_by, refusal_or, lock_reply}
@@ -30,21 +30,10 @@ module _ {N : Type 0} (naming : Naming N) where
       (reply : Reply N)
       → is_claim command reply ≡ false → Replies naming records s held command reply
       → locks_after naming locks s (verdict_of naming records s held command) command ≡ locks
-  row_locks records locks s held (File n stamp) reply e told = refl
-  row_locks records locks s held (Gone n) reply e told = refl
   row_locks records locks s held (Lock t) reply e told = absurd told
   row_locks records locks s held (Unlock t) reply e told =
       unlock_refused (verdict_of naming records s held (Unlock t)) reply locks t e told
-  row_locks records locks s held (Start t) reply e told = refl
-  row_locks records locks s held (IfChange t ns) reply e told = refl
-  row_locks records locks s held (IfCreate t ns) reply e told = refl
-  row_locks records locks s held (Always t) reply e told = refl
-  row_locks records locks s held (Stamp t content) reply e told = refl
-  row_locks records locks s held (Done t stamp) reply e told = refl
-  row_locks records locks s held (Failed t) reply e told = refl
-  row_locks records locks s held Ood reply e told = refl
-  row_locks records locks s held Targets reply e told = refl
-  row_locks records locks s held Sources reply e told = refl
+  row_locks records locks s held x reply e told = refl
 
   lock_claims : (holder : Option ℕ) (g : ℕ) (t : N) (reply : Reply N) → reply ≡ lock_reply holder g
       → is_claim (Lock t) reply ≡ true
@@ -56,40 +45,16 @@ module _ {N : Type 0} (naming : Naming N) where
       → is_claim command reply ≡ false
       → Answers naming state s command reply
       → Replies naming state.records s (holds_target state.locks s command) command reply
-  row_answers state s (File n stamp) reply e a = a
-  row_answers state s (Gone n) reply e a = a
   row_answers state s (Lock t) reply e a =
       absurd
       (false≢true (sym e ∙ lock_claims (state.locks.holder t) (state.locks.grants t) t reply a))
-  row_answers state s (Unlock t) reply e a = a
-  row_answers state s (Start t) reply e a = a
-  row_answers state s (IfChange t ns) reply e a = a
-  row_answers state s (IfCreate t ns) reply e a = a
-  row_answers state s (Always t) reply e a = a
-  row_answers state s (Stamp t content) reply e a = a
-  row_answers state s (Done t stamp) reply e a = a
-  row_answers state s (Failed t) reply e a = a
-  row_answers state s Ood reply e a = a
-  row_answers state s Targets reply e a = a
-  row_answers state s Sources reply e a = a
+  row_answers state s x reply e a = a
 
   answers_row : (state : State N) (s : ℕ) (command : Command N) (reply : Reply N)
       → Replies naming state.records s (holds_target state.locks s command) command reply
       → Answers naming state s command reply
-  answers_row state s (File n stamp) reply a = a
-  answers_row state s (Gone n) reply a = a
   answers_row state s (Lock t) reply a = absurd a
-  answers_row state s (Unlock t) reply a = a
-  answers_row state s (Start t) reply a = a
-  answers_row state s (IfChange t ns) reply a = a
-  answers_row state s (IfCreate t ns) reply a = a
-  answers_row state s (Always t) reply a = a
-  answers_row state s (Stamp t content) reply a = a
-  answers_row state s (Done t stamp) reply a = a
-  answers_row state s (Failed t) reply a = a
-  answers_row state s Ood reply a = a
-  answers_row state s Targets reply a = a
-  answers_row state s Sources reply a = a
+  answers_row state s x reply a = a
 
   -- a fact about commands and replies, from one about each of their cases
   at_line : {asked command : Command N} {told reply : Reply N}

@@ -7,7 +7,7 @@ use Rattle.std.proofs.lemmas.List.Sums.{sum_by-cons}
 use Rattle.std.proofs.lemmas.List.{map_push}
 use Rattle.redo_model.specs.Names.{Naming, numbers}
 use Rattle.redo_model.specs.Inside.Names.{IsNaming}
-use Rattle.redo_model.specs.Command.{Command, File, Gone, Lock, Unlock, Start, IfChange, IfCreate, Always, Stamp, Done, Failed, Ood, Targets, Sources}
+use Rattle.redo_model.specs.Command.{Command, Lock, Unlock}
 use Rattle.redo_model.specs.Reply.{Reply, Okay, Stale, Stamped, Refused}
 use Rattle.redo_model.specs.Reply as replies
 use Rattle.redo_model.specs.Renaming.{named_command, named_reply}
@@ -74,20 +74,9 @@ module _ {A B : Type 0} (name : A → B) where
 
   claim_kept : (command : Command A) (reply : Reply A)
       → is_claim (named_command name command) (named_reply name reply) ≡ is_claim command reply
-  claim_kept (File n stamp) reply = refl
-  claim_kept (Gone n) reply = refl
   claim_kept (Lock t) reply = lock_claim t reply
   claim_kept (Unlock t) reply = unlock_claim t reply
-  claim_kept (Start t) reply = refl
-  claim_kept (IfChange t ns) reply = refl
-  claim_kept (IfCreate t ns) reply = refl
-  claim_kept (Always t) reply = refl
-  claim_kept (Stamp t content) reply = refl
-  claim_kept (Done t stamp) reply = refl
-  claim_kept (Failed t) reply = refl
-  claim_kept Ood reply = refl
-  claim_kept Targets reply = refl
-  claim_kept Sources reply = refl
+  claim_kept x reply = refl
 
   pub fits_kept : (place : Place A) (command : Command A) (reply : Reply A)
       → Fits place command reply

@@ -8,7 +8,7 @@ use Rattle.redo_model.specs.Names.{Naming, put}
 use Rattle.redo_model.specs.Inside.Names.{IsNaming}
 use Rattle.redo_model.specs.State.{Records, Cell, TargetState, Idle, Building, Built, target_state, is_building}
 use Rattle.redo_model.specs.State as states
-use Rattle.redo_model.specs.Command.{Command, File, Gone, Lock, Unlock, Start, IfChange, IfCreate, Always, Stamp, Done, Failed, Ood, Targets, Sources}
+use Rattle.redo_model.specs.Command.{Command, File, Gone, Start, Stamp, Done, Failed}
 use Rattle.redo_model.specs.Reply.{Refusal, NotLocked, NotBuilding, Itself}
 use Rattle.redo_model.specs.Reply as replies
 use Rattle.redo_model.specs.Step.{verdict_of, effect_of, records_after, unless_refused, is_built_by}
@@ -115,17 +115,12 @@ module _ {N : Type 0} {naming : Naming N} (law : IsNaming naming) where
       ≡ is_built_by s (target_state records x)
   accepted records u s held (File n stamp) x ne v = built_at s n x _ records.cell refl
   accepted records u s held (Gone n) x ne v = built_at s n x _ records.cell refl
-  accepted records u s held (Lock t) x ne v = refl
-  accepted records u s held (Unlock t) x ne v = refl
   accepted records u s held (Start t) x ne v =
       let none =
       (test_failed (is_building (target_state records t)) replies.Building None
       (test_failed (not held) NotLocked _ v).1).0 in
       built_at s t x _ records.cell
       (ne_eqb u s ne ∙ sym (not_building (target_state records t) s none))
-  accepted records u s held (IfChange t ns) x ne v = refl
-  accepted records u s held (IfCreate t ns) x ne v = refl
-  accepted records u s held (Always t) x ne v = refl
   accepted records u s held (Stamp t content) x ne v = built_at s t x _ records.cell refl
   accepted records u s held (Done t stamp) x ne v =
       built_at s t x _ records.cell
@@ -141,9 +136,7 @@ module _ {N : Type 0} {naming : Naming N} (law : IsNaming naming) where
       (not_false _
       (test_failed (not (is_built_by u (target_state records t))) NotBuilding None
       v).0)))
-  accepted records u s held Ood x ne v = refl
-  accepted records u s held Targets x ne v = refl
-  accepted records u s held Sources x ne v = refl
+  accepted records u s held c x ne v = refl
 
   by_verdict : (records : Records N) (u s : ℕ) (held : Bool) (command : Command N) (x : N)
       (verdict : Option (Refusal N))

@@ -6,7 +6,7 @@ use Rattle.std.specs.List.{AllByRecursion, filter_map, cons_option}
 use Rattle.std.proofs.lemmas.List.Elements.{recursion_from_All}
 use Rattle.redo_model.specs.Names.{Text, Naming}
 use Rattle.redo_model.specs.Command as commands
-use Rattle.redo_model.specs.Command.{File, Gone, Lock, Unlock, Start, IfChange, IfCreate, Always, Stamp, Done, Failed, Ood, Targets, Sources, asked_lock}
+use Rattle.redo_model.specs.Command.{Unlock, Failed, asked_lock}
 use Rattle.redo_model.specs.Renaming.{IsBelow, AllBelow}
 use Rattle.redo_model.specs.History.{Line}
 use Rattle.redo_model.specs.Placed.{line_of}

@@ -4,7 +4,7 @@ use Rattle.std.specs.Prelude.{MatchOption}
 use Rattle.std.proofs.lemmas.Bool.{false≢true}
 use Rattle.redo_model.specs.Names.{Naming}
 use Rattle.redo_model.specs.State.{State, Records}
-use Rattle.redo_model.specs.Command.{Command, File, Gone, Lock, Unlock, Start, IfChange, IfCreate, Always, Stamp, Done, Failed, Ood, Targets, Sources}
+use Rattle.redo_model.specs.Command.{Command, Lock, IfChange, Ood, Targets, Sources}
 use Rattle.redo_model.specs.Reply.{Refusal, Reply, Refused, lets_through}
 use Rattle.redo_model.specs.Step.{Tells, Replies, Answers, stale_reply, lock_reply, verdict_of, holds_target, effect_of, unless_refused, locks_after, after}
 
@@ -22,20 +22,8 @@ module _ {N : Type 0} (naming : Naming N) where
   pub refused_locks : (st : State N) (s : ℕ) (command : Command N) (refusal : Refusal N)
       → verdict_of naming st.records s (holds_target st.locks s command) command ≡ Some refusal
       → locks_after naming st.locks s (Some refusal) command ≡ st.locks
-  refused_locks st s (File n stamp) refusal v = refl
-  refused_locks st s (Gone n) refusal v = refl
   refused_locks st s (Lock t) refusal v = absurd (cc)
-  refused_locks st s (Unlock t) refusal v = refl
-  refused_locks st s (Start t) refusal v = refl
-  refused_locks st s (IfChange t ns) refusal v = refl
-  refused_locks st s (IfCreate t ns) refusal v = refl
-  refused_locks st s (Always t) refusal v = refl
-  refused_locks st s (Stamp t content) refusal v = refl
-  refused_locks st s (Done t stamp) refusal v = refl
-  refused_locks st s (Failed t) refusal v = refl
-  refused_locks st s Ood refusal v = refl
-  refused_locks st s Targets refusal v = refl
-  refused_locks st s Sources refusal v = refl
+  refused_locks st s x refusal v = refl
 
   -- the reply to an accepted command lets a guarded line through
   pub tells_through : (r : Records N) (command : Command N) (reply : Reply N)

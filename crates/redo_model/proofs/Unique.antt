@@ -4,7 +4,7 @@ use Rattle.std.specs.Prelude.{MatchOption}
 use Rattle.redo_model.specs.Names.{Naming, IsListed}
 use Rattle.redo_model.specs.Inside.Names.{IsNaming}
 use Rattle.redo_model.specs.State.{Records, State}
-use Rattle.redo_model.specs.Command.{Command, File, Gone, Lock, Unlock, Start, IfChange, IfCreate, Always, Stamp, Done, Failed, Ood, Targets, Sources, asked_lock}
+use Rattle.redo_model.specs.Command.{Command, Lock, IfChange, Ood, Targets, Sources, asked_lock}
 use Rattle.redo_model.specs.Reply.{Refusal, Reply, Refused}
 use Rattle.redo_model.specs.Reply as replies
 use Rattle.redo_model.specs.Step.{Tells, Replies, Answers, stale_reply, verdict_of, holds_target, lock_reply}
@@ -18,20 +18,12 @@ module _ {N : Type 0} {naming : Naming N} (law : IsNaming naming) where
 
   one_tells : (r : Records N) (command : Command N) (a b : Reply N) → Tells naming r command a
       → Tells naming r command b → a ≡ b
-  one_tells r (File n stamp) a b p q = p ∙ sym q
-  one_tells r (Gone n) a b p q = p ∙ sym q
   one_tells r (Lock t) a b p q = absurd p
-  one_tells r (Unlock t) a b p q = p ∙ sym q
-  one_tells r (Start t) a b p q = p ∙ sym q
   one_tells r (IfChange t ns) a b p q = listed stale_reply a b p q
-  one_tells r (IfCreate t ns) a b p q = p ∙ sym q
-  one_tells r (Always t) a b p q = p ∙ sym q
-  one_tells r (Stamp t content) a b p q = p ∙ sym q
-  one_tells r (Done t stamp) a b p q = p ∙ sym q
-  one_tells r (Failed t) a b p q = p ∙ sym q
   one_tells r Ood a b p q = listed replies.Ood a b p q
   one_tells r Targets a b p q = listed replies.Targets a b p q
   one_tells r Sources a b p q = listed replies.Sources a b p q
+  one_tells r x a b p q = p ∙ sym q
 
   either_way : (o : Option (Refusal N)) (r : Records N) (command : Command N) (a b : Reply N)
       → MatchOption o (Tells naming r command a) (λ refusal. a ≡ Refused refusal)

@@ -192,17 +192,6 @@ few_listed t ns list =
 
 -- a command has few names
 pub few_names : (command : Command Text) → HasForm command → length (names_in command) ≤ 65536
-few_names (File n stamp) form = lit≤ tt
-few_names (Gone n) form = lit≤ tt
-few_names (Lock t) form = lit≤ tt
-few_names (Unlock t) form = lit≤ tt
-few_names (Start t) form = lit≤ tt
 few_names (IfChange t ns) form = few_listed t ns form.1
 few_names (IfCreate t ns) form = few_listed t ns form.1
-few_names (Always t) form = lit≤ tt
-few_names (Stamp t content) form = lit≤ tt
-few_names (Done t stamp) form = lit≤ tt
-few_names (Failed t) form = lit≤ tt
-few_names Ood form = lit≤ tt
-few_names Targets form = lit≤ tt
-few_names Sources form = lit≤ tt
+few_names x form = lit≤ tt

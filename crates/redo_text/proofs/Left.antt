@@ -92,19 +92,7 @@ some_left names mid after args t ns why few words e left =
 
 word_is_visible : (kind : Kind) → IsVisible (word_of kind)
 word_is_visible kinds.File = refl
-word_is_visible kinds.Gone = refl
-word_is_visible kinds.Lock = refl
-word_is_visible kinds.Unlock = refl
-word_is_visible kinds.Start = refl
-word_is_visible kinds.IfChange = refl
-word_is_visible kinds.IfCreate = refl
-word_is_visible kinds.Always = refl
-word_is_visible kinds.Stamp = refl
-word_is_visible kinds.Done = refl
-word_is_visible kinds.Failed = refl
-word_is_visible kinds.Ood = refl
-word_is_visible kinds.Targets = refl
-word_is_visible kinds.Sources = refl
+word_is_visible x = refl
 
 -- of a text that begins with a command's word
 pub words_left : (names : List Text) (text : Text) (kind : Kind) (args after : List Text)
