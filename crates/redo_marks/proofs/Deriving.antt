@@ -13,7 +13,7 @@ use Rattle.redo_model.proofs.Region.{differ_nowhere, differ_then, out_of_date_by
 use Rattle.redo_model.proofs.UpToDate.{idle_up_to_date}
 use Rattle.redo_model.proofs.MorePlaces.{same_everywhere}
 use Rattle.redo_marks.specs.NameSet.{Marked, IsMarked, IsQueued, IsQueue, Enters, Grows, Unmarks, size_of}
-use Rattle.redo_marks.specs.Inside.NameSet.{HoldsOnly, IsCleared}
+use Rattle.redo_marks.specs.Inside.NameSet.{MarksOnly, IsCleared}
 use Rattle.redo_marks.specs.Memo.{is_out, IsRight, WasRight, HasCount}
 use Rattle.redo_marks.specs.Inside.Regions.{Spreads, IsDue, IsClosed, IsSound, EntersDue}
 use Rattle.redo_model.proofs.Listing.{listed_or_not, one_more}
@@ -127,7 +127,7 @@ right_but_more memo within was d = (was.0, differ_then within was.1 d, was.2)
 
 -- the names of the queue are those of the region
 pub region_listed : (r : Records ℕ) (seeds ns : List ℕ) {region : Marked}
-    → HoldsOnly (InRegion r seeds) region
+    → MarksOnly (InRegion r seeds) region
     → ns ≡ region.queue → (t : ℕ) → Contains ns t ↔ InRegion r seeds t
 region_listed r seeds ns is same =
     subst (λ (qs : List ℕ). (t : ℕ) → Contains qs t ↔ InRegion r seeds t) (sym same) is.queued
@@ -165,7 +165,7 @@ module _ (r : Records ℕ) (seeds ns : List ℕ) (memo : List Bool) {out cleared
     module _ (touching : ℕ)
         (touched : (t : ℕ) → TouchesSeed r seeds t → Contains (take touching ns) t)
         {outdated : Marked}
-        (held : HoldsOnly (λ t. IsMarked out t × Contains (drop touching ns) t) outdated)
+        (held : MarksOnly (λ t. IsMarked out t × Contains (drop touching ns) t) outdated)
       where
         due_of_these : (t : ℕ) → InRegion r seeds t → IsDue r cleared t
             → Contains (take touching ns) t ⊎ IsQueued outdated t
@@ -222,7 +222,7 @@ module _ (r : Records ℕ) (seeds ns : List ℕ) (memo : List Bool) {out cleared
             )
 
 -- the marks of all that was marked are removed
-pub cleared_again : {P : ℕ → Type 0} {a b : Marked} (names : ℕ) → size_of a ≡ names → HoldsOnly P a
+pub cleared_again : {P : ℕ → Type 0} {a b : Marked} (names : ℕ) → size_of a ≡ names → MarksOnly P a
     → Unmarks (IsQueued a) a b → IsCleared names b
 cleared_again names sized held unmarked = record {
   sized = unmarked.sized ∙ sized;
@@ -234,7 +234,7 @@ cleared_again names sized held unmarked = record {
 
 -- the list of the region has as many names as the region
 pub region_counted : (r : Records ℕ) (seeds ns : List ℕ) {region : Marked} → ns ≡ region.queue
-    → HoldsOnly (InRegion r seeds) region → IsQueue region → HasCount (InRegion r seeds) (length ns)
+    → MarksOnly (InRegion r seeds) region → IsQueue region → HasCount (InRegion r seeds) (length ns)
 region_counted r seeds ns {region = region} same is kept =
     let size : length region.queue ≡ length ns = ap length (sym same) in
     subst (HasCount (InRegion r seeds)) size (region.queue, kept.once, is.queued, refl)

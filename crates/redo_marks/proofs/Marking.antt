@@ -11,7 +11,7 @@ use Rattle.redo_model.proofs.Listing.{one_more, each_below}
 use Rattle.redo_model.proofs.MorePlaces.{same_everywhere}
 use Rattle.redo_marks.specs.Bits.{IsSet}
 use Rattle.redo_marks.specs.NameSet.{Marked, IsMarked, IsQueued, IsQueue, Grows, Enters, Unmarks, size_of}
-use Rattle.redo_marks.specs.Inside.NameSet.{AreQueued, HoldsOnly}
+use Rattle.redo_marks.specs.Inside.NameSet.{AreQueued, MarksOnly}
 
 fewer_by_one : (marks : List Bool) (t : ℕ) → t < length marks → get_or marks t false ≡ false
     → count_by not (set marks t true) + 1 ≡ count_by not marks
@@ -189,10 +189,11 @@ enters_one_more P ts k d due in' is f g =
     )) f g
 
 -- if nothing was marked or queued, exactly what enters is
-pub holds_entered : {P : ℕ → Type 0} {a b : Marked} → ((t : ℕ) → IsMarked a t → ⊥)
-    → ((t : ℕ) → IsQueued a t → ⊥) → Enters P a b → HoldsOnly P b
-holds_entered {b = b} unmarked empty e =
-    let queued : (t : ℕ) → IsMarked b t → IsQueued b t = λ t on. (e.grown.queued t).1 (inr (on, unmarked t)) in
+pub marks_entered : {P : ℕ → Type 0} {a b : Marked} → ((t : ℕ) → IsMarked a t → ⊥)
+    → ((t : ℕ) → IsQueued a t → ⊥) → Enters P a b → MarksOnly P b
+marks_entered {b = b} unmarked empty e =
+    let queued : (t : ℕ) → IsMarked b t → IsQueued b t =
+    λ t on. (e.grown.queued t).1 (inr (on, unmarked t)) in
     record {
       queued = λ t. (
         λ q. elim ((e.grown.queued t).0 q) [
@@ -233,7 +234,8 @@ pub unmarked_one_more : (old marks : List Bool) (ts : List ℕ) (k d : ℕ) → 
     ↔ (IsSet old t × (Contains (take (k + 1) ts) t → ⊥))
 unmarked_one_more old marks ts k d in' below before t =
     let n = get_or ts k d in
-    let off : get_or (set marks n false) n false ≡ false = get_or-set_same marks n false false below in (
+    let off : get_or (set marks n false) n false ≡ false =
+    get_or-set_same marks n false false below in (
       λ on. elim (cases_eq t n) [
         | inl e ↦ absurd (false≢true (sym off ∙ subst (IsSet (set marks n false)) e on))
         | inr other ↦

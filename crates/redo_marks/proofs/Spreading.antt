@@ -7,7 +7,7 @@ use Rattle.redo_model.specs.OutOfDate.{IsTarget, HasRow, Chain, Depends, OutOfDa
 use Rattle.redo_model.specs.Inside.OutOfDate.{TouchesSeed, InRegion}
 use Rattle.redo_model.proofs.Region.{out_of_date_by_step}
 use Rattle.redo_marks.specs.NameSet.{Marked, IsMarked, IsQueued, Enters}
-use Rattle.redo_marks.specs.Inside.NameSet.{HoldsOnly}
+use Rattle.redo_marks.specs.Inside.NameSet.{MarksOnly}
 use Rattle.redo_marks.specs.Inside.Regions.{Reaches, Spreads}
 use Rattle.redo_marks.proofs.Marking.{grows_then, prefix_of, enters_then}
 use Rattle.redo_model.proofs.Listing.{one_more}
@@ -125,7 +125,7 @@ module _ (r : Records ℕ) where
           let queued : IsQueued m t = (touched.grown.queued t).1 (inr (on, unmarked t)) in
           subst (λ (xs : List ℕ). Contains xs t) (sym (prefix_of s.grown touching at)) queued
 
-      pub region_found : ((t : ℕ) → IsQueued none t → ⊥) → HoldsOnly (InRegion r seeds) new
+      pub region_found : ((t : ℕ) → IsQueued none t → ⊥) → MarksOnly (InRegion r seeds) new
       region_found empty = record {
         queued = λ t. (
           λ q. reaches_queued m (queued_touches empty) t (queued_reaches s t q),

@@ -9,7 +9,7 @@ ghost use Rattle.redo_model.specs.State.{Idle};
 ghost use Rattle.redo_records.specs.Cells.{cell_at};
 ghost use Rattle.redo_records.specs.Rows.{with_rows, rows_count};
 ghost use Rattle.redo_marks.specs.NameSet.{IsMarked, IsQueued, Enters, size_of};
-ghost use Rattle.redo_marks.specs.Inside.NameSet.{HoldsOnly};
+ghost use Rattle.redo_marks.specs.Inside.NameSet.{MarksOnly};
 ghost use Rattle.redo_marks.specs.Inside.Regions.{Spreads, IsClosed};
 
 use redo_marks::NameSet;
@@ -111,7 +111,7 @@ pub(crate) fn find_region(
     requires sized { size_of marks.old ≡ rows_count rows.now }
     requires unmarked { (t : ℕ) → IsMarked marks.old t → ⊥ }
     requires empty { (t : ℕ) → IsQueued marks.old t → ⊥ }
-    ensures region { HoldsOnly (InRegion (with_rows records.now rows.now) seeds.now) marks.new }
+    ensures region { MarksOnly (InRegion (with_rows records.now rows.now) seeds.now) marks.new }
     ensures few { result ≤ length marks.new.queue }
     ensures touched { (t : ℕ) → TouchesSeed (with_rows records.now rows.now) seeds.now t →
         Contains (take result marks.new.queue) t }

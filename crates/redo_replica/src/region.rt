@@ -8,7 +8,7 @@ ghost use Rattle.redo_model.specs.Renaming.{AllBelow};
 ghost use Rattle.redo_model.specs.State as states;
 ghost use Rattle.redo_records.specs.Meaning.{target_state_of};
 ghost use Rattle.redo_marks.specs.NameSet.{IsMarked, IsQueued, Enters, size_of};
-ghost use Rattle.redo_marks.specs.Inside.NameSet.{HoldsOnly};
+ghost use Rattle.redo_marks.specs.Inside.NameSet.{MarksOnly};
 ghost use Rattle.redo_marks.specs.Inside.Regions.{Spreads, IsClosed};
 ghost use Rattle.redo_replica.specs.CompactCells.{cell_at};
 ghost use Rattle.redo_replica.specs.PairRows.{change_of, row_at};
@@ -158,7 +158,7 @@ pub(crate) fn find_region(
     requires sized { size_of marks.old ≡ length cells.now }
     requires unmarked { (t : ℕ) → IsMarked marks.old t → ⊥ }
     requires empty { (t : ℕ) → IsQueued marks.old t → ⊥ }
-    ensures region { HoldsOnly (InRegion (records_in graph.now.tables cells.now rows.now) seeds.now)
+    ensures region { MarksOnly (InRegion (records_in graph.now.tables cells.now rows.now) seeds.now)
         marks.new }
     ensures few { result ≤ length marks.new.queue }
     ensures touched { (t : ℕ)

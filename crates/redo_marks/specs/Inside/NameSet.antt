@@ -7,7 +7,7 @@ abbrev pub AreQueued : Marked → Type 0
 AreQueued m = (t : ℕ) → IsMarked m t → IsQueued m t
 
 -- exactly the names with P are marked, and all of them are queued
-pub record HoldsOnly (P : ℕ → Type 0) (m : Marked) : Type 0 where
+pub record MarksOnly (P : ℕ → Type 0) (m : Marked) : Type 0 where
   pub queued : (t : ℕ) → IsQueued m t ↔ P t
   pub marked : AreQueued m
 

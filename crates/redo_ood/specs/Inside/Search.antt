@@ -38,7 +38,7 @@ pub record IsSearch (r : Records ℕ) (Looked : ℕ → ℕ → Type 0) (at : �
 abbrev pub StepsBefore : Records ℕ → Marked → List ℕ → ℕ → ℕ → ℕ → Type 0
 StepsBefore r out queue at i n = (i < at) × Depends r (slice_index queue i) n × IsMarked out n
 
--- if P holds, the name is found from a place, unless it was found before
+-- given P, the name is found from a place, unless it was found before
 abbrev pub Finds : Type 0 → ℕ → ℕ → Marked → List ℕ → Marked → List ℕ → Type 0
 Finds P n from old parents new parents_after =
     ((new ≡ old) × (parents_after ≡ parents) × (P → IsMarked old n))

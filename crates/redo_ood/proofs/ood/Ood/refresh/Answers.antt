@@ -3,10 +3,10 @@ use Rattle.std.specs.List.{Contains}
 use Rattle.redo_model.specs.Inside.OutOfDate.{TouchesSeed}
 use Rattle.redo_records.specs.Rows.{with_rows}
 use Rattle.redo_marks.specs.NameSet.{IsMarked, size_of}
-use Rattle.redo_marks.specs.Inside.NameSet.{HoldsOnly}
+use Rattle.redo_marks.specs.Inside.NameSet.{MarksOnly}
 use Rattle.redo_marks.specs.Inside.Regions.{EntersDue}
 use Rattle.redo_marks.proofs.Deriving.{region_listed, closed_after, cleared_again, memo_right, region_counted}
-use Rattle.redo_marks.proofs.Marking.{holds_entered}
+use Rattle.redo_marks.proofs.Marking.{marks_entered}
 use Rattle.redo_ood.proofs.ood.Ood.refresh.Goals as goal
 
 pub derive-requires-clause-closed : goal.derive-requires-clause-closed
@@ -24,7 +24,7 @@ invariant_of-self c =
     let names = size_of c.derive-2.new.marks in
     let same : size_of c.self.inside.out ≡ names =
     sym (c.derive-2.ensures.grown.sized ∙ c.derive.ensures.grown.sized ∙ c.unmark.ensures.sized) in
-    let entered = holds_entered kept.outdated.unmarked kept.outdated.empty c.enter_marked.ensures in
+    let entered = marks_entered kept.outdated.unmarked kept.outdated.empty c.enter_marked.ensures in
     record {
       region = cleared_again names
           (c.find_region-touching.ensures.sized ∙ kept.region.sized ∙ same)
@@ -47,8 +47,9 @@ returns-clause-right c =
     let touched = subst (λ (q : List ℕ). (t : ℕ) → TouchesSeed r seeds t
     → Contains (take touching q) t)
     (sym c.queue-region.ensures.queue) c.find_region-touching.ensures.touched in
-    let entered = holds_entered kept.unmarked kept.empty c.enter_marked.ensures in
-    let held = subst (λ (us : List ℕ). HoldsOnly (λ t. IsMarked out t × Contains us t) c.enter_marked.new.marks)
+    let entered = marks_entered kept.unmarked kept.empty c.enter_marked.ensures in
+    let held = subst
+    (λ (us : List ℕ). MarksOnly (λ t. IsMarked out t × Contains us t) c.enter_marked.new.marks)
     c.split_at.ensures.back entered in
     let first = subst (λ (us : List ℕ). EntersDue r us c.unmark.new.self c.derive.new.marks)
     c.split_at.ensures.front c.derive.ensures in

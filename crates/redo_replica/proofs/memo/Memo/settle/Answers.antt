@@ -6,10 +6,10 @@ use Rattle.redo_marks.specs.Memo.{IsRight, WasRight}
 use Rattle.redo_replica.specs.Replicas.{records_in}
 use Rattle.redo_replica.specs.Inside.Memos.{MemoOf}
 use Rattle.redo_marks.specs.NameSet.{IsMarked, size_of}
-use Rattle.redo_marks.specs.Inside.NameSet.{HoldsOnly}
+use Rattle.redo_marks.specs.Inside.NameSet.{MarksOnly}
 use Rattle.redo_marks.specs.Inside.Regions.{EntersDue}
 use Rattle.redo_marks.proofs.Deriving.{region_listed, closed_after, cleared_again, memo_right, right_but_seeds}
-use Rattle.redo_marks.proofs.Marking.{holds_entered}
+use Rattle.redo_marks.proofs.Marking.{marks_entered}
 use Rattle.redo_replica.proofs.memo.Memo.settle.Goals as goal
 use Rattle.redo_replica.proofs.memo.Memo.settle.Goals.{After-unmark_queue-3}
 
@@ -29,7 +29,7 @@ invariant_of-self c =
     let names = size_of c.derive-2.new.marks in
     let same : size_of c.self.inside.out ≡ names =
     sym (c.derive-2.ensures.grown.sized ∙ c.derive.ensures.grown.sized ∙ c.unmark.ensures.sized) in
-    let entered = holds_entered kept.outdated.unmarked kept.outdated.empty c.enter_marked.ensures in
+    let entered = marks_entered kept.outdated.unmarked kept.outdated.empty c.enter_marked.ensures in
     record {
       seeds = c.unmark_queue-3.ensures.sized ∙ kept.seeds ∙ same;
       noted = λ t on.
@@ -68,9 +68,9 @@ right c =
     let touched = subst (λ (q : List ℕ). (t : ℕ) → TouchesSeed r seeds t
     → Contains (take touching q) t)
     (sym c.queue-region.ensures.queue) c.find_region-touching.ensures.touched in
-    let entered = holds_entered kept.unmarked kept.empty c.enter_marked.ensures in
+    let entered = marks_entered kept.unmarked kept.empty c.enter_marked.ensures in
     let held = subst (λ (us : List ℕ).
-    HoldsOnly (λ t. IsMarked out t × Contains us t) c.enter_marked.new.marks)
+    MarksOnly (λ t. IsMarked out t × Contains us t) c.enter_marked.new.marks)
     c.split_at.ensures.back entered in
     let first = subst (λ (us : List ℕ). EntersDue r us c.unmark.new.self c.derive.new.marks)
     c.split_at.ensures.front c.derive.ensures in
