@@ -56,8 +56,8 @@ impl Plan {
         if scripts.len() > MOST_SESSIONS {
             return Err(PlanFault::TooManySessions);
         }
-        // These calls show that the names are distinct, and that no script is too long.
-        let _ = names.len();
+        names.are_names();
+        // This shows that no script is too long.
         for script in &scripts {
             let _ = script.items();
         }

@@ -160,8 +160,7 @@ impl Live {
             (TellsNothing said.old.items said.new.items logged.old.items logged.new.items) }
     {
         let read = read_command(alloc, text, &mut self.names);
-        // This call shows that they are names.
-        let _ = self.names.len();
+        self.names.are_names();
         let command = read?;
         self.obey(alloc, session, command, most, said, logged)?;
         Ok(())

@@ -34,7 +34,8 @@ not_same text name is wide = by (bytes_eq text name) refl
     by true e =
         let same : text ≡ name = (bytes_eq-Decides text name).0 e in
         let least : slice_index text wide.0 < 128 =
-        subst (λ (t : List ℕ). slice_index t wide.0 < 128) (sym same) (name_is_ascii name is wide.0) in
+        subst (λ (t : List ℕ). slice_index t wide.0 < 128) (sym same)
+        (name_is_ascii name is wide.0) in
         absurd (omega (arith, least, wide.1))
 
 -- what is no ASCII is not among names

@@ -38,7 +38,8 @@ find-Some p (x ∷ keys) k e =
     ]
 
 -- a key's place among the keys is its name's number
-pub slice_get-texts : (text : List ℕ) (keys : List (String Global)) (number : ℕ) (key : String Global)
+pub slice_get-texts : (text : List ℕ) (keys : List (String Global))
+    (number : ℕ) (key : String Global)
     → slice_get keys number ≡ Some key → find (λ k. bytes_eq text (string_bytes k)) keys ≡ Some key
     → slice_get (texts keys) number ≡ Some text
 slice_get-texts text keys number key stored found =
@@ -63,9 +64,10 @@ texts-at text keys number key within at same =
     ]
 
 -- a new key is the last
-pub texts-insert : (keys : List (String Global)) (key : String Global) (text : List ℕ) → string_bytes key ≡ text
-    → has (texts keys) text ≡ false
-    → texts (if list_any (λ k. bytes_eq (string_bytes key) (string_bytes k)) keys then keys else keys ++ key ∷ [])
+pub texts-insert : (keys : List (String Global)) (key : String Global) (text : List ℕ)
+    → string_bytes key ≡ text → has (texts keys) text ≡ false
+    → texts (if list_any (λ k. bytes_eq (string_bytes key) (string_bytes k)) keys
+    then keys else keys ++ key ∷ [])
     ≡ texts keys ++ text ∷ []
 texts-insert keys key text same new =
     let absent : list_any (λ k. bytes_eq (string_bytes key) (string_bytes k)) keys ≡ false =
@@ -75,7 +77,9 @@ texts-insert keys key text same new =
     ∙ ap (λ (t : List ℕ). texts keys ++ t ∷ []) same
 
 -- the first of the keys are those of the first names
-pub texts-take : (keys kept : List (String Global)) (names : List (List ℕ)) (n : ℕ) → texts keys ≡ names
-    → kept ≡ take n keys → texts kept ≡ take n names
+pub texts-take : (keys kept : List (String Global)) (names : List (List ℕ)) (n : ℕ)
+    → texts keys ≡ names → kept ≡ take n keys → texts kept ≡ take n names
 texts-take keys kept names n view is =
-    ap texts is ∙ sym (take-map (λ (key : String Global). string_bytes key) n keys) ∙ ap (take n) view
+    ap texts is
+    ∙ sym (take-map (λ (key : String Global). string_bytes key) n keys)
+    ∙ ap (take n) view

@@ -75,23 +75,39 @@ impl Names {
         self.texts.len() as u32
     }
 
+    /// A law of names: they are distinct, each is a name, and there are at most 65,536.
+    pub fn are_names(&self)
+        ensures { AreNames self.now }
+    {
+        let _ = self.len();
+    }
+
     /// The number of a text, if it is among the names.
     pub fn number_of(&self, text: &[u8]) -> Option<u32>
         ensures found { IfSome result (λ number. slice_get self.now number ≡ Some text.now) }
         ensures there { is_some result ≡ has self.now text.now }
     {
-        match self.latest_of(text) {
+        self.number_guessed(self.latest, text)
+    }
+
+    /// The number of a text, if it is among the names. Callers pass `guess`: a number that it may have. It is sooner
+    /// found if that is right.
+    pub fn number_guessed(&self, guess: u32, text: &[u8]) -> Option<u32>
+        ensures found { IfSome result (λ number. slice_get self.now number ≡ Some text.now) }
+        ensures there { is_some result ≡ has self.now text.now }
+    {
+        match self.if_at(guess, text) {
             Some(number) => Some(number),
             None => self.search(text),
         }
     }
 
-    /// The number that was added or found last, if it is that of the text.
-    fn latest_of(&self, text: &[u8]) -> Option<u32>
+    /// The number, if it is that of the text.
+    fn if_at(&self, number: u32, text: &[u8]) -> Option<u32>
         ensures { IfSome result (λ number. slice_get self.now number ≡ Some text.now) }
     {
-        match self.texts.as_slice().get(self.latest as usize) {
-            Some(name) if name.as_bytes() == text => Some(self.latest),
+        match self.texts.as_slice().get(number as usize) {
+            Some(name) if name.as_bytes() == text => Some(number),
             _ => None,
         }
     }
@@ -101,12 +117,11 @@ impl Names {
         ensures found { IfSome result (λ number. slice_get self.now number ≡ Some text.now) }
         ensures there { is_some result ≡ has self.now text.now }
     {
-        // This shows that each is a name, and so ASCII.
-        let texts = &self.texts;
+        self.are_names();
         if !text.is_ascii() {
             return None;
         }
-        match texts.get_full(ascii_text(text)) {
+        match self.texts.get_full(ascii_text(text)) {
             Some((number, _)) => Some(number as u32),
             None => None,
         }

@@ -33,8 +33,7 @@ fn compared(
         → state_in live.old ≡ left_by texts empty lines → number ≡ length lines + 1
         → IfOk result (IsJudged live.new (lines ++ line_at live.old.names line.now ∷ [])) }
 {
-    // This call shows that the names are distinct.
-    let _ = live.names().len();
+    live.names().are_names();
     let reply = live.call(alloc, line.session, &line.command, &line.reply)?;
     if reply.is_same(&line.reply) {
         Ok(Verdict::Same(number))

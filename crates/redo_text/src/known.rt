@@ -19,10 +19,12 @@ fn room_for(args: Option<&[u8]>) -> usize {
     }
 }
 
-/// The numbers of the words, if each is among the names.
+/// The numbers of the words, if each is among the names. Callers pass `guess`: a number that the
+/// first may have. Names that came one after the other often do so again.
 pub(crate) fn known_numbers(
     alloc: Global,
     names: &Names,
+    guess: u32,
     args: Option<&[u8]>,
 ) -> Result<Option<Vec<u32>>, AllocError>
     ensures { IfOk result (λ known. IfSome known (λ numbers.
@@ -30,13 +32,15 @@ pub(crate) fn known_numbers(
         × AllBelow (length names.now) numbers.items)) }
 {
     let mut numbers = Vec::with_capacity(alloc, room_for(args))?;
+    let mut guess = guess;
     let mut left = args;
     while let Some(text) = left {
         let (word, others) = cut_word(text);
-        let Some(number) = names.number_of(word) else {
+        let Some(number) = names.number_guessed(guess, word) else {
             return Ok(None);
         };
         numbers.push(number)?;
+        guess = number.saturating_add(1);
         left = others;
     }
     Ok(Some(numbers))
@@ -62,7 +66,8 @@ pub(crate) fn known_target_and_numbers(
     let Some(target) = names.number_of(word) else {
         return Ok(None);
     };
-    let Some(numbers) = known_numbers(alloc, names, others)? else {
+    let next = target.saturating_add(1);
+    let Some(numbers) = known_numbers(alloc, names, next, others)? else {
         return Ok(None);
     };
     if numbers.is_empty() || numbers.len() > MOST_LISTED_NAMES {

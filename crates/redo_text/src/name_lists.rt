@@ -11,7 +11,7 @@ use crate::args::words;
 use crate::fault::{LineFault, Unread};
 use crate::known::known_target_and_numbers;
 use crate::words::number_of;
-use redo_names::{MOST_NAMES, Names, is_name};
+use redo_names::{Names, is_name};
 use std::alloc::Global;
 
 /// How many names a line has at most after its target.
@@ -91,7 +91,7 @@ fn target_and_numbers_in(
     ensures left { IfErr result (LeavesSome names.old (map (λ w. w.now) words.now) names.new) }
     ensures kept { Extends names.old names.new }
 {
-    prove!(names.len() as usize <= MOST_NAMES);
+    names.are_names();
     let (target, others) = target_and_names(words)?;
     let number = number_of(names, None, target)?;
     let numbers = numbers_of(alloc, names, others)?;
@@ -112,8 +112,7 @@ pub(crate) fn target_and_numbers_of(
     ensures left { IfErr result (LeavesSome names.old (words_after args.entry) names.new) }
     ensures kept { Extends names.old names.new }
 {
-    // This call shows that each is a name.
-    let _ = names.len();
+    names.are_names();
     if let Some(known) = known_target_and_numbers(alloc, names, args)? {
         return Ok(known);
     }

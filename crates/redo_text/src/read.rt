@@ -14,7 +14,7 @@ ghost use Rattle.redo_text.specs.Inside.Reading.{Reads, LeavesWords, line_in, sc
 use crate::fault::{LineFault, ReadFault, Unread, at_line};
 use crate::forms::form_of;
 use crate::words::has_bad_byte;
-use redo_names::{MOST_NAMES, Names};
+use redo_names::Names;
 use redo_terms::{Command, Item};
 use std::alloc::Global;
 
@@ -39,8 +39,7 @@ fn line_of(alloc: Global, line: &[u8], names: &mut Names) -> Result<Command, Unr
     if line.len() > LONGEST_LINE {
         return Err(Unread::Fault(LineFault::LineTooLong));
     }
-    // This call shows that the names are not too many.
-    let _ = names.len();
+    names.are_names();
     match form_of(alloc, names, line) {
         Ok(command) => Ok(command),
         Err(_) if has_bad_byte(line) => Err(Unread::Fault(LineFault::BadByte)),
@@ -71,7 +70,7 @@ pub fn read_command(alloc: Global, line: &[u8], names: &mut Names) -> Result<Com
     ensures left { IfErr result (LeavesNames names.old line.now names.new) }
     ensures kept { Extends names.old names.new }
 {
-    prove!(names.len() as usize <= MOST_NAMES);
+    names.are_names();
     match line_of(alloc, line, names) {
         Ok(command) => Ok(command),
         Err(unread) => Err(at_line(1, unread)),

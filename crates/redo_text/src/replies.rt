@@ -12,7 +12,7 @@ use crate::fault::{LineFault, ReplyFault, Unread};
 use crate::forms::check_no_words;
 use crate::reply_kind::{ReplyKind, cut_reply_kind};
 use crate::reply_words::{digest_of_word, grant_of, listed_of, refusal_of_words, some_listed_of};
-use redo_names::{MOST_NAMES, Names};
+use redo_names::Names;
 use redo_terms::Reply;
 use std::alloc::Global;
 
@@ -57,7 +57,7 @@ pub fn read_reply(alloc: Global, text: &[u8], names: &mut Names) -> Result<Reply
     ensures within { IfOk result (λ reply. IsReplyBelow (length names.new) (reply_of reply)) }
     ensures kept { Extends names.old names.new }
 {
-    prove!(names.len() as usize <= MOST_NAMES);
+    names.are_names();
     match text_read(alloc, text, names) {
         Ok(reply) => Ok(reply),
         Err(Unread::Memory) => Err(ReplyFault::Memory),

@@ -16,7 +16,7 @@ use crate::name_lists::{are_names, numbers_of};
 use crate::numbers::read_number;
 use crate::words::{known_name, number_of};
 use hex::FromHex;
-use redo_names::{MOST_NAMES, Names};
+use redo_names::Names;
 use redo_terms::Refusal;
 use std::alloc::Global;
 
@@ -83,9 +83,8 @@ pub(crate) fn listed_of(
     ensures within { IfOk result (λ numbers. AllBelow (length names.new) numbers.items) }
     ensures kept { Extends names.old names.new }
 {
-    // This call shows that each is a name.
-    let _ = names.len();
-    if let Some(known) = known_numbers(alloc, names, args)? {
+    names.are_names();
+    if let Some(known) = known_numbers(alloc, names, 0, args)? {
         return Ok(known);
     }
     let words = words(alloc, args)?;

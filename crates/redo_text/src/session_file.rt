@@ -1,4 +1,4 @@
-ghost use Rattle.std.specs.Prelude.{◌≡◌, ◌⊎◌, ◌<◌, List, [], ◌∷◌, ◌++◌, map, length, position, ◌==◌, MatchOption, IfOk, IsOkAnd, IfErr, OnOk};
+ghost use Rattle.std.specs.Prelude.{◌≡◌, ◌⊎◌, ◌<◌, List, [], ◌∷◌, ◌++◌, map, length, MatchOption, IfOk, IsOkAnd, IfErr, OnOk};
 ghost use Rattle.std.specs.List.{AllByRecursion};
 ghost use Rattle.redo_names.specs.Inside.Names.{Extends};
 ghost use Rattle.redo_model.specs.Names.{Text};
@@ -12,18 +12,13 @@ ghost use Rattle.redo_text.specs.Inside.Reading.{script_line_in};
 
 use crate::fault::{LineFault, ReadFault, Unread, at_line};
 use crate::read::{MOST_COMMANDS, read_script_line};
-use redo_names::{MOST_NAMES, Names};
+use crate::scan::position_of;
+use redo_names::Names;
 use redo_terms::{Item, Script};
 use std::alloc::Global;
 
 /// A command has at least this many bytes with its LF: `ood`.
 const SHORTEST_LINE: usize = 4;
-
-fn line_end(text: &[u8]) -> Option<usize>
-    ensures { result ≡ position (λ b. b == 10) text.now }
-{
-    text.iter().position(|b| *b == b'\n')
-}
 
 /// The first line, and the text after its LF, if it has one.
 fn cut(text: &[u8]) -> (&[u8], Option<&[u8]>)
@@ -31,7 +26,10 @@ fn cut(text: &[u8]) -> (&[u8], Option<&[u8]>)
         (λ rest. (lines_of text.now ≡ result.0.now ∷ lines_of rest.now)
         × (length rest.now < length text.now)) }
 {
-    match line_end(text) {
+    if let [b'\n', rest @ ..] = text {
+        return (&[], Some(rest));
+    }
+    match position_of(text, b'\n') {
         Some(end) => (&text[..end], Some(&text[end + 1..])),
         None => (text, None),
     }
@@ -84,7 +82,7 @@ pub fn read_script(alloc: Global, text: &[u8], names: &mut Names) -> Result<Scri
         (λ item. IsBelow (length names.new) (command_of item.command)) script) }
     ensures kept { Extends names.old names.new }
 {
-    prove!(names.len() as usize <= MOST_NAMES);
+    names.are_names();
     let mut items = Vec::with_capacity(alloc, most_items(text))?;
     let mut rest = text;
     let mut number = 1usize;

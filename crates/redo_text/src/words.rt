@@ -68,8 +68,7 @@ pub(crate) fn known_alone(names: &Names, args: Option<&[u8]>) -> Option<u32>
     ensures { IfSome result (λ number. (text : Text) × (words_after args.entry ≡ text ∷ [])
         × IsNumbered names.now text number) }
 {
-    // This call shows that each is a name.
-    let _ = names.len();
+    names.are_names();
     let text = args?;
     let number = names.number_of(text)?;
     Some(number)
@@ -82,8 +81,7 @@ pub(crate) fn known_name(names: &Names, word: &[u8]) -> Result<Option<u32>, Unre
     ensures name { IfOk result (λ _. name_test word.now ≡ true) }
     ensures known { IfOk result (λ known. IfSome known (IsNumbered names.now word.now)) }
 {
-    // This call shows that each is a name.
-    let _ = names.len();
+    names.are_names();
     match names.number_of(word) {
         Some(number) => Ok(Some(number)),
         None if is_name(word) => Ok(None),

@@ -81,8 +81,7 @@ impl Live {
         ensures unknown { IsNone result → IsUnknown (state_in self.now) name.now }
         ensures names { AreNames self.now.names }
     {
-        // This call shows that they are names.
-        let _ = self.names.len();
+        self.names.are_names();
         let number = self.names.number_of(name)?;
         if number < self.redo.count() {
             Some(number)

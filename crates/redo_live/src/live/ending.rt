@@ -140,8 +140,7 @@ impl Live {
             (TellsNothing said.old.items said.new.items logged.old.items logged.new.items) }
     {
         let lines = self.closing_lines(alloc, session)?;
-        // This call shows that they are names.
-        let _ = self.names.len();
+        self.names.are_names();
         let kept = lines_text(alloc, &lines, &self.names)?;
         let text = with_end(alloc, session, &kept)?;
         let size = text.len();
@@ -157,8 +156,7 @@ impl Live {
     fn closing_lines(&self, alloc: Global, session: u8) -> Result<Vec<Line>, AllocError>
         ensures { IfOk result (λ lines. AreClosing self.now session (map line_of lines.items)) }
     {
-        // This call shows that they are names.
-        let _ = self.names.len();
+        self.names.are_names();
         let mut targets = self.redo.held_by(alloc, session)?;
         sort(&self.names, &mut targets);
         let mut lines = Vec::new(alloc);

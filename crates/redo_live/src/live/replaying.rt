@@ -52,10 +52,9 @@ impl Live {
         ensures state { state_in self.new ≡ state_in self.old }
         ensures calls { calls_in self.new ≡ calls_in self.old }
     {
-        // This call shows that they are names, here and below.
-        let _ = self.names.len();
+        self.names.are_names();
         let line = read_line(alloc, number, text, &mut self.names);
-        let _ = self.names.len();
+        self.names.are_names();
         line
     }
 
@@ -81,8 +80,7 @@ impl Live {
         ensures calls { OnOk result (calls_in self.new ≡ calls_in self.old + 1) }
         ensures err { OnErr result (IsAsKnown self.old self.new) }
     {
-        // This call shows that they are names.
-        let _ = self.names.len();
+        self.names.are_names();
         self.grow()?;
         let guessed = list_of(guess);
         let sorted = ascending(alloc, guessed)?;

@@ -21,5 +21,5 @@ returns-else-is_same-clause-judged c lines legal left counted =
     λ e. let same = c.is_same.ensures.1 e in cc in
     judged_wrong c.args.live.now c.call.new.self c.call.ensures.names lines legal left
     c.args.number counted c.args.line.now reply c.in_ok-reply.ensures.answers
-    (subst (IsDistinct bytes_eq) c.names.ensures c.len.ensures.names.distinct)
+    (subst (IsDistinct bytes_eq) c.names.ensures c.are_names.ensures.distinct)
     c.in_ok-reply.ensures.below c.requires.below differs

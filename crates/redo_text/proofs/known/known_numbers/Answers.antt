@@ -11,8 +11,8 @@ pub loop-left-preserved : goal.loop-left-preserved
 loop-left-preserved c =
     let names = c.args.names.now in
     let before = c.loop-left.numbers.items in
-    let n = c.in-Some-number_of.number in
-    let found = c.in-Some-number_of.ensures.found in
+    let n = c.in-Some-number_guessed.number in
+    let found = c.in-Some-number_guessed.ensures.found in
     let word : text_at names n ≡ c.cut_word.result.0.now =
     get_or_from_slice_get names n c.cut_word.result.0.now [] found in
     let others = words_after c.cut_word.result.1 in

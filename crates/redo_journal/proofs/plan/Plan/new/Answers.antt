@@ -16,5 +16,5 @@ invariant_of-result c =
       short = short_of c.deref-script-items.result.now scripts c.loop-script.script-index
           c.deref-script-items.ensures.value c.loop-script-test.false c.loop-script.invariant;
       below = below_at (length c.args.names) scripts c.requires.below;
-      names = c.len-2.ensures.names;
+      names = c.are_names.ensures;
     }

@@ -7,7 +7,7 @@ use Rattle.redo_live.proofs.live.Live.call.Goals as goal
 
 pub invariant_of-self-2 : goal.invariant_of-self-2
 invariant_of-self-2 c =
-    let are = subst AreNames (ap (λ (l : LiveState). l.names) c.self.view_is) c.len.ensures.names in
+    let are = subst AreNames (ap (λ (l : LiveState). l.names) c.self.view_is) c.are_names.ensures in
     let kept = called_keeps c.args.self.now c.grow.new.self c.self-2.inside.names
     c.self-2.inside.redo
     c.call.new.self c.self-2.view_is c.grow.ensures.names c.grow.ensures.known are
@@ -22,7 +22,7 @@ invariant_of-self-2 c =
 
 pub returns-clause-answers : goal.returns-clause-answers
 returns-clause-answers c =
-    let are = subst AreNames (ap (λ (l : LiveState). l.names) c.self.view_is) c.len.ensures.names in
+    let are = subst AreNames (ap (λ (l : LiveState). l.names) c.self.view_is) c.are_names.ensures in
     called_answers c.args.self.now c.grow.new.self c.self-2.inside.names c.self-2.inside.redo
     c.call.new.self c.self-2.view_is c.grow.ensures.names c.grow.ensures.known are
     c.self-2.invariant.state c.args.session (command_of c.args.command.now) c.requires.below
@@ -31,7 +31,7 @@ returns-clause-answers c =
 
 pub returns-clause-after : goal.returns-clause-after
 returns-clause-after c =
-    let are = subst AreNames (ap (λ (l : LiveState). l.names) c.self.view_is) c.len.ensures.names in
+    let are = subst AreNames (ap (λ (l : LiveState). l.names) c.self.view_is) c.are_names.ensures in
     called_after c.args.self.now c.grow.new.self c.self-2.inside.names c.self-2.inside.redo
     c.call.new.self c.self-2.view_is c.grow.ensures.names c.grow.ensures.known are
     c.self-2.invariant.state c.args.session (command_of c.args.command.now) c.requires.below
@@ -40,7 +40,7 @@ returns-clause-after c =
 
 pub returns-clause-below : goal.returns-clause-below
 returns-clause-below c =
-    let are = subst AreNames (ap (λ (l : LiveState). l.names) c.self.view_is) c.len.ensures.names in
+    let are = subst AreNames (ap (λ (l : LiveState). l.names) c.self.view_is) c.are_names.ensures in
     called_below c.args.self.now c.grow.new.self c.self-2.inside.names c.self-2.inside.redo
     c.call.new.self c.self-2.view_is c.grow.ensures.names c.grow.ensures.known are
     c.self-2.invariant.state c.args.session (command_of c.args.command.now) c.requires.below

@@ -35,7 +35,7 @@ returns c =
     (map line_of c.loop-t.lines.items) =
     record {
       targets = sorted;
-      held = held_sorted c.self.inside.names c.len.ensures.names (state_of tables)
+      held = held_sorted c.self.inside.names c.are_names.ensures (state_of tables)
           c.self.invariant.state.within c.args.session held sorted
           c.in_ok-targets.ensures.distinct c.in_ok-targets.ensures.held
           (record { same = c.sort.ensures.same; sorted = c.sort.ensures.sorted });

@@ -25,7 +25,7 @@ lines_text-requires c =
     subst (λ (l : LiveState). AreClosing l c.args.session (map line_of lines))
     (sym c.self.view_is) c.in_ok-lines.ensures in
     subst (AreLinesBelow c.self.inside.names) (sym c.deref.ensures.value)
-    (told_below c.self.inside.names c.len.ensures.names c.self.inside.redo
+    (told_below c.self.inside.names c.are_names.ensures c.self.inside.redo
     c.self.invariant.state c.args.session lines closing)
 
 pub close-requires-clause-below : goal.close-requires-clause-below
@@ -37,7 +37,7 @@ close-requires-clause-below c =
     subst (λ (ls : List Line). AllByRecursion
     (λ line. IsBelow (tables_count c.self.inside.redo) (command_of line.command)) ls)
     (sym c.deref-5.ensures.value)
-    (close_below c.self.inside.names c.len.ensures.names c.self.inside.redo
+    (close_below c.self.inside.names c.are_names.ensures c.self.inside.redo
     c.self.invariant.state c.args.session lines closing)
 
 pub close-requires-clause-room : goal.close-requires-clause-room
@@ -48,7 +48,7 @@ close-requires-clause-room c =
     (sym c.self.view_is) c.in_ok-lines.ensures in
     subst (λ (ls : List Line). AllByRecursion (λ line. TakesNoRoom (command_of line.command)) ls)
     (sym c.deref-5.ensures.value)
-    (close_room c.self.inside.names c.len.ensures.names c.self.inside.redo
+    (close_room c.self.inside.names c.are_names.ensures c.self.inside.redo
     c.self.invariant.state c.args.session lines closing)
 
 pub close-requires-clause-calls : goal.close-requires-clause-calls
@@ -59,7 +59,7 @@ close-requires-clause-calls c =
     (sym c.self.view_is) c.in_ok-lines.ensures in
     subst (λ (ls : List Line). calls_of c.self.inside.redo + length ls < 2 ^ 32)
     (sym c.deref-5.ensures.value)
-    (close_calls c.self.inside.names c.len.ensures.names c.self.inside.redo
+    (close_calls c.self.inside.names c.are_names.ensures c.self.inside.redo
     c.self.invariant.state c.args.session lines closing)
 
 pub close-requires-clause-legal : goal.close-requires-clause-legal
@@ -70,7 +70,7 @@ close-requires-clause-legal c =
     (sym c.self.view_is) c.in_ok-lines.ensures in
     subst (λ (ls : List Line). LegalFrom (tables_naming c.self.inside.redo)
     (state_of c.self.inside.redo) (map line_of ls)) (sym c.deref-5.ensures.value)
-    (close_legal c.self.inside.names c.len.ensures.names c.self.inside.redo
+    (close_legal c.self.inside.names c.are_names.ensures c.self.inside.redo
     c.self.invariant.state c.args.session lines closing)
 
 pub invariant_of-self : goal.invariant_of-self
@@ -81,7 +81,7 @@ invariant_of-self c =
     subst (λ (l : LiveState). AreClosing l c.args.session (map line_of lines))
     (sym c.self.view_is) c.in_ok-lines.ensures in
     record {
-      state = kept_end c.self.inside.names c.len.ensures.names tables c.self.invariant.state
+      state = kept_end c.self.inside.names c.are_names.ensures tables c.self.invariant.state
           c.args.session lines closing c.close.new.redo
           (c.close.ensures.left
           ∙ ap (λ (ls : List Line). left_by (tables_naming tables) (state_of tables)
@@ -108,7 +108,7 @@ returns-clause-ended c =
     c.deref.ensures.value in
     subst (λ (l : LiveState). EndsSession l next c.args.session said c.tell.new.said.items logged
     c.tell.new.logged.items) c.self.view_is
-    (ends names c.len.ensures.names tables c.self.invariant.state c.args.session lines closing
+    (ends names c.are_names.ensures tables c.self.invariant.state c.args.session lines closing
     c.close.new.redo
     (c.close.ensures.left
     ∙ ap (λ (ls : List Line). left_by (tables_naming tables) (state_of tables) (map line_of ls))
@@ -142,7 +142,7 @@ returns-then-size-most-clause-cause c =
       omega (arith, c.if-size-most.true),
       subst (λ (l : LiveState). WouldEnd l c.args.session c.len-size.result) c.self.view_is
           (subst (WouldEnd (live_of c.self.inside) c.args.session) (sym size)
-          (would_end names c.len.ensures.names tables c.self.invariant.state c.args.session lines
+          (would_end names c.are_names.ensures tables c.self.invariant.state c.args.session lines
           closing)),
     )
 

@@ -17,7 +17,7 @@ invariant_of-self c =
     subst (λ (l : LiveState). AreNames l.names) (sym c.self.view_is) c.requires.names in
     record {
       state = IsKept-Extends c.self.inside.names c.read_command-read.new.names old_are
-          c.len.ensures.names c.read_command-read.ensures.kept (state_of c.self.inside.redo)
+          c.are_names.ensures c.read_command-read.ensures.kept (state_of c.self.inside.redo)
           (calls_of c.self.inside.redo) c.self.invariant.state;
       numbers = c.self.invariant.numbers;
     }
@@ -28,7 +28,7 @@ invariant_of-self-2 c =
     subst (λ (l : LiveState). AreNames l.names) (sym c.self.view_is) c.requires.names in
     record {
       state = IsKept-Extends c.self.inside.names c.read_command-read.new.names old_are
-          c.len.ensures.names c.read_command-read.ensures.kept (state_of c.self.inside.redo)
+          c.are_names.ensures c.read_command-read.ensures.kept (state_of c.self.inside.redo)
           (calls_of c.self.inside.redo) c.self.invariant.state;
       numbers = c.self.invariant.numbers;
     }
@@ -40,7 +40,7 @@ returns-clause-answered c =
     subst (λ (l : LiveState). AreNames l.names) (sym c.self.view_is) c.requires.names in
     let mid : LiveState = record { names = names; tables = c.self.inside.redo } in
     let same : state_in mid ≡ state_in c.args.self.now =
-    state_kept c.self.inside.names names old_are c.len.ensures.names
+    state_kept c.self.inside.names names old_are c.are_names.ensures
     c.read_command-read.ensures.kept (state_of c.self.inside.redo) c.self.invariant.state.within
     ∙ ap state_in c.self.view_is in
     let read = c.in_ok-command.ensures.read in
@@ -59,7 +59,7 @@ returns-in_err-obey-clause-cause c =
     subst (λ (l : LiveState). AreNames l.names) (sym c.self.view_is) c.requires.names in
     let mid : LiveState = record { names = names; tables = c.self.inside.redo } in
     let same : state_in mid ≡ state_in c.args.self.now =
-    state_kept c.self.inside.names names old_are c.len.ensures.names
+    state_kept c.self.inside.names names old_are c.are_names.ensures
     c.read_command-read.ensures.kept (state_of c.self.inside.redo) c.self.invariant.state.within
     ∙ ap state_in c.self.view_is in
     let read = c.in_ok-command.ensures.read in

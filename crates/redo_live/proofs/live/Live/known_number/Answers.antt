@@ -10,7 +10,7 @@ use Rattle.redo_live.proofs.live.Live.known_number.Goals as goal
 pub returns-in_err-number-clause-unknown : goal.returns-in_err-number-clause-unknown
 returns-in_err-number-clause-unknown c = λ _.
     subst (λ (l : LiveState). IsUnknown (state_in l) c.args.name.now) c.self.view_is
-    (unknown_name c.self.inside.names c.len.ensures.names (state_of c.self.inside.redo)
+    (unknown_name c.self.inside.names c.are_names.ensures (state_of c.self.inside.redo)
     c.self.invariant.state.within c.args.name.now (sym c.in_err-number.ensures.there))
 
 pub returns-then-number-count-clause-known : goal.returns-then-number-count-clause-known
@@ -28,6 +28,6 @@ pub returns-else-number-count-clause-unknown : goal.returns-else-number-count-cl
 returns-else-number-count-clause-unknown c = λ _.
     let n = c.in_ok-number.number in
     subst (λ (l : LiveState). IsUnknown (state_in l) c.args.name.now) c.self.view_is
-    (unknown_number c.self.inside.names c.len.ensures.names (state_of c.self.inside.redo)
+    (unknown_number c.self.inside.names c.are_names.ensures (state_of c.self.inside.redo)
     c.self.invariant.state.within n c.args.name.now c.in_ok-number.ensures.found
     (c.count.ensures.others n (omega (arith, c.if-number-count.false, c.count.ensures.count))))

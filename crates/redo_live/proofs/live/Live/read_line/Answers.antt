@@ -8,8 +8,8 @@ use Rattle.redo_live.proofs.live.Live.read_line.Goals as goal
 
 pub invariant_of-self : goal.invariant_of-self
 invariant_of-self c = record {
-  state = IsKept-Extends c.self.inside.names c.read_line-line.new.names c.len.ensures.names
-      c.len-2.ensures.names c.read_line-line.ensures.kept (state_of c.self.inside.redo)
+  state = IsKept-Extends c.self.inside.names c.read_line-line.new.names c.are_names.ensures
+      c.are_names-2.ensures c.read_line-line.ensures.kept (state_of c.self.inside.redo)
       (calls_of c.self.inside.redo) c.self.invariant.state;
   numbers = c.self.invariant.numbers;
 }
@@ -22,7 +22,7 @@ returns-clause-fault c =
 
 pub returns-clause-state : goal.returns-clause-state
 returns-clause-state c =
-    state_kept c.self.inside.names c.read_line-line.new.names c.len.ensures.names
-    c.len-2.ensures.names c.read_line-line.ensures.kept (state_of c.self.inside.redo)
+    state_kept c.self.inside.names c.read_line-line.new.names c.are_names.ensures
+    c.are_names-2.ensures c.read_line-line.ensures.kept (state_of c.self.inside.redo)
     c.self.invariant.state.within
     ∙ ap state_in c.self.view_is

@@ -1,13 +1,12 @@
 use Rattle.std.proofs.Common.{◌∙◌, sym}
-use Rattle.redo_names.specs.Names.{AreAllNames}
 use Rattle.redo_names.proofs.Ascii.{is_no_name}
 use Rattle.redo_names.proofs.Keys.{has-texts, slice_get-texts}
 use Rattle.redo_names.proofs.names.Names.search.Goals as goal
 
 pub returns-then-not-is_ascii-clause-there : goal.returns-then-not-is_ascii-clause-there
 returns-then-not-is_ascii-clause-there c =
-    let each : AreAllNames c.args.self.now = rw (← c.self.view_is) c.self.invariant.each in
-    sym (is_no_name c.args.self.now c.args.text.now each c.if-not-is_ascii.ensures.cases)
+    sym (is_no_name c.args.self.now c.args.text.now c.are_names.ensures.each
+    c.if-not-is_ascii.ensures.cases)
 
 pub returns-in-Some-clause-found : goal.returns-in-Some-clause-found
 returns-in-Some-clause-found c =

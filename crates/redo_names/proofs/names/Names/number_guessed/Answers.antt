@@ -1,6 +1,6 @@
 use Rattle.std.proofs.Common.{sym}
 use Rattle.redo_names.proofs.NameLists.{has-at}
-use Rattle.redo_names.proofs.names.Names.number_of.Goals as goal
+use Rattle.redo_names.proofs.names.Names.number_guessed.Goals as goal
 
 pub returns-in-Some-clause-there : goal.returns-in-Some-clause-there
 returns-in-Some-clause-there c =
