@@ -78,7 +78,8 @@ module _ (pairs : List (ℕ × ℕ)) (i j : ℕ) where
   ]
 
   -- what a block has at a place
-  pub block_get : j ≤ length pairs → (k : ℕ) (x : ℕ × ℕ) → slice_get (slice_range pairs i j) k ≡ Some x
+  pub block_get : j ≤ length pairs → (k : ℕ) (x : ℕ × ℕ)
+      → slice_get (slice_range pairs i j) k ≡ Some x
       → slice_get pairs (i + k) ≡ Some x
   block_get within k x found =
       let below : k < j - i =

@@ -23,7 +23,8 @@ module _ {X A : Type 0} (f : X → List A) where
 
 -- what covers all parts covers each
 pub covers_part : {W X : Type 0} (f : X → List (ℕ × ℕ)) (g : W → X) (pairs : List (ℕ × ℕ))
-    (ws : List W) (i : ℕ) (w : W) → i < length ws → w ≡ get_or ws i w → Covers pairs (flat_map f (map g ws))
+    (ws : List W) (i : ℕ) (w : W) → i < length ws → w ≡ get_or ws i w
+    → Covers pairs (flat_map f (map g ws))
     → Covers pairs (f (g w))
 covers_part {W = W} f g pairs ws i w below at covers p c =
     covers p (subst (λ (l : List (ℕ × ℕ)). Contains l p) (sym (flat_map_map f g ws))

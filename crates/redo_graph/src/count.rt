@@ -2,7 +2,7 @@ ghost use Rattle.std.specs.Prelude.{◌≡◌, IfOk};
 
 use std::alloc::AllocError;
 
-/// The count in 32 bits; a larger one is want of memory.
+/// The count in 32 bits, or `AllocError` if it is larger.
 pub(crate) fn small(count: usize) -> Result<u32, AllocError>
     ensures { IfOk result (λ small. small ≡ count) }
 {

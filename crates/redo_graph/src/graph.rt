@@ -33,7 +33,7 @@ impl Model for Graph {
 }
 
 impl Graph {
-    /// The graph of the plan. A count of 2^32 or more is want of memory.
+    /// The graph of the plan. A count of 2^32 or more gives `AllocError`.
     pub fn new(alloc: Global, plan: &Plan) -> Result<Graph, AllocError>
         ensures { IfOk result (λ graph. IsGraphOf plan.now graph) }
     {

@@ -1,15 +1,25 @@
 ghost use Rattle.std.specs.Prelude.{◌≡◌, ◌<◌, ◌≤◌, ◌+◌, ◌^◌, ℕ, length, IfOk};
 ghost use Rattle.redo_graph.specs.Pairs.{AreAscending, AreThose, IsStart};
-ghost use Rattle.redo_graph.specs.Inside.Pairs.{AreStarts};
+ghost use Rattle.redo_graph.specs.Inside.Pairs.{AreStarts, number_of, AreSmall};
 
 use std::alloc::{AllocError, Global};
 
+/// A pair as one number: that of an earlier pair is less.
+fn number_of(pair: &(u32, u32)) -> u64
+    ensures { result ≡ number_of pair.now }
+{
+    let (first, second) = *pair;
+    first as u64 * (1 << 32) + second as u64
+}
+
 /// The pairs in ascending order, each once.
 pub(crate) fn each_once(mut pairs: Vec<(u32, u32)>) -> Vec<(u32, u32)>
+    requires { AreSmall pairs.items }
     ensures ascending { AreAscending result.items }
     ensures those { AreThose pairs.items result.items }
 {
-    pairs.sort_unstable();
+    // One number is sooner compared than two.
+    pairs.sort_unstable_by_key(|pair| number_of(pair));
     pairs.dedup();
     pairs
 }

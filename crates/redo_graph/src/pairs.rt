@@ -1,5 +1,6 @@
 ghost use Rattle.std.specs.Prelude.{◌≡◌, ◌↔◌, ◌<◌, ◌≤◌, ◌+◌, ◌^◌, ℕ, Some, Contains, length, slice_get, IfOk, IfSome, IsSome};
 ghost use Rattle.redo_graph.specs.Pairs.{AreAscending, AreThose, IsStart};
+ghost use Rattle.redo_graph.specs.Inside.Pairs.{AreSmall};
 
 use crate::count::small;
 use crate::once::{each_once, starts_of};
@@ -27,9 +28,10 @@ impl Model for Pairs {
 }
 
 impl Pairs {
-    /// These pairs, whose first numbers are below `count`. 2^32 or more are want of memory.
+    /// These pairs, whose first numbers are below `count`. 2^32 or more give `AllocError`.
     pub fn new(alloc: Global, count: u32, listed: Vec<(u32, u32)>) -> Result<Pairs, AllocError>
-        requires { (p : ℕ × ℕ) → Contains listed.items p → p.0 < count }
+        requires below { (p : ℕ × ℕ) → Contains listed.items p → p.0 < count }
+        requires small { AreSmall listed.items }
         ensures count { IfOk result (λ made. made.count ≡ count) }
         ensures pairs { IfOk result (λ made. AreThose listed.items made.items) }
     {

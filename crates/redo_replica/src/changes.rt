@@ -10,6 +10,7 @@ ghost use Rattle.redo_replica.specs.Inside.Entries.{HasNumber, HaveEntries, Have
 ghost use Rattle.redo_replica.specs.Inside.Fits.{IsFit};
 
 use crate::cells::CompactCells;
+use crate::laws::pairs_are_once;
 use crate::rows::PairRows;
 use redo_graph::{Graph, Step};
 
@@ -58,8 +59,7 @@ fn create_each(graph: &Graph, rows: &mut PairRows, places: &[u32])
     ensures count { length rows.new ≡ length rows.old }
     ensures marks { HaveMarks graph.now.tables rows.old → HaveMarks graph.now.tables rows.new }
 {
-    // This call shows that each pair has one place.
-    let _ = graph.pairs();
+    pairs_are_once(graph);
     for &place in places {
         rows.put_created(place);
     }

@@ -5,9 +5,12 @@ ghost use Rattle.redo_model.specs.Names.{Text, put};
 ghost use Rattle.redo_records.specs.Rows.{by_number, with_change, with_created, without_rows};
 ghost use Rattle.redo_replica.specs.CompactCells.{HasEntry, mark_for};
 ghost use Rattle.redo_graph.specs.Graphs.{IsOnce};
+ghost use Rattle.redo_graph.specs.Pairs.{AreAscending};
 ghost use Rattle.redo_replica.specs.PairRows.{IsBlock, IsChanged, IsCleared, IsMade, IsPut, rows_of};
 ghost use Rattle.redo_replica.specs.declared.mark.Mark.{Mark};
 ghost use Rattle.redo_replica.specs.declared.rows.Row.{Row};
+
+use redo_graph::Graph;
 
 /// Two marks that stand for the same one are equal, if no stamp and no digest has two numbers.
 pub fn same_mark()
@@ -15,6 +18,13 @@ pub fn same_mark()
         → HasEntry stamps digests one → HasEntry stamps digests other
         → mark_for stamps digests one ≡ mark_for stamps digests other → one ≡ other }
 {}
+
+/// A law of the graph: the pairs ascend by their places, so no pair has two.
+pub(crate) fn pairs_are_once(graph: &Graph)
+    ensures { AreAscending graph.now.tables.pairs.items }
+{
+    let _ = graph.pairs();
+}
 
 /// If no pair has two places, a row that is put at the place of a pair is one of its target on its name, and no other
 /// row changes.

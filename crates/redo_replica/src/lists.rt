@@ -17,6 +17,7 @@ ghost use Rattle.redo_replica.specs.Inside.Changes.{HavePlaces};
 ghost use Rattle.redo_replica.specs.Inside.Lists.{HasFileIn, IsIdleIn, IsLaidOut, IsStaleIn, IsTargetIn, names_on};
 
 use crate::cells::CompactCells;
+use crate::laws::pairs_are_once;
 use crate::rows::{PairRows, Row};
 use redo_graph::Graph;
 use redo_marks::{Bits, NameSet};
@@ -219,8 +220,7 @@ fn has_row_on(graph: &Graph, rows: &PairRows, n: u32) -> bool
     ensures { (cells : List CompactCell) → IsTrue result
         ↔ ((t : ℕ) × HasRow (records_in graph.now.tables cells rows.now) t n) }
 {
-    // This call shows that each pair has one place.
-    let _ = graph.pairs();
+    pairs_are_once(graph);
     for &pair in graph.pairs_on(n) {
         if has_rows(rows.row(pair.1)) {
             return true;

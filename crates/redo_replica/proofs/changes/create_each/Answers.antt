@@ -11,7 +11,7 @@ loop-place-preserved c =
     record {
       so_far = λ cells t names are s.
           made_more c.args.graph.now.tables t names c.args.places.now are i
-          c.loop-place-test.true c.pairs.ensures.ascending cells c.args.rows.now
+          c.loop-place-test.true c.pairs_are_once.ensures cells c.args.rows.now
           c.loop-place.rows c.put_created.new.self s
           (c.loop-place.invariant.count ∙ c.requires.rows)
           (c.loop-place.invariant.so_far cells t names are s) c.put_created.ensures;

@@ -28,7 +28,7 @@ returns-then-has_rows c = λ cells.
     let there : HasRowAt c.args.rows.now i =
     subst (λ (row : Row). IsSome (change_of row) ⊎ IsTrue row.created) c.row.ensures
     (c.has_rows.ensures.0 c.if-has_rows.true) in (
-      λ _. row_of_place g.tables cells c.args.rows.now c.args.n c.pairs.ensures.ascending
+      λ _. row_of_place g.tables cells c.args.rows.now c.args.n c.pairs_are_once.ensures
           c.requires.sized i on there,
       λ _. refl,
     )
@@ -40,7 +40,7 @@ returns c = λ cells.
     let block = c.pairs_on-pair-items.result.now in (
       λ e. absurd (false≢true e),
       λ h.
-          let place = place_with_row g.tables cells rows c.args.n c.pairs.ensures.ascending
+          let place = place_with_row g.tables cells rows c.args.n c.pairs_are_once.ensures
           c.requires.sized h.0 h.1 in
           let at = on_there block g.on.items g.tables.pairs.items c.args.n
           c.pairs_on-pair-items.ensures.those c.requires.pairs_on place.0 place.1 in

@@ -10,7 +10,7 @@ invariant_of-result c =
       ascending = c.each_once-pairs.ensures.ascending;
       few = search rules;
       below = λ p there.
-          omega (arith, c.requires p ((c.each_once-pairs.ensures.those p).0 there), whole);
+          omega (arith, c.requires.below p ((c.each_once-pairs.ensures.those p).0 there), whole);
       some = omega (arith, whole);
       small = omega (arith, whole);
       starts = record {
