@@ -52,14 +52,14 @@ module _ {N : Type 0} {seeds : List N} {old new : Records N} (d : DifferAt seeds
   step_kept t n far step =
       (target_kept t far step.0, subst IsSome (d.change t n far) step.1)
 
-  -- a reason in a state of a target that is no seed and has no row on one
+  -- a reason in a state of a target that is no seed, and has rows only on names with the same cell
   reason_kept_in : (t : N) → (Contains seeds t → ⊥)
-      → ((n : N) → HasRow old t n → Contains seeds n → ⊥)
+      → ((n : N) → HasRow old t n → old.cell n ≡ new.cell n)
       → (s : TargetState) → ReasonIn s old t → ReasonIn s new t
-  reason_kept_in t far away Idle reason = reason
-  reason_kept_in t far away (Building s) reason = reason
-  reason_kept_in t far away Failed reason = reason
-  reason_kept_in t far away Built reason = elim reason [
+  reason_kept_in t far same Idle reason = reason
+  reason_kept_in t far same (Building s) reason = reason
+  reason_kept_in t far same Failed reason = reason
+  reason_kept_in t far same Built reason = elim reason [
     | inl edited ↦ inl (subst (λ (c : Cell). c.file ≡ c.done → ⊥) (d.cell t far) edited)
     | inr more ↦ inr (elim more [
       | inl always ↦ inl (subst IsTrue (d.always t far) always)
@@ -67,7 +67,7 @@ module _ {N : Type 0} {seeds : List N} {old new : Records N} (d : DifferAt seeds
         | inl (n, row, file) ↦ inl (
           n,
           subst IsTrue (d.created t n far) row,
-          subst (λ (c : Cell). IsSome c.file) (d.cell n (away n (inr row))) file,
+          subst (λ (c : Cell). IsSome c.file) (same n (inr row)) file,
         )
         | inr (n, mark, row, other) ↦
             let has : IsSome (old.rows.change t n) = subst IsSome (sym row) refl in
@@ -75,18 +75,17 @@ module _ {N : Type 0} {seeds : List N} {old new : Records N} (d : DifferAt seeds
               n,
               mark,
               sym (d.change t n far) ∙ row,
-              subst (λ (c : Cell). mark ≡ mark_in c.state c → ⊥)
-                  (d.cell n (away n (inl has))) other,
+              subst (λ (c : Cell). mark ≡ mark_in c.state c → ⊥) (same n (inl has)) other,
             )
       ])
     ])
   ]
 
   reason_kept : (t : N) → (Contains seeds t → ⊥)
-      → ((n : N) → HasRow old t n → Contains seeds n → ⊥) → HasReason old t → HasReason new t
-  reason_kept t far away reason =
+      → ((n : N) → HasRow old t n → old.cell n ≡ new.cell n) → HasReason old t → HasReason new t
+  reason_kept t far same reason =
       subst (λ (c : Cell). ReasonIn c.state new t) (d.cell t far)
-      (reason_kept_in t far away (old.cell t).state reason)
+      (reason_kept_in t far same (old.cell t).state reason)
 
 -- whatever has a reason is a target
 target_with_reason : {N : Type 0} (r : Records N) (t : N) (s : TargetState)
@@ -114,7 +113,7 @@ module _ {N : Type 0} {seeds : List N} {old new : Records N} (d : DifferAt seeds
       let far : Contains seeds t → ⊥ = no_seed t out in
       let target : IsTarget new t =
       target_kept d t far (target_with_reason old t (old.cell t).state reason) in
-      reason_kept d t far (λ n row. no_row t out target n (row_kept d t n far row)) reason
+      reason_kept d t far (λ n row. d.cell n (no_row t out target n (row_kept d t n far row))) reason
   chain_kept (n ∷ ns) t out chain =
       let step : Depends new t n = step_kept d t n (no_seed t out) chain.0 in
       (step, chain_kept ns n (stays_out t n out step) chain.1)
@@ -122,8 +121,9 @@ module _ {N : Type 0} {seeds : List N} {old new : Records N} (d : DifferAt seeds
   chain_was : (ns : List N) (t : N) → (InRegion new seeds t → ⊥)
       → Chain (Depends new) (HasReason new) t ns → Chain (Depends old) (HasReason old) t ns
   chain_was [] t out reason =
+      let target : IsTarget new t = target_with_reason new t (new.cell t).state reason in
       reason_kept (differ_back d) t (no_seed t out)
-      (no_row t out (target_with_reason new t (new.cell t).state reason)) reason
+      (λ n row. sym (d.cell n (no_row t out target n row))) reason
   chain_was (n ∷ ns) t out chain = (
     step_kept (differ_back d) t n (no_seed t out) chain.0,
     chain_was ns n (stays_out t n out chain.0) chain.1,
@@ -147,7 +147,7 @@ module _ {N : Type 0} {seeds : List N} {old new : Records N} (d : DifferAt seeds
             let target : IsTarget new t = target_with_reason new t (new.cell t).state reason in (
               [],
               reason_kept (differ_back d) t far
-                  (λ n row seed. away (inr (target, (n, seed, row)))) reason,
+                  (λ n row. sym (d.cell n (λ seed. away (inr (target, (n, seed, row)))))) reason,
             )
         | inr w ↦
             let before : OutOfDate old w.0 = (as_before_outside w.0 w.2).1 w.3 in
@@ -160,7 +160,8 @@ module _ {N : Type 0} {seeds : List N} {old new : Records N} (d : DifferAt seeds
   module _ (test : N → Bool)
       (outside : (t : N) → (InRegion new seeds t → ⊥) → OutOfDate old t → IsTrue (test t))
       (reasons : (t : N) → InRegion new seeds t → HasReason new t → IsTrue (test t))
-      (spreads : (t n : N) → InRegion new seeds t → Depends new t n → IsTrue (test n) → IsTrue (test t))
+      (spreads : (t n : N) → InRegion new seeds t → Depends new t n
+      → IsTrue (test n) → IsTrue (test t))
     where
       where_inside : (t : N) → (InRegion new seeds t → IsTrue (test t)) → OutOfDate new t
           → IsTrue (test t)
@@ -187,3 +188,20 @@ module _ {N : Type 0} (r : Records N) where
   least_along test reasons spreads [] t reason = reasons t reason
   least_along test reasons spreads (n ∷ ns) t chain =
       spreads t n chain.0 (least_along test reasons spreads ns n chain.1)
+
+-- rows of targets changed that have a reason now: what was out of date is
+pub still_out : {N : Type 0} {seeds : List N} {old new : Records N} → DifferAt seeds old new
+    → ((n : N) → old.cell n ≡ new.cell n)
+    → ((t : N) → Contains seeds t ⊎ (Contains seeds t → ⊥))
+    → ((t : N) → Contains seeds t → HasReason new t)
+    → (ns : List N) (t : N) → Chain (Depends old) (HasReason old) t ns → OutOfDate new t
+still_out d cells decide reasons [] t own = elim (decide t) [
+  | inl seed ↦ ([], reasons t seed)
+  | inr far ↦ ([], reason_kept d t far (λ n row. cells n) own)
+]
+still_out d cells decide reasons (n ∷ ns) t chain = elim (decide t) [
+  | inl seed ↦ ([], reasons t seed)
+  | inr far ↦
+      let rest = still_out d cells decide reasons ns n chain.1 in
+      (n ∷ rest.0, (step_kept d t n far chain.0, rest.1))
+]

@@ -1,16 +1,20 @@
 -- A command changes the records and rows at one name, so the memo was right but for that.
-use Rattle.std.proofs.Common.{◌≡◌, ◌∙◌, ◌≤◌, ℕ, length, Bool, true, false, cond, List, [], ◌∷◌, Option, None, refl, sym, ap, subst}
+use Rattle.std.proofs.Common.{◌≡◌, ◌∙◌, ◌≤◌, ℕ, length, Bool, true, false, cond, List, [], ◌∷◌, ◌⊎◌, Option, None, IsTrue, refl, sym, ap, subst, inl, inr}
 use Rattle.std.specs.List.{Contains}
 use Rattle.std.proofs.Math.ListN.{replicate}
 use Rattle.std.proofs.Math.Path.{fun_ext}
-use Rattle.std.proofs.lemmas.Bool.{ne_eqb}
+use Rattle.std.proofs.lemmas.Bool.{false≢true, ne_eqb}
 use Rattle.std.proofs.lemmas.List.{get_or-set_other}
+use mathlib.Core.Logic.{dite}
+use native.Mathlib.Decide.{ℕ_discrete}
 use Rattle.redo_model.specs.Command as commands
 use Rattle.redo_model.specs.Names.{put, by_number}
 use Rattle.redo_model.specs.Inside.OutOfDate.{DifferAt}
-use Rattle.redo_model.specs.State.{Cell, Mark, empty, idle, no_rows}
-use Rattle.redo_model.proofs.Members.{contains_first}
+use Rattle.redo_model.specs.State.{Cell, Mark, Records, TargetState, Idle, Building, Built, Failed, empty, idle, is_building, no_rows}
+use Rattle.redo_model.specs.OutOfDate.{HasReason, ReasonIn}
+use Rattle.redo_model.proofs.Members.{contains_first, contains_cases, contains_none}
 use Rattle.redo_model.proofs.MorePlaces.{same_everywhere}
+use Rattle.redo_model.proofs.Region.{differ_back, still_out}
 use Rattle.redo_marks.specs.Memo.{IsRight, WasRight, memo_count}
 use Rattle.redo_records.specs.Cells.{cell_at, with_cell_at}
 use Rattle.redo_records.specs.Rows.{TargetRows, rows_of, with_always, without_rows, rows_count, with_rows}
@@ -22,6 +26,19 @@ use Rattle.redo_store.proofs.Kept.{IsStored-set_cell, IsStored-set_rows}
 
 other_name : (n m : ℕ) → (Contains (n ∷ []) m → ⊥) → m ≡ n → ⊥
 other_name n m far e = far (subst (Contains (n ∷ [])) (sym e) (contains_first n []))
+
+one_name : (n t : ℕ) → Contains (n ∷ []) t → t ≡ n
+one_name n t there = elim (contains_cases n [] t there) [
+  | inl same ↦ sym same
+  | inr none ↦ absurd (contains_none t none)
+]
+
+reason_of_building : (r : Records ℕ) (t : ℕ) (state : TargetState) → IsTrue (is_building state)
+    → ReasonIn state r t
+reason_of_building r t Idle building = absurd (false≢true building)
+reason_of_building r t (Building s) building = tt
+reason_of_building r t Built building = absurd (false≢true building)
+reason_of_building r t Failed building = absurd (false≢true building)
 
 -- a write at a name leaves the others
 put_far : {X : Type 0} (n m : ℕ) (x : X) (f : ℕ → X) → (Contains (n ∷ []) m → ⊥)
@@ -69,50 +86,67 @@ module _ (memo : List Bool) (cells : List Cell) (targets : List TargetRows) (n :
           right,
         )
 
-    pub was_right_by_always : (to : List TargetRows) → rows_of to ≡ with_always (rows_of targets) n
-        → WasRight (n ∷ []) memo (with_rows cells to)
-    was_right_by_always to written =
-        let old = rows_of targets in (
-          with_rows cells targets,
-          record {
+    -- the target is being built: its rows change nothing that is out of date
+    module _ (building : IsTrue (is_building (cell_at cells n).state)) where
+      right_by_rows : (to : List TargetRows)
+          → DifferAt (n ∷ []) (with_rows cells targets) (with_rows cells to)
+          → IsRight memo (with_rows cells to)
+      right_by_rows to differ t = (
+        λ marked.
+            let was = (right t).0 marked in
+            still_out differ (λ m. refl) decide (reasons to) was.0 t was.1,
+        λ out. (right t).1
+            (still_out (differ_back differ) (λ m. refl) decide (reasons targets) out.0 t out.1),
+      )
+        where
+          decide : (t : ℕ) → Contains (n ∷ []) t ⊎ (Contains (n ∷ []) t → ⊥)
+          decide t = dite (ℕ_discrete t n)
+              (λ same. inl (subst (Contains (n ∷ [])) (sym same) (contains_first n [])))
+              (λ other. inr (λ there. other (one_name n t there)))
+
+          reasons : (rows : List TargetRows) (t : ℕ) → Contains (n ∷ []) t
+              → HasReason (with_rows cells rows) t
+          reasons rows t there =
+              subst (HasReason (with_rows cells rows)) (sym (one_name n t there))
+              (reason_of_building (with_rows cells rows) n (cell_at cells n).state building)
+
+      pub right_by_always : (to : List TargetRows) → rows_of to ≡ with_always (rows_of targets) n
+          → IsRight memo (with_rows cells to)
+      right_by_always to written =
+          let old = rows_of targets in
+          right_by_rows to (record {
             cell = λ m far. refl;
             change = λ t m far. sym (ap (λ rows. rows.change t m) written);
             created = λ t m far. sym (ap (λ rows. rows.created t m) written);
             always = λ t far.
                 put_far n t true old.always far ∙ sym (ap (λ rows. rows.always t) written);
-          },
-          right,
-        )
+          })
 
-    pub was_right_by_changes : {names : List ℕ} {to : List TargetRows}
-        → AreRowsAfter cells targets to (commands.IfChange n names)
-        → WasRight (n ∷ []) memo (with_rows cells to)
-    was_right_by_changes {names} {to} changed = (
-      with_rows cells targets,
-      subst (DifferAt (n ∷ []) (with_rows cells targets)) (sym (changed.effect 0)) (record {
-        cell = λ m far. refl;
-        change = λ t m far.
-            ap (λ (f : ℕ → Option Mark). f m) (put_far n t _ (rows_of targets).change far);
-        created = λ t m far. refl;
-        always = λ t far. refl;
-      }),
-      right,
-    )
+      pub right_by_changes : {names : List ℕ} {to : List TargetRows}
+          → AreRowsAfter cells targets to (commands.IfChange n names)
+          → IsRight memo (with_rows cells to)
+      right_by_changes {names} {to} changed =
+          right_by_rows to
+          (subst (DifferAt (n ∷ []) (with_rows cells targets)) (sym (changed.effect 0)) (record {
+            cell = λ m far. refl;
+            change = λ t m far.
+                ap (λ (f : ℕ → Option Mark). f m) (put_far n t _ (rows_of targets).change far);
+            created = λ t m far. refl;
+            always = λ t far. refl;
+          }))
 
-    pub was_right_by_created : {names : List ℕ} {to : List TargetRows}
-        → AreRowsAfter cells targets to (commands.IfCreate n names)
-        → WasRight (n ∷ []) memo (with_rows cells to)
-    was_right_by_created {names} {to} changed = (
-      with_rows cells targets,
-      subst (DifferAt (n ∷ []) (with_rows cells targets)) (sym (changed.effect 0)) (record {
-        cell = λ m far. refl;
-        change = λ t m far. refl;
-        created = λ t m far.
-            ap (λ (f : ℕ → Bool). f m) (put_far n t _ (rows_of targets).created far);
-        always = λ t far. refl;
-      }),
-      right,
-    )
+      pub right_by_created : {names : List ℕ} {to : List TargetRows}
+          → AreRowsAfter cells targets to (commands.IfCreate n names)
+          → IsRight memo (with_rows cells to)
+      right_by_created {names} {to} changed =
+          right_by_rows to
+          (subst (DifferAt (n ∷ []) (with_rows cells targets)) (sym (changed.effect 0)) (record {
+            cell = λ m far. refl;
+            change = λ t m far. refl;
+            created = λ t m far.
+                ap (λ (f : ℕ → Bool). f m) (put_far n t _ (rows_of targets).created far);
+            always = λ t far. refl;
+          }))
 
 -- what all changes of the store have in common: its cells and rows are those of a store, and its
 -- memo was made right for them

@@ -110,37 +110,38 @@ impl Store {
         refresh(&mut self.memo, &self.records, &self.rows, t);
     }
 
-    /// A change row of the target on each of the names, with the mark that it has now.
+    /// A change row of the target on each of the names, with the mark that it has now. While the
+    /// target is being built, its rows change nothing that is out of date.
     pub(crate) fn put_changes(&mut self, t: u32, names: &[u32])
         requires number { t < count_of self.old }
         requires numbers { AllBelow (count_of self.old) names.now }
+        requires building { IsTrue (is_building (target_state (records_of self.old) t)) }
         requires room { has_room_for self.old (commands.IfChange t names.now) ≡ true }
         ensures after { HasEffectOfAny self.old self.new (commands.IfChange t names.now) }
         ensures kept { KeepsNames self.old self.new }
     {
         change_each(&mut self.rows, &self.records, t, names);
-        refresh(&mut self.memo, &self.records, &self.rows, t);
     }
 
     /// A created row of the target on each of the names.
     pub(crate) fn put_created(&mut self, t: u32, names: &[u32])
         requires number { t < count_of self.old }
         requires numbers { AllBelow (count_of self.old) names.now }
+        requires building { IsTrue (is_building (target_state (records_of self.old) t)) }
         requires room { has_room_for self.old (commands.IfCreate t names.now) ≡ true }
         ensures after { HasEffectOfAny self.old self.new (commands.IfCreate t names.now) }
         ensures kept { KeepsNames self.old self.new }
     {
         create_each(&mut self.rows, t, names);
-        refresh(&mut self.memo, &self.records, &self.rows, t);
     }
 
     /// An always row of the target.
     pub(crate) fn put_always(&mut self, t: u32)
-        requires { t < count_of self.old }
+        requires number { t < count_of self.old }
+        requires building { IsTrue (is_building (target_state (records_of self.old) t)) }
         ensures after { HasEffectOfAny self.old self.new (commands.Always t) }
         ensures kept { KeepsNames self.old self.new }
     {
         self.rows.put_always(t);
-        refresh(&mut self.memo, &self.records, &self.rows, t);
     }
 }

@@ -1,18 +1,22 @@
+use Rattle.std.proofs.Common.{IsTrue, sym, subst}
+use Rattle.redo_model.specs.State.{is_building, target_state}
+use Rattle.redo_records.specs.Cells.{cell_at}
+use Rattle.redo_store.specs.Stored.{Stored, records_of}
 use Rattle.redo_store.specs.Inside.KeptStore.{stored_of}
 use Rattle.redo_store.proofs.Effects.{put_for_always}
-use Rattle.redo_store.proofs.Refreshing.{rows_refreshed, was_right_by_always}
+use Rattle.redo_store.proofs.Refreshing.{right_by_always, rows_refreshed}
 use Rattle.redo_store.proofs.store.Store.put_always.Goals as goal
-
-pub refresh-requires-clause-right : goal.refresh-requires-clause-right
-refresh-requires-clause-right c =
-    let inside = c.self.inside in
-    was_right_by_always inside.memo inside.records inside.rows c.args.t c.self.invariant.memo_right
-    c.put_always.new.self c.put_always.ensures.rows
 
 pub invariant_of-self : goal.invariant_of-self
 invariant_of-self c =
+    let inside = c.self.inside in
+    let building : IsTrue (is_building (cell_at inside.records c.args.t).state) =
+    subst (λ (s : Stored). IsTrue (is_building (target_state (records_of s) c.args.t)))
+    (sym c.self.view_is) c.requires.building in
     rows_refreshed c.put_always.new.self c.self.invariant c.put_always.ensures.count
-    c.refresh.ensures.count c.refresh.ensures.right
+    c.self.invariant.memo_for_each
+    (right_by_always inside.memo inside.records inside.rows c.args.t c.self.invariant.memo_right
+    building c.put_always.new.self c.put_always.ensures.rows)
 
 pub returns-clause-after : goal.returns-clause-after
 returns-clause-after c s =
