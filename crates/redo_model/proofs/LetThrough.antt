@@ -6,7 +6,7 @@ use Rattle.redo_model.specs.Names.{Naming}
 use Rattle.redo_model.specs.State.{State, Records}
 use Rattle.redo_model.specs.Command.{Command, Lock, asked_lock}
 use Rattle.redo_model.specs.Reply.{Refusal, Reply, Refused, lets_through}
-use Rattle.redo_model.specs.Step.{Tells, Replies, Answers, after, records_after, unless_refused, effect_of, verdict_of, holds_target, lock_reply, locks_granted}
+use Rattle.redo_model.specs.Step.{Tells, Replies, Answers, after, verdict_of, holds_target, lock_reply, locks_granted}
 use Rattle.redo_model.proofs.Refused.{tells_through, refused_same}
 
 -- only a `lock` locks
@@ -59,21 +59,6 @@ module _ {N : Type 0} (naming : Naming N) where
   refused_by None r command reply told e =
       absurd (false≢true (sym e ∙ tells_through naming r command reply told))
   refused_by (Some refusal) r command reply told e = (refusal, told)
-
-  records_by : (v : Option (Refusal N)) (r to : Records N) (command : Command N) (reply : Reply N)
-      → MatchOption v (Tells naming r command reply) (λ refusal. reply ≡ Refused refusal)
-      → lets_through reply ≡ false → unless_refused v r to ≡ r
-  records_by None r to command reply told e =
-      absurd (false≢true (sym e ∙ tells_through naming r command reply told))
-  records_by (Some refusal) r to command reply told e = refl
-
-  -- a command whose reply lets no guarded line through leaves the records
-  pub stopped_records : (r : Records N) (s : ℕ) (holds : Bool) (command : Command N)
-      (reply : Reply N) → Replies naming r s holds command reply → lets_through reply ≡ false
-      → records_after naming r s holds command ≡ r
-  stopped_records r s holds command reply told e =
-      records_by (verdict_of naming r s holds command) r (effect_of naming r s command) command
-      reply told e
 
   lock_stopped : (o : Option ℕ) (st : State N) (s : ℕ) (t : N) (reply : Reply N)
       → reply ≡ lock_reply o (st.locks.grants t) → lets_through reply ≡ false

@@ -12,8 +12,7 @@ use Rattle.redo_replica.specs.declared.cell.CompactCell.{CompactCell}
 use Rattle.redo_replica.specs.CompactCells.{cell_of, cell_at}
 use Rattle.redo_replica.specs.PairRows.{rows_of}
 
--- the graph that it stands on, what is known of each name, the rows of each pair, and how many
--- commands were applied
+-- its graph, what is known of each name, the rows of each pair, and how many commands were applied
 pub record ReplicaOf : Type 0 where
   pub graph : GraphOf
   pub cells : List CompactCell

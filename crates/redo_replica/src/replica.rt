@@ -1,4 +1,4 @@
-ghost use Rattle.std.specs.Prelude.{◌≡◌, ◌+◌, ◌<◌, ◌^◌, ℕ, IsSome, IsOk, None, false, option_map, IfOk};
+ghost use Rattle.std.specs.Prelude.{◌≡◌, ◌+◌, ◌<◌, ◌^◌, ℕ, Bool, IsSome, IsOk, None, false, option_map, IfOk};
 ghost use Rattle.redo_model.specs.Command as commands;
 ghost use Rattle.redo_model.specs.State.{empty};
 ghost use Rattle.redo_model.specs.Command.{asked_lock};
@@ -143,12 +143,32 @@ impl<'a> Replica<'a> {
     {
         match self.verdict(s, step, holds) {
             Some(_) => self.applied += 1,
-            None => self.change(s, step),
+            None => self.accept(s, step),
+        }
+    }
+
+    /// Makes the change of a session's step that has this reply, which can't fail.
+    pub fn change(&mut self, s: u8, step: &Step, reply: &Reply)
+        requires step { IsStepBelow self.old.graph.tables (count_of self.old) step.now }
+        requires applied { self.old.applied + 1 < 2 ^ 32 }
+        ensures after { (x : commands.Command ℕ) (holds : Bool)
+            → Means self.old.graph.tables step.now x
+            → Replies (naming_in self.old.graph) (records_of self.old) s holds x
+            (reply_of reply.now)
+            → records_of self.new ≡ records_after by_number (records_of self.old) s holds x }
+        ensures applied { self.new.applied ≡ self.old.applied + 1 }
+        ensures count { count_of self.new ≡ count_of self.old }
+        ensures graph { self.new.graph ≡ self.old.graph }
+    {
+        if reply.lets_through() {
+            self.accept(s, step);
+        } else {
+            self.applied += 1;
         }
     }
 
     /// Makes the change of a session's accepted step.
-    fn change(&mut self, s: u8, step: &Step)
+    fn accept(&mut self, s: u8, step: &Step)
         requires step { IsStepBelow self.old.graph.tables (count_of self.old) step.now }
         requires applied { self.old.applied + 1 < 2 ^ 32 }
         ensures effect { HasEffect self.old.graph.tables self.old.cells self.old.rows

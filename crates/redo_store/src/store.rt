@@ -1,4 +1,4 @@
-ghost use Rattle.std.specs.Prelude.{◌≡◌, ◌+◌, ◌^◌, ◌<◌, Bool, Some, None, length, option_map, IsTrue, IsFalse, true, false, IfOk, IsOk, IsSome, OnOk, OnErr};
+ghost use Rattle.std.specs.Prelude.{◌≡◌, ◌+◌, ◌^◌, ◌<◌, Some, None, length, option_map, IsTrue, IsFalse, true, false, IfOk, IsOk, IsSome, OnOk, OnErr};
 ghost use Rattle.redo_model.specs.Names.{texts};
 ghost use Rattle.redo_model.specs.State.{empty, is_building, target_state};
 ghost use Rattle.redo_model.specs.Command as commands;
@@ -129,27 +129,6 @@ impl Store {
             }
         }
         Ok(())
-    }
-
-    /// Makes the change of a session's command that has this reply, and for which memory is reserved. Allocates nothing.
-    pub fn change(&mut self, s: u8, command: &Command, reply: &Reply)
-        requires numbers { IsBelow (count_of self.old) (command_of command.now) }
-        requires applied { applied_of self.old + 1 < 2 ^ 32 }
-        requires room { has_room_for self.old (command_of command.now) ≡ true }
-        requires replies { (holds : Bool) × Replies (naming_of self.old) (records_of self.old) s
-            holds (command_of command.now) (reply_of reply.now) }
-        ensures after { (holds : Bool) → Replies (naming_of self.old) (records_of self.old) s holds
-            (command_of command.now) (reply_of reply.now) → records_of self.new ≡ records_after
-            (naming_of self.old) (records_of self.old) s holds (command_of command.now) }
-        ensures applied { applied_of self.new ≡ applied_of self.old + 1 }
-        ensures count { count_of self.new ≡ count_of self.old }
-        ensures order { order_of self.new ≡ order_of self.old }
-    {
-        if reply.lets_through() {
-            self.apply_accepted(s, command);
-        } else {
-            self.count_applied();
-        }
     }
 
     /// Makes the change of a session's accepted command, for which memory is reserved. Allocates nothing.

@@ -223,7 +223,7 @@ impl<'a> Worker<'a> {
             return false;
         }
         let reply = self.reply_to(alloc, step, command, list);
-        self.replica.apply(self.session, step, holds);
+        self.replica.change(self.session, step, &reply);
         let entry = Entry {
             number: next.number,
             closing: again(&next.closing),

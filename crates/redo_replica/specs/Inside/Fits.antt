@@ -1,4 +1,4 @@
--- A graph with the cells and rows that stand on it.
+-- A graph with the cells of its names and the rows of its pairs.
 use Rattle.std.specs.Prelude.{◌≡◌, ◌↔◌, ◌<◌, ◌^◌, ℕ, List, Contains, length}
 use Rattle.redo_order.specs.Orders.{AreRanks}
 use Rattle.redo_order.specs.Inside.Orders.{IsOrderOf}

@@ -5,10 +5,11 @@ use Rattle.redo_model.specs.Command.{Command}
 use Rattle.redo_model.specs.Placed.{Row}
 use Rattle.redo_model.specs.Journals.{Numbered}
 use Rattle.redo_model.specs.Renaming.{IsBelow}
-use Rattle.redo_model.specs.Step.{records_after}
+use Rattle.redo_model.specs.Step.{Replies, records_after}
 use Rattle.redo_records.specs.Rows.{by_number}
 use Rattle.redo_graph.specs.Steps.{Means}
 use Rattle.redo_replica.specs.Replicas.{ReplicaOf, IsStepBelow, count_of, records_of}
+use Rattle.redo_replica.specs.Replies.{naming_in}
 use Rattle.redo_terms.specs.Meaning.{command_of, reply_of}
 use Rattle.redo_journal.specs.Plans.{PlanOf}
 use Rattle.redo_journal.specs.declared.entry.Entry.{Entry}
@@ -58,7 +59,8 @@ compare_exchange-found-requires c =
           ∙ ap (word p w.session c.args.next.now.number x) holds)
           k.works.tries near c.requires.way
           some.0
-          (says p w.replica (seen_by w) w.session (holds_its_target w.own x) (own (journal_of p w) x) x some.0
+          (says p w.replica (seen_by w) w.session (holds_its_target w.own x)
+          (own (journal_of p w) x) x some.0
           (lags_now p w k.works c.requires.none) (own_has p w n k.works is-next) some.1.replies
           some.1.below),
     )
@@ -88,14 +90,14 @@ returns-clause-row c =
     row_next c.args.plan.now c.args.self.now n c.requires.belongs.1.works c.requires.command.next
     c.requires.way
 
-pub apply-requires-clause-step : goal.apply-requires-clause-step
-apply-requires-clause-step c =
+pub change-requires-clause-step : goal.change-requires-clause-step
+change-requires-clause-step c =
     let is = c.requires.step in
     subst (λ (w : Worker). IsStepBelow w.replica.graph.tables (count_of w.replica) c.args.step.now)
     (sym c.reply_to-reply.ensures.same) (command_of c.args.command.now, is.means, is.numbers)
 
-pub apply-requires-clause-applied : goal.apply-requires-clause-applied
-apply-requires-clause-applied c =
+pub change-requires-clause-applied : goal.change-requires-clause-applied
+change-requires-clause-applied c =
     let w = c.args.self.now in
     let k = c.requires.belongs.1.works in
     subst (λ (v : Worker). v.replica.applied + 1 < 2 ^ 32) (sym c.reply_to-reply.ensures.same)
@@ -172,17 +174,18 @@ done c =
     let w₁ : Worker =
     record w {
       seat = c.compare_exchange-found.new.seat;
-      replica = c.apply.new.self;
+      replica = c.change.new.self;
       tries = w.tries + 1;
     } in
     let w' : Worker =
     record w₁ { entries = c.enter.new.self.entries; own = c.enter.new.self.own } in
-    let cap = enters_same _ _ c.apply.new.self x _ c.enter.new.self same c.enter.ensures in
-    let after = subst (λ (v : Worker). (y : Command ℕ)
+    let cap = enters_same _ _ c.change.new.self x _ c.enter.new.self same c.enter.ensures in
+    let after = subst (λ (v : Worker). (y : Command ℕ) (holds : Bool)
     → Means v.replica.graph.tables c.args.step.now y
-    → records_of c.apply.new.self
-    ≡ records_after by_number (records_of v.replica) v.session c.holds_its_target-holds.result y)
-    same c.apply.ensures.after in
+    → Replies (naming_in v.replica.graph) (records_of v.replica) v.session holds y reply
+    → records_of c.change.new.self
+    ≡ records_after by_number (records_of v.replica) v.session holds y)
+    same c.change.ensures.after in
     let held : holds_its_target w.own x ≡ h = own_has p w n k.works is-next in
     let said : SaysRow (view p ((w.session, journal_of p w) ∷ []) (seen_by w) (view_of w).also)
     w.session (journal_of p w) x reply =
@@ -192,16 +195,16 @@ done c =
     seen (view_of w') =
     won_goes p w.session (journal_of p w) (view_of w) (view_of w') n reply k.works.view
     (e.2.0 c.if-found-ne0.false) is-next said in
-    let won : Lags p c.apply.new.self None seen =
-    lags_won p w.replica c.apply.new.self (seen_by w) (c.apply.ensures.count ∙ ap count_of replica)
-    (c.apply.ensures.graph ∙ ap (λ (v : ReplicaOf). v.graph) replica)
-    (c.apply.ensures.applied ∙ ap (λ (v : ReplicaOf). v.applied + 1) replica) w.session
+    let won : Lags p c.change.new.self None seen =
+    lags_won p w.replica c.change.new.self (seen_by w)
+    (c.change.ensures.count ∙ ap count_of replica)
+    (c.change.ensures.graph ∙ ap (λ (v : ReplicaOf). v.graph) replica)
+    (c.change.ensures.applied ∙ ap (λ (v : ReplicaOf). v.applied + 1) replica) w.session
     (word p w.session c.args.next.now.number x h) h x lags
     (next_word p w.session (journal_of p w) n h (seen_by w) (plan_is p w k.works) k.works.session
     (lines_names p w k.works) is-next c.requires.way)
-    (after x c.requires.step.means
-    ∙ ap (λ z. records_after by_number (records_of w.replica) w.session z x)
-    (c.holds_its_target-holds.ensures ∙ held)) in
+    (after x (holds_its_target w.own x) c.requires.step.means r.replies
+    ∙ ap (λ z. records_after by_number (records_of w.replica) w.session z x) held) in
     let tried : w.tries + 1 ≡ length seen =
     let a = k.works.tries in
     let b = length_push (seen_by w) (word p w.session c.args.next.now.number x h) in
@@ -214,7 +217,7 @@ done c =
     refl c.again.ensures refl (ap Row k.works.tries))
     (cap.notes p.names) refl e.0 e.2.2
     (let m = cap.capacity in omega arith) tried (ap (λ m. m + 1) k.works.tries)
-    (subst (λ o. Lags p c.apply.new.self o seen) (sym c.requires.none) won)
+    (subst (λ o. Lags p c.change.new.self o seen) (sym c.requires.none) won)
     (word p w.session c.args.next.now.number x h ∷ [], refl))
 
 pub returns-clause-works : goal.returns-clause-works

@@ -5,7 +5,7 @@ use Rattle.redo_replica.specs.Inside.Entries.{HasNumber}
 use Rattle.redo_replica.proofs.Fitting.{has_number}
 use Rattle.redo_replica.proofs.Listed.{ready}
 use Rattle.redo_replica.proofs.Seeds.{right_but}
-use Rattle.redo_replica.proofs.replica.Replica.change.Goals as goal
+use Rattle.redo_replica.proofs.replica.Replica.accept.Goals as goal
 
 pub seed_of-seed-requires : goal.seed_of-seed-requires
 seed_of-seed-requires c = (
