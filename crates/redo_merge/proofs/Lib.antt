@@ -3,3 +3,5 @@ mod MergeSteps
 mod ToldEntries
 mod TurnsShown
 pub mod Unmerged
+mod WaitingBits
+mod WaitingSteps

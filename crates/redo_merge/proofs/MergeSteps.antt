@@ -29,7 +29,10 @@ use Rattle.redo_journal.specs.Plans.{PlanOf, IsPlan, scripts_of, script_of}
 use Rattle.redo_journal.specs.Journals.{place_of, command_told, naming_of, journals_of, AreJournals, entries_of}
 use Rattle.redo_merge.specs.Merges.{by_number, AreMerged}
 use Rattle.redo_merge.specs.Inside.Merges.{HaveNoOrder}
-use Rattle.redo_merge.specs.Inside.Merging.{tally, busy_one, busy_in, busy_below, none, Turned, AddsLine, AllFit, OneMisfits, IsWithin, AreWithin, IsLeast, MayTake, NoneMayCome}
+use Rattle.redo_merge.specs.Inside.Merging.{tally, busy_one, busy_in, busy_below, none, Turned, AddsLine, AllFit, OneMisfits, IsWithin, AreWithin, IsLeast, MayTake, NoneMayCome, Comes}
+use Rattle.redo_merge.specs.declared.merging.waiting.Waiting.{Waiting}
+use Rattle.redo_merge.specs.Inside.Waiting.{Wakes, AreWaiting}
+use Rattle.redo_merge.proofs.WaitingSteps.{waiting_step}
 use Rattle.redo_merge.proofs.Unmerged.{entries_at, entries_past, left, left_less, told_is, journal_is, session_is, script_at}
 use Rattle.redo_merge.proofs.ToldEntries.{told_below, busy_few}
 use Rattle.redo_merge.proofs.TurnsShown.{numbers_are_names, ticketed, shown, told_at, rests, left_entries, shown_after, may_here, can_back, takes_here, counts_step, no_rest, some_rest, below_same, map_in}
@@ -351,3 +354,20 @@ module _ (plan : PlanOf) (js : List Journal) (are : AreJournals plan js)
         → tally counts2 t g + busy_one t g e.place ≡ tally counts t g)
         entry-is taken)
         (subst (λ (e : Entry). AddsLine lines lines2 s (script_of plan s) e) entry-is told_of))
+
+    pub waiting_lent : {S2 : Type 0} (w2 : Turns) (counts2 : HashMap (ℕ × ℕ) ℕ S2)
+        (place : Place) (v v2 : Waiting)
+        → place ≡ (get_or d.entries.items k none).place
+        → AreWaiting v w counts js ns
+        → Turned w w2 (get_or d.entries.items k none).place
+        → ((t g : ℕ)
+        → tally counts2 t g + busy_one t g (get_or d.entries.items k none).place
+        ≡ tally counts t g)
+        → Wakes v v2 place
+        → AreWaiting v2 w2 counts2 js (set next s (k + 1))
+    waiting_lent w2 counts2 place v v2 place-is wait turned taken wakes =
+        waiting_step v w counts js next
+        (subst (λ (others : List ℕ). AreWaiting v w counts js others) ns-is wait)
+        v2 w2 counts2 s (k + 1) (get_or d.entries.items k none).place least.may
+        (subst (λ (e : Entry). Comes w e.place) (sym entry-is) least.may.comes)
+        turned taken (subst (Wakes v v2) place-is wakes)

@@ -1,2 +1,3 @@
 pub mod Merges
 pub mod Merging
+pub mod Waiting

@@ -8,17 +8,20 @@ ghost use Rattle.redo_journal.specs.Journals.{AreJournals, line_told, entries_of
 ghost use Rattle.redo_merge.specs.Merges.{AreMerged};
 ghost use Rattle.redo_merge.specs.Inside.Merges.{HaveNoOrder};
 ghost use Rattle.redo_merge.specs.Inside.Merging.{none, AreWithin, IsLeast, MayCome, MayTake, NoneMayCome, AddsLine, Turned, Uncounted};
+ghost use Rattle.redo_merge.specs.Inside.Waiting.{AreWaiting};
 
 mod counts;
 mod fitting;
 mod turning;
+mod waiting;
 
 use counts::{Counts, busy_answers, is_free, take};
 use fitting::all_fit;
-use redo_journal::{Entry, Journal, Plan};
+use redo_journal::{Entry, Journal, Place, Plan};
 use redo_terms::{Command, Line, Script};
 use std::alloc::{AllocError, Global};
 use turning::{Turns, comes, turn};
+use waiting::Waiting;
 
 /// Whether the entry at k may come next.
 fn may_come(turns: &Turns, counts: &Counts, entries: &[Entry], k: usize) -> bool
@@ -32,19 +35,29 @@ fn may_come(turns: &Turns, counts: &Counts, entries: &[Entry], k: usize) -> bool
     comes(turns, place) && is_free(counts, place)
 }
 
-/// The least session whose next entry may come next.
-fn least(turns: &Turns, counts: &Counts, journals: &[Journal], next: &[usize]) -> Option<usize>
+/// The least session whose next entry may come next. Notes which sessions wait.
+fn least(
+    turns: &Turns,
+    counts: &Counts,
+    journals: &[Journal],
+    next: &[usize],
+    waiting: &mut Waiting,
+) -> Option<usize>
+    requires few { length journals.now ≤ 64 }
     requires sized { length next.now ≡ length journals.now }
     requires within { (s : ℕ) →
         AreWithin (length turns.now.claims.items) (entries_of journals.now s) }
-    ensures { MatchOption result
+    requires waiting { AreWaiting waiting.old turns.now counts.now journals.now next.now }
+    ensures least { MatchOption result
         (NoneMayCome turns.now counts.now journals.now next.now)
         (IsLeast turns.now counts.now journals.now next.now) }
+    ensures waiting { AreWaiting waiting.new turns.now counts.now journals.now next.now }
 {
-    'looking: for s in 0..journals.len() {
+    'looking: while let Some(s) = waiting.first(journals.len()) {
         if may_come(turns, counts, &journals[s].entries, next[s]) {
             return Some(s);
         }
+        waiting.wait(s, &journals[s].entries, next[s]);
     }
     None
 }
@@ -92,7 +105,7 @@ fn told(alloc: Global, session: u8, script: &Script, entry: &Entry) -> Result<Li
     })
 }
 
-/// Takes the entry at k: adds its line, and counts its place. Returns the place of the next one.
+/// Takes the entry at k: adds its line, and counts its place. Returns the place.
 fn take_entry(
     alloc: Global,
     script: &Script,
@@ -101,9 +114,10 @@ fn take_entry(
     turns: &mut Turns,
     counts: &mut Counts,
     lines: &mut Vec<Line>,
-) -> Result<usize, AllocError>
+) -> Result<Place, AllocError>
     requires { MayTake turns.old counts.old journal.now.entries.items k }
-    ensures next { IfOk result (λ next. next ≡ k + 1) }
+    ensures place { IfOk result (λ place. place
+        ≡ (slice_index_or journal.now.entries.items k none).place) }
     ensures turned { OnOk result
         (Turned turns.old turns.new (slice_index_or journal.now.entries.items k none).place) }
     ensures taken { OnOk result
@@ -115,7 +129,7 @@ fn take_entry(
     lines.push(told(alloc, journal.session, script, entry)?)?;
     turn(turns, entry.place);
     take(counts, entry.place);
-    Ok(k + 1)
+    Ok(entry.place)
 }
 
 /// The joint order of the journals whose list of sessions comes first in dictionary order, if they
@@ -138,10 +152,11 @@ pub fn merge(
     let claims = vec![in alloc; 0u64; plan.names().len() as usize]?;
     let mut turns = Turns { rows: 0, claims };
     let mut next: Vec<usize> = vec![in alloc; 0; journals.len()]?;
+    let mut waiting = Waiting::new(alloc)?;
     let mut lines = Vec::with_capacity(alloc, entries_in(journals))?;
-    'merging: while let Some(s) = least(&turns, &counts, journals, &next) {
+    'merging: while let Some(s) = least(&turns, &counts, journals, &next, &mut waiting) {
         let k = next[s];
-        next[s] = take_entry(
+        let place = take_entry(
             alloc,
             &scripts[s],
             &journals[s],
@@ -150,6 +165,8 @@ pub fn merge(
             &mut counts,
             &mut lines,
         )?;
+        waiting.wake(place);
+        next[s] = k + 1;
     }
     if is_done(journals, &next) {
         Ok(Some(lines))
