@@ -14,7 +14,6 @@ pub use atomic_table::Closed;
 pub use board::Board;
 pub use gate::{Gate, Open};
 pub use laws::{no_row_is_wanting, the_rule_runs, words_fix_the_records};
-pub use redo_journal::{Entry, Journal, Place, Plan, PlanFault};
 pub use seat::Seat;
 pub use view::View;
 pub use worker::Worker;

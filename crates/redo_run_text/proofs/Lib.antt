@@ -1,7 +1,9 @@
 pub mod Accepted
 pub mod Causes
+pub mod Chunks
 pub mod Lists
 pub mod PartTexts
 pub mod Parts
 pub mod ScriptTexts
 pub mod SessionParts
+pub mod Spans

@@ -35,7 +35,8 @@ module _ (script : List (model.Item Text)) (through : Bool) (i : ℕ) (line : Li
 
     by_guard : (b : Bool) → (through || not item.guarded) ≡ b
         → session_lines_of through (drop i script) (line ∷ later)
-        ≡ cond b (done_text_of item line.reply ∷ session_lines_of (lets_through line.reply) rest later)
+        ≡ cond b
+        (done_text_of item line.reply ∷ session_lines_of (lets_through line.reply) rest later)
         (skipped_text_of item ∷ session_lines_of through rest (line ∷ later))
     by_guard b same =
         ap (λ (xs : List (model.Item Text)). session_lines_of through xs (line ∷ later)) is
@@ -78,7 +79,8 @@ module _ (script : List (model.Item Text)) (all : List Text) where
         omega arith;
   }
 
-  module _ (old new : Part) (more : Text) (shows : new.body.items ≡ old.body.items ++ ended more) where
+  module _ (old new : Part) (more : Text)
+      (shows : new.body.items ≡ old.body.items ++ ended more) where
     -- one line more is printed
     one_printed : (before after : List (Line Text)) → IsPrinted script all old before
         → left_of script old before ≡ more ∷ left_of script new after

@@ -89,7 +89,8 @@ module _ (scripts : List (List (Item Text))) (lines : List (Line Text)) (line : 
               (session_lines_of true (get_or scripts k []) (part_of k lines)) new (part_of k later))
               (sym same) own_part))
               (λ other. stays s part (omega arith)
-              (is ∙ get_or-set_other parts line.session s new part other) (λ same. other (sym same)));
+              (is ∙ get_or-set_other parts line.session s new part other)
+              (λ same. other (sym same)));
           few = λ s part less is. dite (ℕ_discrete s line.session)
               (λ same.
               let here : part ≡ new =

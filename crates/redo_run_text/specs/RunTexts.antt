@@ -30,7 +30,8 @@ session_lines_of through (item ∷ items) (line ∷ part) =
 
 -- a session, and how many lines are printed of it
 abbrev pub session_header_of : ℕ → ℕ → Text
-session_header_of s count = ended (codes "session " ++ decimal (s + 1) ++ codes " " ++ decimal count)
+session_header_of s count =
+    ended (codes "session " ++ decimal (s + 1) ++ codes " " ++ decimal count)
 
 -- a session's header and its lines
 abbrev pub session_text_of : ℕ → List (Item Text) → List (Line Text) → Text

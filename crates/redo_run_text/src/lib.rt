@@ -2,6 +2,7 @@
 #![tactic(auto)]
 
 mod files;
+mod lines;
 mod outcome;
 mod part;
 mod printed;

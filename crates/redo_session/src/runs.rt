@@ -7,7 +7,8 @@ ghost use Rattle.redo_session.specs.Outcomes.{AreWhole, SeenStands};
 ghost use Rattle.redo_journal.specs.Plans.{scripts_named};
 
 use crate::sessions::{Sessions, run_all};
-use redo_board::{Board, Gate, Plan};
+use redo_board::{Board, Gate};
+use redo_journal::Plan;
 use redo_merge::merge;
 use redo_run_text::Outcome;
 use std::alloc::{AllocError, Global};

@@ -4,7 +4,8 @@ ghost use Rattle.std.specs.Thread.{IsSync};
 ghost use Rattle.redo_board.specs.Kept.{IsBoardOf};
 ghost use Rattle.redo_session.specs.Inside.Sessions.{AreReady, AreDone};
 
-use redo_board::{Board, Gate, Journal, Plan, Seat, Worker};
+use redo_board::{Board, Gate, Seat, Worker};
+use redo_journal::{Journal, Plan};
 use std::alloc::{AllocError, Global};
 use std::sync::Wait;
 use std::thread;

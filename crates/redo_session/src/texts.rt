@@ -8,8 +8,8 @@ ghost use Rattle.redo_text.specs.Faults.{IsDeviceFault};
 ghost use Rattle.redo_run_text.specs.Faults.{IsRunCause};
 
 use crate::runs::run;
-use redo_board::{Open, Plan};
-use redo_journal::PlanFault;
+use redo_board::Open;
+use redo_journal::{Plan, PlanFault};
 use redo_names::Names;
 use redo_run_text::{read_files, run_text};
 use redo_terms::Script;
@@ -51,7 +51,7 @@ fn text_of_scripts<T: Threads + Wait + Sync>(
         Err(fault) => return Err(plan_fault(fault)),
     };
     let outcome = run(rt, alloc, &plan, &Open)?;
-    Ok(run_text(alloc, &plan, &outcome)?)
+    Ok(run_text(rt, alloc, &plan, &outcome)?)
 }
 
 /// The run text of the files' sessions.

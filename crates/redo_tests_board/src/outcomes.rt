@@ -117,7 +117,7 @@ fn check_under<R: Threads + Wait + Abort + Sync>(
     check_outcome(rt, &left.0, &left.1, run);
     check_gate(rt, gate, run);
     if let Some(text) = run.text {
-        check_text(rt, &run_text(alloc, plan, &left.0)?, text);
+        check_text(rt, &run_text(rt, alloc, plan, &left.0)?, text);
     }
     Ok(())
 }

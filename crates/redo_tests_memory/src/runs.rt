@@ -35,8 +35,8 @@ fn is_right(text: &[u8]) -> bool {
 }
 
 /// The outcome's run text is this one.
-fn check_outcome(
-    rt: &impl Abort,
+fn check_outcome<R: Threads + Abort + Sync>(
+    rt: &R,
     alloc: Global,
     plan: &Plan,
     outcome: &Outcome,
@@ -44,7 +44,7 @@ fn check_outcome(
 ) -> Result<(), Fail>
     requires { AreLinesBelow plan.now.names outcome.now.history.items }
 {
-    let text = again!(rt, alloc, AllocError, run_text(alloc, plan, outcome));
+    let text = again!(rt, alloc, AllocError, run_text(rt, alloc, plan, outcome));
     check_text_of_run(rt, alloc, &text, want)
 }
 
@@ -102,7 +102,7 @@ fn other_outcome(alloc: Global, plan: &Plan) -> Result<Outcome, AllocError>
     })
 }
 
-fn check_other(rt: &impl Abort, alloc: Global, plan: &Plan) -> Result<(), Fail> {
+fn check_other<R: Threads + Abort + Sync>(rt: &R, alloc: Global, plan: &Plan) -> Result<(), Fail> {
     let outcome = again!(rt, alloc, AllocError, other_outcome(alloc, plan));
     check_outcome(rt, alloc, plan, &outcome, Want::This(OTHER_TEXT))
 }

@@ -54,6 +54,7 @@ loop-at-preserved g c =
       later = λ k after. shown_after (λ file. g.R.Read.remaining (inner_of file)) c.loop-at.files at
           k c.read_file.new.file (omega arith) ∙ c.loop-at.invariant.later k (omega arith);
       counts = map-set_same (λ file. failures_of file) c.loop-at.files c.loop-at.at
-          c.read_file.new.file c.index-files-at.result (c.in_ok-script.ensures.others (λ none. none))
+          c.read_file.new.file c.index-files-at.result
+          (c.in_ok-script.ensures.others (λ none. none))
           ∙ c.loop-at.invariant.counts;
     }

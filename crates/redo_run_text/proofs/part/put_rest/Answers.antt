@@ -23,7 +23,8 @@ loop-at-preserved c =
     let first = from_item names items at item less c.index-items-at.is in
     ap (λ (t : Text). t ++ rest) c.in_ok-put_skipped.ensures
     ∙ append_assoc c.loop-at.text.items (ended (skipped_text_of (item_at names item))) rest
-    ∙ ap (λ (xs : List (model.Item Text)). c.loop-at.text.items ++ flat_map ended (skipped_lines_of xs))
+    ∙ ap
+    (λ (xs : List (model.Item Text)). c.loop-at.text.items ++ flat_map ended (skipped_lines_of xs))
     (sym first)
     ∙ c.loop-at.invariant
 
@@ -35,6 +36,7 @@ returns c =
     let long = length-map items (item_at names) in
     let past = drop_of_length-le script (omega arith) in
     sym (append-nil c.loop-at.text.items)
-    ∙ ap (λ (xs : List (model.Item Text)). c.loop-at.text.items ++ flat_map ended (skipped_lines_of xs))
+    ∙ ap
+    (λ (xs : List (model.Item Text)). c.loop-at.text.items ++ flat_map ended (skipped_lines_of xs))
     (sym past)
     ∙ c.loop-at.invariant

@@ -14,14 +14,14 @@ use Rattle.redo_run_text.proofs.ScriptTexts.{script_named, script_below, run_mor
 use Rattle.redo_run_text.proofs.printed.run_text.Goals as goal
 
 pub put_all-requires-clause-items : goal.put_all-requires-clause-items
-put_all-requires-clause-items c =
+put_all-requires-clause-items g c =
     let items = c.items_of-items.result.now in
     subst (λ (names : List Text). AreBelow (length names) items) (sym c.names.ensures)
     (script_below c.args.plan.now c.loop-session.session items c.items_of-items.ensures.items
     c.items_of-items.ensures.plan)
 
 pub loop-session-preserved : goal.loop-session-preserved
-loop-session-preserved c =
+loop-session-preserved g c =
     let p = c.args.plan.now in
     let s = c.loop-session.session in
     let items = c.items_of-items.result.now in
@@ -31,12 +31,12 @@ loop-session-preserved c =
     let long = length-map c.scripts-session-end.result.now (λ script. map item_of script) in
     let same = ap length c.scripts-session-end.ensures.scripts in
     let here : s < length p.scripts = omega arith in
-    let count = c.in_ok-put_lines.ensures.parts.count in
+    let count = c.in_ok-put_history.ensures.parts.count in
     let parts = length-map p.scripts (λ script. map (named_item (text_at p.names)) script) in
     let script : map (item_at names) items ≡ get_or (scripts_named p) s [] =
     (λ k. map (item_at (c.names.ensures k)) items)
     ∙ script_named p s items c.items_of-items.ensures.items here in
-    let printed = c.in_ok-put_lines.ensures.parts.each s part (omega arith) c.index.ensures in
+    let printed = c.in_ok-put_history.ensures.parts.each s part (omega arith) c.index.ensures in
     let told = part_of s (map (line_at p.names) c.deref.result.now) in
     c.in_ok-put_all.ensures told
     (subst (λ (x : List (Item Text)). IsPrinted x (session_lines_of true x told) part [])

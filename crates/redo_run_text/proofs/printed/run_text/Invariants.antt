@@ -6,5 +6,5 @@ use Rattle.redo_run_text.proofs.printed.run_text.Given as goal
 
 -- the parts of the sessions before this one are added
 abbrev pub invariant-loop-session : goal.invariant-loop-session
-invariant-loop-session l = l.text.items ≡ run_text_of (scripts_named l.plan)
+invariant-loop-session g l = l.text.items ≡ run_text_of (scripts_named l.plan)
     (sessions_below l.session) (map (line_at l.plan.names) l.outcome.history.items)

@@ -33,5 +33,6 @@ returns-clause-printed c all later are =
     (c.in_ok-skip.ensures.printed all line later are) old.next refl (item_at names item)
     (from_item names items old.next item less c.index-items-self.is) (omega arith) refl refl
     c.in_ok-put_done.ensures
-    (c.lets_through-self.ensures ∙ sym (lets_named (text_at names) (reply_of c.args.line.now.reply)))
+    (c.lets_through-self.ensures
+    ∙ sym (lets_named (text_at names) (reply_of c.args.line.now.reply)))
     (c.in_ok-skip.ensures.done item less c.index-items-self.is)

@@ -18,5 +18,6 @@ returns c lines are =
     ∙ ap (λ (text : Text). text ++ left) c.in_ok-extend_from_slice.ensures.items
     ∙ (λ k. c.in_ok-put_header.ensures k ++ c.deref.ensures.value k ++ left)
     ∙ session_printed c.args.text.now.items c.args.session script lines part count
-    (ap (λ (n : ℕ). n + part.closing) (sym (length-map c.args.items.now (item_at c.args.names.now))))
+    (ap (λ (n : ℕ). n + part.closing)
+    (sym (length-map c.args.items.now (item_at c.args.names.now))))
     are

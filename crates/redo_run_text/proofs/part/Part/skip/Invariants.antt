@@ -12,5 +12,6 @@ invariant-loop-at l =
       next : l.self.next ≡ l.at;
       closing : l.self.closing ≡ l.fn.self.closing;
       printed : (all : List Text) (line : histories.Line Text) (later : List (histories.Line Text))
-          → IsPrinted script all l.fn.self (line ∷ later) → IsPrinted script all l.self (line ∷ later);
+          → IsPrinted script all l.fn.self (line ∷ later)
+          → IsPrinted script all l.self (line ∷ later);
     }
