@@ -112,7 +112,8 @@ module _ (p : PlanOf) (plan : IsPlan p) where
   abbrev pub RowAsked : Line → Type 0
   RowAsked l = is_row l.place ≡ true → asked_lock l.command ≡ None
 
-  row_asked : (c : Core) (l : Line) (w : Way) → Goes (naming_of p).order c.state l.session l.command w
+  row_asked : (c : Core) (l : Line) (w : Way)
+      → Goes (naming_of p).order c.state l.session l.command w
       → l.place ≡ place_at c w → RowAsked l
   row_asked c l row g is r = g.0
   row_asked c l (claim t) g is r =

@@ -53,12 +53,14 @@ journal_from p c (l ∷ ls) s h =
     let own : (done p c l).own s ≡ c.own s ++ l ∷ [] =
     set-same c.own l.session (c.own l.session ++ l ∷ []) s e
     ∙ ap (λ u. c.own u ++ l ∷ []) (sym e) in
-    subst (IsJournalAfter (naming_of p) s (script_of p s) (c.own s)) (sym (part_of-own s l ls (sym e))) (
+    subst (IsJournalAfter (naming_of p) s (script_of p s) (c.own s))
+    (sym (part_of-own s l ls (sym e))) (
       sym e,
       subst
           (λ u. next_of (naming_of p) (script_of p u) (c.own u) ≡ Some (numbered l))
           (sym e) h.0.next,
-      subst (λ before. IsJournalAfter (naming_of p) s (script_of p s) before (part_of s ls)) own rest,
+      subst (λ before. IsJournalAfter (naming_of p) s (script_of p s) before (part_of s ls))
+          own rest,
     ))
     (λ ne. subst (IsJournalAfter (naming_of p) s (script_of p s) (c.own s))
     (sym (part_of-other s l ls (λ q. ne (sym q))))

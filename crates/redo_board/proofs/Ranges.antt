@@ -102,7 +102,8 @@ opens p words plan long zeros = record {
   fits = only;
   apart = λ i k v w t j h ei ek hx hy. alone i k v w ei ek;
   stand =
-      λ t less. (0, first_view p, [], refl, has_all 0 (length p.scripts) t (omega arith) (omega arith));
+      λ t less.
+      (0, first_view p, [], refl, has_all 0 (length p.scripts) t (omega arith) (omega arith));
 }
   where
     only : AllFit p [] (first_view p ∷ [])

@@ -27,7 +27,8 @@ use Rattle.redo_board.proofs.OwnLines.{IsOwn, own_of}
 use Rattle.redo_board.proofs.Told.{way-row}
 use Rattle.redo_board.proofs.Totals as totals
 
-lock_claims : (holder : Option ℕ) (grants t : ℕ) (reply : Reply ℕ) → reply ≡ lock_reply holder grants
+lock_claims : (holder : Option ℕ) (grants t : ℕ) (reply : Reply ℕ)
+    → reply ≡ lock_reply holder grants
     → is_claim (Lock t) reply ≡ true
 lock_claims None grants t reply e = ap (is_claim (Lock t)) e
 lock_claims (Some h) grants t reply e = ap (is_claim (Lock t)) e

@@ -202,7 +202,8 @@ module _ (p : PlanOf) (b : Board) (w w' : Worker) (n : Numbered ℕ) (reply : Re
     (session : w'.session ≡ w.session) (table : w'.seat.table_id ≡ w.seat.table_id)
     (slots : w'.seat.me.1 ≡ w.seat.me.1)
     (capacity : vec_capacity w.entries ≤ vec_capacity w'.entries)
-    (tries : w'.tries ≡ w.tries) (replica : w'.replica ≡ w.replica) (pending : w'.pending ≡ w.pending)
+    (tries : w'.tries ≡ w.tries) (replica : w'.replica ≡ w.replica)
+    (pending : w'.pending ≡ w.pending)
     (no-row : own_way (journal_of p w) n.command ≢ row) (still : (m : ℕ) → past place m ≡ m) where
   spent₁ : w'.tries ≡ past place (rows_up_to 0 (journal_of p w))
   spent₁ =

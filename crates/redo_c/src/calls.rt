@@ -94,7 +94,8 @@ pub extern "C" fn redo_c_answer(
     room: &mut [u8],
     told: &mut Told,
 ) -> u32
-    ensures { AnswersAt result handle.old.contents handle.new.contents line.now room.old room.new told.new }
+    ensures { AnswersAt result handle.old.contents handle.new.contents line.now
+        room.old room.new told.new }
 {
     let Contents::Open(mut opened) = handle.replace(Contents::Closed) else {
         return MISUSE;

@@ -59,7 +59,8 @@ length-spelled line Ood e = ap length e
 length-spelled line Targets e = ap length e
 length-spelled line Sources e = ap length e
 
-pub command_said : (line : Text) (command : Command Text) → IsCommandLine line command → IsSaid command
+pub command_said : (line : Text) (command : Command Text)
+    → IsCommandLine line command → IsSaid command
 command_said line command (form, short, spelled) =
     (form, let same = length-spelled line command spelled in omega (arith, short))
 

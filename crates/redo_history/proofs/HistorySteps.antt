@@ -43,7 +43,8 @@ names_push (first ∷ lines) line = ap (λ (l : List Text). names_in_line first 
     (names_push lines line)
     ∙ sym (append_assoc (names_in_line first) (flat_map names_in_line lines) (names_in_line line))
 
-pub texts_count : (texts : List Text) (lines : List (histories.Line Text)) → AreHistoryLines texts lines
+pub texts_count : (texts : List Text) (lines : List (histories.Line Text))
+    → AreHistoryLines texts lines
     → length texts ≡ length lines
 texts_count [] [] each = refl
 texts_count [] (line ∷ lines) each = absurd each

@@ -251,7 +251,8 @@ both_stop input a b real other p q = elim (cases_order p.number q.number) [
 ]
 
 -- if a line is read, the header is
-headed : (input : Text) (fault : HistoryFault) → Stops input fault → ¬ (IsHistoryFault input BadHeader)
+headed : (input : Text) (fault : HistoryFault) → Stops input fault
+    → ¬ (IsHistoryFault input BadHeader)
 headed input fault stop bad =
     let up = stop.up in
     bad up.count (flat_map ended up.texts ++ stop.left) up.few

@@ -15,7 +15,8 @@ same_lines a b others long whole =
     nil_from_length others (omega (arith, ap length whole, length-append a others)) in
     sym (append-nil a) ∙ ap (λ (l : List (Line Text)). a ++ l) (sym none) ∙ sym whole
 
-pub same_names : (n m : List Text) (a b : List (Line Text)) → a ≡ b → AreNamesOf a n → AreNamesOf b m
+pub same_names : (n m : List Text) (a b : List (Line Text))
+    → a ≡ b → AreNamesOf a n → AreNamesOf b m
     → n ≡ m
 same_names n m a b lines p q =
     p.0 ∙ ap (λ (l : List (Line Text)). with_names [] (flat_map names_in_line l)) lines ∙ sym q.0

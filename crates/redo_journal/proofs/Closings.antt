@@ -59,7 +59,8 @@ filter_alike p q n (t ∷ names) below same =
     λ i. cond (same t below.0 i) (t ∷ rest i) (rest i)
 
 abbrev pub TellsBelow : ℕ → List (commands.Item ℕ) → List Entry → Type 0
-TellsBelow n script entries = AllByRecursion (λ entry. IsBelow n (command_told script entry)) entries
+TellsBelow n script entries =
+    AllByRecursion (λ entry. IsBelow n (command_told script entry)) entries
 
 locked_told : (s : ℕ) (script : List (commands.Item ℕ)) (entries : List Entry)
     → filter_map (λ (line : Line ℕ). asked_lock line.command)

@@ -63,12 +63,14 @@ module _ (names : List Text) (are : AreNames names) where
       by_texts : Answers (numbers (by_text names).order) (state_of tables) session command now
       by_texts =
           answers_again (length names) (tables_order tables) (by_text names).order
-          (orders (tables_order tables) (place_is_strict tables.store.sorted)) (state_of tables) session command reply now within.records below
+          (orders (tables_order tables) (place_is_strict tables.store.sorted))
+          (state_of tables) session command reply now within.records below
           answers sorted
 
       pub now_below : IsReplyBelow (length names) now
       now_below =
-          IsReplyBelow-answers (length names) (by_text names).order (state_of tables) session command
+          IsReplyBelow-answers (length names) (by_text names).order
+          (state_of tables) session command
           now within below by_texts
 
       pub now_answers : Answers texts (named_state (numbering names) (state_of tables)) session
@@ -102,6 +104,7 @@ module _ (old new : List Text) (old_are : AreNames old) (new_are : AreNames new)
             (named_command (text_at new) command)
         next_is =
             ap (named_state (numbering new)) steps
-            ∙ after_by_name (renaming new new_are) texts texts_are_names order st session command below
+            ∙ after_by_name (renaming new new_are) texts texts_are_names
+            order st session command below
             ∙ ap (λ (at : State Text). after texts at session (named_command (text_at new) command))
             state_kept

@@ -50,7 +50,8 @@ module _ (order : ℕ → ℕ → Ordering) where
           (named_reply (text_at names) now)
           ≡ changes r command reply
       changes_by_name (File n stamp) below =
-          ap (λ (c : Cell). not (is_stamp_of c.file stamp)) (cell_at_name (renaming names are) r n below.0)
+          ap (λ (c : Cell). not (is_stamp_of c.file stamp))
+          (cell_at_name (renaming names are) r n below.0)
       changes_by_name (Gone n) below =
           ap (λ (c : Cell). is_some c.file) (cell_at_name (renaming names are) r n below.0)
       changes_by_name (Lock t) below = lets

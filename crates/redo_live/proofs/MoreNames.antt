@@ -68,11 +68,14 @@ module _ (old new : List Text) (x : Extends old new) (law : IsRenaming (numberin
         fun_ext (λ k. fun_ext (λ v. value_kept d (f k) (second k) v)) in
         let past : (k : ℕ) → length old ≤ k
         → (λ (v : Text). value_at d (f k) ((numbering old).number v)) ≡ (λ (v : Text). d) =
-        λ k above. fun_ext (λ v. at_nothing d (f k) (λ m. first k m above) ((numbering old).number v))
+        λ k above.
+        fun_ext (λ v. at_nothing d (f k) (λ m. first k m above) ((numbering old).number v))
         in
-        ap (λ (g : ℕ → Text → X). value_at {X = Text → X} (λ v. d) g ((numbering new).number t) u) inner
+        ap (λ (g : ℕ → Text → X). value_at {X = Text → X} (λ v. d) g ((numbering new).number t) u)
+        inner
         ∙ ap (λ (row : Text → X). row u)
-        (value_kept {X = Text → X} (λ v. d) (λ k v. value_at d (f k) ((numbering old).number v)) past t)
+        (value_kept {X = Text → X} (λ v. d) (λ k v. value_at d (f k) ((numbering old).number v))
+        past t)
       where
         at_nothing : {X : Type 0} (d : X) (f : ℕ → X) → ((m : ℕ) → f m ≡ d) → (o : Option ℕ)
             → value_at d f o ≡ d
@@ -113,7 +116,8 @@ module _ (old new : List Text) (x : Extends old new) (law : IsRenaming (numberin
             records = record {
               cells = λ k past. within.records.cells k (omega arith);
               changes = λ k m h. let b = within.records.changes k m h in (omega arith, omega arith);
-              createds = λ k m h. let b = within.records.createds k m h in (omega arith, omega arith);
+              createds = λ k m h. let b = within.records.createds k m h in
+                  (omega arith, omega arith);
             };
             always = λ k past. within.always k (omega arith);
             holder = λ k past. within.holder k (omega arith);

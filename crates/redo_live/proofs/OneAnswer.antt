@@ -34,7 +34,8 @@ number_is_visible zero le = ap (λ w. list_all is_visible w) (decimal_digit 0 (o
 number_is_visible (suc n) le = grant_is_visible (suc n) (omega arith, le)
 
 same_number : (m n : ℕ) → m ≤ 4294967295 → n ≤ 4294967295 → decimal m ≡ decimal n → m ≡ n
-same_number m n first second e = decimal_injective m n (omega (arith, first)) (omega (arith, second)) e
+same_number m n first second e =
+    decimal_injective m n (omega (arith, first)) (omega (arith, second)) e
 
 same_session : (m n : ℕ) → m < 64 → n < 64 → decimal (m + 1) ≡ decimal (n + 1) → m ≡ n
 same_session m n first second e =
@@ -175,7 +176,8 @@ same_answer name (Cause found) (Cause other) form other_form asked e =
     ap Cause (same_why name found other e)
 same_answer name (Rows deps) (Rows other) form other_form asked e =
     ap Rows (same_deps deps other form.0 form.1 other_form.0 other_form.1 e)
-same_answer name (Standing a holder file) (Standing b other_holder other_file) form other_form asked e =
+same_answer name (Standing a holder file) (Standing b other_holder other_file)
+    form other_form asked e =
     let stage = same_stage a b
     (codes "lock" ∷ holder_word holder ∷ codes "file" ∷ stamp_word file ∷ [])
     (codes "lock" ∷ holder_word other_holder ∷ codes "file" ∷ stamp_word other_file ∷ [])

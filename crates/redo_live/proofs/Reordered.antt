@@ -48,7 +48,8 @@ module _ (count : ℕ) (order other : ℕ → ℕ → Ordering) (are : AreOrders
       → Ascending (numbers order) ns → AreSortedAgain other ns ms → Ascending (numbers other) ms
   rises ns ms below up again i j d before in' =
       let once : IsDistinct nat_eq ms =
-      IsDistinct-IsPermutation nat_eq nat_eq_equiv.symm ns ms again.same (ascending_once order are.strict ns up) in
+      IsDistinct-IsPermutation nat_eq nat_eq_equiv.symm ns ms again.same
+      (ascending_once order are.strict ns up) in
       let m = get_or ms i d in
       let n = get_or ms j d in
       let none : is_lt (other n m) ≡ false =

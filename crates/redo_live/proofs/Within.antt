@@ -124,10 +124,12 @@ module _ (n : ℕ) (order : ℕ → ℕ → Ordering) where
 
   all_below : (ns : List ℕ) → ((k : ℕ) → Contains ns k → k < n) → AllBelow n ns
   all_below ns each =
-      recursion_from_All (λ k. k < n) ns (λ i d in'. each (get_or ns i d) (Contains-get_or ns i d in'))
+      recursion_from_All (λ k. k < n) ns
+      (λ i d in'. each (get_or ns i d) (Contains-get_or ns i d in'))
 
   pub in_list : (ks : List ℕ) (k : ℕ) → AllBelow n ks → Contains ks k → k < n
-  in_list ks k below is = All-contains (λ j. j < n) ks k (All-from_recursion (λ j. j < n) ks below) is
+  in_list ks k below is =
+      All-contains (λ j. j < n) ks k (All-from_recursion (λ j. j < n) ks below) is
 
   module _ (r : Records ℕ) (within : IsWithin n r) where
     pub file_below : (k : ℕ) → HasFile r k → k < n

@@ -14,7 +14,7 @@ const SESSIONS: u8 = 64;
 #[derive(Drop)]
 pub struct Begun {
     pub live: Live,
-    /// How many lines the log held.
+    /// How many lines the log had.
     pub restored: usize,
     pub log: Watched<LogWriter>,
 }

@@ -72,7 +72,7 @@ fn talk_to<L: Write>(
     }
 }
 
-/// Holds the conversation of the arguments.
+/// The conversation that the arguments ask for.
 fn converse(rt: &HostRuntime, conversation: &Conversation) -> Result<(), Fault> {
     match &conversation.log {
         Some(asked) => {

@@ -78,7 +78,9 @@ can_follow lines others line live left is =
     let more : names_after (lines ++ line ∷ others) ≡ with_names added (flat_map own_names others) =
     names_after-append lines (line ∷ others)
     ∙ with_names-append (names_after lines) (own_names line) (flat_map own_names others)
-    ∙ ap (λ (ns : List Text). with_names (with_names (names_after lines) ns) (flat_map own_names others)) (sym (append-nil (own_names line))) in
+    ∙ ap
+    (λ (ns : List Text). with_names (with_names (names_after lines) ns) (flat_map own_names others))
+    (sym (append-nil (own_names line))) in
     let few : length (names_after (lines ++ line ∷ others)) ≤ 65536 = is.few_names in
     let longer : length added ≤ length (with_names added (flat_map own_names others)) =
     with_names-longer added (flat_map own_names others) in

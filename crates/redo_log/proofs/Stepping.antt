@@ -80,7 +80,8 @@ text_more : (lines : List (Line Text)) (line : Line Text) (rest : Text)
     ≡ log_header ++ lines_text_of (lines ++ line ∷ []) ++ rest
 text_more lines line rest =
     sym (append_assoc (log_header ++ lines_text_of lines) (line_text_of line) rest)
-    ∙ ap (λ (t : Text). t ++ rest) (append_assoc log_header (lines_text_of lines) (line_text_of line)
+    ∙ ap (λ (t : Text). t ++ rest)
+    (append_assoc log_header (lines_text_of lines) (line_text_of line)
     ∙ ap (λ (t : Text). log_header ++ t) (whole lines))
   where
     whole : (ls : List (Line Text)) → lines_text_of ls ++ line_text_of line

@@ -77,7 +77,8 @@ module _ (flags : List Bool) (left next end : ℕ) (are : AreLeft flags left nex
 
     -- the lowest bit is passed
     passed : (j : ℕ) → bit_at (left / 2 ^ lowest / 2 ^ 1) j ≡ bit_at left (lowest + 1 + j)
-    passed j = ap (λ w. w % 2) (ap (λ w. w / 2 ^ j) (shr-shr left lowest 1) ∙ shr-shr left (lowest + 1) j)
+    passed j =
+        ap (λ w. w % 2) (ap (λ w. w / 2 ^ j) (shr-shr left lowest 1) ∙ shr-shr left (lowest + 1) j)
 
     pub fewer_left : AreLeft flags (left / 2 ^ lowest / 2 ^ 1) (next + (lowest + 1)) end
     fewer_left = record {

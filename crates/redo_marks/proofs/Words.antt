@@ -117,7 +117,8 @@ module _ (size : ℕ) where
   zeros_have : (t : ℕ) → ◌≡◌ {A = ℕ} (get_or (replicate size 0) t 0) 0
   zeros_have t = elim (cases_lt t size) [
     | inl below ↦ get_or-replicate {A = ℕ} size t 0 0 below
-    | inr past ↦ get_or_past {X = ℕ} (replicate size 0) t 0 (omega (arith, length-replicate {A = ℕ} size 0, past))
+    | inr past ↦ get_or_past {X = ℕ} (replicate size 0) t 0
+        (omega (arith, length-replicate {A = ℕ} size 0, past))
   ]
 
   pub none_set : (words : List ℕ) → words ≡ replicate size 0 → (t : ℕ) → has_bit words t ≡ false
@@ -140,7 +141,8 @@ module _ (size : ℕ) where
 pub filled_up : (old words new : List ℕ) (n more : ℕ) → words ≡ old → length old ≤ n
     → new ≡ take n words ++ replicate more 0 → (k : ℕ) → get_or new k 0 ≡ get_or old k 0
 filled_up old words new n more copied fits is k =
-    ap (λ (ws : List ℕ). get_or ws k 0) (is ∙ ap (λ (ws : List ℕ). take n ws ++ replicate more 0) copied
+    ap (λ (ws : List ℕ). get_or ws k 0)
+    (is ∙ ap (λ (ws : List ℕ). take n ws ++ replicate more 0) copied
     ∙ ap (λ (ws : List ℕ). ws ++ replicate more 0) (take_all n old fits))
     ∙ get_or-extended old more k 0
 

@@ -55,7 +55,8 @@ module _ (n : ℕ) where
   lesser_of_below naming k None bk bo = bk
   lesser_of_below naming k (Some m) bk bo = lesser_below (naming.order k m) k m bk bo
 
-  pub least_below : (naming : Naming ℕ) (ks : List ℕ) → AllBelow n ks → IsSomeBelow (least naming ks)
+  pub least_below : (naming : Naming ℕ) (ks : List ℕ)
+      → AllBelow n ks → IsSomeBelow (least naming ks)
   least_below naming [] below = tt
   least_below naming (k ∷ ks) below =
       lesser_of_below naming k (least naming ks) below.0 (least_below naming ks below.1)

@@ -134,7 +134,8 @@ module _ {N : Type 0} {naming : Naming N} (law : IsNaming naming) (s : ℕ)
       let failed = few.0 in
       let all = few.1 in
       let held = filter_short (holds naming (map line_of own)) (locked_by (map line_of own)) in
-      let building = filter_short (builds naming (map line_of own)) (started_by (map line_of own)) in
+      let building =
+      filter_short (builds naming (map line_of own)) (started_by (map line_of own)) in
       let locked = locked_count own in
       let started = started_count own in
       let locks = asked_within s script (λ (c : Command N). cond (is_lock c) 1 0) own parts.lined in

@@ -60,7 +60,8 @@ lock_true true true held e = inr refl
 lock_true true false held e = inl e
 lock_true false same held e = inl e
 
-pub unlock_true : (okay same held : Bool) → cond okay (cond same false held) held ≡ true → held ≡ true
+pub unlock_true : (okay same held : Bool)
+    → cond okay (cond same false held) held ≡ true → held ≡ true
 unlock_true true true held e = absurd (false≢true e)
 unlock_true true false held e = e
 unlock_true false same held e = e

@@ -13,9 +13,13 @@ use Rattle.redo_model.specs.Renaming.{AllBelow}
 use Rattle.redo_model.proofs.Members.{contains_first, contains_later, contains_cases, contains_none}
 
 -- the next number has P
-pub listed_with : (P : ℕ → Type 0) (k : ℕ) (ts : List ℕ) → P k → IsListed by_number (λ t. (t < k) × P t) ts → IsListed by_number (λ t. (t < k + 1) × P t) (ts ++ k ∷ [])
+pub listed_with : (P : ℕ → Type 0) (k : ℕ) (ts : List ℕ) → P k
+    → IsListed by_number (λ t. (t < k) × P t) ts
+    → IsListed by_number (λ t. (t < k + 1) × P t) (ts ++ k ∷ [])
 listed_with P k ts p h = (
-  all_pairs_push (λ x y. nat_cmp x y ≡ Less) ts k h.0 (λ i d in'. sym (nat_cmp_is (get_or ts i d) k Less ((h.1 (get_or ts i d)).0 (Contains-get_or ts i d in')).0)),
+  all_pairs_push (λ x y. nat_cmp x y ≡ Less) ts k h.0 (λ i d in'.
+      sym (nat_cmp_is (get_or ts i d) k Less
+      ((h.1 (get_or ts i d)).0 (Contains-get_or ts i d in')).0)),
   λ t. (
     λ c. elim (Contains-push_cases ts k t c) [
       | inl old ↦ (let o = (h.1 t).0 old in (omega (arith, o.0), o.1))
@@ -23,13 +27,16 @@ listed_with P k ts p h = (
     ],
     λ x. elim (cases_lt t k) [
       | inl less ↦ Contains-append_left ts (k ∷ []) t ((h.1 t).1 (less, x.1))
-      | inr last ↦ (let e : k ≡ t = omega (arith, x.0, last) in subst (Contains (ts ++ k ∷ [])) e (Contains-push ts k))
+      | inr last ↦ (let e : k ≡ t = omega (arith, x.0, last) in
+          subst (Contains (ts ++ k ∷ [])) e (Contains-push ts k))
     ],
   ),
 )
 
 -- the next number doesn't have P
-listed_without : (P : ℕ → Type 0) (k : ℕ) (ts : List ℕ) → (P k → ⊥) → IsListed by_number (λ t. (t < k) × P t) ts → IsListed by_number (λ t. (t < k + 1) × P t) ts
+listed_without : (P : ℕ → Type 0) (k : ℕ) (ts : List ℕ) → (P k → ⊥)
+    → IsListed by_number (λ t. (t < k) × P t) ts
+    → IsListed by_number (λ t. (t < k + 1) × P t) ts
 listed_without P k ts p h = (
   h.0,
   λ t. (
@@ -42,18 +49,25 @@ listed_without P k ts p h = (
 )
 
 -- the next number enters if it has P
-pub listed_more : (P : ℕ → Type 0) (k : ℕ) (ts : List ℕ) (due : Bool) → (IsTrue due ↔ P k) → IsListed by_number (λ t. (t < k) × P t) ts → IsListed by_number (λ t. (t < k + 1) × P t) (ts ++ cond due (k ∷ []) [])
+pub listed_more : (P : ℕ → Type 0) (k : ℕ) (ts : List ℕ) (due : Bool)
+    → (IsTrue due ↔ P k) → IsListed by_number (λ t. (t < k) × P t) ts
+    → IsListed by_number (λ t. (t < k + 1) × P t) (ts ++ cond due (k ∷ []) [])
 listed_more P k ts true is h = listed_with P k ts (is.0 refl) h
-listed_more P k ts false is h = subst (IsListed by_number (λ t. (t < k + 1) × P t)) (sym (append-nil ts)) (listed_without P k ts (λ p. false≢true (is.1 p)) h)
+listed_more P k ts false is h =
+    subst (IsListed by_number (λ t. (t < k + 1) × P t)) (sym (append-nil ts))
+    (listed_without P k ts (λ p. false≢true (is.1 p)) h)
 
 -- each number with P is below the bound
-pub listed_all : (P : ℕ → Type 0) (k : ℕ) (ts : List ℕ) → ((t : ℕ) → P t → t < k) → IsListed by_number (λ t. (t < k) × P t) ts → IsListed by_number P ts
+pub listed_all : (P : ℕ → Type 0) (k : ℕ) (ts : List ℕ)
+    → ((t : ℕ) → P t → t < k) → IsListed by_number (λ t. (t < k) × P t) ts
+    → IsListed by_number P ts
 listed_all P k ts below h = (h.0, λ t. (λ c. ((h.1 t).0 c).1, λ p. (h.1 t).1 (below t p, p)))
 
 -- each of the list is below the bound
 pub each_below : (n : ℕ) (ts : List ℕ) → ((t : ℕ) → Contains ts t → t < n) → AllBelow n ts
 each_below n [] h = tt
-each_below n (t ∷ ts) h = (h t (contains_first t ts), each_below n ts (λ u c. h u (contains_later t ts u c)))
+each_below n (t ∷ ts) h =
+    (h t (contains_first t ts), each_below n ts (λ u c. h u (contains_later t ts u c)))
 
 pub below_in : (n : ℕ) (ts : List ℕ) (t : ℕ) → AllBelow n ts → Contains ts t → t < n
 below_in n [] t all c = absurd (contains_none t c)

@@ -172,7 +172,8 @@ module _ {N : Type 0} {naming : Naming N} (law : IsNaming naming) where
       ∙ same_both (is_okay reply) (is_built_by s (target_state r t))
 
   changed : (r : Records N) (s : ℕ) (u t : N) (c : Cell) (builds : Bool) (reply : Reply N)
-      → is_built_by s c.state ≡ builds → reply ≡ Okay → is_built_by s (put naming u c r.cell t).state
+      → is_built_by s c.state ≡ builds → reply ≡ Okay
+      → is_built_by s (put naming u c r.cell t).state
       ≡ cond (is_okay reply) (cond (naming.same u t) builds (is_built_by s (target_state r t)))
       (is_built_by s (target_state r t))
   changed r s u t c builds reply e told =
@@ -269,7 +270,8 @@ module _ {N : Type 0} {naming : Naming N} (law : IsNaming naming) where
 
   builds_step : (b : Bool) (st : State N) (line : Line N) (part : List (Line N)) (s : ℕ) (t : N)
       → eqb line.session s ≡ b → Answers naming st line.session line.command line.reply
-      → builds_after naming t (is_built_by s (target_state st.records t)) (cond b (line ∷ part) part)
+      → builds_after naming t (is_built_by s (target_state st.records t))
+      (cond b (line ∷ part) part)
       ≡ builds_after naming t
       (is_built_by s (target_state (after naming st line.session line.command).records t)) part
   builds_step true st line part s t e told =

@@ -24,4 +24,5 @@ module _ {N : Type 0} (r : Records N) (t : N) where
   reason_applies Edited is = built_has_reason is.0 (inl is.1)
   reason_applies Always is = built_has_reason is.0 (inr (inl is.1))
   reason_applies (Appeared n) is = built_has_reason is.0 (inr (inr (inl (n, is.1, is.2))))
-  reason_applies (Changed n) is = built_has_reason is.0 (inr (inr (inr (n, is.1.0, is.1.1, is.1.2))))
+  reason_applies (Changed n) is =
+      built_has_reason is.0 (inr (inr (inr (n, is.1.0, is.1.1, is.1.2))))

@@ -50,7 +50,8 @@ module _ {X : Type 0} where
       → Contains xs t → p t ≡ true → q t ≡ false → length (filter q xs) < length (filter p xs)
   filter_fewer p q [] t also there passed failed = absurd (contains_none t there)
   filter_fewer p q (x ∷ xs) t also there passed failed = elim (contains_cases x xs t there) [
-    | inl e ↦ cond_less (p x) (q x) x (filter p xs) (filter q xs) (ap p e ∙ passed) (ap q e ∙ failed)
+    | inl e ↦
+        cond_less (p x) (q x) x (filter p xs) (filter q xs) (ap p e ∙ passed) (ap q e ∙ failed)
         (filter_few p q xs also)
     | inr k ↦ cond_fewer (p x) (q x) x (filter p xs) (filter q xs) (also x)
         (filter_fewer p q xs t also k passed failed)

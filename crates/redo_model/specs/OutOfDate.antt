@@ -26,13 +26,15 @@ SomeAppeared {N} r t = (n : N) × HasCreatedRow r t n × HasFile r n
 
 -- t has a change row with another mark than the name has now
 abbrev pub SomeChanged : {N : Type 0} → Records N → N → Type 0
-SomeChanged {N} r t = (n : N) × (mark : Mark) × (r.rows.change t n ≡ Some mark) × (mark ≢ mark_of r n)
+SomeChanged {N} r t =
+    (n : N) × (mark : Mark) × (r.rows.change t n ≡ Some mark) × (mark ≢ mark_of r n)
 
 abbrev pub ReasonIn : {N : Type 0} → TargetState → Records N → N → Type 0
 ReasonIn Idle r t = ⊥
 ReasonIn (Building s) r t = ⊤
 ReasonIn Failed r t = ⊤
-ReasonIn Built r t = IsEdited r t ⊎ (IsTrue (r.rows.always t) ⊎ (SomeAppeared r t ⊎ SomeChanged r t))
+ReasonIn Built r t =
+    IsEdited r t ⊎ (IsTrue (r.rows.always t) ⊎ (SomeAppeared r t ⊎ SomeChanged r t))
 
 -- t is a target with a reason of its own to be built again
 abbrev pub HasReason : {N : Type 0} → Records N → N → Type 0

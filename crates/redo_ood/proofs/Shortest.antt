@@ -89,7 +89,8 @@ module _ (r : Records ℕ) (out seen : Marked) (parents : List ℕ) (at place : 
                 let some : 0 < length seen.queue = omega (arith, in') in
                 omega (arith, no_shorter in' names 0 some there, deeper, tree.first);
             reason = subst (λ m. IsReason r m reason)
-                (sym (ap (λ m. end_of m ns) first ∙ way_ends r seen.queue parents tree place ns 0 way))
+                (sym (ap (λ m. end_of m ns) first
+                ∙ way_ends r seen.queue parents tree place ns 0 way))
                 is;
           }
 

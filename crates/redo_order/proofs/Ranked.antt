@@ -77,7 +77,8 @@ HasOneMore At To k due = (j : ℕ) → To j ↔ (At j ⊎ (IsTrue due × (j ≡ 
 pub places_more : (sorted : List ℕ) (Q : ℕ → Type 0) (names : List ℕ) (i : ℕ) → i < length names
     → (k : ℕ) (At To : ℕ → Type 0) (due : Bool) → k < length sorted
     → get_or sorted k 0 ≡ get_or names i 0 → (IsTrue due ↔ Q (get_or names i 0))
-    → HasOneMore At To k due → PlacesOf sorted Q (take i names) At → PlacesOf sorted Q (take (i + 1) names) To
+    → HasOneMore At To k due → PlacesOf sorted Q (take i names) At
+    → PlacesOf sorted Q (take (i + 1) names) To
 places_more sorted Q names i in' k At To due below at is more h = record {
   below = λ j c. elim ((more j).0 c) [
     | inl old ↦ h.below j old

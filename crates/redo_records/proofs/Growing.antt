@@ -154,7 +154,8 @@ module _ (targets : List TargetRows) (k : ℕ) where
       await_sized await_none slot_sized slot_same h = record {
         small = omega (arith, length-grown);
         below = λ t n on.
-            let was : n < length targets = h.below t n (subst (λ b. IsTrue b) (room_grown t n) on) in
+            let was : n < length targets =
+            h.below t n (subst (λ b. IsTrue b) (room_grown t n) on) in
             omega (arith, length-grown);
         needs = inverse_grown h.below has_change (λ n. refl) needed more_needed need_sized need_none
             h.needs;

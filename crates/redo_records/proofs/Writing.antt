@@ -201,7 +201,8 @@ pub kept_change : (targets now : List TargetRows) (t n : ℕ) (old new : TargetR
     → WritesChange old new n mark → was ≡ has_change (slot_at old.slots n)
     → FollowsOn n t was true needed needed'
     → IsKept targets needed awaited slotted → IsKept (set targets t new) needed' awaited slotted
-kept_change targets now t n old new mark was needed needed' awaited slotted is t_in at w was_is f h =
+kept_change targets now t n old new mark was needed needed' awaited slotted
+    is t_in at w was_is f h =
     let found = found_target targets now t old is t_in at in
     keeps_change targets t n new mark was needed needed' awaited slotted found.0
     (subst (λ x. WritesChange x new n mark) found.1 w)
@@ -256,8 +257,8 @@ pub kept_slot : (targets now : List TargetRows) (t n : ℕ) (old new : TargetRow
     → IsKept targets (set needed n grown_needed) (set awaited n grown_awaited) slotted
     → IsKept (set targets t new) (set needed n grown_needed) (set awaited n grown_awaited)
     (set slotted n (m + 1))
-kept_slot targets now t n old new needed awaited slotted grown_needed grown_awaited m is t_in n_in at
-    w none counted needed_room awaited_room h =
+kept_slot targets now t n old new needed awaited slotted grown_needed grown_awaited
+    m is t_in n_in at w none counted needed_room awaited_room h =
     let found = found_target targets now t old is t_in at in
     let name : n < length targets = subst (λ (ts : List TargetRows). n < length ts) (sym is) n_in in
     let needed_in : n < length needed =

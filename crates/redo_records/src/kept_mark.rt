@@ -83,7 +83,8 @@ impl KeptMark {
 
     /// The mark of an idle name.
     fn of_file(file: Option<&FileStamp>) -> KeptMark
-        ensures { kept_mark_of result ≡ states.file_mark (option_map (λ stamp. stamp.now) file.entry) }
+        ensures { kept_mark_of result
+            ≡ states.file_mark (option_map (λ stamp. stamp.now) file.entry) }
     {
         match file {
             Some(stamp) => KeptMark::File(*stamp),

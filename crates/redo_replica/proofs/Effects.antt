@@ -31,7 +31,8 @@ put_own f n k x own = elim (cases_eq n k) [
 ]
 
 module _ (tables : TablesOf) (cells : List CompactCell) (n : ℕ) (below : n < length cells) where
-  field_set : {X : Type 0} (f : CompactCell → X) (c : CompactCell) → (λ (k : ℕ). f (cell_at (set cells n c) k))
+  field_set : {X : Type 0} (f : CompactCell → X) (c : CompactCell)
+      → (λ (k : ℕ). f (cell_at (set cells n c) k))
       ≡ put by_number n (f c) (λ k. f (cell_at cells k))
   field_set f c = fun_ext (λ k.
       ap f (set_is_put cells n c idle_cell below k)

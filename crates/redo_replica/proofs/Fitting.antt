@@ -23,7 +23,8 @@ use Rattle.redo_replica.specs.Replicas.{IsGraphFor}
 use Rattle.redo_replica.specs.Inside.Entries.{HasMark, HasNumber, HaveMarks}
 use Rattle.redo_replica.specs.Inside.Fits.{IsFit, IsLinked}
 
-module _ (graph : GraphOf) (cells : List CompactCell) (rows : List Row) (fit : IsFit graph cells rows)
+module _ (graph : GraphOf) (cells : List CompactCell)
+    (rows : List Row) (fit : IsFit graph cells rows)
   where
     -- a cell is written
     pub cell_fits : (n : ℕ) (cell : CompactCell) → n < length cells

@@ -89,7 +89,8 @@ module _ (tables : TablesOf) (t : ℕ) (ns places : List ℕ)
       some_map (entry_of tables.stamps) (cell_at cells (get_or ns i 0)).file
       ∙ ap (λ (n : ℕ). is_some (cell_at cells n).file) (sym (same_name p read)) ∙ sym is
 
-  module _ (up : AreAscending tables.pairs.items) (cells : List CompactCell) (old before now : List Row)
+  module _ (up : AreAscending tables.pairs.items)
+      (cells : List CompactCell) (old before now : List Row)
       (s : ℕ) (sized : length before ≡ length tables.pairs.items) where
     inside : get_or places i 0 < length before
     inside = omega (

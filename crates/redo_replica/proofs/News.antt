@@ -77,7 +77,8 @@ no_news tables cell news = elim news [
     none≢some e = cc
 
 -- the same of equal rows and cells
-pub news_at : (tables : TablesOf) (read row : Row) (got cell : CompactCell) (news : Bool) → read ≡ row
+pub news_at : (tables : TablesOf) (read row : Row) (got cell : CompactCell) (news : Bool)
+    → read ≡ row
     → got ≡ cell → IsOnce tables.stamps → IsOnce tables.digests
     → HasEntries tables.stamps tables.digests cell → HasMark tables row
     → ((ts : TablesOf) → IsOnce ts.stamps → IsOnce ts.digests

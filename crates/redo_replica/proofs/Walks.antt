@@ -22,7 +22,8 @@ use Rattle.redo_replica.proofs.Listed.{some_map}
 use Rattle.redo_replica.proofs.Places.{place_found, place_first}
 
 -- the numbers of a pair are those of names
-pub number_at : (graph : GraphOf) (cells : List CompactCell) (rows : List Row) (place : ℕ) (q : ℕ × ℕ)
+pub number_at : (graph : GraphOf) (cells : List CompactCell)
+    (rows : List Row) (place : ℕ) (q : ℕ × ℕ)
     → IsFit graph cells rows → place < length graph.tables.pairs.items
     → q ≡ get_or graph.tables.pairs.items place (0, 0) → AreNumbers (length cells) q
 number_at graph cells rows place q fit below read =
@@ -95,7 +96,8 @@ abbrev pub Holds : GraphOf → List CompactCell → List Row → ℕ → (Row �
 Holds graph cells rows n P t = IsTarget (records_in graph.tables cells rows) t
     × P (row_at rows (pair_place graph.tables.pairs.items t n))
 
-module _ (graph : GraphOf) (cells : List CompactCell) (rows : List Row) (fit : IsFit graph cells rows)
+module _ (graph : GraphOf) (cells : List CompactCell)
+    (rows : List Row) (fit : IsFit graph cells rows)
     (n : ℕ) (list : List (ℕ × ℕ))
     (those : (p : ℕ × ℕ) → Contains list p ↔ (Contains graph.on.items p × (p.0 ≡ n))) where
   abbrev pairs : List (ℕ × ℕ)

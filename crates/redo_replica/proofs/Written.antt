@@ -137,7 +137,8 @@ module _ (stamps digests : List Text) (pairs : List (ℕ × ℕ)) (old new : Lis
           (block (pair_place pairs u k) u k (slice_get-get_or pairs (pair_place pairs u k) (u, k) lt
           ∙ ap Some (place_found pairs u k (u, k) lt))).0 own in
           cleared.gone (pair_place pairs u k) here.0 here.1
-      | inr le ↦ get_or_past new (pair_place pairs u k) bare (omega (arith, le, sized, cleared.sized))
+      | inr le ↦
+          get_or_past new (pair_place pairs u k) bare (omega (arith, le, sized, cleared.sized))
     ]
 
     stays : (u k : ℕ) → u ≢ t

@@ -133,7 +133,8 @@ pub stopped_call : (old counted : Tables) (s : ℕ) (command : Command ℕ) (rep
     → counted ≡ record old { calls = calls_of old + 1 }
     → state_of counted ≡ after (tables_naming old) (state_of old) s command
 stopped_call old counted s command reply told stopped is =
-    ap state_of is ∙ sym (stopped_same (tables_naming old) (state_of old) s command reply told stopped)
+    ap state_of is
+    ∙ sym (stopped_same (tables_naming old) (state_of old) s command reply told stopped)
 
 -- a call after memory was reserved
 pub called_in : (old made new : Tables) (s : ℕ) (command : Command ℕ) → IsAsBefore old made

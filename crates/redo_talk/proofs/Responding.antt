@@ -114,7 +114,8 @@ module _ (known : Known) (log log' out out' : Option Text) (logged logged' said 
   where
     -- what waited was sent
     pub sending_goes_on : Appends log log' logged → Appends out out' said → logged' ≡ []
-        → said' ≡ [] → GoesOn (place known log out logged said) (place known log' out' logged' said')
+        → said' ≡ []
+        → GoesOn (place known log out logged said) (place known log' out' logged' said')
         more more
     sending_goes_on to_log to_out none_logged none_said first left talk =
         same_waiting first left known log' out' [] [] logged' said' more none_logged none_said

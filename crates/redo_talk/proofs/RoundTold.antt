@@ -30,7 +30,8 @@ use Rattle.redo_talk.proofs.Steps.{answering_step, ending_step, telling_step, he
 
 -- why a command is refused
 pub command_cause : (live : LiveState) (text : Text) (why : Why)
-    → inquiry_in (words_of text) ≡ None → IsUnansweredFor live text why → IsRefusedFor live.names text why
+    → inquiry_in (words_of text) ≡ None → IsUnansweredFor live text why
+    → IsRefusedFor live.names text why
 command_cause live text Memory none cause = tt
 command_cause live text Worn none cause = tt
 command_cause live text (Fault fault) none cause =
@@ -249,5 +250,6 @@ unheeded_inquiry live session text most inquiry name (Unanswered why) is fits e 
     subst (IsRefusedFor live.names text) (sym e) tt
 unheeded_inquiry live session text most inquiry name (TooLong size) is fits (more, told) = (
   more,
-  λ heard asks. would_tell live heard session text inquiry name told.0 size is fits told.1 told.2 asks,
+  λ heard asks.
+      would_tell live heard session text inquiry name told.0 size is fits told.1 told.2 asks,
 )

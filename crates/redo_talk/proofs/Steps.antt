@@ -76,7 +76,8 @@ held_has names locks t s None is e = absurd cc
 held_has names locks t s (Some k) is e = number_has names t k is
 
 -- the names that a session holds were in commands
-pub held_are_known : (live : LiveState) (s : ℕ) (ts : List Text) → AreHeld texts s (state_in live) ts
+pub held_are_known : (live : LiveState) (s : ℕ) (ts : List Text)
+    → AreHeld texts s (state_in live) ts
     → AreKnown live.names ts
 held_are_known live s ts held =
     all_members (λ t. has live.names t ≡ true) ts (λ t there.

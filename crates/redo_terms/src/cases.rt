@@ -23,8 +23,10 @@ macro_rules! cases {
             (Lock(t), b"lock", [], grant, nothing)
             (Unlock(t), b"unlock", [held NotLocked, resting Building], okay, nothing)
             (Start(t), b"start", [held NotLocked, resting Building], okay, start)
-            (IfChange(t, names), b"ifchange", [own_build NotBuilding, others Itself], stale, put_changes)
-            (IfCreate(t, names), b"ifcreate", [own_build NotBuilding, others Itself, missing Exists], okay, put_created)
+            (IfChange(t, names), b"ifchange",
+                [own_build NotBuilding, others Itself], stale, put_changes)
+            (IfCreate(t, names), b"ifcreate",
+                [own_build NotBuilding, others Itself, missing Exists], okay, put_created)
             (Always(t), b"always", [own_build NotBuilding], okay, put_always)
             (Stamp(t, content), b"stamp", [own_build NotBuilding], digest, stamp)
             (Done(t, stamp), b"done", [own_build NotBuilding], okay, done)

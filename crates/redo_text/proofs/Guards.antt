@@ -36,7 +36,8 @@ same_bytes line =
     sym (ap has_bad_byte (with_its_guard line)
     ∙ guard_is_text (is_guarded line) (unguarded line))
 
-pub guard_is_longer : (guarded : Bool) (text : Text) → length text ≤ length (with_guard guarded text)
+pub guard_is_longer : (guarded : Bool) (text : Text)
+    → length text ≤ length (with_guard guarded text)
 guard_is_longer true text = omega arith
 guard_is_longer false text = omega arith
 

@@ -50,6 +50,7 @@ asked_when_long names text long =
 -- a question without a fault is short
 pub fits_is_short : (text : Text) → inquiry_fault text ≡ None → length text ≤ 8192
 fits_is_short text fits = elim (cases_lt 8192 (length text)) [
-  | inl long ↦ absurd (let e = sym fits ∙ inquiry_too_long text (lt-ltb 8192 (length text) long) in cc)
+  | inl long ↦
+      absurd (let e = sym fits ∙ inquiry_too_long text (lt-ltb 8192 (length text) long) in cc)
   | inr short ↦ omega arith
 ]

@@ -238,7 +238,8 @@ pub all_adds : (names ts : List Text) (command : Command Text) (after : List Tex
     → names_in command ≡ ts → all_added names ts ≡ Ok after → AddsNames names (command ∷ []) after
 all_adds names ts command after own e =
     let is = all_added-is names ts after e in (
-      is.0 ∙ ap (with_names names) (sym (append-nil ts) ∙ ap (λ (l : List Text). l ++ []) (sym own)),
+      is.0 ∙ ap (with_names names)
+          (sym (append-nil ts) ∙ ap (λ (l : List Text). l ++ []) (sym own)),
       is.1,
     )
 

@@ -71,7 +71,8 @@ args_of (Sources ns) = ns
 args_of (Refused refusal) = refusal_words refusal
 
 -- each reply is said by its words
-said : (reply : Reply Text) → HasReplyForm reply → IsSaidBy (reply_kind_for reply) (args_of reply) reply
+said : (reply : Reply Text) → HasReplyForm reply
+    → IsSaidBy (reply_kind_for reply) (args_of reply) reply
 unfolding reply_args_in
 said Okay form = record { text = refl; visible = tt; reads = refl }
 said (Granted g) form =

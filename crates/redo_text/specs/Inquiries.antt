@@ -20,7 +20,8 @@ inquiry_text_of inquiry name = spaced (inquiry_word inquiry) (name ∷ [])
 
 -- the question of a word
 abbrev pub inquiry_named : Text → Option Inquiry
-inquiry_named word = find (λ inquiry. bytes_eq word (inquiry_word inquiry)) (Why ∷ Deps ∷ State ∷ [])
+inquiry_named word =
+    find (λ inquiry. bytes_eq word (inquiry_word inquiry)) (Why ∷ Deps ∷ State ∷ [])
 
 -- the question of words, by the first of them
 abbrev pub inquiry_in : List Text → Option Inquiry

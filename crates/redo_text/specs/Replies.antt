@@ -23,7 +23,7 @@ HasRefusalForm NotBuilding = ⊤
 HasRefusalForm Itself = ⊤
 HasRefusalForm (Exists n) = IsTrue (is_name n)
 
--- what is required of the words of a reply: lists may hold names in any order, and repeated
+-- what is required of the words of a reply: lists may have names in any order, and repeated
 abbrev pub HasReplyForm : Reply Text → Type 0
 HasReplyForm Okay = ⊤
 HasReplyForm (Granted g) = IsGrant g

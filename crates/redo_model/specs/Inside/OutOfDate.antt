@@ -5,7 +5,8 @@ use Rattle.redo_model.specs.OutOfDate.{IsTarget, Chain, Depends, HasRow}
 
 -- a seed, or a target with a row on a seed
 abbrev pub TouchesSeed : {N : Type 0} → Records N → List N → N → Type 0
-TouchesSeed {N} r seeds t = Contains seeds t ⊎ (IsTarget r t × ((n : N) × Contains seeds n × HasRow r t n))
+TouchesSeed {N} r seeds t =
+    Contains seeds t ⊎ (IsTarget r t × ((n : N) × Contains seeds n × HasRow r t n))
 
 -- the region of the seeds: the seeds, the targets with a row on one, and all from which a chain leads to one of these
 abbrev pub InRegion : {N : Type 0} → Records N → List N → N → Type 0

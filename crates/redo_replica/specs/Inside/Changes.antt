@@ -63,7 +63,8 @@ pub record AreBuilt (count : ℕ) (cells : List CompactCell) : Type 0 where
   pub each : (n : ℕ) → (cell_at cells n).builds ≤ count
 
 -- whatever command the step stands for, the new records are its effect on the old ones
-abbrev pub HasEffect : TablesOf → List CompactCell → List Row → List CompactCell → List Row → ℕ → Step → Type 0
+abbrev pub HasEffect : TablesOf → List CompactCell → List Row
+    → List CompactCell → List Row → ℕ → Step → Type 0
 HasEffect tables cells rows new_cells new_rows s step = (x : Command ℕ) → Means tables step x
     → records_in tables new_cells new_rows ≡ effect_of by_number (records_in tables cells rows) s x
 

@@ -52,14 +52,16 @@ IsUntoldFor st session inquiry name most (TooLong size) =
 abbrev pub IsUnheededFor : LiveState → ℕ → Text → ℕ → Withheld → Type 0
 IsUnheededFor live session text most (Unanswered why) = IsRefusedFor live.names text why
 IsUnheededFor live session text most (TooLong size) =
-    (most < size) × ((heard : Text) → Asks heard session text → WouldTell (known_of live) heard size)
+    (most < size)
+    × ((heard : Text) → Asks heard session text → WouldTell (known_of live) heard size)
 
 -- why a text was refused
 abbrev pub IsUndoneFor : LiveState → ℕ → Text → ℕ → Withheld → Type 0
 IsUndoneFor live session text most (Unanswered why) =
     IsFaultWord live.names text (refusal_word_of why)
 IsUndoneFor live session text most (TooLong size) =
-    (most < size) × ((heard : Text) → Asks heard session text → WouldTell (known_of live) heard size)
+    (most < size)
+    × ((heard : Text) → Asks heard session text → WouldTell (known_of live) heard size)
 
 -- memory ran out, or this text is longer than `most`
 abbrev pub IsUnsaidFor : Text → ℕ → Withheld → Type 0

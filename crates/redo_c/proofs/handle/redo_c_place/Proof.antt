@@ -21,7 +21,8 @@ closed_of 𝓛 =
     fpack ! (Valss []) (in_a_row [] (owns [] tt) []) tt $
     feq_i ! (List Val) (live 0 (of_list []) ∷ []) (live 0 (of_list []) ∷ []) refl $ fjoin ! $
     fpack ! (List Val)
-    (tagged_with form form.payload (contents.the_type.to Closed) (live 0 (of_list []) ∷ [])) [] $ done !
+    (tagged_with form form.payload (contents.the_type.to Closed) (live 0 (of_list []) ∷ [])) [] $
+    done !
 
 pub redo_c_place_spec : {M : Type 1} → statement M
 redo_c_place_spec 𝓤 𝓛 𝓜 𝓡 wired =
@@ -44,5 +45,7 @@ redo_c_place_spec 𝓤 𝓛 𝓜 𝓡 wired =
     returns ! (look_at ! 0 refl) $ free_all ! refl $
     suffices ! _ (ends_at 𝓛 f.ended stayed c (y (block_ptr b o)) vunit tt (tt, tt) (tt, tt)) $
     use0 𝓛 (‵ (X.own_val Closed (closed ∷ []))) (closed_of 𝓛) $ move ! (1 ∷ 0 ∷ []) $
-    use2 𝓛 (‵ (lies_at X full_share (block_ptr b o) Closed)) (part_in 𝓛 X refl full_share Closed b o closed) $
-    feq_i ! _ (vunit ∷ []) _ refl $ nothing ! $ nothing ! $ join ! $ nothing ! $ group ! 3 $ done !)))
+    use2 𝓛 (‵ (lies_at X full_share (block_ptr b o) Closed))
+    (part_in 𝓛 X refl full_share Closed b o closed) $
+    feq_i ! _ (vunit ∷ []) _ refl $ nothing ! $ nothing ! $
+    join ! $ nothing ! $ group ! 3 $ done !)))

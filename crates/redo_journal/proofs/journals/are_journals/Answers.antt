@@ -91,7 +91,8 @@ returns c =
     let journals = c.args.journals.now in
     let n = c.loop-session.session in
     let alike = c.if-journals-scripts.false in
-    let long = length-map c.scripts-scripts.result.now (λ (script : List Item). map item_of script) in
+    let long =
+    length-map c.scripts-scripts.result.now (λ (script : List Item). map item_of script) in
     let same = ap length c.scripts-scripts.ensures.scripts in (
       λ _. record {
         one_each = omega arith;

@@ -9,6 +9,7 @@ use Rattle.redo_model.proofs.worked.cut_chain_is_not_legal.Goals as goal
 pub returns : goal.returns
 returns c wrong =
     let e =
-    same_reply 12 (Ood (codes "lib" ∷ codes "top" ∷ [])) (Ood (codes "lib" ∷ [])) chain_without_a_file
+    same_reply 12 (Ood (codes "lib" ∷ codes "top" ∷ [])) (Ood (codes "lib" ∷ []))
+    chain_without_a_file
     refl chain_legal wrong in
     cc

@@ -18,5 +18,6 @@ loop-t-preserved c =
 pub returns : goal.returns
 returns c =
     let other = c.args.elsewhere.now in
-    at_take_all (λ ns. Enters (λ t. IsMarked other t × Contains ns t) c.args.marks.now c.loop-t.marks)
+    at_take_all
+    (λ ns. Enters (λ t. IsMarked other t × Contains ns t) c.args.marks.now c.loop-t.marks)
     c.args.names.now c.loop-t.t-index c.loop-t-test.false c.loop-t.invariant

@@ -25,7 +25,8 @@ names-init c =
       done = omega arith;
       tested = omega arith;
       some = omega (arith, one);
-      search = search_at_first r c.args.out.now t m b ps c.requires.unmarked c.requires.empty f pushed;
+      search =
+          search_at_first r c.args.out.now t m b ps c.requires.unmarked c.requires.empty f pushed;
       none = λ i past before reason. absurd (omega (arith, before));
     }
 

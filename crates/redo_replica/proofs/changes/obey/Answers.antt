@@ -37,7 +37,8 @@ returns-in-Stamp-clause-effect c =
     c.args.rows.now cells c.args.rows.now c.args.s (steps.Stamp c.in-Stamp.t c.in-Stamp.digest))
     (sym c.stamp.ensures)
     (stamp_effect c.args.graph.now.tables c.args.cells.now c.in-Stamp.t
-    (subst (IsReady c.args.graph.now.tables (length c.args.cells.now)) c.in-Stamp.is c.requires.ready)
+    (subst (IsReady c.args.graph.now.tables (length c.args.cells.now))
+    c.in-Stamp.is c.requires.ready)
     c.args.rows.now c.args.s c.in-Stamp.digest))
 
 pub returns-in-Done-clause-effect : goal.returns-in-Done-clause-effect
@@ -48,5 +49,6 @@ returns-in-Done-clause-effect c =
     c.args.rows.now cells c.args.rows.now c.args.s (steps.Done c.in-Done.t c.in-Done.stamp))
     (sym c.done.ensures)
     (done_effect c.args.graph.now.tables c.args.cells.now c.in-Done.t
-    (subst (IsReady c.args.graph.now.tables (length c.args.cells.now)) c.in-Done.is c.requires.ready)
+    (subst (IsReady c.args.graph.now.tables (length c.args.cells.now))
+    c.in-Done.is c.requires.ready)
     c.args.rows.now c.args.s c.in-Done.stamp))

@@ -25,7 +25,8 @@ apply_word-requires-clause-word c =
 
 pub apply_word-requires-clause-applied : goal.apply_word-requires-clause-applied
 apply_word-requires-clause-applied c =
-    lags_few c.args.plan.now (view_of c.args.self.now) c.args.self.now.replica c.args.self.now.pending
+    lags_few c.args.plan.now (view_of c.args.self.now)
+    c.args.self.now.replica c.args.self.now.pending
     c.requires.told c.requires.lags
 
 pub returns-in-Some-clause-works : goal.returns-in-Some-clause-works
@@ -46,6 +47,7 @@ returns-in-Some-clause-works c =
       told = k.told;
       spent = k.spent;
       lags =
-          lags_caught p w.replica c.apply_word.new.replica (view_of w).seen f.count f.graph f.applied n
+          lags_caught p w.replica c.apply_word.new.replica
+          (view_of w).seen f.count f.graph f.applied n
           (lags_at p w n k c.in-Some.is) f.after;
     }

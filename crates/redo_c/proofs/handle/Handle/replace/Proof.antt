@@ -91,14 +91,16 @@ replace_spec 𝓤 𝓛 𝓜 𝓡 wired =
     exec ! 𝓣.C 𝓣.Λ (env code.Mir.locals l) (after 3 (code.function).body) (at_ret _ Post) $
     sets ! (of_opd ! (get ! refl)) refl tv $
     move ! (0 ∷ 8 ∷ []) $
-    use2 𝓛 (‵ (lies_at X full_share (block_ptr b' o') new)) (part_in 𝓛 X refl full_share new b' o' w) $
+    use2 𝓛 (‵ (lies_at X full_share (block_ptr b' o') new))
+    (part_in 𝓛 X refl full_share new b' o' w) $
     rewrite ! 0 (λ (p : Ptr). ‵ (lies_at X full_share p new)) (sym e) refl $
     rewrite ! 3 Cell (sym word) refl $
     move ! (2 ∷ 0 ∷ []) $ fjoin ! $ move ! (2 ∷ 0 ∷ 3 ∷ 4 ∷ 5 ∷ []) $
     closes ! tt R (record h { contents = new }) us b o $
     -- [two parts of self; the token; what the old value owns; self's first part]
     returns ! (look_at ! 0 refl) $ free_all ! refl $
-    suffices ! _ (ends_at 𝓛 f.ended stayed c z v h.contents (record h { contents = new }, (rest (X.exit yes) new, tt)) (tt, (tt, tt))) $
+    suffices ! _ (ends_at 𝓛 f.ended stayed c z v h.contents
+    (record h { contents = new }, (rest (X.exit yes) new, tt)) (tt, (tt, tt))) $
     says ! (refl, refl) $
     nothing ! $ move ! (3 ∷ 0 ∷ []) $ join ! $ frame ! $ move ! (3 ∷ 0 ∷ 1 ∷ []) $ fjoin3 ! $
     nothing ! $ nothing ! $ fjoin ! $ move ! (1 ∷ 0 ∷ []) $ fjoin ! $ done !)))))))

@@ -14,7 +14,8 @@ pub returns : goal.returns
 returns c =
     let words = c.self.inside.words.items in
     let t = c.args.t in
-    let in' = word_within words c.self.inside.count t (t / 64) c.args.self.now c.self.invariant.enough
+    let in' =
+    word_within words c.self.inside.count t (t / 64) c.args.self.now c.self.invariant.enough
     c.self.view_is c.requires refl in
     bit_read words t c.index.result.now in' c.index.ensures
     ∙ sym (flag_at words c.self.inside.count t c.self.invariant.none_past)

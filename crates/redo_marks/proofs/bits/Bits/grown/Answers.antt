@@ -12,7 +12,8 @@ longer words count more flags is few =
 pub invariant_of-result : goal.invariant_of-result
 invariant_of-result c =
     let words = c.self.inside.words.items in
-    let few = longer words c.self.inside.count c.args.count c.args.self.now c.self.view_is c.requires in
+    let few =
+    longer words c.self.inside.count c.args.count c.args.self.now c.self.view_is c.requires in
     let copied = c.in_ok-words.ensures.items_if_clones_equal (λ x y e. e) ∙ c.deref.ensures.value in
     let same = filled_up words c.in_ok-words.words.items c.resize.new.self.items _ _ copied
     (omega (arith, few, c.self.invariant.enough)) c.in_ok-resize.ensures.items in
@@ -29,7 +30,8 @@ returns-clause-count c = bits_sized c.resize.new.self.items c.args.count
 pub returns-clause-same : goal.returns-clause-same
 returns-clause-same c = λ t.
     let words = c.self.inside.words.items in
-    let few = longer words c.self.inside.count c.args.count c.args.self.now c.self.view_is c.requires in
+    let few =
+    longer words c.self.inside.count c.args.count c.args.self.now c.self.view_is c.requires in
     let copied = c.in_ok-words.ensures.items_if_clones_equal (λ x y e. e) ∙ c.deref.ensures.value in
     let same = filled_up words c.in_ok-words.words.items c.resize.new.self.items _ _ copied
     (omega (arith, few, c.self.invariant.enough)) c.in_ok-resize.ensures.items in

@@ -15,7 +15,8 @@ invariant_of-self c =
     let words = c.self.inside.words.items in
     let count = c.self.inside.count in
     let t = c.args.t in
-    let in' = word_within words count t (t / 64) c.args.self.now c.self.invariant.enough c.self.view_is
+    let in' =
+    word_within words count t (t / 64) c.args.self.now c.self.invariant.enough c.self.view_is
     c.requires refl in
     let changed = bit_put words t c.index_mut.result.now in' c.index_mut.ensures.value in
     let below = below_count words count t c.args.self.now c.self.view_is c.requires in
@@ -30,7 +31,8 @@ returns c =
     let words = c.self.inside.words.items in
     let count = c.self.inside.count in
     let t = c.args.t in
-    let in' = word_within words count t (t / 64) c.args.self.now c.self.invariant.enough c.self.view_is
+    let in' =
+    word_within words count t (t / 64) c.args.self.now c.self.invariant.enough c.self.view_is
     c.requires refl in
     let changed = bit_put words t c.index_mut.result.now in' c.index_mut.ensures.value in
     let below = below_count words count t c.args.self.now c.self.view_is c.requires in

@@ -15,6 +15,8 @@ invariant_of-self c =
     let sized = length-set m.marks t true in
     let pushed = c.push_reserved.ensures in
     record {
-      queue = rw (c.insert.ensures, pushed.items) (queue_with_name m t below off c.self.invariant.queue);
-      room = omega (arith, sized, ap length c.insert.ensures, c.self.invariant.room, pushed.capacity);
+      queue = rw (c.insert.ensures, pushed.items)
+          (queue_with_name m t below off c.self.invariant.queue);
+      room =
+          omega (arith, sized, ap length c.insert.ensures, c.self.invariant.room, pushed.capacity);
     }

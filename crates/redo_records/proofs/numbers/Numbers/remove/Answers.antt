@@ -13,7 +13,8 @@ there c =
     let place =
     subst (λ ys. IsPlaceOf ys c.args.x c.number_place-place.result) c.as_slice.ensures.value
     c.number_place-place.ensures in
-    stands_there c.self.inside.items.items c.args.x c.number_place-place.result c.self.invariant place
+    stands_there c.self.inside.items.items c.args.x
+    c.number_place-place.result c.self.invariant place
     (subst (λ (n : NumberList). Contains n.items c.args.x) (sym c.self.view_is) c.requires)
 
 pub invariant_of-self : goal.invariant_of-self
@@ -29,5 +30,7 @@ returns-clause-each c =
     subst (λ (ys : List ℕ). (u : ℕ)
     → Contains ys u ↔ (Contains c.args.self.now.items u × (u ≡ c.args.x → ⊥)))
     (sym c.remove-removed.ensures.items) (subst (λ (zs : List ℕ). (u : ℕ)
-    → Contains (remove xs c.number_place-place.result) u ↔ (Contains zs u × (u ≡ c.args.x → ⊥))) same
-    (Contains-remove xs c.args.x c.number_place-place.result c.self.invariant (there c).0 (there c).1))
+    → Contains (remove xs c.number_place-place.result) u ↔ (Contains zs u × (u ≡ c.args.x → ⊥)))
+    same
+    (Contains-remove xs c.args.x c.number_place-place.result c.self.invariant
+    (there c).0 (there c).1))

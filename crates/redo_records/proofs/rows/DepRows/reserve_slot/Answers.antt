@@ -54,7 +54,8 @@ invariant_of-self-in_err-add_slot c =
     omega (arith, c.requires.name, ap length c.self.view_is) in
     let h1 =
     kept_needed c.self.inside.targets.items c.args.n c.self.inside.needed.items
-    c.self.inside.awaited.items c.self.inside.slotted.items c.index_mut.result.now c.reserve.new.self
+    c.self.inside.awaited.items c.self.inside.slotted.items
+    c.index_mut.result.now c.reserve.new.self
     name c.index_mut.ensures.value c.reserve.ensures.items c.reserve.ensures.kept
     c.self.invariant in
     let h2 =
@@ -75,7 +76,8 @@ invariant_of-self-2 c =
     omega (arith, c.requires.name, ap length c.self.view_is) in
     let h1 =
     kept_needed c.self.inside.targets.items c.args.n c.self.inside.needed.items
-    c.self.inside.awaited.items c.self.inside.slotted.items c.index_mut.result.now c.reserve.new.self
+    c.self.inside.awaited.items c.self.inside.slotted.items
+    c.index_mut.result.now c.reserve.new.self
     name c.index_mut.ensures.value c.reserve.ensures.items c.reserve.ensures.kept
     c.self.invariant in
     let h2 =

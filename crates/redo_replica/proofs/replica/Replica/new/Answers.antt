@@ -38,7 +38,8 @@ invariant_of-result c =
     ∙ ap (records_in graph.tables (replicate names idle_cell)) rows_are
     ∙ none_known graph.tables names (length pairs) in
     record {
-      fit = subst (λ (cells : List CompactCell). IsFit graph cells c.in_ok-rows.rows) (sym cells_are)
+      fit =
+          subst (λ (cells : List CompactCell). IsFit graph cells c.in_ok-rows.rows) (sym cells_are)
           (subst (IsFit graph (replicate names idle_cell)) (sym rows_are)
           (fit_at_first graph names (linked_by_plan graph names c.requires)
           c.ranges.names.fits));

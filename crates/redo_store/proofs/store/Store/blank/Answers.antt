@@ -17,7 +17,8 @@ invariant_of-result c =
     let stored : Stored = record { cells = cells; rows = rows; sorted = sorted; applied = 0 } in
     let count : length cells ≡ numbers =
     ap length c.in_ok-records.ensures ∙ length-replicate numbers idle in
-    let first = empty_records numbers cells rows c.in_ok-records.ensures c.in_ok-rows.ensures.rows in
+    let first =
+    empty_records numbers cells rows c.in_ok-records.ensures c.in_ok-rows.ensures.rows in
     record {
       stored = IsStored-by_number stored numbers c.in_ok-sorted.ensures count
           c.in_ok-rows.ensures.count (none_built numbers cells c.in_ok-records.ensures)

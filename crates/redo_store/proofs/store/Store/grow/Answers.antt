@@ -24,7 +24,8 @@ invariant_of-self-2 c =
     record { cells = cells; rows = rows; sorted = sorted; applied = old.applied } in
     let same = c.in_ok-records.ensures.same in
     record {
-      stored = IsStored-by_number stored numbers c.in_ok-sorted.ensures c.in_ok-records.ensures.count
+      stored =
+          IsStored-by_number stored numbers c.in_ok-sorted.ensures c.in_ok-records.ensures.count
           c.in_ok-grow.ensures.count
           (λ n. subst (λ (x : Cell). x.builds ≤ old.applied) (sym (same n))
           (c.self.invariant.stored.few_builds n))

@@ -13,6 +13,7 @@ returns-clause-listed c =
     let right = subst (λ (t : Stored). IsRight memo (records_of t)) c.self.view_is
     c.self.invariant.memo_right in
     IfOk-weaker c.list.result _ _ (λ out listed.
-    listed_alike by_number out.items (λ n. IsTrue (is_out memo n)) (OutOfDate (records_of c.args.self.now))
+    listed_alike by_number out.items (λ n. IsTrue (is_out memo n))
+    (OutOfDate (records_of c.args.self.now))
     right listed)
     c.list.ensures.listed

@@ -5,4 +5,5 @@ use Rattle.redo_store.proofs.store.Store.sources.Given as goal
 
 abbrev pub invariant-loop-n : goal.invariant-loop-n
 invariant-loop-n l =
-    AreFirst l.fn.self.sorted (λ n. IsSource (records_of l.fn.self) n) l.n-items l.n-index l.names.items
+    AreFirst l.fn.self.sorted (λ n. IsSource (records_of l.fn.self) n)
+    l.n-items l.n-index l.names.items

@@ -10,7 +10,8 @@ pub loop-n-init : goal.loop-n-init
 loop-n-init c =
     let t = c.args.self.now in
     rw c.new-ranks.ensures.items
-    (places_none t.sorted (IsStale (records_of t)) (Contains []) (λ k none. absurd (omega (arith, none.1))))
+    (places_none t.sorted (IsStale (records_of t)) (Contains [])
+    (λ k none. absurd (omega (arith, none.1))))
 
 pub loop-n-preserved : goal.loop-n-preserved
 loop-n-preserved c =
@@ -23,11 +24,13 @@ loop-n-preserved c =
     let due = c.is_stale-is_due.result in
     rw c.in_ok-push_if.ensures
     (places_more t.sorted Q names k c.loop-n-test.true rank (Contains ranks)
-    (Contains (ranks ++ cond due (rank ∷ []) [])) due c.rank-rank.ensures.below c.rank-rank.ensures.at
+    (Contains (ranks ++ cond due (rank ∷ []) [])) due
+    c.rank-rank.ensures.below c.rank-rank.ensures.at
     c.is_stale-is_due.ensures (pushed_due ranks rank due) c.loop-n.invariant)
 
 pub returns : goal.returns
 returns c =
     let t = c.args.self.now in
-    at_take_all (λ ns. PlacesOf t.sorted (IsStale (records_of t)) ns (Contains c.loop-n.ranks.items))
+    at_take_all
+    (λ ns. PlacesOf t.sorted (IsStale (records_of t)) ns (Contains c.loop-n.ranks.items))
     c.args.names.now c.loop-n.n-index c.loop-n-test.false c.loop-n.invariant

@@ -8,4 +8,5 @@ use Rattle.redo_store.proofs.store.Store.stale_ranks.Given as goal
 abbrev pub invariant-loop-n : goal.invariant-loop-n
 invariant-loop-n l =
     ArePlaces l.fn.self.sorted
-    (λ n. Contains (take l.n-index l.names) n × IsStale (records_of l.fn.self) n) (Contains l.ranks.items)
+    (λ n. Contains (take l.n-index l.names) n × IsStale (records_of l.fn.self) n)
+    (Contains l.ranks.items)

@@ -5,5 +5,6 @@ use Rattle.redo_store.proofs.store.Store.targets.Given as goal
 
 abbrev pub invariant-loop-n : goal.invariant-loop-n
 invariant-loop-n l =
-    AreFirst l.fn.self.sorted (λ n. HasFile (records_of l.fn.self) n × IsTarget (records_of l.fn.self) n)
+    AreFirst l.fn.self.sorted
+    (λ n. HasFile (records_of l.fn.self) n × IsTarget (records_of l.fn.self) n)
     l.n-items l.n-index l.names.items
