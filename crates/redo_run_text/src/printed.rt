@@ -28,6 +28,9 @@ const MOST_ALONE: usize = 16_384;
 /// A longer history is cut into at most this many chunks: each may start a thread.
 const MOST_CHUNKS: usize = 8;
 
+/// A chunk has at least this many lines, but for the last.
+const LEAST_CHUNK: usize = 4_096;
+
 /// The lines of a session's script.
 fn items_of(plan: &Plan, session: usize) -> &[Item]
     requires { session < length plan.now.scripts }
@@ -169,7 +172,8 @@ fn put_history<R: Threads + Sync>(
         let spans = put_lines(alloc, text, lines, plan.names())?;
         return put_parts(alloc, plan, lines, 0, text, &spans, parts);
     }
-    let size = lines.len() / MOST_CHUNKS + 1;
+    let count = MOST_CHUNKS.min(lines.len() / LEAST_CHUNK);
+    let size = lines.len() / count + 1;
     let chunks = print_chunks(rt, alloc, lines, size, plan.names())?;
     put_chunks(alloc, text, plan, lines, size, &chunks, parts)
 }
