@@ -1,5 +1,6 @@
 pub mod Tuples
 pub mod Found
+pub mod Gathered
 pub mod Growing
 pub mod Covered
 pub mod ByName

@@ -1,22 +1,13 @@
 -- Pairs of numbers, as the code compares them.
-use Rattle.std.proofs.Common.{◌≡◌, ◌&&◌, ℕ, ◌<◌, ◌+◌, ◌^◌, Bool, true, false, List, [], length, get_or, refl, sym, ap, ◌∙◌, subst, inl, inr, arith}
+use Rattle.std.proofs.Common.{◌≡◌, ◌&&◌, ℕ, ◌<◌, Bool, true, refl, sym, ap, ◌∙◌, subst, inl, inr, arith}
 use Rattle.std.specs.Prelude.{nat_eq}
 use Rattle.std.specs.Cmp.{IsTotalOrder, IsEquivalence}
-use Rattle.std.specs.List.{Contains, dedup}
-use Rattle.std.specs.List.Retain.{IsFiltered, DiffersFromLast}
-use Rattle.std.specs.List.Sorted.{IsPermutation, IsSorted, IsNonDecreasingBy}
-use Rattle.std.specs.Ordering.{MatchOrdering, nat_cmp, is_eq, is_lt, eq_by_cmp, ordering_then}
+use Rattle.std.specs.Ordering.{MatchOrdering, nat_cmp, is_eq, eq_by_cmp, ordering_then}
 use Rattle.std.specs.declared.cmp.Ordering.{Ordering}
 use Rattle.std.specs.declared.cmp.Ordering.TheVariants.{Less, Equal, Greater}
 use Rattle.std.proofs.lemmas.Bool.{and_parts, eqb-true, eq-eqb, ne_eqb}
 use Rattle.std.proofs.lemmas.Cmp.{ranked, by_ranked, nat_cmp_total, nat_eq_equiv, on_total, then_total, on_equiv, and_equiv}
-use Rattle.std.proofs.lemmas.List.{get_or_default}
-use Rattle.std.proofs.lemmas.List.Filters.{dedup_is}
-use Rattle.std.proofs.lemmas.List.Kept.{Contains-dedup, Contains-from_dedup, IsStrictlySortedBy-dedup}
-use Rattle.std.proofs.lemmas.List.Sorted.{Contains-permutation, IsPermutation-sym}
-use Rattle.std.proofs.lemmas.Map.Keys.{Less-from_sorted}
-use Rattle.redo_graph.specs.Pairs.{ComesBefore, AreAscending, AreThose}
-use Rattle.redo_graph.specs.Inside.Pairs.{number_of, AreSmall}
+use Rattle.redo_graph.specs.Pairs.{ComesBefore}
 
 abbrev pub pair_cmp : ℕ × ℕ → ℕ × ℕ → Ordering
 pair_cmp p q = ordering_then (nat_cmp p.0 q.0) (nat_cmp p.1 q.1)
@@ -96,55 +87,3 @@ less_from_before p q before = elim before [
       ap (λ o. ordering_then o (nat_cmp p.1 q.1)) (number_equal p.0 q.0 second.0)
       ∙ number_less p.1 q.1 second.1
 ]
-
--- an earlier pair has a lesser number
-number_before : (p q : ℕ × ℕ) → p.1 < 2 ^ 32 → ComesBefore p q → number_of p < number_of q
-number_before p q small (inl first) = omega (arith, first, small)
-number_before p q small (inr (first, second)) = omega (arith, first, second)
-
--- what does not fall by those numbers is sorted by the order of pairs
-pub sorted_by_number : (pairs : List (ℕ × ℕ)) → AreSmall pairs → IsNonDecreasingBy number_of pairs
-    → IsSorted pair_cmp pairs
-sorted_by_number pairs small up k d low high = not_less (pair_cmp next here) refl
-  where
-    next : ℕ × ℕ
-    next = get_or pairs (k + 1) d
-
-    here : ℕ × ℕ
-    here = get_or pairs k d
-
-    not_less : (o : Ordering) → pair_cmp next here ≡ o → is_lt o ≡ false
-    not_less Less e =
-        let there : Contains pairs next = (k + 1, high, get_or_default pairs (k + 1) next d high) in
-        let less = number_before next here (small next there) (before_from_less next here e) in
-        absurd (omega (arith, less, up k (k + 1) d (omega arith) high))
-    not_less Equal e = refl
-    not_less Greater e = refl
-
--- pairs that were sorted, each kept once
-module _ (from sorted to : List (ℕ × ℕ)) (moved : IsPermutation from sorted)
-    (filtered : IsFiltered (DiffersFromLast pair_eq) [] sorted to)
-  where
-    kept : to ≡ dedup pair_eq sorted
-    kept = dedup_is pair_eq sorted to filtered
-
-    pub ascend_once : IsSorted pair_cmp sorted → AreAscending to
-    ascend_once up i j d before in' =
-        let strictly = IsStrictlySortedBy-dedup pair_total pair_ties sorted up in
-        let pairs = dedup pair_eq sorted in
-        let within : j < length pairs = subst (λ (ps : List (ℕ × ℕ)). j < length ps) kept in' in
-        subst (λ (ps : List (ℕ × ℕ)). ComesBefore (get_or ps i d) (get_or ps j d)) (sym kept)
-        (before_from_less (get_or pairs i d) (get_or pairs j d)
-        (Less-from_sorted pair_cmp pairs i j d strictly before within))
-
-    pub same_once : AreThose from to
-    same_once p = (
-      λ c.
-          let left = subst (λ (ps : List (ℕ × ℕ)). Contains ps p) kept c in
-          let there = Contains-from_dedup pair_eq sorted p left in
-          Contains-permutation sorted from p (IsPermutation-sym from sorted moved) there,
-      λ c.
-          let there = Contains-permutation from sorted p moved c in
-          subst (λ (ps : List (ℕ × ℕ)). Contains ps p) (sym kept)
-          (Contains-dedup pair_equiv same_from_eq sorted p there),
-    )

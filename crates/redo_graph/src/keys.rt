@@ -9,7 +9,11 @@ use redo_terms::{Command, Script};
 use std::alloc::{AllocError, Global};
 
 /// Appends the target with each of the names.
-fn push_names(keys: &mut Vec<(u32, u32)>, target: u32, names: &[u32]) -> Result<(), AllocError>
+pub(crate) fn push_names(
+    keys: &mut Vec<(u32, u32)>,
+    target: u32,
+    names: &[u32],
+) -> Result<(), AllocError>
     ensures { OnOk result (keys.new.items ≡ keys.old.items ++ map (λ n. (target, n)) names.now) }
 {
     for name in names {

@@ -1,27 +1,56 @@
-ghost use Rattle.std.specs.Prelude.{◌≡◌, ◌<◌, ◌≤◌, ◌+◌, ◌^◌, ℕ, length, IfOk};
+ghost use Rattle.std.specs.Prelude.{◌≡◌, ◌<◌, ◌≤◌, ◌+◌, ◌^◌, ℕ, [], Contains, length, map, IfOk};
 ghost use Rattle.redo_graph.specs.Pairs.{AreAscending, AreThose, IsStart};
-ghost use Rattle.redo_graph.specs.Inside.Pairs.{AreStarts, number_of, AreSmall};
+ghost use Rattle.redo_graph.specs.Inside.Pairs.{AreBlocks, AreStarts};
 
+use crate::keys::push_names;
+use redo_order::in_order;
 use std::alloc::{AllocError, Global};
+use std::mem;
 
-/// A pair as one number: that of an earlier pair is less.
-fn number_of(pair: &(u32, u32)) -> u64
-    ensures { result ≡ number_of pair.now }
+/// That many blocks without a number.
+fn bare_blocks(alloc: Global, count: u32) -> Result<Vec<Vec<u32>>, AllocError>
+    ensures count { IfOk result (λ blocks. length blocks.items ≡ count) }
+    ensures bare { IfOk result
+        (λ blocks. AreBlocks 0 [] (map (λ block. block.items) blocks.items)) }
 {
-    let (first, second) = *pair;
-    first as u64 * (1 << 32) + second as u64
+    let mut blocks = Vec::with_capacity(alloc, count as usize)?;
+    for _ in 0..count {
+        blocks.push(Vec::new(alloc))?;
+    }
+    Ok(blocks)
 }
 
-/// The pairs in ascending order, each once.
-pub(crate) fn each_once(mut pairs: Vec<(u32, u32)>) -> Vec<(u32, u32)>
-    requires { AreSmall pairs.items }
-    ensures ascending { AreAscending result.items }
-    ensures those { AreThose pairs.items result.items }
+/// A block for each first number below `count`: the second numbers of its pairs.
+fn blocks_of(alloc: Global, count: u32, pairs: &[(u32, u32)]) -> Result<Vec<Vec<u32>>, AllocError>
+    requires { (p : ℕ × ℕ) → Contains pairs.now p → p.0 < count }
+    ensures count { IfOk result (λ blocks. length blocks.items ≡ count) }
+    ensures blocks { IfOk result
+        (λ blocks. AreBlocks 0 pairs.now (map (λ block. block.items) blocks.items)) }
 {
-    // One number is sooner compared than two.
-    pairs.sort_unstable_by_key(|pair| number_of(pair));
-    pairs.dedup();
-    pairs
+    let mut blocks = bare_blocks(alloc, count)?;
+    for pair in pairs {
+        blocks[pair.0 as usize].push(pair.1)?;
+    }
+    Ok(blocks)
+}
+
+/// The pairs in ascending order, each once. Their first numbers are below `count`.
+pub(crate) fn each_once(
+    alloc: Global,
+    count: u32,
+    listed: &[(u32, u32)],
+) -> Result<Vec<(u32, u32)>, AllocError>
+    requires { (p : ℕ × ℕ) → Contains listed.now p → p.0 < count }
+    ensures ascending { IfOk result (λ pairs. AreAscending pairs.items) }
+    ensures those { IfOk result (λ pairs. AreThose listed.now pairs.items) }
+{
+    let mut blocks = blocks_of(alloc, count, listed)?;
+    let mut pairs = Vec::with_capacity(alloc, listed.len())?;
+    for first in 0..count {
+        let block = mem::replace(&mut blocks[first as usize], Vec::new(alloc));
+        push_names(&mut pairs, first, &in_order(block))?;
+    }
+    Ok(pairs)
 }
 
 /// The place where the pairs begin whose first number isn't below this one.

@@ -1,6 +1,5 @@
 ghost use Rattle.std.specs.Prelude.{◌≡◌, ◌↔◌, ◌<◌, ◌≤◌, ◌+◌, ◌^◌, ℕ, Some, Contains, length, slice_get, IfOk, IfSome, IsSome};
 ghost use Rattle.redo_graph.specs.Pairs.{AreAscending, AreThose, IsStart};
-ghost use Rattle.redo_graph.specs.Inside.Pairs.{AreSmall};
 
 use crate::count::small;
 use crate::once::{each_once, starts_of};
@@ -30,12 +29,11 @@ impl Model for Pairs {
 impl Pairs {
     /// These pairs, whose first numbers are below `count`. 2^32 or more give `AllocError`.
     pub fn new(alloc: Global, count: u32, listed: Vec<(u32, u32)>) -> Result<Pairs, AllocError>
-        requires below { (p : ℕ × ℕ) → Contains listed.items p → p.0 < count }
-        requires small { AreSmall listed.items }
+        requires { (p : ℕ × ℕ) → Contains listed.items p → p.0 < count }
         ensures count { IfOk result (λ made. made.count ≡ count) }
         ensures pairs { IfOk result (λ made. AreThose listed.items made.items) }
     {
-        let pairs = each_once(listed);
+        let pairs = each_once(alloc, count, &listed)?;
         small(pairs.len())?;
         let starts = starts_of(alloc, count, &pairs)?;
         Ok(Pairs { pairs, starts })
@@ -83,6 +81,19 @@ impl Pairs {
         match self.pairs[from..to].binary_search(&(first, second)) {
             Ok(place) => Some((from + place) as u32),
             Err(_) => None,
+        }
+    }
+
+    /// The place of a pair, if it is one of them. Callers pass `guess`: a place that it may have. It
+    /// is sooner found if that is right.
+    pub fn find_guessed(&self, guess: u32, first: u32, second: u32) -> Option<u32>
+        ensures found { IfSome result
+            (λ place. slice_get self.now.items place ≡ Some (first, second)) }
+        ensures there { IsSome result ↔ Contains self.now.items (first, second) }
+    {
+        match self.pairs.get(guess as usize) {
+            Some(pair) if *pair == (first, second) => Some(guess),
+            _ => self.find(first, second),
         }
     }
 }

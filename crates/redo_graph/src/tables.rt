@@ -1,4 +1,4 @@
-ghost use Rattle.std.specs.Prelude.{◌≡◌, ◌==◌, ℕ, Some, [], flat_map, length, map, slice_get, IfOk, OnOk};
+ghost use Rattle.std.specs.Prelude.{◌≡◌, ◌==◌, ℕ, IsTrue, Some, [], flat_map, length, map, slice_get, IfOk, OnOk};
 ghost use Rattle.std.specs.List.{AllZip};
 ghost use Rattle.sha1.specs.Sha1.{sha1};
 ghost use Rattle.redo_terms.specs.Meaning.{command_of};
@@ -23,6 +23,8 @@ pub(crate) struct Tables {
     pub(crate) pairs: Pairs,
     pub(crate) listed: Vec<u32>,
     pub(crate) stamps: IndexSet<FileStamp>,
+    // the number that the next stamp may have: sessions often list the same stamps in one order
+    guess: u32,
     pub(crate) digests: IndexSet<[u8; 20]>,
 }
 
@@ -50,11 +52,14 @@ fn push_places(
     ensures { OnOk result
         (ArePlaces pairs.now.items target names.now listed.old.items listed.new.items) }
 {
+    // Names that a line lists in order have places one after the other.
+    let mut guess = 0;
     for name in names {
-        let Some(place) = pairs.find(target, *name) else {
+        let Some(place) = pairs.find_guessed(guess, target, *name) else {
             unreachable!()
         };
         listed.push(place)?;
+        guess = place.saturating_add(1);
     }
     Ok(())
 }
@@ -68,6 +73,7 @@ impl Tables {
             pairs,
             listed: Vec::new(alloc),
             stamps: IndexSet::new(alloc),
+            guess: 0,
             digests: IndexSet::new(alloc),
         }
     }
@@ -97,13 +103,36 @@ impl Tables {
         let _ = self.digests();
     }
 
+    /// Whether the stamp has this number.
+    fn has_number(&self, stamp: FileStamp, number: u32) -> bool
+        ensures { IsTrue result → slice_get self.now.stamps number ≡ Some stamp }
+    {
+        match self.stamps.as_slice().get(number as usize) {
+            Some(there) => there.bytes() == stamp.bytes(),
+            None => false,
+        }
+    }
+
+    /// The number of a stamp, found by the guess or by its hash.
+    fn stamp_number(&mut self, stamp: FileStamp) -> Result<u32, AllocError>
+        ensures number { IfOk result (λ number. slice_get self.new.stamps number ≡ Some stamp) }
+        ensures grows { OnOk result (Grows self.old self.new) }
+    {
+        if self.has_number(stamp, self.guess) {
+            return Ok(self.guess);
+        }
+        let (number, _) = self.stamps.insert_full(stamp)?;
+        small(number)
+    }
+
     /// The number of a stamp.
     fn stamp(&mut self, stamp: FileStamp) -> Result<u32, AllocError>
         ensures number { IfOk result (λ number. slice_get self.new.stamps number ≡ Some stamp) }
         ensures grows { OnOk result (Grows self.old self.new) }
     {
-        let (number, _) = self.stamps.insert_full(stamp)?;
-        small(number)
+        let number = self.stamp_number(stamp)?;
+        self.guess = number.saturating_add(1);
+        Ok(number)
     }
 
     /// The number of the content's digest.

@@ -1,15 +1,12 @@
 -- The value of the fields of `Pairs`, and their invariant.
-use Rattle.std.specs.Prelude.{◌≡◌, ℕ, ◌<◌, ◌≤◌, ◌+◌, ◌*◌, ◌-◌, ◌^◌, List, Contains, length, slice_index}
+use Rattle.std.specs.Prelude.{◌≡◌, ◌↔◌, ℕ, ◌<◌, ◌≤◌, ◌+◌, ◌-◌, ◌^◌, List, [], Contains, length, slice_index, slice_index_or}
 use Rattle.redo_graph.specs.declared.pairs.Pairs.TheInside.{Inside}
 use Rattle.redo_graph.specs.Pairs.{PairsOf, AreAscending, IsStart}
 
--- a pair as one number
-abbrev pub number_of : ℕ × ℕ → ℕ
-number_of p = p.0 * 2 ^ 32 + p.1
-
--- the second numbers of the pairs have 32 bits
-abbrev pub AreSmall : List (ℕ × ℕ) → Type 0
-AreSmall pairs = (p : ℕ × ℕ) → Contains pairs p → p.1 < 2 ^ 32
+-- each block has the second numbers of the pairs with its first number, from the number `from` on
+abbrev pub AreBlocks : ℕ → List (ℕ × ℕ) → List (List ℕ) → Type 0
+AreBlocks from pairs blocks =
+    (t n : ℕ) → from ≤ t → Contains (slice_index_or blocks t []) n ↔ Contains pairs (t, n)
 
 -- for each number below `count`, where its pairs begin
 pub record AreStarts (pairs : List (ℕ × ℕ)) (count : ℕ) (starts : List ℕ) : Type 0 where

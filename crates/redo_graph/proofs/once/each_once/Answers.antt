@@ -1,18 +1,54 @@
-use Rattle.std.proofs.Common.{rules}
-use Rattle.std.proofs.lemmas.List.Sorted.{Contains-permutation, IsPermutation-sym, IsNonDecreasingBy-from_sort_by_key}
-use Rattle.redo_graph.specs.Inside.Pairs.{number_of}
-use Rattle.redo_graph.proofs.Tuples.{ascend_once, same_once, sorted_by_number}
+use Rattle.std.proofs.Common.{◌≡◌, ◌∙◌, ◌+◌, ℕ, List, [], ◌++◌, ◌↔◌, Contains, get_or, map, Vec, Global, arith, ap, sym, subst}
+use Rattle.std.proofs.lemmas.List.{get_or-map, length-set, map-set}
+use Rattle.redo_graph.specs.Inside.Pairs.{AreBlocks}
+use Rattle.redo_graph.proofs.Gathered.{ArePut, block_put, blocks_left}
 use Rattle.redo_graph.proofs.once.each_once.Goals as goal
 
-pub returns-clause-ascending : goal.returns-clause-ascending
-returns-clause-ascending c =
-    let moved = c.sort_unstable_by_key.ensures.permutation in
-    let up = IsNonDecreasingBy-from_sort_by_key number_of _ c.sort_unstable_by_key.ensures.sorted
-    (λ a r q k. search rules) in
-    ascend_once _ _ _ moved c.dedup.ensures.filtered
-    (sorted_by_number _
-    (λ p there. c.requires p (Contains-permutation _ _ p (IsPermutation-sym _ _ moved) there)) up)
+pub loop-first-preserved : goal.loop-first-preserved
+loop-first-preserved c = record {
+  count = length-set blocks t c.replace-block.new.dest ∙ c.loop-first.invariant.count;
+  left = subst (AreBlocks (t + 1) c.args.listed.now)
+      (sym (map-set numbers blocks t c.replace-block.new.dest))
+      (blocks_left c.args.listed.now (map numbers blocks) t c.replace-block.new.dest.items
+      c.loop-first.invariant.left);
+  put = subst (ArePut (t + 1) c.args.listed.now) (sym pushed)
+      (block_put c.args.listed.now c.loop-first.pairs.items t block c.loop-first.invariant.put
+      c.in_order.ensures.rising those);
+}
+  where
+    t : ℕ
+    t = c.loop-first.first
+
+    blocks : List (Vec ℕ Global)
+    blocks = c.loop-first.blocks.items
+
+    numbers : Vec ℕ Global → List ℕ
+    numbers block = block.items
+
+    block : List ℕ
+    block = c.in_order.result.items
+
+    pushed : c.push_names.new.keys.items
+        ≡ c.loop-first.pairs.items ++ map (λ n. (t, n)) block
+    pushed = c.in_ok-push_names.ensures
+        ∙ ap (λ (ns : List ℕ). c.loop-first.pairs.items ++ map (λ n. (t, n)) ns)
+        c.deref.ensures.value
+
+    taken : c.replace-block.result.items ≡ get_or (map numbers blocks) t []
+    taken = ap numbers (c.replace-block.ensures.value ∙ c.index_mut.ensures.value)
+        ∙ sym (get_or-map numbers blocks t c.index_mut.result.now []
+        (omega (arith, c.loop-first.invariant.count)))
+
+    those : (n : ℕ) → Contains block n ↔ Contains c.args.listed.now (t, n)
+    those n =
+        let sorted = c.in_order.ensures.same n in
+        let left = c.loop-first.invariant.left t n (omega arith) in (
+          λ there. left.0 (subst (λ (ns : List ℕ). Contains ns n) taken (sorted.0 there)),
+          λ there. sorted.1 (subst (λ (ns : List ℕ). Contains ns n) (sym taken) (left.1 there)),
+        )
 
 pub returns-clause-those : goal.returns-clause-those
-returns-clause-those c =
-    same_once _ _ _ c.sort_unstable_by_key.ensures.permutation c.dedup.ensures.filtered
+returns-clause-those c = λ p. (
+  λ there. ((c.loop-first.invariant.put.those p).0 there).0,
+  λ there. (c.loop-first.invariant.put.those p).1 (there, omega (arith, c.requires p there)),
+)

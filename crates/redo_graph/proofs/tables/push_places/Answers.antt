@@ -14,7 +14,7 @@ unreachable-requires c =
     let there : Contains c.args.pairs.now.items (c.args.target, n) =
     covers_name c.args.pairs.now.items c.args.target names at n below
     (get_or_default names at 0 n below) c.requires in
-    let some = c.find.ensures.there.1 there in
+    let some = c.find_guessed.ensures.there.1 there in
     search (rules, some)
 
 pub loop-name-preserved : goal.loop-name-preserved

@@ -8,7 +8,7 @@ use Rattle.redo_order.specs.Orders.{AreSorted, AreRanks}
 use Rattle.redo_order.proofs.Sorting.{sorted_below}
 use Rattle.redo_journal.specs.Plans.{scripts_of}
 use Rattle.redo_graph.specs.declared.step.Step.{Step}
-use Rattle.redo_graph.specs.Graphs.{IsOn, AreNumbers}
+use Rattle.redo_graph.specs.Graphs.{IsOn}
 use Rattle.redo_graph.specs.Inside.Named.{AreByName}
 use Rattle.redo_graph.specs.Pairs.{PairsOf, AreAscending, AreThose}
 use Rattle.redo_graph.specs.Steps.{AllMean, listed_by}
@@ -17,40 +17,25 @@ use Rattle.redo_graph.proofs.ByName.{on_each}
 use Rattle.redo_graph.proofs.graph.Graph.new.Goals as goal
 
 pub new-requires : goal.new-requires
-new-requires c = record {
-  below = λ p there. let names = numbers p there in
-      omega (arith, names.0, c.len.ensures.count, ap length c.names-names.ensures);
-  small = λ p there. let names = numbers p there in
-      omega (arith, names.1, c.len.ensures.count, ap length c.names-names.ensures);
-}
-  where
-    listed : c.in_ok-listed_pairs.field-0.items ≡ listed_by c.args.plan.now.scripts
-    listed = c.in_ok-listed_pairs.ensures ∙ ap listed_by c.scripts-scripts.ensures.scripts
-
-    numbers : (p : ℕ × ℕ) → Contains c.in_ok-listed_pairs.field-0.items p
-        → AreNumbers (length c.args.plan.now.names) p
-    numbers p there =
-        listed_below c.args.plan.now c.scripts-scripts.ensures.plan p
-        (subst (λ (l : List (ℕ × ℕ)). Contains l p) listed there)
+new-requires c = λ p there.
+    let listed = c.in_ok-listed_pairs.ensures ∙ ap listed_by c.scripts-scripts.ensures.scripts in
+    let numbers = listed_below c.args.plan.now c.scripts-scripts.ensures.plan p
+    (subst (λ (l : List (ℕ × ℕ)). Contains l p) listed there) in
+    omega (arith, numbers.0, c.len.ensures.count, ap length c.names-names.ensures)
 
 pub new-requires-2 : goal.new-requires-2
-new-requires-2 c = record {
-  below = λ p there.
-      let on = on_pair p there in
-      let pair : ℕ × ℕ = (on.0, p.0) in
-      let is_in : Contains pairs pair = (
-        p.1,
-        slice_get_within pairs p.1 pair on.1,
-        get_or_from_slice_get pairs p.1 pair pair on.1,
-      ) in
-      let numbers = listed_below c.args.plan.now c.scripts-scripts.ensures.plan pair
-      (subst (λ (l : List (ℕ × ℕ)). Contains l pair) listed
-      ((c.in_ok-pairs.ensures.pairs pair).0 is_in)) in
-      omega (arith, numbers.1, c.len-2.ensures.count, ap length c.names-names.ensures);
-  small = λ p there.
-      let on = on_pair p there in
-      omega (arith, slice_get_within pairs p.1 (on.0, p.0) on.1, c.as_slice.ensures.few);
-}
+new-requires-2 c = λ p there.
+    let on = on_pair p there in
+    let pair : ℕ × ℕ = (on.0, p.0) in
+    let is_in : Contains pairs pair = (
+      p.1,
+      slice_get_within pairs p.1 pair on.1,
+      get_or_from_slice_get pairs p.1 pair pair on.1,
+    ) in
+    let numbers = listed_below c.args.plan.now c.scripts-scripts.ensures.plan pair
+    (subst (λ (l : List (ℕ × ℕ)). Contains l pair) listed
+    ((c.in_ok-pairs.ensures.pairs pair).0 is_in)) in
+    omega (arith, numbers.1, c.len-2.ensures.count, ap length c.names-names.ensures)
   where
     pairs : List (ℕ × ℕ)
     pairs = c.in_ok-pairs.pairs.items

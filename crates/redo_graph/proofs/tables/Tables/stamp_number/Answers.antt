@@ -3,7 +3,7 @@ use Rattle.std.proofs.lemmas.Result.{IfOk-weaker}
 use Rattle.redo_graph.specs.Inside.Tables.{IsPrefix}
 use Rattle.redo_graph.proofs.Growing.{on_ok, prefix_same, prefix_insert}
 use Rattle.redo_graph.proofs.Stamps.{stamp_eq, same_stamp}
-use Rattle.redo_graph.proofs.tables.Tables.stamp.Goals as goal
+use Rattle.redo_graph.proofs.tables.Tables.stamp_number.Goals as goal
 
 pub returns-clause-number : goal.returns-clause-number
 returns-clause-number c =
