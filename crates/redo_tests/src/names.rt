@@ -22,6 +22,13 @@ fn check_third(rt: &impl Abort, names: &Names, text: &[u8]) {
     assert!(rt; names.number_of(b"c").is_none());
 }
 
+/// The text has this number, whatever is guessed.
+fn check_guessed(rt: &impl Abort, names: &Names, text: &[u8], want: Option<u32>) {
+    for guess in [0, 2, 4, u32::MAX] {
+        assert!(rt; names.number_guessed(guess, text) == want);
+    }
+}
+
 /// Names are numbered in the order in which they come, and sorted by their bytes.
 #[test]
 fn numbers(rt: HostRuntime) -> Result<(), NamesFault> {
@@ -30,6 +37,8 @@ fn numbers(rt: HostRuntime) -> Result<(), NamesFault> {
         assert!(rt; add(&rt, &mut names, text)? == want);
     }
     check_third(&rt, &names, b"a.c");
+    check_guessed(&rt, &names, b"a.c", Some(2));
+    check_guessed(&rt, &names, b"c", None);
     for (first, second, want) in [
         (0, 1, Ordering::Greater),
         (1, 2, Ordering::Less),
