@@ -1,12 +1,12 @@
 -- Pairs of numbers, as the code compares them.
-use Rattle.std.proofs.Common.{◌≡◌, ◌&&◌, ℕ, ◌<◌, Bool, true, refl, sym, ap, ◌∙◌, subst, inl, inr, arith}
+use Rattle.std.proofs.Common.{◌≡◌, ◌&&◌, ℕ, ◌<◌, Bool, true, refl, ap, ◌∙◌, inl, inr, arith}
 use Rattle.std.specs.Prelude.{nat_eq}
-use Rattle.std.specs.Cmp.{IsTotalOrder, IsEquivalence}
-use Rattle.std.specs.Ordering.{MatchOrdering, nat_cmp, is_eq, eq_by_cmp, ordering_then}
+use Rattle.std.specs.Cmp.{IsTotalOrder}
+use Rattle.std.specs.Ordering.{nat_cmp, ordering_then}
 use Rattle.std.specs.declared.cmp.Ordering.{Ordering}
 use Rattle.std.specs.declared.cmp.Ordering.TheVariants.{Less, Equal, Greater}
-use Rattle.std.proofs.lemmas.Bool.{and_parts, eqb-true, eq-eqb, ne_eqb}
-use Rattle.std.proofs.lemmas.Cmp.{ranked, by_ranked, nat_cmp_total, nat_eq_equiv, on_total, then_total, on_equiv, and_equiv}
+use Rattle.std.proofs.lemmas.Bool.{and_parts, eqb-true}
+use Rattle.std.proofs.lemmas.Cmp.{ranked, by_ranked, nat_cmp_total, on_total, then_total}
 use Rattle.redo_graph.specs.Pairs.{ComesBefore}
 
 abbrev pub pair_cmp : ℕ × ℕ → ℕ × ℕ → Ordering
@@ -20,53 +20,12 @@ pair_total =
     then_total (on_total (λ (p : ℕ × ℕ). p.0) nat_cmp_total)
     (on_total (λ (p : ℕ × ℕ). p.1) nat_cmp_total)
 
-pub pair_equiv : IsEquivalence pair_eq
-pair_equiv =
-    and_equiv (on_equiv (λ (p : ℕ × ℕ). p.0) nat_eq_equiv)
-    (on_equiv (λ (p : ℕ × ℕ). p.1) nat_eq_equiv)
-
 pub same_from_eq : (p q : ℕ × ℕ) → pair_eq p q ≡ true → p ≡ q
 same_from_eq (a, b) (c, d) e =
     let both = and_parts (nat_eq a c) (nat_eq b d) e in
     let first : a ≡ c = eqb-true a c both.0 in
     let second : b ≡ d = eqb-true b d both.1 in
     cc
-
-ties_eq : (m n : ℕ) → nat_eq m n ≡ is_eq (nat_cmp m n)
-ties_eq m n =
-    by_ranked (m < n) (m ≡ n) (n < m) (nat_cmp m n) (ranked m n (nat_cmp m n) refl)
-    (λ e less. ne_eqb m n (λ same. omega (arith, less, same)) ∙ sym (ap is_eq e))
-    (λ e same. eq-eqb m n same ∙ sym (ap is_eq e))
-    (λ e more. ne_eqb m n (λ same. omega (arith, more, same)) ∙ sym (ap is_eq e))
-
-ties_then : (o r : Ordering) → (is_eq o && is_eq r) ≡ is_eq (ordering_then o r)
-ties_then Less r = refl
-ties_then Equal r = refl
-ties_then Greater r = refl
-
-pub pair_ties : (p q : ℕ × ℕ) → pair_eq p q ≡ eq_by_cmp pair_cmp p q
-pair_ties p q =
-    ap (λ b. b && nat_eq p.1 q.1) (ties_eq p.0 q.0)
-    ∙ ap (λ b. is_eq (nat_cmp p.0 q.0) && b) (ties_eq p.1 q.1)
-    ∙ ties_then (nat_cmp p.0 q.0) (nat_cmp p.1 q.1)
-
-less_number : (m n : ℕ) → nat_cmp m n ≡ Less → m < n
-less_number m n e =
-    subst (λ o. MatchOrdering o (m < n) (m ≡ n) (n < m)) e (ranked m n (nat_cmp m n) refl)
-
-pub before_from_less : (p q : ℕ × ℕ) → pair_cmp p q ≡ Less → ComesBefore p q
-before_from_less p q less =
-    by_ranked (p.0 < q.0) (p.0 ≡ q.0) (q.0 < p.0) (nat_cmp p.0 q.0)
-    (ranked p.0 q.0 (nat_cmp p.0 q.0) refl)
-    (λ e first. inl first)
-    (λ e same. inr (
-      same,
-      less_number p.1 q.1
-          (ap (λ o. ordering_then o (nat_cmp p.1 q.1)) (sym e) ∙ less),
-    ))
-    (λ e more.
-    let wrong : Greater ≡ Less = ap (λ o. ordering_then o (nat_cmp p.1 q.1)) (sym e) ∙ less in
-    absurd cc)
 
 number_less : (m n : ℕ) → m < n → nat_cmp m n ≡ Less
 number_less m n less =

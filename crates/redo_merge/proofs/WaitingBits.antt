@@ -9,7 +9,7 @@ use Rattle.std.proofs.lemmas.Nat.Bits.{bit_at-zero, bit_at_set_same, bit_at_set_
 use Rattle.std.proofs.lemmas.List.{get_or-set_same, get_or-set_other, get_or_default}
 use Rattle.redo_journal.specs.declared.entry.Place.{Place}
 use Rattle.redo_journal.specs.declared.entry.Place.TheVariants.{Row, Granted, Busy, Released}
-use Rattle.redo_merge.specs.Inside.Waiting.{slot_of, slot_woken, NoneIsReady, IsFirstReady}
+use Rattle.redo_merge.specs.Inside.Waiting.{bucket_of, bucket_woken, NoneIsReady, IsFirstReady}
 
 -- the least bit is that of the first session that is ready
 module _ (ready n : ℕ) (fits : ready < 2 ^ 64) (few : n ≤ 64) where
@@ -47,38 +47,38 @@ fewer_ready ready s below on =
           absurd (omega (arith, sym (ap (λ r. bit_at r s) same) ∙ off, on))
     ]
 
-pub slot_small : (place : Place) → slot_of place < 512
-slot_small (Row r) = omega arith
-slot_small (Granted t g) = omega arith
-slot_small (Busy t g) = omega arith
-slot_small (Released t g) = omega arith
+pub bucket_small : (place : Place) → bucket_of place < 512
+bucket_small (Row r) = omega arith
+bucket_small (Granted t g) = omega arith
+bucket_small (Busy t g) = omega arith
+bucket_small (Released t g) = omega arith
 
-pub woken_small : (place : Place) → slot_woken place < 512
+pub woken_small : (place : Place) → bucket_woken place < 512
 woken_small (Row r) = omega arith
 woken_small (Granted t g) = omega arith
 woken_small (Busy t g) = omega arith
 woken_small (Released t g) = omega arith
 
--- a session's bit that was put into a slot
-module _ (slots : List ℕ) (i w s : ℕ) (in' : i < length slots) (read : w ≡ get_or slots i w)
+-- a session's bit that was put into a bucket
+module _ (buckets : List ℕ) (i w s : ℕ) (in' : i < length buckets) (read : w ≡ get_or buckets i w)
     (below : s < 64) where
   abbrev pub put : List ℕ
-  put = set slots i (bit_or w (1 * 2 ^ s % 2 ^ 64))
+  put = set buckets i (bit_or w (1 * 2 ^ s % 2 ^ 64))
 
   pub put_here : (j : ℕ) → i ≡ j → bit_at (get_or put j 0) s ≡ 1
   put_here j is =
       subst (λ k. bit_at (get_or put k 0) s ≡ 1) is
-      (ap (λ x. bit_at x s) (get_or-set_same slots i (bit_or w (1 * 2 ^ s % 2 ^ 64)) 0 in')
+      (ap (λ x. bit_at x s) (get_or-set_same buckets i (bit_or w (1 * 2 ^ s % 2 ^ 64)) 0 in')
       ∙ bit_at_set_same w64 w s below)
 
-  pub put_others : (j u : ℕ) → u ≢ s → bit_at (get_or put j 0) u ≡ bit_at (get_or slots j 0) u
+  pub put_others : (j u : ℕ) → u ≢ s → bit_at (get_or put j 0) u ≡ bit_at (get_or buckets j 0) u
   put_others j u other = elim (cases_eq j i) [
     | inl e ↦
         ap (λ k. bit_at (get_or put k 0) u) e
-        ∙ ap (λ x. bit_at x u) (get_or-set_same slots i (bit_or w (1 * 2 ^ s % 2 ^ 64)) 0 in')
+        ∙ ap (λ x. bit_at x u) (get_or-set_same buckets i (bit_or w (1 * 2 ^ s % 2 ^ 64)) 0 in')
         ∙ bit_at_set_other w64 w s below u other
-        ∙ ap (λ x. bit_at x u) (read ∙ get_or_default slots i w 0 in')
-        ∙ ap (λ k. bit_at (get_or slots k 0) u) (sym e)
+        ∙ ap (λ x. bit_at x u) (read ∙ get_or_default buckets i w 0 in')
+        ∙ ap (λ k. bit_at (get_or buckets k 0) u) (sym e)
     | inr far ↦ ap (λ x. bit_at x u)
-        (get_or-set_other slots i j (bit_or w (1 * 2 ^ s % 2 ^ 64)) 0 far)
+        (get_or-set_other buckets i j (bit_or w (1 * 2 ^ s % 2 ^ 64)) 0 far)
   ]

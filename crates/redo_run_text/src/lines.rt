@@ -92,7 +92,7 @@ fn print_chunk(alloc: Global, lines: &[Line], names: &Names) -> Result<Printed, 
     Ok(Printed { text, spans })
 }
 
-/// Prints the history in chunks of so many lines, each on a thread of its own.
+/// Prints the history in chunks of so many lines, side by side.
 pub(crate) fn print_chunks<R: Threads + Sync>(
     rt: &R,
     alloc: Global,

@@ -32,7 +32,7 @@ merging-init c = record {
       waiting_first c.in_ok-waiting.waiting _ c.in_ok-counts.counts c.args.journals.now
       c.in_ok-next.next.items
       (omega (arith, c.scripts-scripts.ensures.plan.few, c.requires.journals.one_each))
-      c.in_ok-waiting.ensures.ready c.in_ok-waiting.ensures.slots;
+      c.in_ok-waiting.ensures.ready c.in_ok-waiting.ensures.buckets;
 }
 
 pub least-requires-clause-within : goal.least-requires-clause-within

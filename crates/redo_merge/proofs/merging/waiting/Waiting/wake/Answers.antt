@@ -8,17 +8,17 @@ use Rattle.redo_merge.proofs.merging.waiting.Waiting.wake.Goals as goal
 
 pub returns : goal.returns
 returns c =
-    let slots = c.args.self.now.slots.items in
-    let k = c.slot_woken-k.result in
+    let buckets = c.args.self.now.buckets.items in
+    let k = c.bucket_woken-k.result in
     let w = c.index.result.now in
-    let in' : k < length slots =
-    omega (arith, c.slot_woken-k.ensures, woken_small c.args.place, c.requires) in
-    let read : w ≡ get_or slots k 0 = c.index.ensures ∙ get_or_default slots k w 0 in' in
-    let at : w ≡ get_or slots _ 0 =
-    read ∙ ap (λ (i : ℕ). get_or slots i 0) c.slot_woken-k.ensures in
+    let in' : k < length buckets =
+    omega (arith, c.bucket_woken-k.ensures, woken_small c.args.place, c.requires) in
+    let read : w ≡ get_or buckets k 0 = c.index.ensures ∙ get_or_default buckets k w 0 in' in
+    let at : w ≡ get_or buckets _ 0 =
+    read ∙ ap (λ (i : ℕ). get_or buckets i 0) c.bucket_woken-k.ensures in
     record {
-      slotted = length-set slots k 0 ∙ c.requires;
+      bucketed = length-set buckets k 0 ∙ c.requires;
       ready = λ u. bit_at_or c.args.self.now.ready w u
           ∙ ap (λ x. max (bit_at c.args.self.now.ready u) (bit_at x u)) at;
-      others = λ i far. get_or-set_other slots k i 0 0 (λ e. far (e ∙ c.slot_woken-k.ensures));
+      others = λ i far. get_or-set_other buckets k i 0 0 (λ e. far (e ∙ c.bucket_woken-k.ensures));
     }
