@@ -165,7 +165,7 @@ impl Tables {
         ensures grows { OnOk result (Grows self.old self.new) }
     {
         match command {
-            Command::File(name, stamp) => Ok(Step::File(*name, self.stamp(*stamp)?)),
+            Command::File(name, stamp) => Ok(Step::File(*name, self.stamp(**stamp)?)),
             Command::Gone(name) => Ok(Step::Gone(*name)),
             Command::Lock(target) => Ok(Step::Lock(*target)),
             Command::Unlock(target) => Ok(Step::Unlock(*target)),
@@ -179,7 +179,7 @@ impl Tables {
             Command::Always(target) => Ok(Step::Always(*target)),
             Command::Stamp(target, content) => Ok(Step::Stamp(*target, self.digest(content)?)),
             Command::Done(target, Some(stamp)) => {
-                Ok(Step::Done(*target, Some(self.stamp(*stamp)?)))
+                Ok(Step::Done(*target, Some(self.stamp(**stamp)?)))
             }
             Command::Done(target, None) => Ok(Step::Done(*target, None)),
             Command::Failed(target) => Ok(Step::Failed(*target)),

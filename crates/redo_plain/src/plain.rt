@@ -1,6 +1,6 @@
 use crate::known::{Known, State};
 use redo_names::Names;
-use redo_terms::{Command, FileStamp, Refusal, Reply};
+use redo_terms::{Command, FileStamp, Refusal, Reply, unboxed};
 use sha1::Sha1;
 use std::alloc::{AllocError, Global};
 
@@ -132,7 +132,7 @@ impl Plain {
     /// Makes the change of an accepted command.
     fn change(&mut self, session: u8, command: &Command) -> Result<(), AllocError> {
         match command {
-            Command::File(n, stamp) => self.set_file(*n, Some(*stamp)),
+            Command::File(n, stamp) => self.set_file(*n, Some(**stamp)),
             Command::Gone(n) => self.set_file(*n, None),
             Command::Lock(t) => self.lock(session, *t),
             Command::Unlock(t) => self.unlock(*t),
@@ -141,7 +141,7 @@ impl Plain {
             Command::IfCreate(t, names) => self.put_created(*t, names)?,
             Command::Always(t) => self.put_always(*t),
             Command::Stamp(t, content) => self.stamp(*t, Sha1::digest(content)),
-            Command::Done(t, stamp) => self.done(*t, *stamp),
+            Command::Done(t, stamp) => self.done(*t, unboxed(stamp)),
             Command::Failed(t) => self.failed(*t),
             Command::Ood | Command::Targets | Command::Sources => {}
         }

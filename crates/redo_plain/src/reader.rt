@@ -93,7 +93,10 @@ fn command_of(alloc: Global, kind: Kind, numbers: &[u32], last: &[u8]) -> Result
     let t = numbers.first().copied().unwrap_or(0);
     let others = Vec::from_slice(alloc, numbers.get(1..).unwrap_or(numbers))?;
     Ok(match kind {
-        Kind::File => Command::File(t, FileStamp::new(last).ok_or(Fault::NoValue)?),
+        Kind::File => {
+            let stamp = FileStamp::new(last).ok_or(Fault::NoValue)?;
+            Command::File(t, Box::new(alloc, stamp)?)
+        }
         Kind::Gone => Command::Gone(t),
         Kind::Lock => Command::Lock(t),
         Kind::Unlock => Command::Unlock(t),
@@ -103,7 +106,10 @@ fn command_of(alloc: Global, kind: Kind, numbers: &[u32], last: &[u8]) -> Result
         Kind::Always => Command::Always(t),
         Kind::Stamp => Command::Stamp(t, content_of(alloc, last)?),
         Kind::Done if last == b"-".as_slice() => Command::Done(t, None),
-        Kind::Done => Command::Done(t, Some(FileStamp::new(last).ok_or(Fault::NoValue)?)),
+        Kind::Done => {
+            let stamp = FileStamp::new(last).ok_or(Fault::NoValue)?;
+            Command::Done(t, Some(Box::new(alloc, stamp)?))
+        }
         Kind::Failed => Command::Failed(t),
         Kind::Ood => Command::Ood,
         Kind::Targets => Command::Targets,

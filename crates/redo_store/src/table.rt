@@ -92,7 +92,7 @@ macro_rules! effect {
         {}
     };
     (set_file [$store:tt $s:tt] $n:ident $stamp:ident) => {
-        $store.set_file(*$n, Some(*$stamp))
+        $store.set_file(*$n, Some(**$stamp))
     };
     (clear_file [$store:tt $s:tt] $n:ident) => {
         $store.set_file(*$n, None)
@@ -113,7 +113,7 @@ macro_rules! effect {
         $store.stamp(*$t, $content)
     };
     (done [$store:tt $s:tt] $t:ident $stamp:ident) => {
-        $store.done(*$t, *$stamp)
+        $store.done(*$t, unboxed($stamp))
     };
     (failed [$store:tt $s:tt] $t:ident) => {
         $store.failed(*$t)

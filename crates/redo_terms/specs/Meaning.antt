@@ -1,5 +1,5 @@
 -- What the values of the code mean: over numbers, and over the names that the numbers stand for.
-use Rattle.std.specs.Prelude.{ℕ, List}
+use Rattle.std.specs.Prelude.{ℕ, List, box_value, option_map}
 use Rattle.redo_names.specs.Names.{text_at}
 use Rattle.redo_model.specs.Names.{Text, Naming, numbers, texts}
 use Rattle.redo_model.specs.Command as commands
@@ -15,7 +15,7 @@ use Rattle.redo_terms.specs.declared.reply.Reply.TheVariants as coded
 use Rattle.redo_terms.specs.declared.reply.Line.{Line}
 
 abbrev pub command_of : Command → commands.Command ℕ
-command_of (File n stamp) = commands.File n stamp
+command_of (File n stamp) = commands.File n (box_value stamp)
 command_of (Gone n) = commands.Gone n
 command_of (Lock t) = commands.Lock t
 command_of (Unlock t) = commands.Unlock t
@@ -24,7 +24,7 @@ command_of (IfChange t names) = commands.IfChange t names.items
 command_of (IfCreate t names) = commands.IfCreate t names.items
 command_of (Always t) = commands.Always t
 command_of (Stamp t content) = commands.Stamp t content.items
-command_of (Done t stamp) = commands.Done t stamp
+command_of (Done t stamp) = commands.Done t (option_map box_value stamp)
 command_of (Failed t) = commands.Failed t
 command_of Ood = commands.Ood
 command_of Targets = commands.Targets

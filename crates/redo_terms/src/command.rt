@@ -1,14 +1,14 @@
-ghost use Rattle.std.specs.Prelude.{◌≡◌, ◌↔◌, IsTrue};
+ghost use Rattle.std.specs.Prelude.{◌≡◌, ◌↔◌, IsTrue, IfOk, box_value, option_map};
 
 use crate::kind::Kind;
 use crate::stamp::FileStamp;
 use std::alloc::{AllocError, Global};
 
-/// A command of a session. Names are numbers.
+/// A command of a session. Names are numbers. Stamps are boxed, so that a command has 32 bytes.
 #[derive(Debug, Drop)]
 pub enum Command {
     /// The name has a file with this stamp.
-    File(u32, FileStamp),
+    File(u32, Box<FileStamp>),
     /// The name has no file.
     Gone(u32),
     Lock(u32),
@@ -24,7 +24,7 @@ pub enum Command {
     /// The target's digest is that of this content; a line has up to 4,092 bytes of it.
     Stamp(u32, Vec<u8>),
     /// The target was built; its file has this stamp, or there is none.
-    Done(u32, Option<FileStamp>),
+    Done(u32, Option<Box<FileStamp>>),
     /// The target could not be built.
     Failed(u32),
     /// Which targets have a file and are out of date?
@@ -35,6 +35,8 @@ pub enum Command {
     Sources,
 }
 
+const _: () = prove!(size_of::<Command>() <= 32);
+
 fn is_same_stamp(one: &FileStamp, other: &FileStamp) -> bool
     ensures { IsTrue result ↔ (one.now ≡ other.now) }
 {
@@ -42,13 +44,33 @@ fn is_same_stamp(one: &FileStamp, other: &FileStamp) -> bool
 }
 
 /// Whether a build ends the same: with such a stamp, or with none.
-fn is_same_end(one: &Option<FileStamp>, other: &Option<FileStamp>) -> bool
-    ensures { IsTrue result ↔ (one.now ≡ other.now) }
+fn is_same_end(one: &Option<Box<FileStamp>>, other: &Option<Box<FileStamp>>) -> bool
+    ensures { IsTrue result ↔ (option_map box_value one.now ≡ option_map box_value other.now) }
 {
     match (one, other) {
         (Some(one), Some(other)) => is_same_stamp(one, other),
         (None, None) => true,
         _ => false,
+    }
+}
+
+/// The stamp in a box, if there is one.
+pub fn boxed(alloc: Global, stamp: Option<FileStamp>) -> Result<Option<Box<FileStamp>>, AllocError>
+    ensures { IfOk result (λ boxed. option_map box_value boxed ≡ stamp) }
+{
+    match stamp {
+        Some(stamp) => Ok(Some(Box::new(alloc, stamp)?)),
+        None => Ok(None),
+    }
+}
+
+/// The stamp in the box, if there is one.
+pub fn unboxed(stamp: &Option<Box<FileStamp>>) -> Option<FileStamp>
+    ensures { result ≡ option_map box_value stamp.now }
+{
+    match stamp {
+        Some(stamp) => Some(**stamp),
+        None => None,
     }
 }
 
@@ -121,7 +143,7 @@ impl Command {
         ensures { IfOk result (λ copy. command_of copy ≡ command_of self.now) }
     {
         Ok(match self {
-            Command::File(n, stamp) => Command::File(*n, *stamp),
+            Command::File(n, stamp) => Command::File(*n, Box::new(alloc, **stamp)?),
             Command::Gone(n) => Command::Gone(*n),
             Command::Lock(t) => Command::Lock(*t),
             Command::Unlock(t) => Command::Unlock(*t),
@@ -130,7 +152,7 @@ impl Command {
             Command::IfCreate(t, names) => Command::IfCreate(*t, Vec::from_slice(alloc, names)?),
             Command::Always(t) => Command::Always(*t),
             Command::Stamp(t, content) => Command::Stamp(*t, Vec::from_slice(alloc, content)?),
-            Command::Done(t, stamp) => Command::Done(*t, *stamp),
+            Command::Done(t, stamp) => Command::Done(*t, boxed(alloc, unboxed(stamp))?),
             Command::Failed(t) => Command::Failed(*t),
             Command::Ood => Command::Ood,
             Command::Targets => Command::Targets,

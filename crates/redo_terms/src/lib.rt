@@ -8,7 +8,7 @@ mod reply;
 mod script;
 mod stamp;
 
-pub use command::Command;
+pub use command::{Command, boxed, unboxed};
 pub use kind::Kind;
 pub use reply::{Line, Refusal, Reply};
 pub use script::{Item, Script};

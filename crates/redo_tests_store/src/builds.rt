@@ -5,7 +5,7 @@ ghost use Rattle.redo_model.specs.Renaming.{AllBelow, IsBelow};
 ghost use Rattle.redo_terms.specs.Meaning.{command_of};
 
 use crate::commands::{Commands, NAMES};
-use redo_terms::{Command, FileStamp};
+use redo_terms::{Command, FileStamp, boxed};
 use std::alloc::{AllocError, Global};
 
 /// How many of the names are built as targets; the others are sources.
@@ -24,8 +24,8 @@ fn source(drawn: &mut Commands) -> u32
 }
 
 /// A source gets a file or none: mostly what it had before.
-fn source_file(drawn: &mut Commands) -> Command
-    ensures { IsBelow NAMES (command_of result) }
+fn source_file(drawn: &mut Commands, alloc: Global) -> Result<Command, AllocError>
+    ensures { IfOk result (λ command. IsBelow NAMES (command_of command)) }
 {
     let n = source(drawn);
     let stamp = match drawn.below(16) {
@@ -35,8 +35,8 @@ fn source_file(drawn: &mut Commands) -> Command
         _ => FileStamp::new(b"1"),
     };
     match stamp {
-        Some(stamp) => Command::File(n, stamp),
-        None => Command::Gone(n),
+        Some(stamp) => Ok(Command::File(n, Box::new(alloc, stamp)?)),
+        None => Ok(Command::Gone(n)),
     }
 }
 
@@ -81,7 +81,7 @@ fn last_words(drawn: &mut Commands, alloc: Global, t: u32) -> Result<Command, Al
         0 => Command::Always(t),
         1 => Command::Failed(t),
         2..=8 => Command::IfCreate(t, vec![in alloc; MISSING]?),
-        _ => source_file(drawn),
+        _ => source_file(drawn, alloc)?,
     })
 }
 
@@ -104,7 +104,7 @@ pub(crate) fn step_command(
         2 | 3 => Command::IfChange(t, needed_names(drawn, alloc, t)?),
         4 => Command::Stamp(t, content(drawn, alloc)?),
         5 => last_words(drawn, alloc, t)?,
-        6 => Command::Done(t, FileStamp::new(b"1")),
-        _ => source_file(drawn),
+        6 => Command::Done(t, boxed(alloc, FileStamp::new(b"1"))?),
+        _ => source_file(drawn, alloc)?,
     })
 }

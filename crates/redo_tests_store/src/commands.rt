@@ -3,7 +3,7 @@ ghost use Rattle.std.specs.Prelude.{◌<◌, ◌≤◌, IfOk};
 ghost use Rattle.redo_model.specs.Renaming.{AllBelow, IsBelow};
 ghost use Rattle.redo_terms.specs.Meaning.{command_of};
 
-use redo_terms::{Command, FileStamp};
+use redo_terms::{Command, FileStamp, boxed};
 use redo_testing::Random;
 use std::alloc::{AllocError, Global};
 
@@ -93,13 +93,13 @@ impl Commands {
     }
 
     /// A command that gives some name a file, or none.
-    fn file(&mut self) -> Command
-        ensures { IsBelow NAMES (command_of result) }
+    fn file(&mut self, alloc: Global) -> Result<Command, AllocError>
+        ensures { IfOk result (λ command. IsBelow NAMES (command_of command)) }
     {
         let n = self.name();
         match self.stamp() {
-            Some(stamp) if self.below(4) > 0 => Command::File(n, stamp),
-            _ => Command::Gone(n),
+            Some(stamp) if self.below(4) > 0 => Ok(Command::File(n, Box::new(alloc, stamp)?)),
+            _ => Ok(Command::Gone(n)),
         }
     }
 
@@ -109,13 +109,13 @@ impl Commands {
         ensures { IfOk result (λ command. IsBelow NAMES (command_of command)) }
     {
         Ok(match self.below(32) {
-            0..=3 => self.file(),
+            0..=3 => self.file(alloc)?,
             4 | 5 => Command::Lock(t),
             6 => Command::Unlock(t),
             7..=11 => Command::Start(t),
             12..=19 => self.rows(alloc, t)?,
             20..=22 => Command::Stamp(t, self.content(alloc)?),
-            23..=26 => Command::Done(t, self.stamp()),
+            23..=26 => Command::Done(t, boxed(alloc, self.stamp())?),
             27 => Command::Failed(t),
             28 | 29 => Command::Ood,
             30 => Command::Targets,

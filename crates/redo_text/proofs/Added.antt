@@ -1,5 +1,5 @@
 -- Adding names: the names after it, and what it leaves unchanged.
-use Rattle.std.proofs.Common.{◌≡◌, ℕ, ◌+◌, ◌<◌, ◌≤◌, Bool, true, false, cond, List, [], ◌∷◌, ◌++◌, map, length, get_or, Result, Ok, Err, refl, sym, ap, ◌∙◌, arith, eqb, length-append}
+use Rattle.std.proofs.Common.{◌≡◌, ℕ, ◌+◌, ◌<◌, ◌≤◌, Bool, true, false, cond, List, [], ◌∷◌, ◌++◌, map, length, get_or, Result, Ok, Err, box_value, option_map, refl, sym, ap, ◌∙◌, arith, eqb, length-append}
 use Rattle.std.proofs.lemmas.Bool.Decides.{nat_tests}
 use Rattle.std.proofs.lemmas.List.{get_or_append_left}
 use Rattle.redo_names.specs.Names.{has, text_at, with_name}
@@ -106,7 +106,7 @@ pub command_at-Extends : (old new : List Text) (command : Command) → Extends o
     → IsBelow (length old) (command_of command) → command_at new command ≡ command_at old command
 command_at-Extends old new (File n stamp) x below =
     let e = text_at-Extends old new n x below.0 in
-    λ i. commands.File (e i) stamp
+    λ i. commands.File (e i) (box_value stamp)
 command_at-Extends old new (Gone n) x below = ap commands.Gone (text_at-Extends old new n x below.0)
 command_at-Extends old new (Lock n) x below = ap commands.Lock (text_at-Extends old new n x below.0)
 command_at-Extends old new (Unlock n) x below =
@@ -128,7 +128,7 @@ command_at-Extends old new (Stamp n content) x below =
     λ i. commands.Stamp (e i) content.items
 command_at-Extends old new (Done n stamp) x below =
     let e = text_at-Extends old new n x below.0 in
-    λ i. commands.Done (e i) stamp
+    λ i. commands.Done (e i) (option_map box_value stamp)
 command_at-Extends old new (Failed n) x below =
     ap commands.Failed (text_at-Extends old new n x below.0)
 command_at-Extends old new Ood x below = refl

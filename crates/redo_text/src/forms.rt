@@ -19,7 +19,7 @@ use crate::words::{
     content_of, file_stamp_of, file_stamp_or_none_of, known_alone, known_name, name_of, number_of,
 };
 use redo_names::Names;
-use redo_terms::{Command, Kind};
+use redo_terms::{Command, Kind, boxed};
 use std::alloc::Global;
 
 /// The number of the one name of a form.
@@ -43,7 +43,7 @@ fn one_name_of(names: &mut Names, args: Option<&[u8]>) -> Result<u32, Unread>
 }
 
 #[tactic(auto, using(crate::proofs::Added::extends_same), unfolding(crate::specs::Inside::Reading::file_in))]
-fn file_of(names: &mut Names, args: Option<&[u8]>) -> Result<Command, Unread>
+fn file_of(alloc: Global, names: &mut Names, args: Option<&[u8]>) -> Result<Command, Unread>
     ensures reads { Reads (λ command. (command_at names.new command, names.new)) result
         (file_in names.old (words_after args.entry)) }
     ensures within { IfOk result (λ command. IsBelow (length names.new) (command_of command)) }
@@ -54,7 +54,7 @@ fn file_of(names: &mut Names, args: Option<&[u8]>) -> Result<Command, Unread>
         return Err(Unread::Fault(LineFault::WrongWords));
     };
     let known = known_name(names, n)?;
-    let stamp = file_stamp_of(s)?;
+    let stamp = Box::new(alloc, file_stamp_of(s)?)?;
     let number = number_of(names, known, n)?;
     Ok(Command::File(number, stamp))
 }
@@ -77,7 +77,7 @@ fn stamp_of(alloc: Global, names: &mut Names, args: Option<&[u8]>) -> Result<Com
 }
 
 #[tactic(auto, using(crate::proofs::Added::extends_same), unfolding(crate::specs::Inside::Reading::done_in))]
-fn done_of(names: &mut Names, args: Option<&[u8]>) -> Result<Command, Unread>
+fn done_of(alloc: Global, names: &mut Names, args: Option<&[u8]>) -> Result<Command, Unread>
     ensures reads { Reads (λ command. (command_at names.new command, names.new)) result
         (done_in names.old (words_after args.entry)) }
     ensures within { IfOk result (λ command. IsBelow (length names.new) (command_of command)) }
@@ -88,7 +88,7 @@ fn done_of(names: &mut Names, args: Option<&[u8]>) -> Result<Command, Unread>
         return Err(Unread::Fault(LineFault::WrongWords));
     };
     let known = known_name(names, n)?;
-    let stamp = file_stamp_or_none_of(s)?;
+    let stamp = boxed(alloc, file_stamp_or_none_of(s)?)?;
     let number = number_of(names, known, n)?;
     Ok(Command::Done(number, stamp))
 }
@@ -119,7 +119,7 @@ pub(crate) fn form_of(alloc: Global, names: &mut Names, text: &[u8]) -> Result<C
         return Err(Unread::Fault(LineFault::UnknownCommand));
     };
     match kind {
-        Kind::File => file_of(names, args),
+        Kind::File => file_of(alloc, names, args),
         Kind::Gone => Ok(Command::Gone(one_name_of(names, args)?)),
         Kind::Lock => Ok(Command::Lock(one_name_of(names, args)?)),
         Kind::Unlock => Ok(Command::Unlock(one_name_of(names, args)?)),
@@ -134,7 +134,7 @@ pub(crate) fn form_of(alloc: Global, names: &mut Names, text: &[u8]) -> Result<C
         }
         Kind::Always => Ok(Command::Always(one_name_of(names, args)?)),
         Kind::Stamp => stamp_of(alloc, names, args),
-        Kind::Done => done_of(names, args),
+        Kind::Done => done_of(alloc, names, args),
         Kind::Failed => Ok(Command::Failed(one_name_of(names, args)?)),
         Kind::Ood => {
             check_no_words(args)?;

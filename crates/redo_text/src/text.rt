@@ -11,7 +11,7 @@ ghost use Rattle.redo_text.specs.Texts.{after_space, stamp_word, content_word, r
 use crate::keywords::keyword;
 use itoa::Buffer;
 use redo_names::Names;
-use redo_terms::{Command, FileStamp, Item, Kind, Refusal, Reply};
+use redo_terms::{Command, FileStamp, Item, Kind, Refusal, Reply, unboxed};
 use std::alloc::{AllocError, Global};
 
 /// Writes a word with the space before it.
@@ -96,7 +96,7 @@ fn put_form(
         }
         Command::Done(t, stamp) => {
             put_word(out, names.text(*t))?;
-            put_stamp_or_none(out, *stamp)
+            put_stamp_or_none(out, unboxed(stamp))
         }
         Command::Ood | Command::Targets | Command::Sources => Ok(()),
     }

@@ -112,7 +112,7 @@ impl Redo {
             ≡ changes (tables_records self.now) (command_of command.now) (reply_of reply.now) }
     {
         match command {
-            Command::File(n, stamp) => !self.store.has_stamp(*n, *stamp),
+            Command::File(n, stamp) => !self.store.has_stamp(*n, **stamp),
             Command::Gone(n) => self.store.has_file(*n),
             Command::Ood | Command::Targets | Command::Sources => false,
             _ => reply.lets_through(),
