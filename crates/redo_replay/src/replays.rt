@@ -45,27 +45,27 @@ fn compared(
     }
 }
 
-/// The verdict on lines with this verdict and one more, which has this number. After a wrong reply
-/// no command is done.
-fn judged(
+/// Turns the verdict on lines into that on these and one more, which has this number. After a wrong
+/// reply no command is done.
+fn judge(
     alloc: Global,
     live: &mut Live,
-    verdict: Verdict,
+    verdict: &mut Verdict,
     number: usize,
     line: &Line,
-) -> Result<Verdict, AllocError>
+) -> Result<(), AllocError>
     requires below { IsLineBelow (length live.old.names) (line_of line.now) }
     requires calls { calls_in live.old < 1048576 }
     ensures names { live.new.names ≡ live.old.names }
     ensures calls { OnOk result (calls_in live.new ≤ calls_in live.old + 1) }
-    ensures judged { (lines : List (LineOf Text)) → IsJudged live.old lines verdict
+    ensures judged { OnOk result ((lines : List (LineOf Text)) → IsJudged live.old lines verdict.old
         → number ≡ length lines + 1
-        → IfOk result (IsJudged live.new (lines ++ line_at live.old.names line.now ∷ [])) }
+        → IsJudged live.new (lines ++ line_at live.old.names line.now ∷ []) verdict.new) }
 {
-    match verdict {
-        Verdict::Same(_) => compared(alloc, live, number, line),
-        differs => Ok(differs),
+    if let Verdict::Same(_) = verdict {
+        *verdict = compared(alloc, live, number, line)?;
     }
+    Ok(())
 }
 
 /// The verdict on the lines of a history, of which its header counts so many. The database, in
@@ -93,7 +93,7 @@ fn verdict_on(
             return Err(HistoryFault::Cut);
         };
         let line = live.read_line(alloc, number, text)?;
-        verdict = judged(alloc, live, verdict, number, &line)?;
+        judge(alloc, live, &mut verdict, number, &line)?;
         left = after;
     }
     Ok(verdict)

@@ -29,14 +29,14 @@ returns-in_err-line-clause-fault c =
 pub lines-preserved : goal.lines-preserved
 lines-preserved c = record {
   so_far = one_replayed (header_of c.args.count ++ c.args.rest.now) c.args.count c.lines.number
-      c.lines.live c.read_line.new.self c.judged.new.live c.lines.left.now c.in-Some.text.now
-      c.in-Some.after.now c.in_ok-line.line c.lines.verdict c.in_ok-verdict.verdict
+      c.lines.live c.read_line.new.self c.judge.new.live c.lines.left.now c.in-Some.text.now
+      c.in-Some.after.now c.in_ok-line.line c.lines.verdict c.judge.new.verdict
       c.lines.invariant.so_far c.in-Some.ensures.0 c.in_ok-line.ensures.read
       c.in_ok-line.ensures.named c.read_line.ensures.kept c.read_line.ensures.state
-      c.judged.ensures.names c.in_ok-verdict.ensures.judged;
+      c.judge.ensures.names c.in_ok-judge.ensures.judged;
   calls = omega (
     arith,
-    c.in_ok-verdict.ensures.calls,
+    c.in_ok-judge.ensures.calls,
     c.read_line.ensures.calls,
     c.lines.invariant.calls,
   );
