@@ -46,7 +46,7 @@ impl<T: Drop> From<AllocFailed<T>> for NamesFault {
 #[derive(Drop)]
 pub struct Names {
     texts: IndexSet<String>,
-    // the number that was added or found last: the next name is often the same
+    // the number that was added or remembered last: the next name is often the same
     latest: u32,
 }
 
@@ -125,6 +125,13 @@ impl Names {
             Some((number, _)) => Some(number as u32),
             None => None,
         }
+    }
+
+    /// Remembers a number: a text that is looked up next is compared with its name first.
+    pub fn remember(&mut self, number: u32)
+        ensures { self.new ≡ self.old }
+    {
+        self.latest = number;
     }
 
     /// The name with this number.

@@ -33,6 +33,7 @@ fn one_name_of(names: &mut Names, args: Option<&[u8]>) -> Result<u32, Unread>
     ensures kept { Extends names.old names.new }
 {
     if let Some(number) = known_alone(names, args) {
+        names.remember(number);
         return Ok(number);
     }
     let Some(word) = one(args) else {

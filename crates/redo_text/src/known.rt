@@ -5,6 +5,7 @@ ghost use Rattle.redo_text.specs.Inside.Reading.{words_after};
 
 use crate::args::cut_word;
 use crate::name_lists::MOST_LISTED_NAMES;
+use memchr::memchr_iter;
 use redo_names::Names;
 use std::alloc::{AllocError, Global};
 
@@ -12,7 +13,7 @@ use std::alloc::{AllocError, Global};
 fn room_for(args: Option<&[u8]>) -> usize {
     match args {
         Some(text) => {
-            let spaces = text.iter().filter(|b| **b == b' ').count();
+            let spaces = memchr_iter(b' ', text).count();
             spaces.min(MOST_LISTED_NAMES - 1) + 1
         }
         None => 0,

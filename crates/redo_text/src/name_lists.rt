@@ -114,6 +114,7 @@ pub(crate) fn target_and_numbers_of(
 {
     names.are_names();
     if let Some(known) = known_target_and_numbers(alloc, names, args)? {
+        names.remember(known.0);
         return Ok(known);
     }
     let words = words(alloc, args)?;

@@ -101,6 +101,7 @@ pub(crate) fn number_of(names: &mut Names, known: Option<u32>, name: &[u8]) -> R
     ensures kept { Extends names.old names.new }
 {
     if let Some(number) = known {
+        names.remember(number);
         return Ok(number);
     }
     match names.add(name) {

@@ -5,15 +5,18 @@ use Rattle.redo_text.proofs.words.number_of.Goals as goal
 
 pub returns-in-Some-clause-reads : goal.returns-in-Some-clause-reads
 returns-in-Some-clause-reads c =
-    added_known _ _ c.in-Some.number (rw c.in-Some.is at c.requires.known)
+    rw c.remember.ensures
+    (added_known c.args.names.now _ c.in-Some.number (rw c.in-Some.is at c.requires.known))
 
 pub returns-in-Some-clause-number : goal.returns-in-Some-clause-number
 returns-in-Some-clause-number c =
-    text_at_known _ _ c.in-Some.number (rw c.in-Some.is at c.requires.known)
+    rw c.remember.ensures
+    (text_at_known c.args.names.now _ c.in-Some.number (rw c.in-Some.is at c.requires.known))
 
 pub returns-in-Some-clause-within : goal.returns-in-Some-clause-within
 returns-in-Some-clause-within c =
-    below_known _ _ c.in-Some.number (rw c.in-Some.is at c.requires.known)
+    rw c.remember.ensures
+    (below_known c.args.names.now _ c.in-Some.number (rw c.in-Some.is at c.requires.known))
 
 pub returns-in-Ok-clause-number : goal.returns-in-Ok-clause-number
 returns-in-Ok-clause-number c =
