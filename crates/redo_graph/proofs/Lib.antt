@@ -4,6 +4,6 @@ pub mod Gathered
 pub mod Growing
 pub mod Covered
 pub mod ByName
-pub mod Stamps
+pub mod Bytes
 pub mod Blocks
 pub mod Below

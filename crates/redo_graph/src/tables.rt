@@ -104,8 +104,8 @@ impl Tables {
     }
 
     /// Whether the stamp has this number.
-    fn has_number(&self, stamp: FileStamp, number: u32) -> bool
-        ensures { IsTrue result → slice_get self.now.stamps number ≡ Some stamp }
+    fn has_number(&self, stamp: &FileStamp, number: u32) -> bool
+        ensures { IsTrue result → slice_get self.now.stamps number ≡ Some stamp.now }
     {
         match self.stamps.as_slice().get(number as usize) {
             Some(there) => there.bytes() == stamp.bytes(),
@@ -114,20 +114,22 @@ impl Tables {
     }
 
     /// The number of a stamp, found by the guess or by its hash.
-    fn stamp_number(&mut self, stamp: FileStamp) -> Result<u32, AllocError>
-        ensures number { IfOk result (λ number. slice_get self.new.stamps number ≡ Some stamp) }
+    fn stamp_number(&mut self, stamp: &FileStamp) -> Result<u32, AllocError>
+        ensures number { IfOk result
+            (λ number. slice_get self.new.stamps number ≡ Some stamp.now) }
         ensures grows { OnOk result (Grows self.old self.new) }
     {
         if self.has_number(stamp, self.guess) {
             return Ok(self.guess);
         }
-        let (number, _) = self.stamps.insert_full(stamp)?;
+        let (number, _) = self.stamps.insert_full(*stamp)?;
         small(number)
     }
 
     /// The number of a stamp.
-    fn stamp(&mut self, stamp: FileStamp) -> Result<u32, AllocError>
-        ensures number { IfOk result (λ number. slice_get self.new.stamps number ≡ Some stamp) }
+    fn stamp(&mut self, stamp: &FileStamp) -> Result<u32, AllocError>
+        ensures number { IfOk result
+            (λ number. slice_get self.new.stamps number ≡ Some stamp.now) }
         ensures grows { OnOk result (Grows self.old self.new) }
     {
         let number = self.stamp_number(stamp)?;
@@ -165,7 +167,7 @@ impl Tables {
         ensures grows { OnOk result (Grows self.old self.new) }
     {
         match command {
-            Command::File(name, stamp) => Ok(Step::File(*name, self.stamp(**stamp)?)),
+            Command::File(name, stamp) => Ok(Step::File(*name, self.stamp(stamp)?)),
             Command::Gone(name) => Ok(Step::Gone(*name)),
             Command::Lock(target) => Ok(Step::Lock(*target)),
             Command::Unlock(target) => Ok(Step::Unlock(*target)),
@@ -179,7 +181,7 @@ impl Tables {
             Command::Always(target) => Ok(Step::Always(*target)),
             Command::Stamp(target, content) => Ok(Step::Stamp(*target, self.digest(content)?)),
             Command::Done(target, Some(stamp)) => {
-                Ok(Step::Done(*target, Some(self.stamp(**stamp)?)))
+                Ok(Step::Done(*target, Some(self.stamp(stamp)?)))
             }
             Command::Done(target, None) => Ok(Step::Done(*target, None)),
             Command::Failed(target) => Ok(Step::Failed(*target)),

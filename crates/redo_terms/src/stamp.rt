@@ -1,16 +1,22 @@
-ghost use Rattle.std.specs.Prelude.{◌≡◌, ◌≤◌, List, ℕ, length, take, IfSome, is_some, true};
+ghost use Rattle.std.specs.Prelude.{◌≡◌, ◌≤◌, List, ℕ, length, take, bytes_eq, IfSome, is_some, true};
+ghost use Rattle.std.specs.Cmp.{partial_equiv_from_equiv};
+ghost use Rattle.std.specs.Cmp.Lexicographic.{nat_list_eq_equiv};
+ghost use Rattle.std.specs.Cmp.Rules.{hashing};
+ghost use Rattle.std.specs.Hash as fed;
 ghost use Rattle.std.specs.List.{list_all};
+ghost use Rattle.std.proofs.Common.{rules};
 ghost use Rattle.redo_names.specs.Names.{is_visible};
 ghost use Rattle.redo_terms.specs.Stamp.{is_stamp as stamp_test, is_placeholder as placeholder_test};
 ghost use Rattle.redo_terms.specs.Inside.Stamp.{padded as padded_list, IsPadded, padded-take, length-taken};
 
+use std::hash::{Hash, Hasher};
 use std::marker::Model;
 
 /// How many bytes a file stamp has at most.
 pub const LONGEST_STAMP: usize = 64;
 
 /// What a file looked like: 1 to 64 visible bytes of ASCII, not `-` and not `=>`.
-#[derive(Clone, Copy, Debug, PartialEq, Eq, Hash)]
+#[derive(Clone, Copy, Debug)]
 pub struct FileStamp {
     bytes: [u8; LONGEST_STAMP],
     len: u8,
@@ -82,5 +88,29 @@ impl FileStamp {
         ensures stamp { stamp_test self.now ≡ true }
     {
         &self.bytes[..self.len as usize]
+    }
+}
+
+impl PartialEq for FileStamp {
+    ghost eq = { bytes_eq };
+
+    ghost laws = { partial_equiv_from_equiv nat_list_eq_equiv };
+
+    fn eq(&self, other: &FileStamp) -> bool {
+        self.bytes() == other.bytes()
+    }
+}
+
+impl Eq for FileStamp {
+    ghost laws = { nat_list_eq_equiv };
+}
+
+impl Hash for FileStamp {
+    ghost hash_input = { fed.slice fed.u8 };
+
+    ghost respects_eq = { Prim.search (hashing, rules) };
+
+    fn hash<H: Hasher>(&self, state: &mut H) {
+        self.bytes().hash(state);
     }
 }

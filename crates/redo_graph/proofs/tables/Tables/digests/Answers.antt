@@ -3,7 +3,7 @@ use Rattle.std.specs.Prelude.{bytes_eq}
 use Rattle.redo_graph.specs.Graphs.{IsOnce}
 use Rattle.redo_graph.specs.Steps.{TablesOf}
 use Rattle.redo_graph.proofs.Growing.{once_from_distinct}
-use Rattle.redo_graph.proofs.Stamps.{bytes_itself}
+use Rattle.redo_graph.proofs.Bytes.{bytes_itself}
 use Rattle.redo_graph.proofs.tables.Tables.digests.Goals as goal
 
 pub returns-clause-once : goal.returns-clause-once

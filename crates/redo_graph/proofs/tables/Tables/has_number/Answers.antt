@@ -7,7 +7,7 @@ pub returns-in-Some : goal.returns-in-Some
 returns-in-Some c = λ equal.
     let there = c.in-Some.there.now in
     let at = c.in-Some.ensures.lookup.3 in
-    let same : there ≡ c.args.stamp =
+    let same : there ≡ c.args.stamp.now =
     sym c.bytes.ensures.bytes
     ∙ (bytes_eq-Decides c.bytes.result.now c.bytes-in-Some.result.now).0
     (sym c.eq.ensures ∙ equal)
