@@ -1,5 +1,5 @@
 -- What a worker does next, by its invariant.
-use Rattle.std.proofs.Common.{◌≡◌, ◌≢◌, ℕ, ◌<◌, ◌≤◌, List, [], ◌∷◌, length, map, Bool, true, false, cond, Option, Some, None, refl, sym, ap, ◌∙◌, subst, arith}
+use Rattle.std.proofs.Common.{◌≡◌, ◌≢◌, ℕ, ◌<◌, ◌≤◌, List, [], ◌∷◌, length, map, Bool, true, false, cond, Option, Some, None, option_map, refl, sym, ap, ◌∙◌, subst, arith}
 use Rattle.std.specs.Prelude.{vec_capacity, vec_len, IfSome}
 use Rattle.std.specs.List.{AllByRecursion}
 use Rattle.std.specs.Option.{unwrap_or}
@@ -118,7 +118,7 @@ row_next p w n k is in-row =
 
 -- if x closes a target, so does the closing command that x is
 pub lets_go_by : (script : List (Item ℕ)) (closing : Option terms.Command) (number : ℕ)
-    (x : Command ℕ) → command_by script closing number ≡ x → LetsGo x
+    (x : Command ℕ) → command_by script (option_map command_of closing) number ≡ x → LetsGo x
     → IfSome closing (λ command. LetsGo (command_of command))
 lets_go_by script None number x told goes = tt
 lets_go_by script (Some command) number x told goes = subst LetsGo (sym told) goes

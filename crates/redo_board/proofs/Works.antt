@@ -14,7 +14,7 @@ use Rattle.redo_terms.specs.declared.command.Command as terms
 use Rattle.redo_replica.specs.Replicas.{ReplicaOf}
 use Rattle.redo_journal.specs.Plans.{PlanOf, script_of}
 use Rattle.redo_journal.specs.Holds.{Says, Notes}
-use Rattle.redo_journal.specs.Journals.{place_of, line_told, command_told, IsMarked}
+use Rattle.redo_journal.specs.Journals.{place_of, closing_command, line_told, command_told, IsMarked}
 use Rattle.redo_journal.specs.declared.entry.Entry.{Entry}
 use Rattle.redo_journal.specs.declared.holds.Hold.{Hold}
 use Rattle.redo_journal.proofs.Says.{says_on}
@@ -60,14 +60,14 @@ pub record IsEntryOf (p : PlanOf) (w : Worker) (n : Numbered ℕ) (reply : Reply
   pub at : place_of e.place ≡ place
   pub marked : IsMarked (script_of p w.session) e
 
-is_some_map : (a : Option terms.Command) → is_some (option_map command_of a) ≡ is_some a
-is_some_map None = refl
-is_some_map (Some command) = refl
+is_some_map : {A B : Type 0} (f : A → B) (a : Option A) → is_some (option_map f a) ≡ is_some a
+is_some_map f None = refl
+is_some_map f (Some a) = refl
 
 -- with this number, and the same closing command
 pub is_entry : (p : PlanOf) (w : Worker) (n : Numbered ℕ) (reply : Reply ℕ) (place : Place ℕ)
     (e : Entry) (closing : Option terms.Command) → IsNextBy p w n.number closing n.command
-    → e.number ≡ n.number → option_map command_of e.closing ≡ option_map command_of closing
+    → e.number ≡ n.number → option_map closing_command e.closing ≡ option_map command_of closing
     → reply_of e.reply ≡ reply → place_of e.place ≡ place → IsEntryOf p w n reply place e
 is_entry p w n reply place e closing next is_number same said at = record {
   number_is = is_number;
@@ -78,7 +78,8 @@ is_entry p w n reply place e closing next is_number same said at = record {
   at = at;
   marked =
       let some : is_some closing ≡ is_some e.closing =
-      sym (is_some_map closing) ∙ ap is_some (sym same) ∙ is_some_map e.closing in
+      sym (is_some_map command_of closing) ∙ ap is_some (sym same)
+      ∙ is_some_map closing_command e.closing in
       subst (λ (x : Bool × ℕ). (x.0 ≡ true) ↔ (length (script_of p w.session) ≤ x.1))
       (λ i. (some i, sym is_number i)) next.marked;
 }

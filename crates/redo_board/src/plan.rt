@@ -1,5 +1,5 @@
 // What a board and its workers need of a plan.
-ghost use Rattle.std.specs.Prelude.{◌≡◌, ◌<◌, ◌≤◌, ◌+◌, ◌*◌, ◌↔◌, IsSome, cond, length, map};
+ghost use Rattle.std.specs.Prelude.{◌≡◌, ◌<◌, ◌≤◌, ◌+◌, ◌*◌, ◌↔◌, IsSome, cond, length, map, option_map};
 ghost use Rattle.redo_model.specs.Inside.Room.{is_lock, is_start, room_of};
 ghost use Rattle.redo_terms.specs.Meaning.{command_of};
 ghost use Rattle.redo_terms.specs.Inside.Meaning.{item_of};
@@ -44,7 +44,8 @@ pub(crate) fn command_next<'a>(plan: &'a Plan, session: u8, next: &'a Next) -> &
     requires marked { IsSome next.now.closing
         ↔ (length (script_of plan.now session) ≤ next.now.number) }
     ensures { command_of result.now
-        ≡ command_by (script_of plan.now session) next.now.closing next.now.number }
+        ≡ command_by (script_of plan.now session) (option_map command_of next.now.closing)
+        next.now.number }
 {
     match &next.closing {
         Some(command) => command,

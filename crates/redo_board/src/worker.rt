@@ -1,5 +1,5 @@
 ghost use Rattle.std.specs.Prelude.{◌≡◌, ◌+◌, ◌<◌, [], ◌++◌, ◌∷◌, length, IfOk, IfErr, IsOk};
-ghost use Rattle.std.specs.Prelude.{OnErr, MatchBool, None, IfSome, vec_len, vec_capacity};
+ghost use Rattle.std.specs.Prelude.{OnErr, MatchBool, None, IfSome, option_map, vec_len, vec_capacity};
 ghost use Rattle.std.specs.Borrow.{sem};
 ghost use mir.Syntax.{named};
 ghost use Rattle.std.specs.Option.{IfNone};
@@ -141,7 +141,8 @@ impl<'a> Worker<'a> {
     fn next(&self, plan: &Plan) -> Option<Next>
         requires { Works plan.now self.now }
         ensures some { IfSome result (λ next. IsNextBy plan.now self.now next.number next.closing
-            (command_by (script_of plan.now self.now.session) next.closing next.number)) }
+            (command_by (script_of plan.now self.now.session)
+            (option_map command_of next.closing) next.number)) }
         ensures none { IfNone result (IsAtEnd plan.now self.now) }
     {
         next_step(

@@ -15,9 +15,8 @@ use Rattle.redo_model.specs.Closing.{closing_of}
 use Rattle.redo_model.specs.Journals.{Numbered, numbered, next_line_of, closing_after, closing_number}
 use Rattle.redo_model.proofs.Nexts.{next_cases, next_is_line, next_is_closing, next_line_from}
 use Rattle.redo_terms.specs.Meaning.{by_text}
-use Rattle.redo_terms.specs.declared.command.Command.{Command}
 use Rattle.redo_journal.specs.declared.entry.Entry.{Entry}
-use Rattle.redo_journal.specs.Journals.{command_told, command_by, line_told, lines_told, IsMarked}
+use Rattle.redo_journal.specs.Journals.{closing_command, command_told, command_by, line_told, lines_told, IsMarked}
 use Rattle.redo_journal.specs.Numbers.{numbered_in, next_after}
 use Rattle.redo_journal.specs.Inside.Numbers.{IsNextAfter, IsNextAt}
 use Rattle.redo_journal.proofs.Closings.{TellsBelow, closing_told_below}
@@ -29,7 +28,7 @@ number_or : Option (Numbered ℕ) → ℕ
 number_or None = 0
 number_or (Some next) = next.number
 
-no_command : (closing : Option Command) → (IsSome closing → ⊥) → closing ≡ None
+no_command : {C : Type 0} (closing : Option C) → (IsSome closing → ⊥) → closing ≡ None
 no_command None not = refl
 no_command (Some command) not = absurd (not refl)
 
@@ -51,7 +50,7 @@ module _ (names : List Text) (s : ℕ) (script : List (commands.Item ℕ)) (befo
             no_command entry.closing (λ some. let past = marked.0 some in absurd (omega arith)) in
             next ∙ (λ i. Some (record {
               number = same i;
-              command = command_by script (sym none i) (same i);
+              command = command_by script (option_map closing_command (sym none i)) (same i);
             })),
         λ is.
             let same : n ≡ entry.number = ap number_or (sym next ∙ is) in

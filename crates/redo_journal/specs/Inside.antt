@@ -1,3 +1,4 @@
+pub mod Commands
 pub mod Holds
 pub mod Numbers
 pub mod Kept

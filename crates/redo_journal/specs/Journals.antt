@@ -7,10 +7,11 @@ use Rattle.redo_model.specs.Command.{Item, Ood, commands_in}
 use Rattle.redo_model.specs.Placed.{PlacedLine}
 use Rattle.redo_model.specs.Placed as placed
 use Rattle.redo_model.specs.Journals.{IsJournal}
-use Rattle.redo_terms.specs.Meaning.{command_of, reply_of, by_text}
-use Rattle.redo_terms.specs.declared.command.Command.{Command}
+use Rattle.redo_terms.specs.Meaning.{reply_of, by_text}
 use Rattle.redo_journal.specs.declared.entry.Place.{Place}
 use Rattle.redo_journal.specs.declared.entry.Place.TheVariants.{Row, Granted, Busy, Released}
+use Rattle.redo_journal.specs.declared.entry.Closing.{Closing}
+use Rattle.redo_journal.specs.declared.entry.Closing.TheVariants as closings
 use Rattle.redo_journal.specs.declared.entry.Entry.{Entry}
 use Rattle.redo_journal.specs.declared.entry.Journal.{Journal}
 use Rattle.redo_journal.specs.Plans.{PlanOf, script_of}
@@ -21,14 +22,19 @@ place_of (Granted t g) = placed.Granted t g
 place_of (Busy t g) = placed.Busy t g
 place_of (Released t g) = placed.Released t g
 
+abbrev pub closing_command : Closing → commands.Command ℕ
+closing_command (closings.Failed t) = commands.Failed t
+closing_command (closings.Unlock t) = commands.Unlock t
+
 -- the closing command if there is one, else the script's at the number
-abbrev pub command_by : List (Item ℕ) → Option Command → ℕ → commands.Command ℕ
+abbrev pub command_by : List (Item ℕ) → Option (commands.Command ℕ) → ℕ → commands.Command ℕ
 command_by script closing number =
-    unwrap_or (option_map command_of closing) (slice_index_or (commands_in script) number Ood)
+    unwrap_or closing (slice_index_or (commands_in script) number Ood)
 
 -- the command that was done
 abbrev pub command_told : List (Item ℕ) → Entry → commands.Command ℕ
-command_told script entry = command_by script entry.closing entry.number
+command_told script entry =
+    command_by script (option_map closing_command entry.closing) entry.number
 
 -- the line of an entry of a session with this script
 abbrev pub line_told : ℕ → List (Item ℕ) → Entry → PlacedLine ℕ

@@ -1,9 +1,9 @@
 -- The numbers of entries, and whether each is the next.
-use Rattle.std.specs.Prelude.{ℕ, List, Option, slice_index_or}
+use Rattle.std.specs.Prelude.{ℕ, List, Option, option_map, slice_index_or}
 use Rattle.redo_model.specs.Names.{Text}
 use Rattle.redo_model.specs.Command.{Item, Ood, commands_in}
 use Rattle.redo_model.specs.Journals.{Numbered, next_of}
-use Rattle.redo_terms.specs.Meaning.{by_text}
+use Rattle.redo_terms.specs.Meaning.{command_of, by_text}
 use Rattle.redo_journal.specs.declared.entry.Entry.{Entry}
 use Rattle.redo_journal.specs.declared.next.Next.{Next}
 use Rattle.redo_journal.specs.Journals.{command_by, lines_told}
@@ -16,7 +16,10 @@ numbered_in script number =
 -- what comes next, and its number
 abbrev pub numbered_by : List (Item ℕ) → Next → Numbered ℕ
 numbered_by script next =
-    record { number = next.number; command = command_by script next.closing next.number }
+    record {
+      number = next.number;
+      command = command_by script (option_map command_of next.closing) next.number;
+    }
 
 -- what a session with this script and these entries does next
 abbrev pub next_after : List Text → ℕ → List (Item ℕ) → List Entry → Option (Numbered ℕ)

@@ -19,8 +19,8 @@ use std::cmp::Ordering;
 fn locked_by(script: &Script, entry: &Entry) -> Option<u32>
     ensures { result ≡ asked_lock (command_told (map item_of script.now) entry.now) }
 {
-    match entry.command(script) {
-        Some(Command::Lock(name)) => Some(*name),
+    match entry.command(script)?.get() {
+        Command::Lock(name) => Some(*name),
         _ => None,
     }
 }
@@ -59,7 +59,7 @@ pub(crate) fn lets_go(script: &Script, entry: &Entry, name: u32, hold: Hold) -> 
         ≡ cond hold.building (Failed name) (Unlock name)) }
 {
     match entry.command(script) {
-        Some(command) => is_letting_go(command, name, hold),
+        Some(command) => is_letting_go(command.get(), name, hold),
         None => false,
     }
 }

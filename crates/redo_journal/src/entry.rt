@@ -2,7 +2,8 @@ ghost use Rattle.std.specs.Prelude.{◌≡◌, map, option_map, unwrap_or, slice
 ghost use Rattle.redo_model.specs.Command.{Ood, commands_in};
 ghost use Rattle.redo_terms.specs.Meaning.{command_of};
 ghost use Rattle.redo_terms.specs.Inside.Meaning.{item_of};
-ghost use Rattle.redo_journal.specs.Journals.{command_told};
+ghost use Rattle.redo_journal.specs.Journals.{closing_command, command_told};
+ghost use Rattle.redo_journal.specs.Inside.Commands.{command_done};
 
 use redo_terms::{Command, Reply, Script};
 
@@ -20,6 +21,44 @@ pub enum Place {
     Released(u32, u32),
 }
 
+/// A closing command. The number is that of its target.
+#[derive(Clone, Copy, Debug, PartialEq, Eq)]
+pub enum Closing {
+    Failed(u32),
+    Unlock(u32),
+}
+
+impl Closing {
+    /// It, as a line would say it.
+    pub fn command(self) -> Command
+        ensures { command_of result ≡ closing_command self }
+    {
+        match self {
+            Closing::Failed(target) => Command::Failed(target),
+            Closing::Unlock(target) => Command::Unlock(target),
+        }
+    }
+}
+
+/// The command of an entry.
+#[derive(Debug, Drop)]
+pub enum CommandDone<'a> {
+    OfLine(&'a Command),
+    Closing(Command),
+}
+
+impl<'a> CommandDone<'a> {
+    /// The command.
+    pub fn get(&self) -> &Command
+        ensures { command_of result.now ≡ command_done self.now }
+    {
+        match self {
+            CommandDone::OfLine(command) => command,
+            CommandDone::Closing(command) => command,
+        }
+    }
+}
+
 /// A command that was done, its reply and its place.
 #[derive(Debug, Drop)]
 pub struct Entry {
@@ -27,20 +66,23 @@ pub struct Entry {
     /// counted on from the number of lines.
     pub number: u32,
     /// The command, if it is a closing one.
-    pub closing: Option<Command>,
+    pub closing: Option<Closing>,
     pub reply: Reply,
     pub place: Place,
 }
 
 impl Entry {
     /// The command that was done. There is none if the script has no line of this number.
-    pub fn command<'a>(&'a self, script: &'a Script) -> Option<&'a Command>
-        ensures { unwrap_or (option_map (λ command. command_of command.now) result) Ood
+    pub fn command<'a>(&self, script: &'a Script) -> Option<CommandDone<'a>>
+        ensures { unwrap_or (option_map command_done result) Ood
             ≡ command_told (map item_of script.now) self.now }
     {
-        match &self.closing {
-            Some(command) => Some(command),
-            None => command_at(script, self.number),
+        match self.closing {
+            Some(closing) => Some(CommandDone::Closing(closing.command())),
+            None => match command_at(script, self.number) {
+                Some(command) => Some(CommandDone::OfLine(command)),
+                None => None,
+            },
         }
     }
 }

@@ -43,7 +43,7 @@ fn note_entry(holds: &mut Holds, script: &Script, entry: &Entry)
         (command_told (map item_of script.now) entry.now) (reply_of entry.now.reply) holds.new }
 {
     if let Some(command) = entry.command(script) {
-        holds.note(command, &entry.reply);
+        holds.note(command.get(), &entry.reply);
     }
 }
 

@@ -8,7 +8,7 @@ mod journals;
 mod next;
 mod plan;
 
-pub use entry::{Entry, Journal, Place};
+pub use entry::{Closing, CommandDone, Entry, Journal, Place};
 pub use holds::{Hold, Holds};
 pub use journals::are_journals;
 pub use next::{Next, next_line, next_step};

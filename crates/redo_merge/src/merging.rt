@@ -93,7 +93,7 @@ fn told(alloc: Global, session: u8, script: &Script, entry: &Entry) -> Result<Li
         ≡ placed.line_of (line_told session (map item_of script.now) entry.now)) }
 {
     let command = match entry.command(script) {
-        Some(command) => command.copy(alloc)?,
+        Some(command) => command.get().copy(alloc)?,
         // No entry of a journal is without a command.
         None => Command::Ood,
     };

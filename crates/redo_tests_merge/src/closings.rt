@@ -1,10 +1,10 @@
 //! Closing commands at a session's end, right and wrong. Names are numbered as they first appear.
-use crate::merging::{Act, Case, Closing, Made, Want};
+use crate::merging::{Act, Case, Made, Want};
 use crate::told::{Answer, Wanted};
 use Answer::{Busy, Granted, NotLocked, Okay};
 use Closing::{Failed, Unlock};
 use Want::{Journals, Merged, NoJournals, Unmerged};
-use redo_journal::Place;
+use redo_journal::{Closing, Place};
 use redo_terms::Kind;
 
 /// Any place: `are_journals` doesn't look at it.

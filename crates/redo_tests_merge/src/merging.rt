@@ -2,19 +2,12 @@
 use crate::closings::CLOSINGS;
 use crate::guarded::GUARDED;
 use crate::told::{Answer, Told, Wanted, are_wanted, entry_of};
-use redo_journal::{Entry, Journal, Place, Plan, are_journals};
+use redo_journal::{Closing, Entry, Journal, Place, Plan, are_journals};
 use redo_merge::merge;
-use redo_terms::{Command, Kind, Line};
+use redo_terms::{Kind, Line};
 use redo_testing::planned;
 use std::alloc::{AllocError, Global};
 use std::process::Abort;
-
-/// A closing command, of the name with this number.
-#[derive(Clone, Copy)]
-pub(crate) enum Closing {
-    Failed(u32),
-    Unlock(u32),
-}
 
 /// The closing command, unless a line was done; the answer and its place.
 pub(crate) type Act = (Option<Closing>, Answer, Place);
@@ -73,19 +66,11 @@ const MERGING: Case = Case {
     ],
 };
 
-fn command_of(closing: Option<Closing>) -> Option<Command> {
-    match closing {
-        Some(Closing::Failed(name)) => Some(Command::Failed(name)),
-        Some(Closing::Unlock(name)) => Some(Command::Unlock(name)),
-        None => None,
-    }
-}
-
 fn push_all(entries: &mut Vec<Entry>, made: &[Made]) -> Result<(), AllocError> {
     for one in made {
         let (closing, answer, place) = one.1;
         let told = Told { answer, place };
-        entries.push(entry_of(one.0, command_of(closing), told))?;
+        entries.push(entry_of(one.0, closing, told))?;
     }
     Ok(())
 }

@@ -1,6 +1,6 @@
 //! Journals made from lists of answers, and lines compared with them.
 use crate::plans::command_at;
-use redo_journal::{Entry, Journal, Place, Plan};
+use redo_journal::{Closing, Entry, Journal, Place, Plan};
 use redo_terms::{Command, Kind, Line, Refusal, Reply};
 use std::alloc::{AllocError, Global};
 
@@ -30,7 +30,7 @@ fn reply_of(answer: Answer) -> Reply {
 }
 
 /// The entry of the line with this number, or of a closing command.
-pub(crate) fn entry_of(number: u32, closing: Option<Command>, told: Told) -> Entry {
+pub(crate) fn entry_of(number: u32, closing: Option<Closing>, told: Told) -> Entry {
     Entry {
         number,
         closing,

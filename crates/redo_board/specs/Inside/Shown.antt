@@ -1,8 +1,9 @@
 -- The command that a worker does next.
-use Rattle.std.specs.Prelude.{◌≡◌, ◌↔◌, ℕ, ◌≤◌, length, Option, Some, IsSome}
+use Rattle.std.specs.Prelude.{◌≡◌, ◌↔◌, ℕ, ◌≤◌, length, Option, Some, IsSome, option_map}
 use Rattle.redo_model.specs.Command.{Command}
 use Rattle.redo_journal.specs.Plans.{PlanOf, script_of}
 use Rattle.redo_terms.specs.declared.command.Command as terms
+use Rattle.redo_terms.specs.Meaning.{command_of}
 use Rattle.redo_journal.specs.Journals.{command_by}
 use Rattle.redo_board.specs.declared.worker.Worker.{Worker}
 use Rattle.redo_board.specs.Shown.{next_by}
@@ -11,5 +12,5 @@ use Rattle.redo_board.specs.Shown.{next_by}
 pub record IsNextBy (p : PlanOf) (w : Worker) (number : ℕ) (closing : Option terms.Command)
     (x : Command ℕ) : Type 0 where
   pub next : next_by p w ≡ Some (record { number = number; command = x })
-  pub told : command_by (script_of p w.session) closing number ≡ x
+  pub told : command_by (script_of p w.session) (option_map command_of closing) number ≡ x
   pub marked : IsSome closing ↔ (length (script_of p w.session) ≤ number)

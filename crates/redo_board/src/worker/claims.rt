@@ -13,7 +13,7 @@ ghost use Rattle.redo_board.specs.Outcomes.{Made};
 use crate::board::Board;
 use crate::rule::{Claim, Free};
 use crate::worker::Worker;
-use crate::worker::words::again;
+use crate::worker::words::noted;
 use redo_journal::{Entry, Next, Place, Plan};
 use redo_terms::{Command, Reply};
 
@@ -55,7 +55,7 @@ impl<'a> Worker<'a> {
         let grant = (found / 2 + 1) as u32;
         let entry = Entry {
             number: next.number,
-            closing: again(&next.closing),
+            closing: noted(&next.closing),
             reply: Reply::Okay,
             place: Place::Released(target, grant),
         };

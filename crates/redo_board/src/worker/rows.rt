@@ -22,7 +22,7 @@ use crate::gate::Gate;
 use crate::rule::{Miss, Pass, Try};
 use crate::worker::Worker;
 use crate::worker::ways::holds_its_target;
-use crate::worker::words::{again, line_step, word_of};
+use crate::worker::words::{line_step, noted, word_of};
 use redo_graph::Step;
 use redo_joint::RowWord;
 use redo_journal::{Entry, Next, Place, Plan};
@@ -226,7 +226,7 @@ impl<'a> Worker<'a> {
         self.replica.change(self.session, step, &reply);
         let entry = Entry {
             number: next.number,
-            closing: again(&next.closing),
+            closing: noted(&next.closing),
             reply,
             place: Place::Row(row),
         };

@@ -2,6 +2,7 @@
 ghost use Rattle.std.specs.Prelude.{◌≡◌, ◌<◌, ◌≤◌, ◌↔◌, IfSome, IsSome, length, option_map};
 ghost use Rattle.redo_terms.specs.Meaning.{command_of};
 ghost use Rattle.redo_journal.specs.Plans.{PlanOf, script_of};
+ghost use Rattle.redo_journal.specs.Journals.{closing_command};
 ghost use Rattle.redo_graph.specs.Graphs.{IsGraphOf};
 ghost use Rattle.redo_graph.specs.Steps.{Means};
 ghost use Rattle.redo_board.specs.Rows.{command};
@@ -10,7 +11,7 @@ ghost use Rattle.redo_board.specs.Inside.Steps.{LetsGo};
 
 use redo_graph::{Graph, Step};
 use redo_joint::RowWord;
-use redo_journal::{Next, Plan};
+use redo_journal::{Closing, Next, Plan};
 use redo_terms::Command;
 
 /// The word of what the session does next.
@@ -32,14 +33,14 @@ pub(crate) fn word_of(session: u8, next: &Next, command: &Command, holds: bool) 
     RowWord::Closing { session, target }.encode()
 }
 
-/// A copy of the closing command, if there is one.
-pub(crate) fn again(closing: &Option<Command>) -> Option<Command>
+/// The closing command as an entry has it, if there is one.
+pub(crate) fn noted(closing: &Option<Command>) -> Option<Closing>
     requires { IfSome closing.now (λ command. LetsGo (command_of command)) }
-    ensures { option_map command_of result ≡ option_map command_of closing.now }
+    ensures { option_map closing_command result ≡ option_map command_of closing.now }
 {
     match closing {
-        Some(Command::Failed(target)) => Some(Command::Failed(*target)),
-        Some(Command::Unlock(target)) => Some(Command::Unlock(*target)),
+        Some(Command::Failed(target)) => Some(Closing::Failed(*target)),
+        Some(Command::Unlock(target)) => Some(Closing::Unlock(*target)),
         _ => None,
     }
 }

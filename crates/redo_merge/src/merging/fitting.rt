@@ -60,7 +60,7 @@ fn entry_fits(script: &Script, entry: &Entry) -> bool
     ensures { IsTrue result ↔ FitsScript (map item_of script.now) entry.now }
 {
     match entry.command(script) {
-        Some(command) => fits(command, &entry.reply, entry.place),
+        Some(command) => fits(command.get(), &entry.reply, entry.place),
         // No entry of a journal is without a command.
         None => fits(&Command::Ood, &entry.reply, entry.place),
     }

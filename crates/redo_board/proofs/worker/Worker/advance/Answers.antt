@@ -1,7 +1,8 @@
-use Rattle.std.proofs.Common.{◌≡◌, ℕ, length, ◌∙◌, sym, ap, subst}
+use Rattle.std.proofs.Common.{◌≡◌, ℕ, length, option_map, ◌∙◌, sym, ap, subst}
 use Rattle.redo_model.specs.Command.{Command, Lock, Unlock}
 use Rattle.redo_model.specs.Renaming.{IsBelow}
 use Rattle.redo_model.specs.Journals.{Numbered}
+use Rattle.redo_terms.specs.Meaning.{command_of}
 use Rattle.redo_journal.specs.Plans.{script_of}
 use Rattle.redo_journal.specs.Journals.{command_by}
 use Rattle.redo_board.specs.Core.{claim, free}
@@ -22,7 +23,8 @@ way_for-requires g c =
     let p = c.args.plan.now in
     let w = c.args.self.now in
     let number : ℕ = c.in-Some.next.number in
-    let x : Command ℕ = command_by (script_of p w.session) c.in-Some.next.closing number in
+    let x : Command ℕ = command_by (script_of p w.session)
+    (option_map command_of c.in-Some.next.closing) number in
     let n : Numbered ℕ = record { number = number; command = x } in
     subst (IsBelow (length w.own)) (sym c.command_next-command.ensures)
     (own_below p w n c.requires.1.works c.in-Some.ensures.some.next)
@@ -32,7 +34,8 @@ lock-requires-clause-command g c =
     let p = c.args.plan.now in
     let w = c.args.self.now in
     let number : ℕ = c.in-Some.next.number in
-    let x : Command ℕ = command_by (script_of p w.session) c.in-Some.next.closing number in
+    let x : Command ℕ = command_by (script_of p w.session)
+    (option_map command_of c.in-Some.next.closing) number in
     let n : Numbered ℕ = record { number = number; command = x } in
     let steps = own_steps p w n c.requires.1.works c.in-Some.ensures.some.next in
     let goes : own_way (journal_of p w) x ≡ claim c.in-Claim.target =
@@ -48,7 +51,8 @@ free-requires-clause-way g c =
     let p = c.args.plan.now in
     let w = c.args.self.now in
     let number : ℕ = c.in-Some.next.number in
-    let x : Command ℕ = command_by (script_of p w.session) c.in-Some.next.closing number in
+    let x : Command ℕ = command_by (script_of p w.session)
+    (option_map command_of c.in-Some.next.closing) number in
     let n : Numbered ℕ = record { number = number; command = x } in
     let j = journal_of p w in
     let steps = own_steps p w n c.requires.1.works c.in-Some.ensures.some.next in
@@ -64,7 +68,8 @@ place-requires-clause-way g c =
     let p = c.args.plan.now in
     let w = c.args.self.now in
     let number : ℕ = c.in-Some.next.number in
-    let x : Command ℕ = command_by (script_of p w.session) c.in-Some.next.closing number in
+    let x : Command ℕ = command_by (script_of p w.session)
+    (option_map command_of c.in-Some.next.closing) number in
     let n : Numbered ℕ = record { number = number; command = x } in
     let steps = own_steps p w n c.requires.1.works c.in-Some.ensures.some.next in
     let e = c.command_next-command.ensures in
@@ -77,7 +82,8 @@ returns-in_err-place-in-Row-clause-no_memory g c no-row =
     let p = c.args.plan.now in
     let w = c.args.self.now in
     let number : ℕ = c.in-Some.next.number in
-    let x : Command ℕ = command_by (script_of p w.session) c.in-Some.next.closing number in
+    let x : Command ℕ = command_by (script_of p w.session)
+    (option_map command_of c.in-Some.next.closing) number in
     let n : Numbered ℕ = record { number = number; command = x } in
     let steps = own_steps p w n c.requires.1.works c.in-Some.ensures.some.next in
     let e = c.command_next-command.ensures in
@@ -91,7 +97,8 @@ returns-clause-no_row g c no-row =
     let p = c.args.plan.now in
     let w = c.args.self.now in
     let number : ℕ = c.in-Some.next.number in
-    let x : Command ℕ = command_by (script_of p w.session) c.in-Some.next.closing number in
+    let x : Command ℕ = command_by (script_of p w.session)
+    (option_map command_of c.in-Some.next.closing) number in
     let n : Numbered ℕ = record { number = number; command = x } in
     let steps = own_steps p w n c.requires.1.works c.in-Some.ensures.some.next in
     let e = c.command_next-command.ensures in

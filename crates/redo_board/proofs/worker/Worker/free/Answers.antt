@@ -70,7 +70,7 @@ done c =
     c.requires.command.next goes
     _ cap.items
     (is_entry p w n Okay (Released u (found / 2 + 1)) _ c.args.next.now.closing c.requires.command
-    refl c.again.ensures refl refl)
+    refl c.noted.ensures refl refl)
     (cap.notes p.names) refl e.0 e.2.2
     (let m = cap.capacity in omega arith) refl refl refl (no-row u _ c.requires.way) (λ m. refl))
 
@@ -92,7 +92,7 @@ enter-requires-clause-names c =
     let n : Numbered ℕ = record { number = c.args.next.now.number; command = Unlock u } in
     own_below c.args.plan.now c.args.self.now n c.requires.belongs.1.works c.requires.command.next
 
-pub again-requires : goal.again-requires
-again-requires c =
+pub noted-requires : goal.noted-requires
+noted-requires c =
     lets_go_by (script_of c.args.plan.now c.args.self.now.session) c.args.next.now.closing
     c.args.next.now.number (Unlock c.args.target) c.requires.command.told tt

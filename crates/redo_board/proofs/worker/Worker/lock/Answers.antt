@@ -1,7 +1,7 @@
 use Rattle.std.proofs.Common.{◌≡◌, ◌≢◌, ℕ, ◌+◌, ◌<◌, length, cond, eqb, Bool, true, false, ◌%◌, ◌/◌, None, option_map, arith, refl, ap}
 use Rattle.redo_model.specs.Command.{Lock}
-use Rattle.redo_terms.specs.Meaning.{command_of}
 use Rattle.redo_model.specs.Placed.{Granted, Busy}
+use Rattle.redo_journal.specs.Journals.{closing_command}
 use Rattle.redo_model.specs.Journals.{Numbered}
 use Rattle.redo_board.specs.Core.{row, claim}
 use Rattle.redo_board.specs.Inside.Plays.{lock_line, lock_said, lock_place}
@@ -77,7 +77,7 @@ done c =
     c.requires.command.next goes
     _ cap.items
     (is_entry p w n (lock_said found) (lock_place u found) _ None c.requires.command told.number_is
-    (ap (option_map command_of) told.closing) told.said told.at)
+    (ap (option_map closing_command) told.closing) told.said told.at)
     (cap.notes p.names) refl e.0 e.2.2
     (let m = cap.capacity in omega arith) refl refl refl (no-row u) (still u found))
 

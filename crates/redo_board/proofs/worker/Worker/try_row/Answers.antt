@@ -214,7 +214,7 @@ done c =
     (both_on p c.args.board.now w w' n reply (Row (length (seen_by w))) seen k is-next goes
     _ cap.items
     (is_entry p w n reply (Row (length (seen_by w))) _ c.args.next.now.closing c.requires.command
-    refl c.again.ensures refl (ap Row k.works.tries))
+    refl c.noted.ensures refl (ap Row k.works.tries))
     (cap.notes p.names) refl e.0 e.2.2
     (let m = cap.capacity in omega arith) tried (ap (λ m. m + 1) k.works.tries)
     (subst (λ o. Lags p c.change.new.self o seen) (sym c.requires.none) won)
@@ -250,7 +250,7 @@ enter-requires-clause-room c =
     (room_next c.args.plan.now c.args.self.now n c.requires.belongs.1.works
     c.requires.command.next)
 
-pub again-requires : goal.again-requires
-again-requires c =
+pub noted-requires : goal.noted-requires
+noted-requires c =
     closing_lets_go c.args.plan.now c.args.self.now c.args.next.now.number c.args.next.now.closing
     (command_of c.args.command.now) c.requires.command c.requires.way
