@@ -78,8 +78,10 @@ static const char *const LINES[] = {
     "3 gone source-1", "2 why a", "3 ood", "3 lock c", "3 start c", "3 end",
 };
 
-/* What is asked after a restart. */
-static const char *const ASKED[] = {"1 ood", "2 targets", "3 sources", "1 why a", "2 deps b", "3 state c", "1 lock b"};
+/* What is asked after a restart: first a faulty line, so that memory for telling of a fault is refused, too. */
+static const char *const ASKED[] = {
+    "1 build c", "1 ood", "2 targets", "3 sources", "1 why a", "2 deps b", "3 state c", "1 lock b",
+};
 
 enum { AFTER = sizeof LINES / sizeof *LINES, TOLD = NAMES + AFTER, ASKS = sizeof ASKED / sizeof *ASKED };
 
