@@ -1,6 +1,6 @@
 use crate::known::{Known, State};
 use redo_names::Names;
-use redo_terms::{Command, FileStamp, Refusal, Reply, unboxed};
+use redo_terms::{Command, Digest, FileStamp, Refusal, Reply, unboxed};
 use sha1::Sha1;
 use std::alloc::{AllocError, Global};
 
@@ -98,7 +98,7 @@ impl Plain {
         Ok(match command {
             Command::Lock(t) => self.lock_reply(*t),
             Command::IfChange(_, names) => self.stale_reply(alloc, names)?,
-            Command::Stamp(_, content) => Reply::Stamped(Sha1::digest(content)),
+            Command::Stamp(_, content) => Reply::Stamped(Digest::new(Sha1::digest(content))),
             Command::Ood => Reply::Ood(self.old_targets(alloc)?),
             Command::Targets => Reply::Targets(self.targets(alloc)?),
             Command::Sources => Reply::Sources(self.sources(alloc)?),

@@ -44,7 +44,7 @@ fn reply_text(alloc: Global, plain: &Plain, reply: &Reply) -> Result<Vec<u8>, Al
         Reply::Stale(names) => put_names(&mut out, plain, "stale", names)?,
         Reply::Stamped(digest) => {
             out.extend_from_slice(b"stamped ")?;
-            for byte in digest {
+            for byte in &digest.bytes {
                 out.extend_from_slice(format!(in alloc; "{byte:02x}")?.as_bytes())?;
             }
         }

@@ -21,7 +21,7 @@ use crate::memo::Memo;
 use crate::rows::PairRows;
 use crate::verdict::verdict;
 use redo_graph::{Graph, Listed, Step};
-use redo_terms::Reply;
+use redo_terms::{Digest, Reply};
 use std::alloc::{AllocError, Global};
 
 fn reply_to_ifchange(stale: Vec<u32>) -> Reply
@@ -137,7 +137,7 @@ pub(crate) fn answer(
     match step {
         Step::Lock(_) => unreachable!(),
         Step::IfChange(_, list) => stale_among(alloc, graph, cells, rows, memo, list),
-        Step::Stamp(_, digest) => Ok(Reply::Stamped(digest_at(graph, *digest))),
+        Step::Stamp(_, digest) => Ok(Reply::Stamped(Digest::new(digest_at(graph, *digest)))),
         Step::Ood => ood_reply(alloc, graph, cells, rows, memo),
         Step::Targets => targets_reply(alloc, graph, cells),
         Step::Sources => sources_reply(alloc, graph, cells, rows),

@@ -13,7 +13,7 @@ use redo_names::Names;
 use redo_ood::Ood;
 use redo_order::{ranks_of, sorted_numbers};
 use redo_records::{DepRows, Records, digest_of};
-use redo_terms::{Command, FileStamp, Refusal, Reply, cases, unboxed};
+use redo_terms::{Command, Digest, FileStamp, Refusal, Reply, cases, unboxed};
 use std::alloc::{AllocError, Global};
 use std::marker::Model;
 

@@ -53,7 +53,7 @@ macro_rules! answer {
         unreachable!()
     };
     (digest [$store:tt $alloc:tt] $t:ident $content:ident) => {
-        Ok(Reply::Stamped(digest_of($content)))
+        Ok(Reply::Stamped(Digest::new(digest_of($content))))
     };
     (stale [$store:tt $alloc:tt] $t:ident $names:ident) => {
         $store.stale_reply($alloc, $names.as_slice())

@@ -3,12 +3,14 @@
 
 mod cases;
 mod command;
+mod digest;
 mod kind;
 mod reply;
 mod script;
 mod stamp;
 
 pub use command::{Command, boxed, unboxed};
+pub use digest::Digest;
 pub use kind::Kind;
 pub use reply::{Line, Refusal, Reply};
 pub use script::{Item, Script};

@@ -1,4 +1,5 @@
 use crate::command::Command;
+use crate::digest::Digest;
 use std::alloc::{AllocError, Global};
 
 /// Why a command changed nothing.
@@ -27,7 +28,7 @@ pub enum Reply {
     /// Those of the names after the target that are out of date, or idle without a file; at least one.
     Stale(Vec<u32>),
     /// The digest of the content.
-    Stamped([u8; 20]),
+    Stamped(Digest),
     /// The targets that have a file and are out of date.
     Ood(Vec<u32>),
     /// The targets that have a file.
@@ -58,7 +59,7 @@ impl Reply {
             (Reply::Granted(one), Reply::Granted(two)) => one == two,
             (Reply::Busy(one), Reply::Busy(two)) => one == two,
             (Reply::Stale(one), Reply::Stale(two)) => one == two,
-            (Reply::Stamped(one), Reply::Stamped(two)) => one == two,
+            (Reply::Stamped(one), Reply::Stamped(two)) => one.bytes == two.bytes,
             (Reply::Ood(one), Reply::Ood(two)) => one == two,
             (Reply::Targets(one), Reply::Targets(two)) => one == two,
             (Reply::Sources(one), Reply::Sources(two)) => one == two,

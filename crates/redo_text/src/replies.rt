@@ -13,7 +13,7 @@ use crate::forms::check_no_words;
 use crate::reply_kind::{ReplyKind, cut_reply_kind};
 use crate::reply_words::{digest_of_word, grant_of, listed_of, refusal_of_words, some_listed_of};
 use redo_names::Names;
-use redo_terms::Reply;
+use redo_terms::{Digest, Reply};
 use std::alloc::Global;
 
 /// The reply of a text, without LF.
@@ -36,7 +36,7 @@ fn text_read(alloc: Global, text: &[u8], names: &mut Names) -> Result<Reply, Unr
         ReplyKind::Granted => Ok(Reply::Granted(grant_of(args)?)),
         ReplyKind::Busy => Ok(Reply::Busy(grant_of(args)?)),
         ReplyKind::Stale => Ok(Reply::Stale(some_listed_of(alloc, names, args)?)),
-        ReplyKind::Stamped => Ok(Reply::Stamped(digest_of_word(args)?)),
+        ReplyKind::Stamped => Ok(Reply::Stamped(Digest::new(digest_of_word(args)?))),
         ReplyKind::Ood => Ok(Reply::Ood(listed_of(alloc, names, args)?)),
         ReplyKind::Targets => Ok(Reply::Targets(listed_of(alloc, names, args)?)),
         ReplyKind::Sources => Ok(Reply::Sources(listed_of(alloc, names, args)?)),

@@ -204,7 +204,7 @@ pub fn put_reply(
         }
         Reply::Stamped(digest) => {
             out.extend_from_slice(b"stamped")?;
-            put_hex(alloc, out, digest)?;
+            put_hex(alloc, out, &digest.bytes)?;
         }
         Reply::Ood(ood) => {
             out.extend_from_slice(keyword(Kind::Ood))?;
