@@ -1,12 +1,10 @@
-ghost use Rattle.std.specs.Prelude.{◌≡◌, ◌↔◌, IsTrue, option_map};
-ghost use Rattle.redo_model.specs.State as states;
+ghost use Rattle.std.specs.Prelude.{◌≡◌, ◌↔◌, IsTrue};
 ghost use Rattle.redo_model.specs.State.{mark_in};
 ghost use Rattle.redo_records.specs.Meaning.{row_mark_of};
 ghost use Rattle.redo_records.specs.Inside.KeptMark.{kept_mark_of};
 
 use crate::cell::Cell;
 use crate::mark::Mark;
-use crate::state::State;
 use redo_terms::FileStamp;
 use std::marker::Model;
 
@@ -32,7 +30,7 @@ impl Model for BuildCount {
 }
 
 impl BuildCount {
-    fn new(builds: u32) -> BuildCount
+    pub fn new(builds: u32) -> BuildCount
         ensures { result ≡ builds }
     {
         BuildCount {
@@ -58,51 +56,6 @@ pub enum KeptMark {
 }
 
 impl KeptMark {
-    pub fn new(mark: Mark) -> KeptMark
-        ensures { kept_mark_of result ≡ row_mark_of mark }
-    {
-        match mark {
-            Mark::Digest(digest) => KeptMark::Digest(digest),
-            Mark::Builds(builds) => KeptMark::Builds(BuildCount::new(builds)),
-            Mark::Pending => KeptMark::Pending,
-            Mark::File(stamp) => KeptMark::File(stamp),
-            Mark::Absent => KeptMark::Absent,
-        }
-    }
-
-    /// The mark of a name with this cell.
-    pub fn of(cell: &Cell) -> KeptMark
-        ensures { kept_mark_of result ≡ mark_in cell.now.state cell.now }
-    {
-        match cell.state() {
-            State::Idle => KeptMark::of_file(cell.file_ref()),
-            State::Building(_) | State::Failed => KeptMark::Pending,
-            State::Built => KeptMark::of_build(cell.digest_ref(), cell.builds()),
-        }
-    }
-
-    /// The mark of an idle name.
-    fn of_file(file: Option<&FileStamp>) -> KeptMark
-        ensures { kept_mark_of result
-            ≡ states.file_mark (option_map (λ stamp. stamp.now) file.entry) }
-    {
-        match file {
-            Some(stamp) => KeptMark::File(*stamp),
-            None => KeptMark::Absent,
-        }
-    }
-
-    /// The mark of a target that is built.
-    fn of_build(digest: Option<&[u8; 20]>, builds: u32) -> KeptMark
-        ensures { kept_mark_of result
-            ≡ states.build_mark (option_map (λ digest. digest.now) digest.entry) builds }
-    {
-        match digest {
-            Some(digest) => KeptMark::Digest(*digest),
-            None => KeptMark::Builds(BuildCount::new(builds)),
-        }
-    }
-
     pub fn mark(self) -> Mark
         ensures { row_mark_of result ≡ kept_mark_of self }
     {

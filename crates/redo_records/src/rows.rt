@@ -4,13 +4,11 @@ ghost use Rattle.redo_model.specs.OutOfDate.{SomeAppeared, SomeChanged};
 ghost use Rattle.redo_model.specs.State.{mark_in, no_rows};
 ghost use Rattle.redo_model.specs.Renaming.{AllBelow};
 ghost use Rattle.redo_records.specs.Meaning.{row_mark_of};
-ghost use Rattle.redo_records.specs.Inside.KeptMark.{kept_mark_of};
 ghost use Rattle.redo_records.specs.News.{IsNews, name_of};
 ghost use Rattle.redo_records.specs.Target.{Ascending};
 ghost use Rattle.redo_records.specs.Rows.{rows_count, rows_of, room_of, target_at, has_slot, with_change, with_created, with_always, without_rows, HasChangeRowOn, HasCreatedRowOn, by_number, with_rows};
 
 use crate::cell::Cell;
-use crate::kept_mark::KeptMark;
 use crate::lists::extended;
 use crate::mark::Mark;
 use crate::news::{News, first_news};
@@ -133,20 +131,8 @@ impl DepRows {
         self.targets[t as usize].has_slot(n)
     }
 
-    /// A change row of `t` on `n`, which replaces an earlier one.
-    pub fn put_change(&mut self, t: u32, n: u32, mark: Mark)
-        requires target { t < rows_count self.old }
-        requires name { n < rows_count self.old }
-        requires room { IsTrue (room_of self.old t n) }
-        ensures rows { rows_of self.new ≡ with_change (rows_of self.old) t n (row_mark_of mark) }
-        ensures room { (u k : ℕ) → room_of self.new u k ≡ room_of self.old u k }
-        ensures count { rows_count self.new ≡ rows_count self.old }
-    {
-        self.put_kept(t, n, KeptMark::new(mark));
-    }
-
-    /// A change row of `t` on `n` with the mark that `n` has if this is its cell, which replaces an earlier one.
-    pub fn put_mark_of(&mut self, t: u32, n: u32, cell: &Cell)
+    /// A change row of `t` on `n` with the mark that `n` has if this is its cell. It replaces an earlier one.
+    pub fn put_change(&mut self, t: u32, n: u32, cell: &Cell)
         requires target { t < rows_count self.old }
         requires name { n < rows_count self.old }
         requires room { IsTrue (room_of self.old t n) }
@@ -155,19 +141,7 @@ impl DepRows {
         ensures room { (u k : ℕ) → room_of self.new u k ≡ room_of self.old u k }
         ensures count { rows_count self.new ≡ rows_count self.old }
     {
-        self.put_kept(t, n, KeptMark::of(cell));
-    }
-
-    /// A change row of `t` on `n`, which replaces an earlier one.
-    fn put_kept(&mut self, t: u32, n: u32, mark: KeptMark)
-        requires target { t < rows_count self.old }
-        requires name { n < rows_count self.old }
-        requires room { IsTrue (room_of self.old t n) }
-        ensures rows { rows_of self.new ≡ with_change (rows_of self.old) t n (kept_mark_of mark) }
-        ensures room { (u k : ℕ) → room_of self.new u k ≡ room_of self.old u k }
-        ensures count { rows_count self.new ≡ rows_count self.old }
-    {
-        let was = self.targets[t as usize].put_change(n, mark);
+        let was = self.targets[t as usize].put_change(n, cell);
         inverse::put_in(&mut self.needed, n, t, was);
     }
 

@@ -1,14 +1,16 @@
 ghost use Rattle.std.specs.Prelude.{◌≡◌, ◌↔◌, ℕ, ◌<◌, ◌≤◌, ◌==◌, ◌||◌, Some, true, false, is_some, IsTrue, option_map, MatchOption, IfOk, IfErr, OnOk, OnErr, if◌then◌else◌};
+ghost use Rattle.redo_model.specs.State as states;
 ghost use Rattle.redo_model.specs.State.{mark_in};
 ghost use Rattle.redo_records.specs.Meaning.{row_mark_of};
 ghost use Rattle.redo_records.specs.Rows.{bare, slot_at, has_slot};
 ghost use Rattle.redo_records.specs.Target.{HasChangeBut, Ascending};
-ghost use Rattle.redo_records.specs.Inside.KeptMark.{kept_mark_of};
 ghost use Rattle.redo_records.specs.Inside.Target.{blank, blanked, cleared, IsSlotOf, IsGapFor};
 
 use crate::cell::Cell;
-use crate::kept_mark::KeptMark;
+use crate::kept_mark::{BuildCount, KeptMark};
 use crate::mark::Mark;
+use crate::state::State;
+use redo_terms::FileStamp;
 use std::alloc::{AllocError, Global};
 use std::marker::Model;
 use std::mem::size_of;
@@ -17,8 +19,8 @@ use std::mem::size_of;
 #[derive(Clone, Copy)]
 pub struct Slot {
     name: u32,
-    change: Option<KeptMark>,
     created: bool,
+    change: Option<KeptMark>,
 }
 
 // A large store has many slots.
@@ -44,8 +46,8 @@ impl Slot {
     {
         Slot {
             name,
-            change: None,
             created: false,
+            change: None,
         }
     }
 
@@ -83,10 +85,42 @@ impl Slot {
         self.created
     }
 
-    fn put_change(&mut self, mark: KeptMark)
-        ensures { self.new ≡ record self.old { change = Some (kept_mark_of mark) } }
+    /// A change row with the mark that a name with this cell has. It is written in place: a mark that is copied on its
+    /// way costs more than the rest of the row.
+    fn put_change(&mut self, cell: &Cell)
+        ensures { self.new ≡ record self.old { change = Some (mark_in cell.now.state cell.now) } }
     {
-        self.change = Some(mark);
+        match cell.state() {
+            State::Idle => self.put_file(cell.file_ref()),
+            State::Building(_) | State::Failed => self.change = Some(KeptMark::Pending),
+            State::Built => self.put_build(cell.digest_ref(), cell.builds()),
+        }
+    }
+
+    /// The mark of an idle name.
+    fn put_file(&mut self, file: Option<&FileStamp>)
+        ensures { self.new ≡ record self.old {
+          change
+              = Some (states.file_mark (option_map (λ stamp. stamp.now) file.entry));
+        } }
+    {
+        match file {
+            Some(stamp) => self.change = Some(KeptMark::File(*stamp)),
+            None => self.change = Some(KeptMark::Absent),
+        }
+    }
+
+    /// The mark of a target that is built.
+    fn put_build(&mut self, digest: Option<&[u8; 20]>, builds: u32)
+        ensures { self.new ≡ record self.old {
+          change
+              = Some (states.build_mark (option_map (λ digest. digest.now) digest.entry) builds);
+        } }
+    {
+        match digest {
+            Some(digest) => self.change = Some(KeptMark::Digest(*digest)),
+            None => self.change = Some(KeptMark::Builds(BuildCount::new(builds))),
+        }
     }
 
     fn put_created(&mut self)
@@ -228,20 +262,20 @@ impl Target {
         Ok(self.slots.insert(place, Slot::blank(n))?)
     }
 
-    /// A change row on a name with a slot, which replaces an earlier one. Returns whether there was one.
-    pub fn put_change(&mut self, n: u32, mark: KeptMark) -> bool
+    /// A change row on a name with a slot and this cell, which replaces an earlier one. Returns whether there was one.
+    pub fn put_change(&mut self, n: u32, cell: &Cell) -> bool
         requires { has_slot self.old.slots n ≡ true }
         ensures was { result ≡ is_some (slot_at self.old.slots n).change }
         ensures rows { (k : ℕ)
             → slot_at self.new.slots k ≡ (if n == k then record (slot_at self.old.slots k)
-            { change = Some (kept_mark_of mark) } else slot_at self.old.slots k) }
+            { change = Some (mark_in cell.now.state cell.now) } else slot_at self.old.slots k) }
         ensures room { (k : ℕ) → has_slot self.new.slots k ≡ has_slot self.old.slots k }
         ensures always { self.new.always ≡ self.old.always }
     {
         let place = slot_place(self.slots.as_slice(), n);
         let slot = &mut self.slots[place];
         let was = slot.has_change();
-        slot.put_change(mark);
+        slot.put_change(cell);
         was
     }
 

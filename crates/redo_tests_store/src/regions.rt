@@ -53,7 +53,7 @@ impl Graph {
     {
         self.rows.reserve(t, &[n])?;
         assert!(rt; self.rows.has_room(t, n));
-        self.rows.put_change(t, n, self.records.mark(n));
+        self.rows.put_change(t, n, self.records.cell(n));
         Ok(())
     }
 

@@ -3,7 +3,7 @@ ghost use Rattle.std.specs.Prelude.{◌≡◌, ◌<◌, IfOk};
 ghost use Rattle.redo_model.specs.Renaming.{AllBelow};
 ghost use Rattle.redo_records.specs.Rows.{rows_count};
 
-use redo_records::{DepRows, Mark};
+use redo_records::{Cell, DepRows, Mark};
 use std::alloc::{AllocError, Global};
 use std::process::Abort;
 
@@ -31,14 +31,30 @@ fn reserve(rows: &mut DepRows, t: u32, names: &[u32]) -> Result<(), AllocError>
     }
 }
 
+/// A target that is being built for the first time.
+fn building() -> Cell
+    ensures { result.builds ≡ 0 }
+{
+    let mut cell = Cell::idle();
+    cell.start(0);
+    cell
+}
+
+/// A target that was built once, and has no file.
+fn built() -> Cell {
+    let mut cell = building();
+    cell.done(None);
+    cell
+}
+
 /// Puts a change row into reserved memory.
-fn put_change(rt: &impl Abort, rows: &mut DepRows, t: u32, n: u32, mark: Mark)
+fn put_change(rt: &impl Abort, rows: &mut DepRows, t: u32, n: u32, cell: &Cell)
     requires target { t < rows_count rows.old }
     requires name { n < rows_count rows.old }
     ensures { rows_count rows.new ≡ rows_count rows.old }
 {
     assert!(rt; rows.has_room(t, n));
-    rows.put_change(t, n, mark);
+    rows.put_change(t, n, cell);
 }
 
 /// Reserves memory for some rows, and puts them there.
@@ -48,10 +64,10 @@ fn put_rows(rt: &impl Abort, rows: &mut DepRows) -> Result<(), AllocError>
 {
     reserve(rows, 0, &[1, 2])?;
     reserve(rows, 3, &[1])?;
-    put_change(rt, rows, 0, 1, Mark::Absent);
+    put_change(rt, rows, 0, 1, &Cell::idle());
     assert!(rt; rows.has_room(0, 2));
     rows.put_created(0, 2);
-    put_change(rt, rows, 3, 1, Mark::Pending);
+    put_change(rt, rows, 3, 1, &building());
     rows.put_always(0);
     Ok(())
 }
@@ -97,11 +113,11 @@ fn put_again(rt: &impl Abort, rows: &mut DepRows)
 {
     assert!(rt; rows.has_room(0, 1));
     rows.put_created(0, 1);
-    put_change(rt, rows, 0, 2, Mark::Builds(7));
+    put_change(rt, rows, 0, 2, &built());
     assert!(rt; rows.needed_by(1) == [3].as_slice() && rows.awaited_by(1) == [0].as_slice());
     assert!(rt; rows.needed_by(2) == [0].as_slice() && rows.awaited_by(2).is_empty());
     assert!(rt; rows.change_of(0, 1).is_none() && rows.created(0, 1));
-    assert!(rt; rows.change_of(0, 2) == Some(Mark::Builds(7)) && !rows.created(0, 2));
+    assert!(rt; rows.change_of(0, 2) == Some(Mark::Builds(1)) && !rows.created(0, 2));
     assert!(rt; rows.slots_of(0).len() == 2 && !rows.always(0));
 }
 

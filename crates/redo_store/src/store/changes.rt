@@ -24,7 +24,7 @@ fn change_each(rows: &mut DepRows, records: &Records, t: u32, names: &[u32])
     ensures count { rows_count rows.new ≡ rows_count rows.old }
 {
     for &n in names {
-        rows.put_mark_of(t, n, records.cell(n));
+        rows.put_change(t, n, records.cell(n));
     }
 }
 

@@ -1,6 +1,5 @@
 use Rattle.std.proofs.Common.{◌≡◌, ◌∙◌, ap, subst, refl, Some, is_some, List, cond, eqb}
-use Rattle.redo_records.specs.declared.kept_mark.KeptMark.{KeptMark}
-use Rattle.redo_records.specs.Inside.KeptMark.{kept_mark_of}
+use Rattle.redo_model.specs.State.{Cell, mark_in}
 use Rattle.redo_records.specs.Rows.{Slot, TargetRows, slot_at, has_slot}
 use Rattle.redo_records.specs.Inside.Target.{IsSlotOf}
 use Rattle.redo_records.proofs.Slots.{slot_stands}
@@ -10,8 +9,8 @@ use Rattle.redo_records.proofs.target.Target.put_change.Goals as goal
 use Rattle.redo_records.proofs.target.Target.put_change.Goals.{After-put_change}
 
 -- the slot after the call
-abbrev with_mark : KeptMark → Slot → Slot
-with_mark mark slot = record slot { change = Some (kept_mark_of mark) }
+abbrev with_mark : Cell → Slot → Slot
+with_mark cell slot = record slot { change = Some (mark_in cell.state cell) }
 
 -- the place is that of the name's slot
 at : (c : After-put_change) → IsSlotOf c.self.inside.slots.items c.args.n c.slot_place-place.result
@@ -30,12 +29,12 @@ stood c =
     c.slot_place-place.result c.index_mut-slot.result.now c.self.invariant (at c)).0
 
 stands : (c : After-put_change)
-    → c.put_change.new.self ≡ with_mark c.args.mark (slot_at c.self.inside.slots.items c.args.n)
-stands c = c.put_change.ensures ∙ ap (with_mark c.args.mark) (stood c)
+    → c.put_change.new.self ≡ with_mark c.args.cell.now (slot_at c.self.inside.slots.items c.args.n)
+stands c = c.put_change.ensures ∙ ap (with_mark c.args.cell.now) (stood c)
 
 named : (c : After-put_change) → c.put_change.new.self.name ≡ c.args.n
 named c =
-    new_named (with_mark c.args.mark) (λ slot. refl) c.self.inside.slots.items c.args.n
+    new_named (with_mark c.args.cell.now) (λ slot. refl) c.self.inside.slots.items c.args.n
     c.slot_place-place.result c.put_change.new.self (at c) (stands c)
 
 pub invariant_of-self : goal.invariant_of-self
@@ -53,10 +52,10 @@ returns-clause-was c =
 pub returns-clause-rows : goal.returns-clause-rows
 returns-clause-rows c k =
     let w = (goal.at.returns-clause-rows c).After-put_change in
-    rows_written (with_mark c.args.mark) (λ slot. refl) c.self.inside.slots.items c.args.n
+    rows_written (with_mark c.args.cell.now) (λ slot. refl) c.self.inside.slots.items c.args.n
     c.slot_place-place.result c.put_change.new.self (at w) (stands w) c.self.invariant k
     ∙ ap (λ (rows : TargetRows). cond (eqb c.args.n k)
-    (with_mark c.args.mark (slot_at rows.slots k)) (slot_at rows.slots k)) c.self.view_is
+    (with_mark c.args.cell.now (slot_at rows.slots k)) (slot_at rows.slots k)) c.self.view_is
 
 pub returns-clause-room : goal.returns-clause-room
 returns-clause-room c k =

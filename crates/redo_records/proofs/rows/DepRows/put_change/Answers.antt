@@ -1,9 +1,9 @@
 use Rattle.std.proofs.Common.{refl}
-use Rattle.redo_records.specs.Inside.KeptMark.{kept_mark_of}
+use Rattle.redo_model.specs.State.{mark_in}
 use Rattle.redo_records.specs.Inside.Kept.{has_change}
 use Rattle.redo_records.proofs.Changed.{change_written}
 use Rattle.redo_records.proofs.Writing.{kept_change, knows_row}
-use Rattle.redo_records.proofs.rows.DepRows.put_kept.Goals as goal
+use Rattle.redo_records.proofs.rows.DepRows.put_change.Goals as goal
 
 pub put_in-requires-clause-was : goal.put_in-requires-clause-was
 put_in-requires-clause-was c =
@@ -23,7 +23,7 @@ pub invariant_of-self : goal.invariant_of-self
 invariant_of-self c =
     let e = c.put_change-was.ensures in
     kept_change c.self.inside.targets.items c.args.self.now c.args.t c.args.n c.index_mut.result.now
-    c.put_change-was.new.self (kept_mark_of c.args.mark) c.put_change-was.result
+    c.put_change-was.new.self (mark_in c.args.cell.now.state c.args.cell.now) c.put_change-was.result
     c.self.inside.needed.items c.put_in.new.lists.items c.self.inside.awaited.items
     c.self.inside.slotted.items c.self.view_is c.requires.target c.index_mut.ensures.value
     (record { rows = e.rows; room = e.room; always = e.always }) e.was c.put_in.ensures
@@ -34,5 +34,5 @@ returns-clause-rows c =
     let e = c.put_change-was.ensures in
     change_written c.self.inside.targets.items c.args.self.now c.args.t c.args.n
     c.index_mut.result.now c.put_change-was.new.self
-    (kept_mark_of c.args.mark) c.self.view_is c.requires.target c.index_mut.ensures.value
+    (mark_in c.args.cell.now.state c.args.cell.now) c.self.view_is c.requires.target c.index_mut.ensures.value
     (record { rows = e.rows; room = e.room; always = e.always })
