@@ -13,13 +13,14 @@ ghost use Rattle.redo_text.specs.Inside.ReplyReading.{okay_in};
 
 use crate::args::{one, two};
 use crate::fault::{LineFault, Unread};
+use crate::form::Form;
 use crate::keywords::cut_kind;
 use crate::name_lists::target_and_numbers_of;
 use crate::words::{
     content_of, file_stamp_of, file_stamp_or_none_of, known_alone, known_name, name_of, number_of,
 };
 use redo_names::Names;
-use redo_terms::{Command, Kind, boxed};
+use redo_terms::{Command, boxed};
 use std::alloc::Global;
 
 /// The number of the one name of a form.
@@ -108,7 +109,7 @@ pub(crate) fn check_no_words(args: Option<&[u8]>) -> Result<(), Unread>
 }
 
 /// The command that a text is, by its first word.
-#[tactic(auto, using(crate::proofs::Added::extends_same, crate::proofs::Left::same_left, crate::proofs::Left::same_left_on), unfolding(crate::specs::Inside::Reading::form_in))]
+#[tactic(auto, using(crate::proofs::Added::extends_same, crate::proofs::Left::same_left, crate::proofs::Left::same_left_on))]
 pub(crate) fn form_of(alloc: Global, names: &mut Names, text: &[u8]) -> Result<Command, Unread>
     ensures reads { Reads (λ command. (command_at names.new command, names.new)) result
         (words_in names.old (words_of text.now)) }
@@ -119,35 +120,18 @@ pub(crate) fn form_of(alloc: Global, names: &mut Names, text: &[u8]) -> Result<C
     let Some((kind, args)) = cut_kind(text) else {
         return Err(Unread::Fault(LineFault::UnknownCommand));
     };
-    match kind {
-        Kind::File => file_of(alloc, names, args),
-        Kind::Gone => Ok(Command::Gone(one_name_of(names, args)?)),
-        Kind::Lock => Ok(Command::Lock(one_name_of(names, args)?)),
-        Kind::Unlock => Ok(Command::Unlock(one_name_of(names, args)?)),
-        Kind::Start => Ok(Command::Start(one_name_of(names, args)?)),
-        Kind::IfChange => {
+    match Form::of(kind) {
+        Form::OneName(form) => Ok(form.command(one_name_of(names, args)?)),
+        Form::Listing(form) => {
             let (target, others) = target_and_numbers_of(alloc, names, args)?;
-            Ok(Command::IfChange(target, others))
+            Ok(form.command(target, others))
         }
-        Kind::IfCreate => {
-            let (target, others) = target_and_numbers_of(alloc, names, args)?;
-            Ok(Command::IfCreate(target, others))
-        }
-        Kind::Always => Ok(Command::Always(one_name_of(names, args)?)),
-        Kind::Stamp => stamp_of(alloc, names, args),
-        Kind::Done => done_of(alloc, names, args),
-        Kind::Failed => Ok(Command::Failed(one_name_of(names, args)?)),
-        Kind::Ood => {
+        Form::Bare(form) => {
             check_no_words(args)?;
-            Ok(Command::Ood)
+            Ok(form.command())
         }
-        Kind::Targets => {
-            check_no_words(args)?;
-            Ok(Command::Targets)
-        }
-        Kind::Sources => {
-            check_no_words(args)?;
-            Ok(Command::Sources)
-        }
+        Form::File => file_of(alloc, names, args),
+        Form::Stamp => stamp_of(alloc, names, args),
+        Form::Done => done_of(alloc, names, args),
     }
 }

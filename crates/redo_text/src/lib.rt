@@ -3,6 +3,7 @@
 
 mod args;
 mod fault;
+mod form;
 mod forms;
 mod inquiries;
 mod keywords;

@@ -3,24 +3,22 @@ use Rattle.redo_text.specs.Inside.Reading.{words_after}
 use Rattle.redo_text.proofs.Left.{words_left}
 use Rattle.redo_text.proofs.forms.form_of.Goals as goal
 
-pub returns-in_err-target-in-IfChange-clause-left :
-    goal.returns-in_err-target-in-IfChange-clause-left
-returns-in_err-target-in-IfChange-clause-left c =
+pub returns-in_err-target-in-Listing-clause-left :
+    goal.returns-in_err-target-in-Listing-clause-left
+returns-in_err-target-in-Listing-clause-left c =
     let p =
-    err_from_is_err_and c.from_residual-in_err-target-in-IfChange.result
-    c.from_residual-in_err-target-in-IfChange.ensures.1 in
+    err_from_is_err_and c.from_residual-in_err-target-in-Listing.result
+    c.from_residual-in_err-target-in-Listing.ensures.1 in
     rw (p.1, p.2)
     (words_left c.args.names.now c.args.text.now _ (words_after c.in-Some.args)
-    c.target_and_numbers_of.new.names c.in_err-target-in-IfChange.field-0.0
-    c.in-Some.ensures.words c.in_err-target-in-IfChange.ensures.left)
+    c.target_and_numbers_of.new.names c.in_err-target-in-Listing.field-0.0
+    c.in-Some.ensures.words c.in_err-target-in-Listing.ensures.left)
 
-pub returns-in_err-target-in-IfCreate-clause-left :
-    goal.returns-in_err-target-in-IfCreate-clause-left
-returns-in_err-target-in-IfCreate-clause-left c =
-    let p =
-    err_from_is_err_and c.from_residual-in_err-target-in-IfCreate.result
-    c.from_residual-in_err-target-in-IfCreate.ensures.1 in
-    rw (p.1, p.2)
-    (words_left c.args.names.now c.args.text.now _ (words_after c.in-Some.args)
-    c.target_and_numbers_of-in-IfCreate.new.names c.in_err-target-in-IfCreate.field-0.0
-    c.in-Some.ensures.words c.in_err-target-in-IfCreate.ensures.left)
+pub returns-in_ok-target-in-Listing-clause-within :
+    goal.returns-in_ok-target-in-Listing-clause-within
+returns-in_ok-target-in-Listing-clause-within c =
+    c.command-in-Listing.ensures.below _ c.in_ok-target-in-Listing.ensures.within
+
+pub returns-in_ok-check_no_words-in-Bare-clause-within :
+    goal.returns-in_ok-check_no_words-in-Bare-clause-within
+returns-in_ok-check_no_words-in-Bare-clause-within c = c.command-in-Bare.ensures.below _

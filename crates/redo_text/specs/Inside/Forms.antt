@@ -1,0 +1,39 @@
+-- What follows the word of a command, and the command that it gives.
+use Rattle.std.specs.Prelude.{List}
+use Rattle.redo_model.specs.Names.{Text}
+use Rattle.redo_model.specs.Command.{Command, Gone, Lock, Unlock, Start, IfChange, IfCreate, Always, Failed, Ood, Targets, Sources}
+use Rattle.redo_text.specs.declared.form.Bare.{Bare}
+use Rattle.redo_text.specs.declared.form.Bare.TheVariants as bare
+use Rattle.redo_text.specs.declared.form.Form.{Form}
+use Rattle.redo_text.specs.declared.form.Form.TheVariants as forms
+use Rattle.redo_text.specs.declared.form.Listing.{Listing}
+use Rattle.redo_text.specs.declared.form.Listing.TheVariants as listings
+use Rattle.redo_text.specs.declared.form.OneName.{OneName}
+use Rattle.redo_text.specs.declared.form.OneName.TheVariants as one
+use Rattle.redo_text.specs.Inside.Reading.{Reading, one_name_in, names_form_in, no_words_in, file_in, stamp_in, done_in}
+
+abbrev pub about_name : OneName → Text → Command Text
+about_name one.Gone name = Gone name
+about_name one.Lock name = Lock name
+about_name one.Unlock name = Unlock name
+about_name one.Start name = Start name
+about_name one.Always name = Always name
+about_name one.Failed name = Failed name
+
+abbrev pub about_names : Listing → Text → List Text → Command Text
+about_names listings.IfChange target names = IfChange target names
+about_names listings.IfCreate target names = IfCreate target names
+
+abbrev pub about_nothing : Bare → Command Text
+about_nothing bare.Ood = Ood
+about_nothing bare.Targets = Targets
+about_nothing bare.Sources = Sources
+
+-- the reading of the words of a form
+abbrev pub words_read : Form → List Text → List Text → Reading
+words_read (forms.OneName form) names args = one_name_in (about_name form) names args
+words_read (forms.Listing form) names args = names_form_in (about_names form) names args
+words_read (forms.Bare form) names args = no_words_in (about_nothing form) names args
+words_read forms.File names args = file_in names args
+words_read forms.Stamp names args = stamp_in names args
+words_read forms.Done names args = done_in names args
