@@ -76,6 +76,18 @@ texts-insert keys key text same new =
     ∙ map-append (λ (k : String Global). string_bytes k) keys (key ∷ [])
     ∙ ap (λ (t : List ℕ). texts keys ++ t ∷ []) same
 
+-- the names that a set has after a new one was put in
+pub names-inserted : (keys after : List (String Global)) (key : String Global)
+    (names : List (List ℕ)) (text : List ℕ)
+    → texts keys ≡ names → string_bytes key ≡ text → has names text ≡ false
+    → after ≡ (if list_any (λ k. bytes_eq (string_bytes key) (string_bytes k)) keys
+    then keys else keys ++ key ∷ [])
+    → texts after ≡ names ++ text ∷ []
+names-inserted keys after key names text view same new is =
+    let absent : has (texts keys) text ≡ false = rw view new in
+    ap texts is ∙ texts-insert keys key text same absent
+    ∙ ap (λ (before : List (List ℕ)). before ++ text ∷ []) view
+
 -- the first of the keys are those of the first names
 pub texts-take : (keys kept : List (String Global)) (names : List (List ℕ)) (n : ℕ)
     → texts keys ≡ names → kept ≡ take n keys → texts kept ≡ take n names

@@ -5,4 +5,4 @@ mod name;
 mod names;
 
 pub use name::{LONGEST_NAME, is_name};
-pub use names::{MOST_NAMES, Names, NamesFault};
+pub use names::{MOST_NAMES, Names, NamesFault, Turn};

@@ -42,12 +42,39 @@ impl<T: Drop> From<AllocFailed<T>> for NamesFault {
     }
 }
 
+/// Where a name comes after another.
+#[derive(Clone, Copy)]
+pub enum Turn {
+    /// It is the first of the names that a line lists after its target.
+    First,
+    /// It is the next in a list of names.
+    Next,
+}
+
+/// The numbers that came after a name the last time: in the lines that followed, as the first of a list, and as the
+/// next in a list. Each may be wrong.
+#[derive(Clone, Copy)]
+struct Followers {
+    in_lines: u32,
+    first: u32,
+    next: u32,
+}
+
+// no name has this number
+const NO_FOLLOWERS: Followers = Followers {
+    in_lines: u32::MAX,
+    first: u32::MAX,
+    next: u32::MAX,
+};
+
 /// Distinct names, each with a number: its place in the order in which they were added.
 #[derive(Drop)]
 pub struct Names {
     texts: IndexSet<String>,
     // the number that was added or remembered last: the next name is often the same
     latest: u32,
+    // what came after each name
+    followers: Vec<Followers>,
 }
 
 impl Model for Names {
@@ -64,7 +91,11 @@ impl Names {
         ensures { result ≡ [] }
     {
         let texts = IndexSet::new(alloc);
-        Names { texts, latest: 0 }
+        Names {
+            texts,
+            latest: 0,
+            followers: Vec::new(alloc),
+        }
     }
 
     /// How many names there are.
@@ -87,18 +118,55 @@ impl Names {
         ensures found { IfSome result (λ number. slice_get self.now number ≡ Some text.now) }
         ensures there { is_some result ≡ has self.now text.now }
     {
-        self.number_guessed(self.latest, text)
-    }
-
-    /// The number of a text, if it is among the names. Callers pass `guess`: a number that it may have. It is sooner
-    /// found if that is right.
-    pub fn number_guessed(&self, guess: u32, text: &[u8]) -> Option<u32>
-        ensures found { IfSome result (λ number. slice_get self.now number ≡ Some text.now) }
-        ensures there { is_some result ≡ has self.now text.now }
-    {
-        match self.if_at(guess, text) {
+        if let Some(number) = self.if_at(self.latest, text) {
+            return Some(number);
+        }
+        let next = self.followers_of(self.latest).in_lines;
+        match self.if_at(next, text) {
             Some(number) => Some(number),
             None => self.search(text),
+        }
+    }
+
+    /// The number that was added or remembered last, which may be that of no name.
+    pub fn latest(&self) -> u32 {
+        self.latest
+    }
+
+    /// The name that came after this one the last time, if that was noted: its number.
+    pub fn follower(&self, before: u32, turn: Turn) -> Option<u32>
+        ensures { IfSome result (λ number. number < length self.now) }
+    {
+        let followers = self.followers_of(before);
+        let number = match turn {
+            Turn::First => followers.first,
+            Turn::Next => followers.next,
+        };
+        if number < self.len() {
+            Some(number)
+        } else {
+            None
+        }
+    }
+
+    /// Notes that a name came after another. Callers pass the numbers of both.
+    pub fn note_follower(&mut self, before: u32, turn: Turn, number: u32)
+        ensures { self.new ≡ self.old }
+    {
+        let Some(followers) = self.followers.get_mut(before as usize) else {
+            return;
+        };
+        match turn {
+            Turn::First => followers.first = number,
+            Turn::Next => followers.next = number,
+        }
+    }
+
+    /// What came after the name with this number.
+    fn followers_of(&self, number: u32) -> Followers {
+        match self.followers.get(number as usize) {
+            Some(followers) => *followers,
+            None => NO_FOLLOWERS,
         }
     }
 
@@ -127,10 +195,17 @@ impl Names {
         }
     }
 
-    /// Remembers a number: a text that is looked up next is compared with its name first.
+    /// Remembers a number: a text that is looked up next is compared with its name first, and then with the name that
+    /// was remembered after it the last time.
     pub fn remember(&mut self, number: u32)
         ensures { self.new ≡ self.old }
     {
+        if number == self.latest {
+            return;
+        }
+        if let Some(followers) = self.followers.get_mut(self.latest as usize) {
+            followers.in_lines = number;
+        }
         self.latest = number;
     }
 
@@ -169,7 +244,7 @@ impl Names {
         ensures names { AreNames self.new }
     {
         if let Some(number) = self.number_of(text) {
-            self.latest = number;
+            self.remember(number);
             return Ok(number);
         }
         let number = self.texts.len();
@@ -178,8 +253,9 @@ impl Names {
         }
         let alloc = *self.texts.allocator();
         let name = String::from_str(alloc, ascii_text(text))?;
+        self.followers.resize(number + 1, NO_FOLLOWERS)?;
         self.texts.insert(name)?;
-        self.latest = number as u32;
+        self.remember(number as u32);
         Ok(number as u32)
     }
 

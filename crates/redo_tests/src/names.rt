@@ -1,5 +1,5 @@
 //! Names and their numbers.
-use redo_names::{Names, NamesFault, is_name};
+use redo_names::{Names, NamesFault, Turn, is_name};
 use std::alloc::Global;
 use std::cmp::Ordering;
 use std::process::Abort;
@@ -22,10 +22,26 @@ fn check_third(rt: &impl Abort, names: &Names, text: &[u8]) {
     assert!(rt; names.number_of(b"c").is_none());
 }
 
-/// The text has this number, whatever is guessed.
-fn check_guessed(rt: &impl Abort, names: &Names, text: &[u8], want: Option<u32>) {
-    for guess in [0, 2, 4, u32::MAX] {
-        assert!(rt; names.number_guessed(guess, text) == want);
+/// The text has this number, whatever is remembered.
+fn check_remembered(rt: &impl Abort, names: &mut Names, text: &[u8], want: Option<u32>) {
+    for number in [0, 2, 4, u32::MAX, 1, 2] {
+        names.remember(number);
+        assert!(rt; names.number_of(text) == want);
+    }
+}
+
+/// The follower that was noted last is given, if it is a name and came after one.
+fn check_followers(rt: &impl Abort, names: &mut Names, turn: Turn) {
+    for (before, number, want) in [
+        (1, 2, Some(2)),
+        (1, 3, Some(3)),
+        (1, 4, None),
+        (3, 0, Some(0)),
+        (4, 1, None),
+        (u32::MAX, 1, None),
+    ] {
+        names.note_follower(before, turn, number);
+        assert!(rt; names.follower(before, turn) == want);
     }
 }
 
@@ -37,8 +53,11 @@ fn numbers(rt: HostRuntime) -> Result<(), NamesFault> {
         assert!(rt; add(&rt, &mut names, text)? == want);
     }
     check_third(&rt, &names, b"a.c");
-    check_guessed(&rt, &names, b"a.c", Some(2));
-    check_guessed(&rt, &names, b"c", None);
+    check_remembered(&rt, &mut names, b"a.c", Some(2));
+    check_remembered(&rt, &mut names, b"c", None);
+    check_followers(&rt, &mut names, Turn::First);
+    assert!(&rt; names.follower(3, Turn::Next).is_none());
+    check_followers(&rt, &mut names, Turn::Next);
     for (first, second, want) in [
         (0, 1, Ordering::Greater),
         (1, 2, Ordering::Less),

@@ -3,7 +3,6 @@ use Rattle.std.proofs.Common.{◌≡◌, ◌<◌, ◌≤◌, true, cond, List, l
 use Rattle.std.specs.Prelude.{IsSome, is_some}
 use Rattle.std.proofs.lemmas.Bool.{cases_lt, lt-ltb}
 use Rattle.redo_model.specs.Names.{Text}
-use Rattle.redo_text.specs.declared.fault.LineFault.{LineFault}
 use Rattle.redo_text.specs.declared.fault.LineFault.TheVariants.{LineTooLong}
 use Rattle.redo_text.specs.declared.inquiries.Inquiry.{Inquiry}
 use Rattle.redo_text.specs.Questions.{first_yes, is_too_long, text_questions, words_of, line_fault}

@@ -1,5 +1,5 @@
 -- Names that are known by their numbers.
-use Rattle.std.proofs.Common.{◌≡◌, ℕ, zero, suc, ◌<◌, Bool, true, false, cond, ◌||◌, ◌==◌, List, [], ◌∷◌, ◌++◌, ◌≤◌, ◌&&◌, length, map, arith, Some, slice_get, Ok, Err, refl, sym, ap, subst, ◌∙◌, append-nil}
+use Rattle.std.proofs.Common.{◌≡◌, ℕ, zero, suc, ◌<◌, Bool, true, false, cond, ◌||◌, ◌==◌, List, [], ◌∷◌, ◌++◌, ◌≤◌, ◌&&◌, length, map, arith, Some, slice_get, Ok, Err, refl, sym, ap, subst, ◌∙◌, append-nil, take, drop, take-append-drop, not}
 use Rattle.std.specs.Prelude.{bytes_eq}
 use Rattle.std.specs.List.{list_all}
 use Rattle.std.proofs.lemmas.List.{length-map}
@@ -16,7 +16,7 @@ use Rattle.redo_text.specs.Questions.{words_of}
 use Rattle.redo_text.specs.Inside.Reading.{IsNumbered, added, all_added, one_name_in, names_form_in}
 use Rattle.redo_text.specs.Inside.ReplyReading.{names_in_words, with_its_names}
 use Rattle.redo_text.proofs.NameLists.{all_added-fits, each_name, target_and_names_read}
-use Rattle.redo_text.proofs.Spaced.{name_is_visible, words_of-spaced}
+use Rattle.redo_text.proofs.Spaced.{name_is_visible, words_of-first, words_of-spaced}
 use Rattle.redo_text.proofs.Steps.{same_found}
 
 -- a name with a number is among the names
@@ -59,6 +59,39 @@ added_known names t n is =
 -- a name is one word
 pub one_name : (t : Text) → is_name t ≡ true → words_of t ≡ t ∷ []
 one_name t is = ap words_of (sym (append-nil t)) ∙ words_of-spaced t [] (name_is_visible t is) tt
+
+no_false : (b : Bool) → false ≡ not b → b ≡ true
+no_false true e = refl
+no_false false e = absurd cc
+
+empty : (rest : Text) → length rest ≡ 0 → rest ≡ []
+empty [] e = refl
+empty (b ∷ bs) e = absurd (omega (arith, e))
+
+-- a text that begins with a name, by what comes after it
+begins : (name text first rest : Text)
+    → (first ≡ take (length name) text) × (rest ≡ drop (length name) text)
+    → false ≡ not (bytes_eq first name) → text ≡ name ++ rest
+begins name text first rest parts same =
+    let is : first ≡ name = (bytes_eq-Decides first name).0 (no_false (bytes_eq first name) same) in
+    sym (take-append-drop (length name) text)
+    ∙ (λ i. (sym parts.0 ∙ is) i ++ sym parts.1 i)
+
+pub name_alone : (name text first rest : Text) → is_name name ≡ true
+    → (first ≡ take (length name) text) × (rest ≡ drop (length name) text)
+    → false ≡ not (bytes_eq first name) → length rest ≡ 0 → words_of text ≡ name ∷ []
+name_alone name text first rest is parts same none =
+    ap words_of (begins name text first rest parts same
+    ∙ ap (λ (r : Text). name ++ r) (empty rest none) ∙ append-nil name) ∙ one_name name is
+
+pub name_before_space : (name text first rest others : Text) (b : ℕ) → is_name name ≡ true
+    → (first ≡ take (length name) text) × (rest ≡ drop (length name) text)
+    → false ≡ not (bytes_eq first name) → rest ≡ b ∷ others → b ≡ 32
+    → words_of text ≡ name ∷ words_of others
+name_before_space name text first rest others b is parts same cut space =
+    ap words_of (begins name text first rest parts same
+    ∙ ap (λ (r : Text). name ++ r) (cut ∙ ap (λ (x : ℕ). x ∷ others) space))
+    ∙ words_of-first name others (name_is_visible name is)
 
 pub one_name_known : (form : Text → Command Text) (names args : List Text) (t : Text) (n : ℕ)
     → args ≡ t ∷ [] → IsNumbered names t n

@@ -71,6 +71,12 @@ words_of-spaced w ws h all =
     split-spaced w ws (All-from_recursion (λ b. (b == 32) ≡ false) w (visible_word w h))
     (visible_words ws all)
 
+-- a visible word before a space is the first
+pub words_of-first : (w rest : Text) → IsVisible w → words_of (w ++ 32 ∷ rest) ≡ w ∷ words_of rest
+words_of-first w rest h =
+    slice_split_at (λ b. b == 32) w 32 rest
+    (All-from_recursion (λ b. (b == 32) ≡ false) w (visible_word w h)) refl
+
 -- and no byte of their text is bad
 pub spaced_is_text : (w : Text) (ws : List Text) → IsVisible w → AllByRecursion IsVisible ws
     → list_any (λ b. not (is_text_byte b)) (spaced w ws) ≡ false

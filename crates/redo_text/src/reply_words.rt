@@ -84,7 +84,8 @@ pub(crate) fn listed_of(
     ensures kept { Extends names.old names.new }
 {
     names.are_names();
-    if let Some(known) = known_numbers(alloc, names, 0, args)? {
+    let before = names.latest();
+    if let Some(known) = known_numbers(alloc, names, before, args)? {
         return Ok(known);
     }
     let words = words(alloc, args)?;

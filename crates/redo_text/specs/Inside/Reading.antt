@@ -1,11 +1,11 @@
 -- The steps of the private readers, which no public clause cites: the result of each, or its fault
 -- if it fails.
-use Rattle.std.specs.Prelude.{◌≡◌, ◌⊎◌, ℕ, List, [], ◌∷◌, ◌++◌, drop, length, Option, Some, None, Result, Ok, Err, not, nat_lt, nat_le, ◌==◌, if◌then◌else◌, codes, bytes_eq, slice_get, true, false, ⊤}
+use Rattle.std.specs.Prelude.{◌≡◌, ◌⊎◌, ◌<◌, ℕ, List, [], ◌∷◌, ◌++◌, drop, length, Option, Some, None, Result, Ok, Err, not, nat_lt, nat_le, ◌==◌, if◌then◌else◌, codes, bytes_eq, slice_get, true, false, ⊤}
 use Rattle.std.specs.Borrow.{Bor}
 use Rattle.std.specs.List.{list_all}
 use Rattle.hex.specs.Hex.{decode_of}
 use Rattle.hex.specs.declared.error.FromHexError.{FromHexError}
-use Rattle.redo_names.specs.Names.{is_name, has}
+use Rattle.redo_names.specs.Names.{is_name, has, text_at}
 use Rattle.redo_model.specs.Names.{Text}
 use Rattle.redo_model.specs.Command.{Command, Item, File, Gone, Lock, Unlock, Start, IfChange, IfCreate, Always, Stamp, Done, Failed, Ood, Targets, Sources}
 use Rattle.redo_terms.specs.declared.kind.Kind.{Kind}
@@ -154,6 +154,12 @@ words_in names (word ∷ args) = form_in (kind_named word) names args
 abbrev pub words_after : Option (Bor Text) → List Text
 words_after None = []
 words_after (Some text) = words_of text.now
+
+-- the first word of the text is the name with this number, and these words follow
+pub record IsCutAt (names : List Text) (text : Text) (number : ℕ) (others : List Text)
+    : Type 0 where
+  pub words : words_of text ≡ text_at names number ∷ others
+  pub below : number < length names
 
 -- a line without its LF
 unfoldable pub line_in : List Text → Text → Reading

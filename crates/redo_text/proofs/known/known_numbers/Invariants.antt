@@ -6,6 +6,7 @@ use Rattle.redo_text.proofs.known.known_numbers.Given as goal
 
 abbrev pub invariant-loop-left : goal.invariant-loop-left
 invariant-loop-left l = record {
+  same : l.names ≡ l.fn.names;
   words : words_after l.fn.args ≡ map (text_at l.names) l.numbers.items ++ words_after l.left;
   below : AllBelow (length l.names) l.numbers.items;
 }

@@ -6,5 +6,6 @@ returns-in-Some-clause-reads c form =
     let words = rw c.in-Some.is at c.in_ok-known.ensures.words in
     let below = rw c.in-Some.is at c.in_ok-known.ensures.below in
     let count = rw c.in-Some.is at c.in_ok-known.ensures.count in
-    rw c.remember.ensures (form_known form c.args.names.now _ c.in-Some.known.0
-    c.in-Some.known.1.items c.are_names.ensures below count.0 count.1 words)
+    rw (c.remember.ensures, c.in_ok-known.ensures.kept)
+    (form_known form c.args.names.now _ c.in-Some.known.0 c.in-Some.known.1.items
+    c.are_names.ensures below count.0 count.1 words)

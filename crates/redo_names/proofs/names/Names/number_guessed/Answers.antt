@@ -1,7 +1,0 @@
-use Rattle.std.proofs.Common.{sym}
-use Rattle.redo_names.proofs.NameLists.{has-at}
-use Rattle.redo_names.proofs.names.Names.number_guessed.Goals as goal
-
-pub returns-in-Some-clause-there : goal.returns-in-Some-clause-there
-returns-in-Some-clause-there c =
-    sym (has-at c.args.self.now c.args.text.now c.in-Some.number c.in-Some.ensures)
