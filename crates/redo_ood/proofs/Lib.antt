@@ -1,3 +1,4 @@
+pub mod Places
 pub mod SearchTree
 pub mod Searching
 pub mod Shortest

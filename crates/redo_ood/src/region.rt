@@ -7,13 +7,14 @@ ghost use Rattle.redo_model.specs.Inside.OutOfDate.{TouchesSeed, InRegion};
 ghost use Rattle.redo_model.specs.Renaming.{AllBelow};
 ghost use Rattle.redo_model.specs.State.{Idle};
 ghost use Rattle.redo_records.specs.Cells.{cell_at};
+ghost use Rattle.redo_records.specs.Numbers.{numbers_there};
 ghost use Rattle.redo_records.specs.Rows.{with_rows, rows_count};
 ghost use Rattle.redo_marks.specs.NameSet.{IsMarked, IsQueued, Enters, size_of};
 ghost use Rattle.redo_marks.specs.Inside.NameSet.{MarksOnly};
 ghost use Rattle.redo_marks.specs.Inside.Regions.{Spreads, IsClosed};
 
 use redo_marks::NameSet;
-use redo_records::{DepRows, Records, State};
+use redo_records::{DepRows, Place, Records, State};
 
 pub(crate) fn is_target(records: &Records, t: u32) -> bool
     requires { t < length records.now }
@@ -32,16 +33,28 @@ fn enter_each(names: &[u32], marks: &mut NameSet)
     }
 }
 
-// Marks those of the names that are targets.
-fn enter_targets(records: &Records, names: &[u32], marks: &mut NameSet)
-    requires below { AllBelow (size_of marks.old) names.now }
+// Marks the number of the place, if it is there and a target.
+fn enter_place(records: &Records, place: &Place, marks: &mut NameSet)
+    requires below { IsTrue place.now.is_there → place.now.number < size_of marks.old }
     requires sized { size_of marks.old ≡ length records.now }
-    ensures { Enters (λ t. ((cell_at records.now t).state ≢ Idle) × Contains names.now t)
-        marks.old marks.new }
+    ensures { Enters (λ t. ((cell_at records.now t).state ≢ Idle)
+        × IsTrue place.now.is_there × (t ≡ place.now.number)) marks.old marks.new }
 {
-    for &t in names {
+    if let Some(t) = place.number() {
         let is_due = is_target(records, t);
         marks.enter_if(t, is_due);
+    }
+}
+
+// Marks those of the numbers that are there and targets.
+fn enter_targets(records: &Records, places: &[Place], marks: &mut NameSet)
+    requires below { AllBelow (size_of marks.old) (numbers_there places.now) }
+    requires sized { size_of marks.old ≡ length records.now }
+    ensures { Enters (λ t. ((cell_at records.now t).state ≢ Idle)
+        × Contains (numbers_there places.now) t) marks.old marks.new }
+{
+    for place in places {
+        enter_place(records, place, marks);
     }
 }
 

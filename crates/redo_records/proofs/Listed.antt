@@ -1,5 +1,5 @@
 -- The numbers in the lists are below the count.
-use Rattle.std.proofs.Common.{◌≡◌, ℕ, ◌<◌, Bool, true, List, [], get_or, ◌∷◌, length, sym, ap, subst, ◌∙◌, inl, inr, arith, refl, suc}
+use Rattle.std.proofs.Common.{◌≡◌, ◌↔◌, ℕ, ◌<◌, Bool, IsTrue, true, List, [], get_or, ◌∷◌, length, sym, ap, subst, ◌∙◌, inl, inr, arith, refl, suc}
 use Rattle.std.proofs.lemmas.Bool.{cases_lt, false≢true}
 use Rattle.std.proofs.lemmas.List.{get_or_past, get_or_default}
 use Rattle.std.specs.List.{Contains}
@@ -37,6 +37,26 @@ inverse_below test blank targets now n lists list xs is n_in at items h =
     subst (λ (ts : List TargetRows). AllBelow (length ts) xs) is
     (all_below (length targets) xs (λ t in'. target_below test blank targets t n
     (((h.each n name).listed t).0 (subst (λ ys. Contains ys t) same in'))))
+
+-- the list of a name has a number if some target has a row on it
+pub inverse_some : (test : Slot → Bool) (targets now : List TargetRows) (n : ℕ)
+    (lists : List NumberList) (list : NumberList) (some : Bool) → targets ≡ now → n < length now
+    → list ≡ get_or lists n list → IsTrue some ↔ ((u : ℕ) × Contains list.items u)
+    → IsInverse test targets lists
+    → IsTrue some ↔ ((t : ℕ) × IsTrue (passes_on test n (target_at now t)))
+inverse_some test targets now n lists list some is n_in at has h =
+    let name : n < length targets = subst (λ (ts : List TargetRows). n < length ts) (sym is) n_in in
+    let inside : n < length lists = omega (arith, name, h.sized) in
+    let same : list ≡ numbers_at lists n = at ∙ get_or_default lists n list no_numbers inside in
+    let listed : (t : ℕ) → Contains list.items t ↔ IsTrue (passes_on test n (target_at now t)) =
+    subst (λ (x : NumberList). (t : ℕ)
+    → Contains x.items t ↔ IsTrue (passes_on test n (target_at now t))) (sym same)
+    (subst (λ (ts : List TargetRows). (t : ℕ)
+    → Contains (numbers_at lists n).items t ↔ IsTrue (passes_on test n (target_at ts t))) is
+    (h.each n name).listed) in (
+      λ b. let found = has.0 b in (found.0, (listed found.0).0 found.1),
+      λ row. has.1 (row.0, (listed row.0).1 row.1),
+    )
 
 pub slots_below : (targets now : List TargetRows) (t : ℕ) (target : TargetRows) (slots : List Slot)
     (needed awaited : List NumberList) (slotted : List ℕ) → targets ≡ now → t < length now

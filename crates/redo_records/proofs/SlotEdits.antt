@@ -1,13 +1,13 @@
 -- Slots with one replaced, and with one more.
-use Rattle.std.proofs.Common.{◌≡◌, ℕ, zero, suc, ◌<◌, ◌||◌, Bool, true, false, cond, eqb, eq-eqb, ne_eqb, List, [], ◌∷◌, length, get_or, set, refl, sym, ap, ◌∙◌, subst, inl, inr, arith}
+use Rattle.std.proofs.Common.{◌≡◌, ℕ, zero, suc, ◌<◌, ◌||◌, Bool, true, false, cond, eqb, eq-eqb, ne_eqb, List, [], ◌∷◌, length, set, refl, sym, ap, ◌∙◌, inl, inr, arith}
 use Rattle.std.proofs.lemmas.Bool.{cases_eq, or_parts}
-use Rattle.std.proofs.lemmas.List.{length-set, get_or-set_same, get_or-set_other}
 use Rattle.std.proofs.lemmas.List.Sorted.{IsPermutation-insert, list_any-IsPermutation}
 use Rattle.std.specs.List.{insert}
 use Rattle.redo_records.specs.Rows.{Slot, slot_at, has_slot}
 use Rattle.redo_records.specs.Target.{Ascending}
 use Rattle.redo_records.specs.Inside.Target.{blank, IsSlotOf, IsGapFor}
 use Rattle.redo_records.proofs.Inserting.{all_pairs_insert}
+use Rattle.redo_records.proofs.Ordered.{set_in_order}
 use Rattle.redo_records.proofs.Slots.{name_read, nothing_stands}
 
 same_twice : {X : Type 0} (b : Bool) (x y z : X) → cond b x y ≡ cond b x (cond b z y)
@@ -50,16 +50,9 @@ has_slot-set (slot ∷ slots) n (suc i) new at same k =
 
 pub set_ascends : (slots : List Slot) (n i : ℕ) (new : Slot) → Ascending slots → IsSlotOf slots n i
     → new.name ≡ n → Ascending (set slots i new)
-set_ascends slots n i new ascending at same j k d before in' =
-    let in_k : k < length slots = subst (λ m. k < m) (length-set slots i new) in' in
-    let named : (j : ℕ) → j < length slots → (get_or (set slots i new) j d).name
-    ≡ (get_or slots j d).name = λ j in_j. elim (cases_eq j i) [
-      | inl e ↦ subst (λ m. (get_or (set slots i new) m d).name ≡ (get_or slots m d).name) (sym e)
-          (ap (λ (slot : Slot). slot.name) (get_or-set_same slots i new d at.within) ∙ same
-          ∙ sym (name_read slots i d at.within ∙ at.named))
-      | inr off ↦ ap (λ (slot : Slot). slot.name) (get_or-set_other slots i j new d off)
-    ] in
-    omega (arith, named j (omega arith), named k in_k, ascending j k d before in_k)
+set_ascends slots n i new ascending at same =
+    set_in_order (λ (slot : Slot). slot.name) slots ascending i new at.within
+    (name_read slots i new at.within ∙ at.named ∙ sym same)
 
 blank_stands : (slots : List Slot) (n : ℕ) → has_slot slots n ≡ false → (k : ℕ)
     → slot_at (blank n ∷ slots) k ≡ slot_at slots k

@@ -1,16 +1,14 @@
 -- The rows on a name, by the place of its slot.
-use Rattle.std.proofs.Common.{◌≡◌, ℕ, zero, suc, ◌<◌, ◌≤◌, true, false, cond, eqb, eq-eqb, ne_eqb, List, [], ◌∷◌, length, get_or, refl, sym, ap, ◌∙◌, inl, inr, arith, Result, Ok, Err, IfOk, IfErr}
+use Rattle.std.proofs.Common.{◌≡◌, ℕ, zero, suc, ◌<◌, true, false, cond, eqb, eq-eqb, ne_eqb, List, [], ◌∷◌, length, get_or, refl, sym, ap, ◌∙◌, inl, inr, arith, Result, Ok, Err, IfOk, IfErr}
 use Rattle.std.proofs.lemmas.Bool.{cases_lt, cases_eq, eqb-true, or_parts}
-use Rattle.std.proofs.lemmas.Bool.Decides.{nat_tests}
-use Rattle.std.proofs.lemmas.Cmp.{ranked}
 use Rattle.std.proofs.lemmas.List.{get_or_default}
 use Rattle.std.proofs.lemmas.List.Folds.{list_any_none, list_any_at, Any-from_list_any}
-use Rattle.std.proofs.lemmas.List.Sorted.{IsNonDecreasingBy-from_default}
-use Rattle.std.specs.List.Sorted.{IsSearchInRange, IsBinarySearchResult, IsNonDecreasingBy}
-use Rattle.std.specs.Ordering.{nat_cmp, ordering_index}
+use Rattle.std.specs.List.Sorted.{IsSearchInRange, IsBinarySearchResult}
+use Rattle.std.specs.Ordering.{nat_cmp}
 use Rattle.redo_records.specs.Rows.{Slot, slot_at, has_slot}
 use Rattle.redo_records.specs.Target.{Ascending}
 use Rattle.redo_records.specs.Inside.Target.{blank, name_at, IsSlotOf, IsGapFor}
+use Rattle.redo_records.proofs.Ordered.{searched_by}
 
 -- whichever the default, the name is that of the place
 pub name_read : (slots : List Slot) (i : ℕ) (d : Slot) → i < length slots
@@ -85,31 +83,21 @@ slot_named (slot ∷ slots) n = elim (cases_eq slot.name n) [
       ap (λ b. (cond b slot (slot_at slots n)).name) (ne_eqb slot.name n off) ∙ slot_named slots n
 ]
 
-module _ (slots : List Slot) (ascending : Ascending slots) (n : ℕ) where
-  -- the comparisons with n rise along the slots, as a binary search asks
-  comparisons_rise : IsNonDecreasingBy (λ slot. ordering_index (nat_cmp slot.name n)) slots
-  comparisons_rise =
-      IsNonDecreasingBy-from_default (λ slot. ordering_index (nat_cmp slot.name n)) slots (blank 0)
-      (λ i j le in_range.
-      let names_rise : name_at slots i ≤ name_at slots j =
-      grind (arith, ascending i j (blank 0), λ (same : i ≡ j). ap (name_at slots) same) in
-      grind (arith, nat_tests))
-
-  -- a binary search by name ends at the name's slot, or at the gap for it
-  pub searched : (r : Result ℕ ℕ) → IsSearchInRange r (length slots)
-      → IsBinarySearchResult (λ slot. nat_cmp slot.name n) slots r
-      → record { found : IfOk r (IsSlotOf slots n); absent : IfErr r (IsGapFor slots n) }
-  searched (Ok at) in_range equal =
-      record {
-        found = record { within = in_range; named = ranked _ n _ (sym (equal (blank 0))) };
-        absent = tt;
-      }
-  searched (Err at) in_range parted = record {
-    found = tt;
-    absent = record {
-      within = in_range;
-      before =
-          λ j lt. ranked _ n _ (sym ((parted comparisons_rise).0 j (blank 0) (omega arith) lt));
-      after = λ j le lt. ranked _ n _ (sym ((parted comparisons_rise).1 j (blank 0) le lt));
-    };
-  }
+-- a binary search by name ends at the name's slot, or at the gap for it
+pub searched : (slots : List Slot) → Ascending slots → (n : ℕ) (r : Result ℕ ℕ)
+    → IsSearchInRange r (length slots)
+    → IsBinarySearchResult (λ slot. nat_cmp slot.name n) slots r
+    → record { found : IfOk r (IsSlotOf slots n); absent : IfErr r (IsGapFor slots n) }
+searched slots ascending n (Ok i) in_range equal =
+    let found = searched_by (λ (slot : Slot). slot.name) slots ascending n (Ok i) in_range equal in
+    record { found = record { within = found.0; named = found.1 (blank 0) }; absent = tt }
+searched slots ascending n (Err i) in_range parted =
+    let gap = searched_by (λ (slot : Slot). slot.name) slots ascending n (Err i) in_range parted in
+    record {
+      found = tt;
+      absent = record {
+        within = gap.0;
+        before = λ k. gap.1 k (blank 0);
+        after = λ k. gap.2 k (blank 0);
+      };
+    }

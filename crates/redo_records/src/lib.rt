@@ -25,6 +25,7 @@ pub use laws::verdict_by_kind;
 pub use lists::extended;
 pub use mark::Mark;
 pub use news::News;
+pub use numbers::Place;
 pub use records::Records;
 pub use rows::DepRows;
 pub use state::State;

@@ -1,39 +1,119 @@
-ghost use Rattle.std.specs.Prelude.{◌≡◌, ◌⊎◌, ◌↔◌, ℕ, ◌+◌, ◌<◌, ◌≤◌, [], length, Contains, OnOk};
-ghost use Rattle.redo_records.specs.Numbers.{Rising};
-ghost use Rattle.redo_records.specs.Inside.Numbers.{IsPlaceOf};
+ghost use Rattle.std.specs.Prelude.{◌≡◌, ◌⊎◌, ◌↔◌, ℕ, ◌+◌, ◌<◌, ◌≤◌, [], IsTrue, length, Contains, IfOk, IfErr, OnOk, if◌then◌else◌, Some, None, vec_capacity, vec_len};
+ghost use Rattle.redo_records.specs.Numbers.{Rising, numbers_there};
+ghost use Rattle.redo_records.specs.Inside.Numbers.{InOrder, IsPlaceOf, IsGapFor, HasOneMore};
 
 use std::alloc::{AllocError, Global};
 use std::marker::Model;
 
-/// Numbers in ascending order, each once, with reserved memory for more.
+/// The place of a number in a list, and whether the number is there.
+#[derive(Clone, Copy)]
+pub struct Place {
+    number: u32,
+    is_there: bool,
+}
+
+impl Model for Place {
+    ghost use Rattle.std.specs.Prelude.{refl};
+    ghost use Rattle.redo_records.specs.Numbers as numbers;
+
+    ghost Value = { numbers.Place };
+
+    ghost view = { λ inside. record { number = inside.number; is_there = inside.is_there } };
+
+    ghost inverse = { λ place. record { number = place.number; is_there = place.is_there } };
+
+    ghost inverse_ok = { λ inside i. refl };
+}
+
+impl Place {
+    /// The number, if it is there.
+    pub fn number(&self) -> Option<u32>
+        ensures { result ≡ (if self.now.is_there then Some self.now.number else None) }
+    {
+        if self.is_there {
+            Some(self.number)
+        } else {
+            None
+        }
+    }
+}
+
+/// Numbers in ascending order, each once, with reserved memory for more. A number that is removed leaves its place
+/// empty, so that it can come back there.
 #[derive(Drop)]
 pub struct Numbers {
-    items: Vec<u32>,
+    places: Vec<Place>,
 }
 
 impl Model for Numbers {
     ghost use Rattle.std.specs.Prelude.{vec_capacity};
-    ghost use Rattle.redo_records.specs.Numbers.{NumberList, Rising};
+    ghost use Rattle.redo_records.specs.Numbers.{NumberList, numbers_there};
+    ghost use Rattle.redo_records.specs.Inside.Numbers.{InOrder};
 
     ghost Value = { NumberList };
 
     ghost view = { λ inside. record {
-      items = inside.items.items;
-      room = vec_capacity inside.items;
+      items = numbers_there inside.places.items;
+      room = vec_capacity inside.places;
     } };
 
-    ghost invariant = { λ inside. Rising inside.items.items };
+    ghost invariant = { λ inside. InOrder inside.places.items };
 }
 
-/// The place of the number, or the place where it would go.
-fn number_place(items: &[u32], x: u32) -> usize
-    requires { Rising items.now }
-    ensures { IsPlaceOf items.now x result }
+/// The number's place, or the gap where it would go.
+fn search(places: &[Place], x: u32) -> Result<usize, usize>
+    requires { InOrder places.now }
+    ensures found { IfOk result (IsPlaceOf places.now x) }
+    ensures absent { IfErr result (IsGapFor places.now x) }
 {
-    match items.binary_search(&x) {
+    places.binary_search_by_key(&x, |place| place.number)
+}
+
+/// The gap for a number without a place.
+fn find_gap(places: &[Place], x: u32) -> usize
+    requires order { InOrder places.now }
+    requires absent { (i : ℕ) → IsPlaceOf places.now x i → ⊥ }
+    ensures { IsGapFor places.now x result }
+{
+    match search(places, x) {
         Ok(place) => place,
-        Err(place) => place,
+        Err(gap) => gap,
     }
+}
+
+/// Makes room for one more place, and returns the gap for the number. If the memory is full, the empty places go.
+fn make_room(places: &mut Vec<Place>, gap: usize, x: u32) -> usize
+    requires order { InOrder places.old.items }
+    requires gap { IsGapFor places.old.items x gap }
+    requires room { length (numbers_there places.old.items) < vec_capacity places.old }
+    ensures order { InOrder places.new.items }
+    ensures gap { IsGapFor places.new.items x result }
+    ensures numbers { numbers_there places.new.items ≡ numbers_there places.old.items }
+    ensures capacity { vec_capacity places.new ≡ vec_capacity places.old }
+    ensures room { vec_len places.new < vec_capacity places.new }
+{
+    if places.len() < places.capacity() {
+        return gap;
+    }
+    places.retain(|place| place.is_there);
+    find_gap(places.as_slice(), x)
+}
+
+/// Puts the number into a new place at its gap.
+fn put_new(places: &mut Vec<Place>, gap: usize, x: u32)
+    requires order { InOrder places.old.items }
+    requires gap { IsGapFor places.old.items x gap }
+    requires room { length (numbers_there places.old.items) < vec_capacity places.old }
+    ensures order { InOrder places.new.items }
+    ensures more { HasOneMore x (numbers_there places.old.items) (numbers_there places.new.items) }
+    ensures capacity { vec_capacity places.old ≤ vec_capacity places.new }
+{
+    let gap = make_room(places, gap, x);
+    let place = Place {
+        number: x,
+        is_there: true,
+    };
+    let _inserted = places.insert(gap, place);
 }
 
 impl Numbers {
@@ -42,15 +122,23 @@ impl Numbers {
         ensures { result.items ≡ [] }
     {
         Numbers {
-            items: Vec::new(alloc),
+            places: Vec::new(alloc),
         }
     }
 
-    pub fn as_slice(&self) -> &[u32]
-        ensures items { result.now ≡ self.now.items }
-        ensures ascending { Rising result.now }
+    /// The places of the numbers, in ascending order.
+    pub fn places(&self) -> &[Place]
+        ensures items { numbers_there result.now ≡ self.now.items }
+        ensures ascending { Rising (numbers_there result.now) }
     {
-        self.items.as_slice()
+        self.places.as_slice()
+    }
+
+    /// Whether there is any number.
+    pub fn has_any(&self) -> bool
+        ensures { IsTrue result ↔ ((u : ℕ) × Contains self.now.items u) }
+    {
+        self.places.iter().any(|place| place.is_there)
     }
 
     /// Reserves memory for that many numbers in all.
@@ -59,8 +147,8 @@ impl Numbers {
         ensures ok { OnOk result (total ≤ self.new.room) }
         ensures kept { self.old.room ≤ self.new.room }
     {
-        let more = total.saturating_sub(self.items.len());
-        self.items.reserve(more)
+        let more = total.saturating_sub(self.places.len());
+        self.places.reserve(more)
     }
 
     /// Allocates nothing.
@@ -71,11 +159,16 @@ impl Numbers {
         ensures length { length self.new.items ≡ length self.old.items + 1 }
         ensures room { self.old.room ≤ self.new.room }
     {
-        let place = number_place(self.items.as_slice(), x);
-        let _inserted = self.items.insert(place, x);
+        match search(self.places.as_slice(), x) {
+            Ok(place) => self.places[place] = Place {
+                number: x,
+                is_there: true,
+            },
+            Err(gap) => put_new(&mut self.places, gap, x),
+        }
     }
 
-    /// Keeps its capacity.
+    /// Leaves the number's place empty, and keeps the capacity.
     pub fn remove(&mut self, x: u32)
         requires { Contains self.old.items x }
         ensures each { (u : ℕ)
@@ -83,7 +176,11 @@ impl Numbers {
         ensures length { length self.new.items + 1 ≡ length self.old.items }
         ensures room { self.old.room ≤ self.new.room }
     {
-        let place = number_place(self.items.as_slice(), x);
-        let _removed = self.items.remove(place);
+        if let Ok(place) = search(self.places.as_slice(), x) {
+            self.places[place] = Place {
+                number: x,
+                is_there: false,
+            };
+        }
     }
 }

@@ -5,6 +5,7 @@ ghost use Rattle.redo_model.specs.State.{mark_in, no_rows};
 ghost use Rattle.redo_model.specs.Renaming.{AllBelow};
 ghost use Rattle.redo_records.specs.Meaning.{row_mark_of};
 ghost use Rattle.redo_records.specs.News.{IsNews, name_of};
+ghost use Rattle.redo_records.specs.Numbers.{numbers_there};
 ghost use Rattle.redo_records.specs.Target.{Ascending};
 ghost use Rattle.redo_records.specs.Rows.{rows_count, rows_of, room_of, target_at, has_slot, with_change, with_created, with_always, without_rows, HasChangeRowOn, HasCreatedRowOn, by_number, with_rows};
 
@@ -12,7 +13,7 @@ use crate::cell::Cell;
 use crate::lists::extended;
 use crate::mark::Mark;
 use crate::news::{News, first_news};
-use crate::numbers::Numbers;
+use crate::numbers::{Numbers, Place};
 use crate::records::Records;
 use crate::target::{Slot, Target};
 use crate::{inverse, made};
@@ -226,23 +227,39 @@ impl DepRows {
         first_news(records, self.slots_of(t))
     }
 
-    /// The targets with a change row on `n`, by ascending number.
-    pub fn needed_by(&self, n: u32) -> &[u32]
+    /// Whether some target has a change row on `n`.
+    pub fn is_needed(&self, n: u32) -> bool
         requires { n < rows_count self.now }
-        ensures listed { IsListed by_number
-            (λ t. HasChangeRowOn (rows_of self.now) t n) result.now }
-        ensures below { AllBelow (rows_count self.now) result.now }
+        ensures { IsTrue result ↔ ((t : ℕ) × HasChangeRowOn (rows_of self.now) t n) }
     {
-        self.needed[n as usize].as_slice()
+        self.needed[n as usize].has_any()
     }
 
-    /// The targets with a created row on `n`, by ascending number.
-    pub fn awaited_by(&self, n: u32) -> &[u32]
+    /// Whether some target has a created row on `n`.
+    pub fn is_awaited(&self, n: u32) -> bool
+        requires { n < rows_count self.now }
+        ensures { IsTrue result ↔ ((t : ℕ) × HasCreatedRowOn (rows_of self.now) t n) }
+    {
+        self.awaited[n as usize].has_any()
+    }
+
+    /// The places of the targets with a change row on `n`, by ascending number.
+    pub fn needed_by(&self, n: u32) -> &[Place]
         requires { n < rows_count self.now }
         ensures listed { IsListed by_number
-            (λ t. HasCreatedRowOn (rows_of self.now) t n) result.now }
-        ensures below { AllBelow (rows_count self.now) result.now }
+            (λ t. HasChangeRowOn (rows_of self.now) t n) (numbers_there result.now) }
+        ensures below { AllBelow (rows_count self.now) (numbers_there result.now) }
     {
-        self.awaited[n as usize].as_slice()
+        self.needed[n as usize].places()
+    }
+
+    /// The places of the targets with a created row on `n`, by ascending number.
+    pub fn awaited_by(&self, n: u32) -> &[Place]
+        requires { n < rows_count self.now }
+        ensures listed { IsListed by_number
+            (λ t. HasCreatedRowOn (rows_of self.now) t n) (numbers_there result.now) }
+        ensures below { AllBelow (rows_count self.now) (numbers_there result.now) }
+    {
+        self.awaited[n as usize].places()
     }
 }

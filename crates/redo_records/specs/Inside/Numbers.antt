@@ -1,8 +1,24 @@
--- Numbers in ascending order.
-use Rattle.std.specs.Prelude.{ℕ, ◌<◌, ◌≤◌, List, length, slice_index}
+-- The places of numbers in ascending order, each number once.
+use Rattle.std.specs.Prelude.{◌≡◌, ◌⊎◌, ◌↔◌, ℕ, ◌+◌, ◌<◌, ◌≤◌, List, AllPairs, Contains, length, slice_index_or}
+use Rattle.redo_records.specs.Numbers.{Place}
 
--- the place of x, or where x would go: smaller numbers before it, and none from it on
-pub record IsPlaceOf (xs : List ℕ) (x i : ℕ) : Type 0 where
-  pub within : i ≤ length xs
-  pub before : (k : ℕ) → k < i → slice_index xs k < x
-  pub after : (k : ℕ) → i ≤ k → k < length xs → x ≤ slice_index xs k
+-- each place's number is greater than those before it, whether they are there or not
+abbrev pub InOrder : List Place → Type 0
+InOrder places = AllPairs (λ p q. p.number < q.number) places
+
+-- the place at i is that of x
+pub record IsPlaceOf (places : List Place) (x i : ℕ) : Type 0 where
+  pub within : i < length places
+  pub numbered : (d : Place) → (slice_index_or places i d).number ≡ x
+
+-- a place of x would go at i: smaller numbers before it, and greater ones from it on
+pub record IsGapFor (places : List Place) (x i : ℕ) : Type 0 where
+  pub within : i ≤ length places
+  pub before : (k : ℕ) (d : Place) → k < i → (slice_index_or places k d).number < x
+  pub after : (k : ℕ) (d : Place) → i ≤ k → k < length places
+      → x < (slice_index_or places k d).number
+
+-- the new list has the numbers of the old one, and one more
+pub record HasOneMore (x : ℕ) (old new : List ℕ) : Type 0 where
+  pub each : (u : ℕ) → Contains new u ↔ (Contains old u ⊎ (u ≡ x))
+  pub longer : length new ≡ length old + 1

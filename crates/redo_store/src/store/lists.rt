@@ -176,7 +176,7 @@ impl Store {
         requires { n < count_of self.now }
         ensures { IsTrue result ↔ ((t : ℕ) × HasChangeRow (records_of self.now) t n) }
     {
-        !self.rows.needed_by(n).is_empty()
+        self.rows.is_needed(n)
     }
 
     /// Whether some target has a created row on it.
@@ -184,7 +184,7 @@ impl Store {
         requires { n < count_of self.now }
         ensures { IsTrue result ↔ ((t : ℕ) × HasCreatedRow (records_of self.now) t n) }
     {
-        !self.rows.awaited_by(n).is_empty()
+        self.rows.is_awaited(n)
     }
 
     /// Whether some target has a row on it.

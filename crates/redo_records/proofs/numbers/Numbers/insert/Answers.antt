@@ -1,47 +1,35 @@
-use Rattle.std.proofs.Common.{◌≡◌, ◌∙◌, ◌⊎◌, ◌↔◌, ◌<◌, ℕ, List, ap, sym, subst, cond, arith, length, Contains, vec_len, vec_capacity}
-use Rattle.std.specs.List.{insert}
-use Rattle.redo_records.specs.Numbers.{NumberList, Rising}
-use Rattle.redo_records.specs.Inside.Numbers.{IsPlaceOf}
-use Rattle.redo_records.proofs.Rises.{insert_rises, Contains-insert}
+use Rattle.std.proofs.Common.{◌⊎◌, ◌≡◌, ◌↔◌, ◌∙◌, ◌+◌, ℕ, true, set, ap, sym, subst, length, Contains}
+use Rattle.redo_records.specs.Numbers.{NumberList, numbers_there}
+use Rattle.redo_records.specs.Inside.Numbers.{IsPlaceOf, HasOneMore}
+use Rattle.redo_records.proofs.Places.{place_with, put_back}
 use Rattle.redo_records.proofs.numbers.Numbers.insert.Goals as goal
-use Rattle.redo_records.proofs.numbers.Numbers.insert.Goals.{After-insert-inserted}
+use Rattle.redo_records.proofs.numbers.Numbers.insert.Goals.{After-index_mut}
 
--- memory is reserved, so the number was put in
-placed : (c : After-insert-inserted) → c.insert-inserted.new.self.items
-    ≡ insert c.self.inside.items.items c.number_place-place.result c.args.x
-placed c =
-    let xs = c.self.inside.items.items in
-    let long : length c.as_slice.result.now ≡ length xs =
-    ap (λ (ys : List ℕ). length ys) c.as_slice.ensures.value in
-    let all : length xs ≡ length c.args.self.now.items =
-    ap (λ (n : NumberList). length n.items) c.self.view_is in
-    let fits : vec_capacity c.self.inside.items ≡ c.args.self.now.room =
-    ap (λ (n : NumberList). n.room) c.self.view_is in
-    let roomy : vec_len c.self.inside.items < vec_capacity c.self.inside.items =
-    omega (arith, c.as_slice.ensures.len, c.requires.room) in
-    c.insert-inserted.ensures.items
-    ∙ ap (λ b. cond b (insert xs c.number_place-place.result c.args.x) xs)
-    (c.insert-inserted.ensures.succeeds roomy)
+-- the place is filled
+filled : (c : After-index_mut) → HasOneMore c.args.x (numbers_there c.self.inside.places.items)
+    (numbers_there (set c.self.inside.places.items c.in-Ok.place (place_with c.args.x true)))
+filled c =
+    put_back c.self.inside.places.items c.args.x c.in-Ok.place
+    (subst (λ ps. IsPlaceOf ps c.args.x c.in-Ok.place) c.as_slice.ensures.value
+    c.in-Ok.ensures.found)
+    (subst (λ (n : NumberList). Contains n.items c.args.x → ⊥) (sym c.self.view_is) c.requires.out)
 
-pub invariant_of-self : goal.invariant_of-self
-invariant_of-self c =
-    let xs = c.self.inside.items.items in
-    let place =
-    subst (λ ys. IsPlaceOf ys c.args.x c.number_place-place.result) c.as_slice.ensures.value
-    c.number_place-place.ensures in
-    let out =
-    subst (λ (n : NumberList). Contains n.items c.args.x → ⊥) (sym c.self.view_is) c.requires.out in
-    subst Rising (sym (placed (goal.at.invariant_of-self c).After-insert-inserted))
-    (insert_rises xs c.args.x c.number_place-place.result c.self.invariant place out)
+pub returns-in-Ok-clause-each : goal.returns-in-Ok-clause-each
+returns-in-Ok-clause-each c =
+    let new =
+    numbers_there (set c.self.inside.places.items c.in-Ok.place (place_with c.args.x true)) in
+    subst (λ (n : NumberList). (u : ℕ)
+    → Contains new u ↔ (Contains n.items u ⊎ (u ≡ c.args.x))) c.self.view_is
+    (filled (goal.at.returns-in-Ok-clause-each c).After-index_mut).each
 
-pub returns-clause-each : goal.returns-clause-each
-returns-clause-each c =
-    let xs = c.self.inside.items.items in
-    let same = ap (λ (n : NumberList). n.items) c.self.view_is in
-    let old =
-    subst (λ (ys : List ℕ). (u : ℕ) → Contains (insert xs c.number_place-place.result c.args.x) u
-    ↔ (Contains ys u ⊎ (u ≡ c.args.x))) same
-    (Contains-insert xs c.number_place-place.result c.args.x) in
-    subst
-    (λ (ys : List ℕ). (u : ℕ) → Contains ys u ↔ (Contains c.args.self.now.items u ⊎ (u ≡ c.args.x)))
-    (sym (placed (goal.at.returns-clause-each c).After-insert-inserted)) old
+pub returns-in-Ok-clause-length : goal.returns-in-Ok-clause-length
+returns-in-Ok-clause-length c =
+    (filled (goal.at.returns-in-Ok-clause-length c).After-index_mut).longer
+    ∙ ap (λ (n : NumberList). length n.items + 1) c.self.view_is
+
+pub returns-in-Err-clause-each : goal.returns-in-Err-clause-each
+returns-in-Err-clause-each c =
+    let new = numbers_there c.put_new.new.places.items in
+    subst (λ (n : NumberList). (u : ℕ)
+    → Contains new u ↔ (Contains n.items u ⊎ (u ≡ c.args.x))) c.self.view_is
+    c.put_new.ensures.more.each

@@ -1,36 +1,36 @@
-use Rattle.std.proofs.Common.{◌≡◌, ◌↔◌, ◌<◌, ℕ, List, ap, sym, subst, length, get_or, Contains}
-use Rattle.std.specs.List.{remove}
-use Rattle.std.proofs.lemmas.List.Quantifiers.{all_pairs_remove}
-use Rattle.redo_records.specs.Numbers.{NumberList, Rising}
-use Rattle.redo_records.specs.Inside.Numbers.{IsPlaceOf}
-use Rattle.redo_records.proofs.Rises.{stands_there, Contains-remove}
+use Rattle.std.proofs.Common.{◌≡◌, ◌↔◌, ◌∙◌, ℕ, false, set, ap, sym, subst, length, Contains}
+use Rattle.redo_records.specs.Numbers.{NumberList, numbers_there}
+use Rattle.redo_records.specs.Inside.Numbers.{IsPlaceOf, IsGapFor}
+use Rattle.redo_records.proofs.Places.{HasOneLess, place_with, left_empty, not_in_gap}
 use Rattle.redo_records.proofs.numbers.Numbers.remove.Goals as goal
+use Rattle.redo_records.proofs.numbers.Numbers.remove.Goals.{After-index_mut}
 
-there : (c : goal.After-remove-removed)
-    → (c.number_place-place.result < length c.self.inside.items.items)
-    × (get_or c.self.inside.items.items c.number_place-place.result 0 ≡ c.args.x)
-there c =
-    let place =
-    subst (λ ys. IsPlaceOf ys c.args.x c.number_place-place.result) c.as_slice.ensures.value
-    c.number_place-place.ensures in
-    stands_there c.self.inside.items.items c.args.x
-    c.number_place-place.result c.self.invariant place
+-- the place is empty
+emptied : (c : After-index_mut) → HasOneLess c.args.x (numbers_there c.self.inside.places.items)
+    (numbers_there (set c.self.inside.places.items c.in-Ok.place (place_with c.args.x false)))
+emptied c =
+    left_empty c.self.inside.places.items c.args.x c.in-Ok.place c.self.invariant
+    (subst (λ ps. IsPlaceOf ps c.args.x c.in-Ok.place) c.as_slice.ensures.value
+    c.in-Ok.ensures.found)
     (subst (λ (n : NumberList). Contains n.items c.args.x) (sym c.self.view_is) c.requires)
 
-pub invariant_of-self : goal.invariant_of-self
-invariant_of-self c =
-    let xs = c.self.inside.items.items in
-    subst Rising (sym c.remove-removed.ensures.items)
-    (all_pairs_remove (λ x y. x < y) xs c.number_place-place.result (there c).0 c.self.invariant)
+pub returns-in-Ok-clause-each : goal.returns-in-Ok-clause-each
+returns-in-Ok-clause-each c =
+    let new =
+    numbers_there (set c.self.inside.places.items c.in-Ok.place (place_with c.args.x false)) in
+    subst (λ (n : NumberList). (u : ℕ)
+    → Contains new u ↔ (Contains n.items u × (u ≡ c.args.x → ⊥))) c.self.view_is
+    (emptied (goal.at.returns-in-Ok-clause-each c).After-index_mut).each
 
-pub returns-clause-each : goal.returns-clause-each
-returns-clause-each c =
-    let xs = c.self.inside.items.items in
-    let same = ap (λ (n : NumberList). n.items) c.self.view_is in
-    subst (λ (ys : List ℕ). (u : ℕ)
-    → Contains ys u ↔ (Contains c.args.self.now.items u × (u ≡ c.args.x → ⊥)))
-    (sym c.remove-removed.ensures.items) (subst (λ (zs : List ℕ). (u : ℕ)
-    → Contains (remove xs c.number_place-place.result) u ↔ (Contains zs u × (u ≡ c.args.x → ⊥)))
-    same
-    (Contains-remove xs c.args.x c.number_place-place.result c.self.invariant
-    (there c).0 (there c).1))
+pub returns-in-Ok-clause-length : goal.returns-in-Ok-clause-length
+returns-in-Ok-clause-length c =
+    (emptied (goal.at.returns-in-Ok-clause-length c).After-index_mut).shorter
+    ∙ ap (λ (n : NumberList). length n.items) c.self.view_is
+
+-- the number has a place
+pub returns-in_default : goal.returns-in_default
+returns-in_default c =
+    absurd (not_in_gap c.self.inside.places.items c.args.x c.in_default.field-0
+    (subst (λ ps. IsGapFor ps c.args.x c.in_default.field-0) c.as_slice.ensures.value
+    c.in_default.ensures.absent)
+    (subst (λ (n : NumberList). Contains n.items c.args.x) (sym c.self.view_is) c.requires))

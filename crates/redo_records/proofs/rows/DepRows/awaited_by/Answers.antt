@@ -1,10 +1,11 @@
 use Rattle.std.proofs.Common.{refl}
 use Rattle.redo_records.specs.Inside.Kept.{has_created}
+use Rattle.redo_records.specs.Numbers.{numbers_there}
 use Rattle.redo_records.proofs.Listed.{inverse_below}
 use Rattle.redo_records.proofs.rows.DepRows.awaited_by.Goals as goal
 
 pub returns-clause-below : goal.returns-clause-below
 returns-clause-below c =
     inverse_below has_created (λ k. refl) c.self.inside.targets.items c.args.self.now c.args.n
-    c.self.inside.awaited.items c.index.result.now c.as_slice.result.now c.self.view_is c.requires
-    c.index.ensures c.as_slice.ensures.items c.self.invariant.awaits
+    c.self.inside.awaited.items c.index.result.now (numbers_there c.places.result.now) c.self.view_is c.requires
+    c.index.ensures c.places.ensures.items c.self.invariant.awaits
