@@ -14,16 +14,6 @@ pub asked_of_command : (names : List Text) (text : Text) → inquiry_in (words_o
 asked_of_command names text none =
     ap (λ o. cond (is_some o) (inquiry_fault text) (line_fault names text)) none
 
-asked_by : (names : List Text) (text : Text) (o : Option Inquiry) → IsSome o
-    → cond (is_some o) (inquiry_fault text) (line_fault names text) ≡ inquiry_fault text
-asked_by names text None some = absurd cc
-asked_by names text (Some inquiry) some = refl
-
--- of a question, it is that of the question
-pub asked_of_inquiry : (names : List Text) (text : Text) → IsSome (inquiry_in (words_of text))
-    → asked_fault names text ≡ inquiry_fault text
-asked_of_inquiry names text some = asked_by names text (inquiry_in (words_of text)) some
-
 command_too_long : (names : List Text) (text : Text) → is_too_long text ≡ true
     → line_fault names text ≡ Some LineTooLong
 unfolding line_fault
