@@ -1,15 +1,14 @@
 -- The names of a kind, taken from the list of all names in order.
-use Rattle.std.proofs.Common.{◌≡◌, ◌==◌, ◌↔◌, ℕ, ◌<◌, ◌≤◌, ◌+◌, Bool, true, false, cond, not, IsTrue, List, [], ◌∷◌, ◌++◌, length, get_or, take, refl, sym, ap, ◌∙◌, subst, inl, inr, arith}
+use Rattle.std.proofs.Common.{◌≡◌, ◌↔◌, ℕ, ◌<◌, ◌≤◌, ◌+◌, Bool, true, false, cond, IsTrue, List, [], ◌∷◌, ◌++◌, length, get_or, take, refl, sym, ◌∙◌, subst, inl, inr, arith}
 use Rattle.std.specs.List.{Contains}
 use Rattle.std.specs.declared.cmp.Ordering.TheVariants.{Less}
-use Rattle.std.proofs.lemmas.Bool.{ne_eqb, false≢true}
+use Rattle.std.proofs.lemmas.Bool.{false≢true}
 use Rattle.std.proofs.lemmas.List.{append-nil, take_more, take_all, get_or_default, get_or-take, length-take-le}
 use Rattle.std.proofs.lemmas.List.Elements.{Contains-get_or, Contains-push, Contains-push_cases, Contains-append_left}
 use Rattle.std.proofs.lemmas.List.Quantifiers.{all_pairs_push}
 use Rattle.redo_model.specs.Names.{Naming, IsListed, Ascending, numbers}
 use Rattle.redo_model.specs.Renaming.{AllBelow}
 use Rattle.redo_model.proofs.Listing.{each_below}
-use Rattle.redo_model.proofs.Members.{contains_first, contains_none}
 use Rattle.redo_order.specs.Orders.{by_place}
 use Rattle.redo_order.specs.Inside.Orders.{IsOrderOf, AreInOrder}
 
@@ -152,18 +151,3 @@ listed_alike naming names P Q same h = (
   h.0,
   λ n. (λ c. (same n).0 ((h.1 n).0 c), λ q. (h.1 n).1 ((same n).1 q)),
 )
-
--- a name has P exactly if their list isn't empty
-some_in : {P : ℕ → Type 0} (naming : Naming ℕ) (names : List ℕ) → IsListed naming P names
-    → IsTrue (not (length names == 0)) ↔ ((n : ℕ) × P n)
-some_in naming [] h =
-    (λ t. absurd (false≢true t), λ p. absurd (contains_none p.0 ((h.1 p.0).1 p.1)))
-some_in naming (x ∷ xs) h = (
-  λ _. (x, (h.1 x).0 (contains_first x xs)),
-  λ _. ap not (ne_eqb (length (x ∷ xs)) 0 (λ e. omega (arith, e))),
-)
-
-pub some_listed : {P : ℕ → Type 0} {empty : Bool} (naming : Naming ℕ) (names : List ℕ)
-    → IsListed naming P names → empty ≡ (length names == 0) → IsTrue (not empty) ↔ ((n : ℕ) × P n)
-some_listed {P} naming names h is =
-    subst (λ b. IsTrue (not b) ↔ ((n : ℕ) × P n)) (sym is) (some_in naming names h)
