@@ -85,8 +85,7 @@ impl Slot {
         self.created
     }
 
-    /// A change row with the mark that a name with this cell has. It is written in place: a mark that is copied on its
-    /// way costs more than the rest of the row.
+    /// A change row with the mark that a name with this cell has. It is written in place, so that no mark is copied.
     fn put_change(&mut self, cell: &Cell)
         ensures { self.new ≡ record self.old { change = Some (mark_in cell.now.state cell.now) } }
     {

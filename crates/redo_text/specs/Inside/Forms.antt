@@ -12,6 +12,7 @@ use Rattle.redo_text.specs.declared.form.OneName.{OneName}
 use Rattle.redo_text.specs.declared.form.OneName.TheVariants as one
 use Rattle.redo_text.specs.Inside.Reading.{Reading, one_name_in, names_form_in, no_words_in, file_in, stamp_in, done_in}
 
+-- the command about this name
 abbrev pub about_name : OneName → Text → Command Text
 about_name one.Gone name = Gone name
 about_name one.Lock name = Lock name
@@ -20,10 +21,12 @@ about_name one.Start name = Start name
 about_name one.Always name = Always name
 about_name one.Failed name = Failed name
 
+-- the command about this target and these names
 abbrev pub about_names : Listing → Text → List Text → Command Text
 about_names listings.IfChange target names = IfChange target names
 about_names listings.IfCreate target names = IfCreate target names
 
+-- the command without words
 abbrev pub about_nothing : Bare → Command Text
 about_nothing bare.Ood = Ood
 about_nothing bare.Targets = Targets

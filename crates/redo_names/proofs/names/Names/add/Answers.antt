@@ -12,7 +12,7 @@ use Rattle.redo_names.proofs.names.Names.add.Goals as goal
 pub ascii_text-requires : goal.ascii_text-requires
 ascii_text-requires c = name_is_ascii c.args.text.now c.requires
 
--- the names and the new one are names, whatever context says so
+-- the names with the new one are names
 new_are_names : (keys : List (String Global)) (names : List (List ℕ)) (text : List ℕ) (count : ℕ)
     → texts keys ≡ names → AreNames (texts keys) → is_name text ≡ true → has names text ≡ false
     → count ≡ length keys → count ≢ 65536 → AreNames (names ++ text ∷ [])
