@@ -15,9 +15,10 @@ use std::mem::size_of;
 /// What is known of one name.
 #[derive(Clone, Copy)]
 pub struct Cell {
-    file: Option<FileStamp>,
-    state: State,
+    // what most marks are of comes first, in one line of the cache
     builds: u32,
+    state: State,
+    file: Option<FileStamp>,
     done: Option<FileStamp>,
     digest: Option<[u8; 20]>,
 }
@@ -55,9 +56,9 @@ impl Cell {
         ensures { result ≡ idle }
     {
         Cell {
-            file: None,
-            state: State::Idle,
             builds: 0,
+            state: State::Idle,
+            file: None,
             done: None,
             digest: None,
         }
@@ -208,9 +209,9 @@ impl Cell {
     {
         let file = stamp;
         *self = Cell {
-            file,
-            state: State::Built,
             builds: self.builds + 1,
+            state: State::Built,
+            file,
             done: stamp,
             digest: self.digest,
         };

@@ -18,8 +18,9 @@ pub const LONGEST_STAMP: usize = 64;
 /// What a file looked like: 1 to 64 visible bytes of ASCII, not `-` and not `=>`.
 #[derive(Clone, Copy, Debug)]
 pub struct FileStamp {
-    bytes: [u8; LONGEST_STAMP],
+    // before the bytes: most stamps are short, and are then read from one line of the cache
     len: u8,
+    bytes: [u8; LONGEST_STAMP],
 }
 
 impl Model for FileStamp {
@@ -77,8 +78,8 @@ impl FileStamp {
             return None;
         }
         Some(FileStamp {
-            bytes: padded(text),
             len: text.len() as u8,
+            bytes: padded(text),
         })
     }
 
