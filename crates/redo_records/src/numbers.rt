@@ -43,6 +43,8 @@ impl Place {
 #[derive(Drop)]
 pub struct Numbers {
     places: Vec<Place>,
+    // the place that was filled or emptied last
+    latest: usize,
 }
 
 impl Model for Numbers {
@@ -67,6 +69,40 @@ fn search(places: &[Place], x: u32) -> Result<usize, usize>
     ensures absent { IfErr result (IsGapFor places.now x) }
 {
     places.binary_search_by_key(&x, |place| place.number)
+}
+
+/// Whether this place is that of the number.
+fn is_place_of(places: &[Place], x: u32, at: usize) -> bool
+    ensures { IsTrue result ↔ IsPlaceOf places.now x at }
+{
+    match places.get(at) {
+        Some(place) => place.number == x,
+        None => false,
+    }
+}
+
+/// The place after this one; the first, if there is none.
+fn next_place(places: &[Place], at: usize) -> usize {
+    match places.get(at) {
+        Some(_) if at + 1 < places.len() => at + 1,
+        _ => 0,
+    }
+}
+
+/// The same as `search`. This is fast if the place is `latest` or the next one.
+fn search_near(places: &[Place], x: u32, latest: usize) -> Result<usize, usize>
+    requires { InOrder places.now }
+    ensures found { IfOk result (IsPlaceOf places.now x) }
+    ensures absent { IfErr result (IsGapFor places.now x) }
+{
+    if is_place_of(places, x, latest) {
+        return Ok(latest);
+    }
+    let next = next_place(places, latest);
+    if is_place_of(places, x, next) {
+        return Ok(next);
+    }
+    search(places, x)
 }
 
 /// The gap for a number without a place.
@@ -123,6 +159,7 @@ impl Numbers {
     {
         Numbers {
             places: Vec::new(alloc),
+            latest: 0,
         }
     }
 
@@ -159,11 +196,14 @@ impl Numbers {
         ensures length { length self.new.items ≡ length self.old.items + 1 }
         ensures room { self.old.room ≤ self.new.room }
     {
-        match search(self.places.as_slice(), x) {
-            Ok(place) => self.places[place] = Place {
-                number: x,
-                is_there: true,
-            },
+        match search_near(self.places.as_slice(), x, self.latest) {
+            Ok(place) => {
+                self.latest = place;
+                self.places[place] = Place {
+                    number: x,
+                    is_there: true,
+                };
+            }
             Err(gap) => put_new(&mut self.places, gap, x),
         }
     }
@@ -176,7 +216,8 @@ impl Numbers {
         ensures length { length self.new.items + 1 ≡ length self.old.items }
         ensures room { self.old.room ≤ self.new.room }
     {
-        if let Ok(place) = search(self.places.as_slice(), x) {
+        if let Ok(place) = search_near(self.places.as_slice(), x, self.latest) {
+            self.latest = place;
             self.places[place] = Place {
                 number: x,
                 is_there: false,

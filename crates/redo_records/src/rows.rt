@@ -113,7 +113,7 @@ impl DepRows {
         ensures err { OnErr result (self.new ≡ self.old) }
         ensures count { rows_count self.new ≡ rows_count self.old }
     {
-        if self.has_room(t, n) {
+        if self.has_room(t, n, 0) {
             return Ok(());
         }
         let slots = self.slotted[n as usize] + 1;
@@ -124,16 +124,18 @@ impl DepRows {
         Ok(())
     }
 
-    /// Whether `t` has a slot for `n`, and so memory for its change row and its created row.
-    pub fn has_room(&self, t: u32, n: u32) -> bool
+    /// Whether `t` has a slot for `n`, and so memory for its change row and its created row. Callers pass `guess`: how
+    /// many slots `t` may have before it.
+    pub fn has_room(&self, t: u32, n: u32, guess: usize) -> bool
         requires { t < rows_count self.now }
         ensures { result ≡ room_of self.now t n }
     {
-        self.targets[t as usize].has_slot(n)
+        self.targets[t as usize].has_slot(n, guess)
     }
 
-    /// A change row of `t` on `n` with the mark that `n` has if this is its cell. It replaces an earlier one.
-    pub fn put_change(&mut self, t: u32, n: u32, cell: &Cell)
+    /// A change row of `t` on `n` with the mark that `n` has if this is its cell. It replaces an earlier one. Callers
+    /// pass `guess`: how many slots `t` may have before that for `n`.
+    pub fn put_change(&mut self, t: u32, n: u32, cell: &Cell, guess: usize)
         requires target { t < rows_count self.old }
         requires name { n < rows_count self.old }
         requires room { IsTrue (room_of self.old t n) }
@@ -142,7 +144,7 @@ impl DepRows {
         ensures room { (u k : ℕ) → room_of self.new u k ≡ room_of self.old u k }
         ensures count { rows_count self.new ≡ rows_count self.old }
     {
-        let was = self.targets[t as usize].put_change(n, cell);
+        let was = self.targets[t as usize].put_change(n, cell, guess);
         inverse::put_in(&mut self.needed, n, t, was);
     }
 

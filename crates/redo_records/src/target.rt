@@ -154,13 +154,35 @@ fn search(slots: &[Slot], n: u32) -> Result<usize, usize>
     slots.binary_search_by_key(&n, |slot| slot.name())
 }
 
-/// The place of the name's slot, or the place where it would go.
-fn slot_place(slots: &[Slot], n: u32) -> usize
+/// Whether the slot at this place is that of the name.
+fn is_slot_at(slots: &[Slot], n: u32, place: usize) -> bool
+    ensures { IsTrue result ↔ IsSlotOf slots.now n place }
+{
+    match slots.get(place) {
+        Some(slot) => slot.name() == n,
+        None => false,
+    }
+}
+
+/// The same as `search`. Callers pass `guess`: the place where the slot may be.
+fn search_from(slots: &[Slot], n: u32, guess: usize) -> Result<usize, usize>
+    requires { Ascending slots.now }
+    ensures found { IfOk result (IsSlotOf slots.now n) }
+    ensures absent { IfErr result (IsGapFor slots.now n) }
+{
+    if is_slot_at(slots, n, guess) {
+        return Ok(guess);
+    }
+    search(slots, n)
+}
+
+/// The place of the name's slot, or the place where it would go. Callers pass `guess`: the place where the slot may be.
+fn slot_place(slots: &[Slot], n: u32, guess: usize) -> usize
     requires { Ascending slots.now }
     ensures there { has_slot slots.now n ≡ true → IsSlotOf slots.now n result }
     ensures absent { has_slot slots.now n ≡ false → IsGapFor slots.now n result }
 {
-    match search(slots, n) {
+    match search_from(slots, n, guess) {
         Ok(place) => place,
         Err(place) => place,
     }
@@ -195,29 +217,30 @@ impl Target {
         }
     }
 
-    fn find(&self, n: u32) -> Option<&Slot>
+    /// The name's slot. Callers pass `guess`: the place where it may be.
+    fn find(&self, n: u32, guess: usize) -> Option<&Slot>
         ensures there { is_some result ≡ has_slot self.now.slots n }
         ensures slot { MatchOption result (slot_at self.now.slots n ≡ blank n)
             (λ slot. slot.now ≡ slot_at self.now.slots n) }
     {
-        match search(self.slots.as_slice(), n) {
+        match search_from(self.slots.as_slice(), n, guess) {
             Ok(place) => Some(&self.slots[place]),
             Err(_) => None,
         }
     }
 
-    /// Whether the name has a slot.
-    pub fn has_slot(&self, n: u32) -> bool
+    /// Whether the name has a slot. Callers pass `guess`: the place where it may be.
+    pub fn has_slot(&self, n: u32, guess: usize) -> bool
         ensures { result ≡ has_slot self.now.slots n }
     {
-        self.find(n).is_some()
+        self.find(n, guess).is_some()
     }
 
     /// The mark of the change row on the name.
     pub fn change_of(&self, n: u32) -> Option<Mark>
         ensures { option_map row_mark_of result ≡ (slot_at self.now.slots n).change }
     {
-        match self.find(n) {
+        match self.find(n, 0) {
             Some(slot) => slot.change(),
             None => None,
         }
@@ -227,7 +250,7 @@ impl Target {
     pub fn created(&self, n: u32) -> bool
         ensures { result ≡ (slot_at self.now.slots n).created }
     {
-        match self.find(n) {
+        match self.find(n, 0) {
             Some(slot) => slot.created(),
             None => false,
         }
@@ -257,12 +280,13 @@ impl Target {
             ((k : ℕ) → has_slot self.new.slots k ≡ (k == n || has_slot self.old.slots k)) }
         ensures err { OnErr result (self.new ≡ self.old) }
     {
-        let place = slot_place(self.slots.as_slice(), n);
+        let place = slot_place(self.slots.as_slice(), n, 0);
         Ok(self.slots.insert(place, Slot::blank(n))?)
     }
 
     /// A change row on a name with a slot and this cell, which replaces an earlier one. Returns whether there was one.
-    pub fn put_change(&mut self, n: u32, cell: &Cell) -> bool
+    /// Callers pass `guess`: the place where the slot may be.
+    pub fn put_change(&mut self, n: u32, cell: &Cell, guess: usize) -> bool
         requires { has_slot self.old.slots n ≡ true }
         ensures was { result ≡ is_some (slot_at self.old.slots n).change }
         ensures rows { (k : ℕ)
@@ -271,7 +295,7 @@ impl Target {
         ensures room { (k : ℕ) → has_slot self.new.slots k ≡ has_slot self.old.slots k }
         ensures always { self.new.always ≡ self.old.always }
     {
-        let place = slot_place(self.slots.as_slice(), n);
+        let place = slot_place(self.slots.as_slice(), n, guess);
         let slot = &mut self.slots[place];
         let was = slot.has_change();
         slot.put_change(cell);
@@ -288,7 +312,7 @@ impl Target {
         ensures room { (k : ℕ) → has_slot self.new.slots k ≡ has_slot self.old.slots k }
         ensures always { self.new.always ≡ self.old.always }
     {
-        let place = slot_place(self.slots.as_slice(), n);
+        let place = slot_place(self.slots.as_slice(), n, 0);
         let slot = &mut self.slots[place];
         let was = slot.created();
         slot.put_created();

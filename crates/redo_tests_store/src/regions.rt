@@ -52,8 +52,8 @@ impl Graph {
         requires name { n < NAMES }
     {
         self.rows.reserve(t, &[n])?;
-        assert!(rt; self.rows.has_room(t, n));
-        self.rows.put_change(t, n, self.records.cell(n));
+        assert!(rt; self.rows.has_room(t, n, 0));
+        self.rows.put_change(t, n, self.records.cell(n), 0);
         Ok(())
     }
 
@@ -153,7 +153,7 @@ fn appearance(rt: HostRuntime) -> Result<(), AllocError> {
     let mut graph = Graph::new(rt.alloc())?;
     graph.start(&rt, 1);
     graph.rows.reserve(1, &[0])?;
-    assert!(rt; graph.rows.has_room(1, 0));
+    assert!(rt; graph.rows.has_room(1, 0, 0));
     graph.rows.put_created(1, 0);
     graph.finish(&rt, 1, true);
     graph.change_file(&rt, rt.alloc(), 0, 2, &[1])

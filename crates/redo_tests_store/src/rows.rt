@@ -47,14 +47,14 @@ fn built() -> Cell {
     cell
 }
 
-/// Puts a change row into reserved memory.
-fn put_change(rt: &impl Abort, rows: &mut DepRows, t: u32, n: u32, cell: &Cell)
+/// Puts a change row into reserved memory, whether it is at the guess or not.
+fn put_change(rt: &impl Abort, rows: &mut DepRows, t: u32, n: u32, cell: &Cell, guess: usize)
     requires target { t < rows_count rows.old }
     requires name { n < rows_count rows.old }
     ensures { rows_count rows.new ≡ rows_count rows.old }
 {
-    assert!(rt; rows.has_room(t, n));
-    rows.put_change(t, n, cell);
+    assert!(rt; rows.has_room(t, n, guess));
+    rows.put_change(t, n, cell, guess);
 }
 
 /// Reserves memory for some rows, and puts them there.
@@ -64,10 +64,10 @@ fn put_rows(rt: &impl Abort, rows: &mut DepRows) -> Result<(), AllocError>
 {
     reserve(rows, 0, &[1, 2])?;
     reserve(rows, 3, &[1])?;
-    put_change(rt, rows, 0, 1, &Cell::idle());
-    assert!(rt; rows.has_room(0, 2));
+    put_change(rt, rows, 0, 1, &Cell::idle(), 0);
+    assert!(rt; rows.has_room(0, 2, 2));
     rows.put_created(0, 2);
-    put_change(rt, rows, 3, 1, &building());
+    put_change(rt, rows, 3, 1, &building(), 7);
     rows.put_always(0);
     Ok(())
 }
@@ -99,7 +99,7 @@ fn check_rows(rt: &impl Abort, rows: &DepRows)
     assert!(rt; slots[1].name() == 2 && !slots[1].has_change() && slots[1].created());
     assert!(rt; rows.created(0, 2) && !rows.created(0, 1));
     assert!(rt; rows.always(0) && !rows.always(3));
-    assert!(rt; !rows.has_room(3, 2));
+    assert!(rt; !rows.has_room(3, 2, 2));
 }
 
 /// What is there after that.
@@ -115,8 +115,8 @@ fn check_rest(rt: &impl Abort, rows: &DepRows)
     assert!(rt; slots.len() == 2);
     assert!(rt; slots[0].name() == 1 && !slots[0].has_change() && !slots[0].created());
     assert!(rt; slots[1].name() == 2 && !slots[1].has_change() && !slots[1].created());
-    assert!(rt; rows.has_room(0, 1) && rows.has_room(0, 2) && rows.has_room(3, 1));
-    assert!(rt; !rows.has_room(0, 0) && !rows.has_room(0, 3));
+    assert!(rt; rows.has_room(0, 1, 1) && rows.has_room(0, 2, 2) && rows.has_room(3, 1, 1));
+    assert!(rt; !rows.has_room(0, 0, 0) && !rows.has_room(0, 3, 3));
 }
 
 /// Puts a row of the other kind on each of the two names on which 0 had one.
@@ -124,9 +124,9 @@ fn put_again(rt: &impl Abort, rows: &mut DepRows)
     requires { rows_count rows.old ≡ NAMES }
     ensures { rows_count rows.new ≡ NAMES }
 {
-    assert!(rt; rows.has_room(0, 1));
+    assert!(rt; rows.has_room(0, 1, 1));
     rows.put_created(0, 1);
-    put_change(rt, rows, 0, 2, &built());
+    put_change(rt, rows, 0, 2, &built(), 0);
     assert!(rt; are_there(rows.needed_by(1), &[3]) && are_there(rows.awaited_by(1), &[0]));
     assert!(rt; are_there(rows.needed_by(2), &[0]) && are_there(rows.awaited_by(2), &[]));
     assert!(rt; rows.change_of(0, 1).is_none() && rows.created(0, 1));
@@ -141,10 +141,10 @@ fn more_room(rt: &impl Abort, rows: &mut DepRows) -> Result<(), AllocError>
 {
     if rows.reserve(3, &[0, 1, 2]).is_err() {
         check_rows(rt, rows);
-        assert!(rt; rows.has_room(0, 1) && rows.has_room(0, 2) && rows.has_room(3, 1));
+        assert!(rt; rows.has_room(0, 1, 1) && rows.has_room(0, 2, 2) && rows.has_room(3, 1, 1));
         rows.reserve(3, &[0, 1, 2])?;
     }
-    assert!(rt; rows.has_room(3, 0) && rows.has_room(3, 1) && rows.has_room(3, 2));
+    assert!(rt; rows.has_room(3, 0, 0) && rows.has_room(3, 1, 1) && rows.has_room(3, 2, 2));
     Ok(())
 }
 
@@ -157,7 +157,7 @@ fn inverse_rows(rt: HostRuntime) -> Result<(), AllocError> {
     more_room(&rt, &mut rows)?;
     rows.clear(0);
     check_rest(&rt, &rows);
-    assert!(rt; rows.has_room(3, 0) && rows.has_room(3, 2));
+    assert!(rt; rows.has_room(3, 0, 0) && rows.has_room(3, 2, 2));
     put_again(&rt, &mut rows);
     rows.clear(0);
     check_rest(&rt, &rows);

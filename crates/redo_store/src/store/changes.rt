@@ -23,8 +23,8 @@ fn change_each(rows: &mut DepRows, records: &Records, t: u32, names: &[u32])
     ensures after { AreRowsAfter records.now rows.old rows.new (commands.IfChange t names.now) }
     ensures count { rows_count rows.new ≡ rows_count rows.old }
 {
-    for &n in names {
-        rows.put_change(t, n, records.cell(n));
+    for (place, &n) in names.iter().enumerate() {
+        rows.put_change(t, n, records.cell(n), place);
     }
 }
 

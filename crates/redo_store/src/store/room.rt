@@ -53,8 +53,8 @@ impl Store {
         requires { t < count_of self.now }
         ensures { result ≡ list_all (room_of self.now.rows t) names.now }
     {
-        for &n in names {
-            if !self.rows.has_room(t, n) {
+        for (place, &n) in names.iter().enumerate() {
+            if !self.rows.has_room(t, n, place) {
                 return false;
             }
         }

@@ -3,5 +3,5 @@ use Rattle.std.specs.List.{list_all}
 use Rattle.redo_records.specs.Rows.{room_of}
 use Rattle.redo_store.proofs.store.Store.has_room_on.Given as goal
 
-abbrev pub invariant-loop-n : goal.invariant-loop-n
-invariant-loop-n l = list_all (room_of l.self.rows l.t) (take l.n-index l.names) ≡ true
+abbrev pub invariant-loop-place : goal.invariant-loop-place
+invariant-loop-place l = list_all (room_of l.self.rows l.t) (take l.place l.names) ≡ true
