@@ -1,4 +1,4 @@
-ghost use Rattle.std.specs.Prelude.{◌≡◌, ◌<◌, ◌↔◌, ◌⊎◌, ◌++◌, ◌∷◌, [], ℕ, IsTrue, IsNone, IfOk, OnOk, if◌then◌else◌, length};
+ghost use Rattle.std.specs.Prelude.{◌≡◌, ◌<◌, ◌↔◌, ◌++◌, ◌∷◌, [], ℕ, IsTrue, IsNone, IfOk, OnOk, Contains, if◌then◌else◌};
 ghost use Rattle.redo_model.specs.Command as commands;
 ghost use Rattle.redo_model.specs.Names.{IsListed, by_number};
 ghost use Rattle.redo_model.specs.State.{Idle, has_file, is_building, target_state};
@@ -6,15 +6,13 @@ ghost use Rattle.redo_model.specs.Changes.{is_stamp_of};
 ghost use Rattle.redo_model.specs.OutOfDate.{HasFile, IsTarget, OutOfDate, IsSource, HasChangeRow, HasCreatedRow, HasRow};
 ghost use Rattle.redo_model.specs.Step.{Tells, stale_reply};
 ghost use Rattle.redo_model.specs.Renaming.{AllBelow, IsReplyBelow};
-ghost use Rattle.redo_marks.specs.Bits.{IsSet};
 ghost use Rattle.redo_terms.specs.Meaning.{reply_of};
 ghost use Rattle.redo_store.specs.Stored.{records_of, naming_of, count_of};
 ghost use Rattle.redo_order.specs.Inside.Orders.{AreInOrder, ArePlaces};
 ghost use Rattle.redo_store.specs.Inside.Stored.{IsStored};
 
 use crate::store::Store;
-use redo_marks::Bits;
-use redo_order::names_at;
+use redo_order::{in_order, names_at};
 use redo_records::State;
 use redo_terms::{FileStamp, Reply};
 use std::alloc::{AllocError, Global};
@@ -26,16 +24,6 @@ pub(crate) fn push_if(names: &mut Vec<u32>, n: u32, is_due: bool) -> Result<(), 
         names.push(n)?;
     }
     Ok(())
-}
-
-fn insert_if(places: &mut Bits, k: u32, is_due: bool)
-    requires { k < length places.old }
-    ensures sized { length places.new ≡ length places.old }
-    ensures each { (j : ℕ) → IsSet places.new j ↔ (IsSet places.old j ⊎ (IsTrue is_due × (j ≡ k))) }
-{
-    if is_due {
-        places.insert(k);
-    }
 }
 
 fn reply_to_ifchange(stale: Vec<u32>) -> Reply
@@ -91,8 +79,8 @@ impl Store {
             (λ t. HasFile (records_of self.now) t × OutOfDate (records_of self.now) t)
             names.items) }
     {
-        let marked = self.ood_places(alloc)?;
-        let places = marked.list(alloc)?;
+        let ranks = self.ood_ranks(alloc)?;
+        let places = in_order(ranks);
         let all = self.sorted();
         names_at(alloc, all, &places)
     }
@@ -106,20 +94,20 @@ impl Store {
         self.memo.list(alloc)
     }
 
-    /// The places of the out-of-date targets with a file.
-    fn ood_places(&self, alloc: Global) -> Result<Bits, AllocError>
-        ensures { IfOk result (λ places. ArePlaces self.now.sorted
+    /// The ranks of the out-of-date targets with a file.
+    fn ood_ranks(&self, alloc: Global) -> Result<Vec<u32>, AllocError>
+        ensures { IfOk result (λ ranks. ArePlaces self.now.sorted
             (λ t. HasFile (records_of self.now) t × OutOfDate (records_of self.now) t)
-            (IsSet places)) }
+            (Contains ranks.items)) }
     {
         let out = self.outdated(alloc)?;
-        let mut places = Bits::new(alloc, self.count())?;
+        let mut ranks = Vec::new(alloc);
         for &n in &out {
             let rank = self.rank(n);
             let is_due = self.has_file(n);
-            insert_if(&mut places, rank, is_due);
+            push_if(&mut ranks, rank, is_due)?;
         }
-        Ok(places)
+        Ok(ranks)
     }
 
     fn sources(&self, alloc: Global) -> Result<Vec<u32>, AllocError>
