@@ -1,9 +1,9 @@
 //! The reasons of its own by which a target has to be built again.
 
-ghost use Rattle.std.specs.Prelude.{◌≡◌, ◌↔◌, ◌<◌, IsTrue, IfSome, MatchOption, length};
+ghost use Rattle.std.specs.Prelude.{◌≡◌, ◌⊎◌, ◌↔◌, ◌<◌, IsTrue, IfSome, MatchOption, length};
 ghost use Rattle.redo_model.specs.Why.{IsReason};
 ghost use Rattle.redo_model.specs.Inside.Why.{IsReasonBelow};
-ghost use Rattle.redo_model.specs.OutOfDate.{HasReason};
+ghost use Rattle.redo_model.specs.OutOfDate.{HasReason, SomeAppeared, SomeChanged};
 ghost use Rattle.redo_model.specs.State as states;
 ghost use Rattle.redo_records.specs.Cells.{cell_at};
 ghost use Rattle.redo_records.specs.Rows.{with_rows, rows_count};
@@ -68,11 +68,40 @@ pub(crate) fn own_reason(records: &Records, rows: &DepRows, t: u32) -> Option<Re
     }
 }
 
+// Whether it has a row on a name that has appeared or changed.
+fn has_news(records: &Records, rows: &DepRows, t: u32) -> bool
+    requires target { t < rows_count rows.now }
+    requires names { length records.now ≡ rows_count rows.now }
+    ensures { IsTrue result ↔ (SomeAppeared (with_rows records.now rows.now) t
+        ⊎ SomeChanged (with_rows records.now rows.now) t) }
+{
+    match rows.news(records, t) {
+        Some(News::Appeared(_)) => true,
+        Some(News::Changed(_)) => true,
+        None => false,
+    }
+}
+
+// Whether a built target has a reason. Rows come first, since most reasons are theirs.
+fn built_has_reason(records: &Records, rows: &DepRows, t: u32) -> bool
+    requires target { t < rows_count rows.now }
+    requires names { length records.now ≡ rows_count rows.now }
+    requires built { (cell_at records.now t).state ≡ states.Built }
+    ensures { IsTrue result ↔ HasReason (with_rows records.now rows.now) t }
+{
+    has_news(records, rows, t) || rows.always(t) || records.changed(t)
+}
+
 /// Whether it is a target with a reason of its own.
 pub(crate) fn has_reason(records: &Records, rows: &DepRows, t: u32) -> bool
     requires target { t < rows_count rows.now }
     requires names { length records.now ≡ rows_count rows.now }
     ensures { IsTrue result ↔ HasReason (with_rows records.now rows.now) t }
 {
-    own_reason(records, rows, t).is_some()
+    match records.state(t) {
+        State::Idle => false,
+        State::Building(_) => true,
+        State::Built => built_has_reason(records, rows, t),
+        State::Failed => true,
+    }
 }
