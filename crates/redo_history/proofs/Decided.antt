@@ -1,5 +1,5 @@
 -- Texts and their cuts are decidable.
-use Rattle.std.proofs.Common.{◌≡◌, ◌≢◌, ℕ, zero, suc, ◌+◌, ◌<◌, ◌⊎◌, inl, inr, ◌==◌, List, [], ◌∷◌, ◌++◌, length, drop, take, position, Option, Some, None, refl, sym, ap, subst, ◌∙◌, arith, decimal, length-append, ◌-◌}
+use Rattle.std.proofs.Common.{◌≡◌, ◌≢◌, ℕ, zero, suc, ◌+◌, ◌<◌, ◌⊎◌, inl, inr, ◌==◌, [], ◌∷◌, ◌++◌, length, drop, take, position, Option, Some, None, refl, ap, subst, arith, decimal, length-append, ◌-◌}
 use Rattle.std.specs.Prelude.{Contains}
 use Rattle.std.proofs.lemmas.Bool.{cases_lt, cases_eq}
 use Rattle.redo_model.specs.Names.{Text}

@@ -3,7 +3,7 @@ ghost use Rattle.redo_model.specs.Names.{Text};
 ghost use Rattle.redo_history.specs.HistoryFaults.{arrow, IsCutAtSpace, IsCutAtArrow, HasNoArrow};
 ghost use Rattle.redo_history.specs.Inside.HistoryFaults.{IsCutAt};
 
-use redo_text::position_of;
+use redo_text::{near_position_of, position_of};
 
 const ARROW: &[u8] = b" => ";
 
@@ -18,11 +18,12 @@ pub fn cut_at(text: &[u8], byte: u8) -> Option<(&[u8], &[u8])>
 }
 
 /// The part before the first space, and the part after it. All of it is before, if there is none.
+/// This is fast for a short first part.
 pub fn cut_at_space(line: &[u8]) -> (&[u8], &[u8])
     ensures { IsCutAtSpace line.now result.0.now result.1.now }
 {
-    match cut_at(line, b' ') {
-        Some(parts) => parts,
+    match near_position_of(line, b' ') {
+        Some(at) => (&line[..at], &line[at + 1..]),
         None => (line, &[]),
     }
 }

@@ -1,5 +1,5 @@
 -- A text by its first word.
-use Rattle.std.proofs.Common.{◌≡◌, ◌≢◌, List, [], ◌∷◌, length, Option, Some, None, Err, true, refl, sym, ap, ◌∙◌, arith, ◌==◌, Bor}
+use Rattle.std.proofs.Common.{◌≡◌, ◌≢◌, List, [], ◌∷◌, length, Option, Some, None, Err, refl, sym, ap, ◌∙◌, arith, ◌==◌, Bor}
 use Rattle.std.specs.Prelude.{bytes_eq}
 use Rattle.std.proofs.lemmas.List.Splits.{length-slice_split}
 use Rattle.std.proofs.lemmas.Slice.Eq.{bytes_eq-Decides}
@@ -8,7 +8,6 @@ use Rattle.redo_model.specs.Command.{Command}
 use Rattle.redo_text.specs.declared.fault.LineFault.TheVariants.{UnknownCommand, WrongWords}
 use Rattle.redo_terms.specs.declared.kind.Kind.{Kind}
 use Rattle.redo_text.specs.declared.reply_kind.ReplyKind.{ReplyKind}
-use Rattle.redo_text.specs.declared.reply_kind.ReplyKind.TheVariants as replies
 use Rattle.redo_text.specs.Texts.{word_of}
 use Rattle.redo_text.specs.Questions.{words_of, kind_named, all_kinds}
 use Rattle.redo_text.specs.Inside.Reading.{words_after, no_words_in, form_in, words_in}
@@ -88,10 +87,3 @@ pub no_reply_kind : (text word : Text) (args : List Text) → words_of text ≡ 
     → reply_kind_named word ≡ None → reply_words_in (words_of text) ≡ Err WrongWords
 unfolding reply_words_in reply_args_in
 no_reply_kind text word args e named = reply_by_kind text word args None e named
-
--- the shortest reply
-pub okay_alone : (text okay : Text) → okay ≡ 111 ∷ 107 ∷ [] → true ≡ bytes_eq text okay
-    → reply_words_in (words_of text) ≡ reply_args_in (Some replies.Okay) []
-okay_alone text okay ok same =
-    let is : text ≡ 111 ∷ 107 ∷ [] = (bytes_eq-Decides text okay).0 (sym same) ∙ ok in
-    rw is (reply_by_kind (111 ∷ 107 ∷ []) (111 ∷ 107 ∷ []) [] (Some replies.Okay) refl refl)

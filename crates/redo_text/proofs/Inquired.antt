@@ -1,6 +1,6 @@
 -- The fault of a line that may be a question, by its beginning and its length.
 use Rattle.std.proofs.Common.{◌≡◌, ◌<◌, ◌≤◌, true, cond, List, length, Option, Some, None, refl, sym, ap, ◌∙◌, inl, inr, arith}
-use Rattle.std.specs.Prelude.{IsSome, is_some}
+use Rattle.std.specs.Prelude.{is_some}
 use Rattle.std.proofs.lemmas.Bool.{cases_lt, lt-ltb}
 use Rattle.redo_model.specs.Names.{Text}
 use Rattle.redo_text.specs.declared.fault.LineFault.TheVariants.{LineTooLong}

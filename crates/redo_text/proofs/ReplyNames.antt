@@ -1,11 +1,15 @@
 -- Adding the names of a reply that was read.
-use Rattle.std.proofs.Common.{◌≡◌, ◌+◌, ◌≤◌, Bool, true, false, cond, List, [], ◌∷◌, ◌++◌, length, Ok, Err, refl, arith, eqb, leb, length-append}
+use Rattle.std.proofs.Common.{◌≡◌, ◌+◌, ◌≤◌, Bool, true, false, cond, List, [], ◌∷◌, ◌++◌, length, Ok, Err, refl, sym, ◌∙◌, arith, eqb, leb, length-append}
+use Rattle.std.specs.Prelude.{bytes_eq}
 use Rattle.std.proofs.lemmas.Bool.{le-leb}
 use Rattle.std.proofs.lemmas.Bool.Decides.{nat_tests}
+use Rattle.std.proofs.lemmas.Slice.Eq.{bytes_eq-Decides}
 use Rattle.redo_names.specs.Names.{has}
 use Rattle.redo_model.specs.Names.{Text}
+use Rattle.redo_model.specs.Reply.{Okay}
 use Rattle.redo_text.specs.declared.fault.LineFault.TheVariants.{TooManyNames}
 use Rattle.redo_text.specs.Inside.Reading.{added, all_added}
+use Rattle.redo_text.specs.Inside.ReplyReading.{reply_in, reply_words_in, reply_args_in}
 
 pub none_added : (names : List Text) → length names ≤ 65536 → all_added names [] ≡ Ok names
 unfolding all_added
@@ -37,3 +41,12 @@ one_all_added names t few = by (has names t) (eqb (length names) 65536) refl
         let room : leb (length (names ++ t ∷ [])) 65536 ≡ true =
         grind (arith, nat_tests, longer, full, few) in
         rw room refl
+
+-- the shortest reply
+pub okay_read : (names : List Text) (text okay : Text) → length names ≤ 65536
+    → okay ≡ 111 ∷ 107 ∷ [] → true ≡ bytes_eq text okay → reply_in names text ≡ Ok (Okay, names)
+unfolding reply_in reply_words_in reply_args_in
+okay_read names text okay few ok same =
+    let is : text ≡ 111 ∷ 107 ∷ [] = (bytes_eq-Decides text okay).0 (sym same) ∙ ok in
+    let none : all_added names [] ≡ Ok names = none_added names few in
+    rw is (rw none refl)

@@ -4,7 +4,7 @@ ghost use Rattle.redo_model.specs.Names.{Text};
 ghost use Rattle.redo_text.specs.Questions.{words_of};
 ghost use Rattle.redo_text.specs.Inside.Reading.{words_after};
 
-use crate::scan::position_of;
+use crate::scan::near_position_of;
 use std::alloc::{AllocError, Global};
 
 /// The first word of a text, and the text after its space, if it has one.
@@ -12,7 +12,7 @@ use std::alloc::{AllocError, Global};
 pub(crate) fn cut_word(text: &[u8]) -> (&[u8], Option<&[u8]>)
     ensures { words_of text.now ≡ result.0.now ∷ words_after result.1 }
 {
-    match position_of(text, b' ') {
+    match near_position_of(text, b' ') {
         Some(end) => (&text[..end], Some(&text[end + 1..])),
         None => (text, None),
     }

@@ -30,7 +30,7 @@ pub use name_lists::MOST_LISTED_NAMES;
 pub use numbers::read_number;
 pub use read::{LONGEST_LINE, MOST_COMMANDS, read_command};
 pub use replies::read_reply;
-pub use scan::position_of;
+pub use scan::{near_position_of, position_of};
 pub use session_file::read_script;
 pub use text::{
     command_text, line_text, put_command, put_item, put_names, put_reply, put_stamp_or_none,

@@ -16,9 +16,9 @@ use redo_names::Names;
 use redo_terms::{Digest, Reply};
 use std::alloc::Global;
 
-/// The reply of a text, without LF.
+/// The reply of a text by its first word.
 #[tactic(auto, using(crate::proofs::Added::extends_same, crate::proofs::ReplyNames::none_added), unfolding(crate::specs::Inside::ReplyReading::reply_in, crate::specs::Inside::ReplyReading::reply_args_in))]
-fn text_read(alloc: Global, text: &[u8], names: &mut Names) -> Result<Reply, Unread>
+fn reply_of_words(alloc: Global, text: &[u8], names: &mut Names) -> Result<Reply, Unread>
     requires { length names.old ≤ 65536 }
     ensures reads { Reads (λ reply. (reply_at names.new reply, names.new)) result
         (reply_in names.old text.now) }
@@ -42,6 +42,22 @@ fn text_read(alloc: Global, text: &[u8], names: &mut Names) -> Result<Reply, Unr
         ReplyKind::Sources => Ok(Reply::Sources(listed_of(alloc, names, args)?)),
         ReplyKind::Refused => Ok(Reply::Refused(refusal_of_words(names, args)?)),
     }
+}
+
+/// The reply of a text, without LF.
+#[tactic(auto, using(crate::proofs::Added::extends_same))]
+fn text_read(alloc: Global, text: &[u8], names: &mut Names) -> Result<Reply, Unread>
+    requires { length names.old ≤ 65536 }
+    ensures reads { Reads (λ reply. (reply_at names.new reply, names.new)) result
+        (reply_in names.old text.now) }
+    ensures within { IfOk result (λ reply. IsReplyBelow (length names.new) (reply_of reply)) }
+    ensures kept { Extends names.old names.new }
+{
+    // Most replies are this one.
+    if text == b"ok".as_slice() {
+        return Ok(Reply::Okay);
+    }
+    reply_of_words(alloc, text, names)
 }
 
 /// Reads the reply of a text, without LF. After a fault the old names are a prefix of the names.

@@ -70,10 +70,6 @@ pub(crate) fn cut_reply_kind(text: &[u8]) -> Option<(ReplyKind, Option<&[u8]>)>
     ensures { MatchOption result (reply_words_in (words_of text.now) ≡ Err WrongWords)
         (λ k. reply_words_in (words_of text.now) ≡ reply_args_in (Some k.0) (words_after k.1)) }
 {
-    // Most replies are this one.
-    if text == b"ok".as_slice() {
-        return Some((ReplyKind::Okay, None));
-    }
     let (word, args) = cut_word(text);
     match reply_kind_of(word) {
         Some(kind) => Some((kind, args)),

@@ -8,3 +8,11 @@ pub fn position_of(text: &[u8], byte: u8) -> Option<usize>
 {
     memchr(byte, text)
 }
+
+/// The same, fast if the place is near.
+#[inline]
+pub fn near_position_of(text: &[u8], byte: u8) -> Option<usize>
+    ensures { result ≡ position (λ b. b == byte) text.now }
+{
+    text.iter().position(|b| *b == byte)
+}
