@@ -69,6 +69,10 @@ pub(crate) fn list_of(reply: &Reply) -> &[u32] {
 pub(crate) fn ascending(alloc: Global, numbers: &[u32]) -> Result<Vec<u32>, AllocError>
     ensures { IfOk result (λ copy. IsPermutation numbers.now copy.items) }
 {
+    // Most replies have no list.
+    if numbers.is_empty() {
+        return Ok(Vec::new(alloc));
+    }
     let mut copy = Vec::from_slice(alloc, numbers)?;
     copy.sort_unstable();
     Ok(copy)
