@@ -3,6 +3,7 @@
 
 mod name;
 mod names;
+mod texts;
 
 pub use name::{LONGEST_NAME, is_name};
 pub use names::{MOST_NAMES, Names, NamesFault, Turn};

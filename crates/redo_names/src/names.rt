@@ -3,9 +3,10 @@ ghost use Rattle.std.specs.Cmp.Lexicographic.{slice_cmp};
 ghost use Rattle.std.specs.Ordering.{nat_cmp};
 ghost use Rattle.redo_names.specs.declared.names.NamesFault.TheVariants.{Memory};
 ghost use Rattle.redo_names.specs.Names.{is_name, has, with_name, text_at};
-ghost use Rattle.redo_names.specs.Inside.Names.{Extends, AreNames};
+ghost use Rattle.redo_names.specs.Inside.Names.{Extends, AreNames, AreCopied};
 
 use crate::name::ascii_text;
+use crate::texts::Texts;
 use indexmap::IndexSet;
 use std::alloc::{AllocError, AllocFailed, Global};
 use std::cmp::Ordering;
@@ -71,6 +72,8 @@ const NO_FOLLOWERS: Followers = Followers {
 #[derive(Drop)]
 pub struct Names {
     texts: IndexSet<String>,
+    // the same texts, side by side, in which names are read; there may be others behind them
+    copies: Texts,
     // the number that was added or remembered last: the next name is often the same
     latest: u32,
     // what came after each name
@@ -82,7 +85,8 @@ impl Model for Names {
 
     ghost view = { λ names. map (λ text. string_bytes text) names.texts.keys };
 
-    ghost invariant = { λ names. AreNames (map (λ text. string_bytes text) names.texts.keys) };
+    ghost invariant = { λ names.
+        AreCopied (map (λ text. string_bytes text) names.texts.keys) names.copies };
 }
 
 impl Names {
@@ -93,6 +97,7 @@ impl Names {
         let texts = IndexSet::new(alloc);
         Names {
             texts,
+            copies: Texts::new(alloc),
             latest: 0,
             followers: Vec::new(alloc),
         }
@@ -174,9 +179,10 @@ impl Names {
     fn if_at(&self, number: u32, text: &[u8]) -> Option<u32>
         ensures { IfSome result (λ number. slice_get self.now number ≡ Some text.now) }
     {
-        match self.texts.as_slice().get(number as usize) {
-            Some(name) if name.as_bytes() == text => Some(number),
-            _ => None,
+        if number < self.len() && self.text(number) == text {
+            Some(number)
+        } else {
+            None
         }
     }
 
@@ -214,7 +220,7 @@ impl Names {
         requires { number < length self.now }
         ensures { result.now ≡ text_at self.now number }
     {
-        self.texts.as_slice()[number as usize].as_bytes()
+        self.copies.get(number as usize)
     }
 
     /// How two names compare, by their bytes.
@@ -254,6 +260,7 @@ impl Names {
         let alloc = *self.texts.allocator();
         let name = String::from_str(alloc, ascii_text(text))?;
         self.followers.resize(number + 1, NO_FOLLOWERS)?;
+        self.copies.put(number, text)?;
         self.texts.insert(name)?;
         self.remember(number as u32);
         Ok(number as u32)

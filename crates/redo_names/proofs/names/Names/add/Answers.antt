@@ -1,4 +1,4 @@
-use Rattle.std.proofs.Common.{◌≡◌, ◌≢◌, ◌∙◌, ℕ, ◌≤◌, List, [], ◌∷◌, ◌++◌, length, Some, true, false, slice_get, sym, subst, arith}
+use Rattle.std.proofs.Common.{◌≡◌, ◌≢◌, ◌∙◌, ℕ, ◌≤◌, List, [], ◌∷◌, ◌++◌, length, Some, true, false, slice_get, sym, ap, subst, arith}
 use Rattle.std.specs.Prelude.{String}
 use Rattle.std.specs.Global.{Global}
 use Rattle.std.proofs.lemmas.Option.{slice_get_within}
@@ -6,7 +6,7 @@ use Rattle.redo_names.specs.Names.{is_name, has}
 use Rattle.redo_names.specs.Inside.Names.{AreNames}
 use Rattle.redo_names.proofs.Ascii.{name_is_ascii}
 use Rattle.redo_names.proofs.Keys.{texts, length-texts, names-inserted}
-use Rattle.redo_names.proofs.NameLists.{with_name-new, AreNames-push, slice_get-last}
+use Rattle.redo_names.proofs.NameLists.{with_name-new, AreNames-push, AreCopied-more, slice_get-last}
 use Rattle.redo_names.proofs.names.Names.add.Goals as goal
 
 pub ascii_text-requires : goal.ascii_text-requires
@@ -25,12 +25,18 @@ new_are_names keys names text count view invariant is new counted few =
 pub invariant_of-self-2 : goal.invariant_of-self-2
 invariant_of-self-2 c =
     let new = sym c.in_default.ensures.there in
-    subst AreNames (sym (names-inserted c.self.inside.texts.keys c.insert.new.self.keys
+    let inserted = names-inserted c.self.inside.texts.keys c.insert.new.self.keys
     c.in_ok-name.name c.args.self.now c.args.text.now c.self.view_is
-    (c.in_ok-name.ensures.ok ∙ c.ascii_text.ensures) new c.in_ok-insert.ensures.keys))
+    (c.in_ok-name.ensures.ok ∙ c.ascii_text.ensures) new c.in_ok-insert.ensures.keys in
+    AreCopied-more (texts c.self.inside.texts.keys) (texts c.insert.new.self.keys)
+    c.self.inside.copies c.put.new.self c.args.text.now c.len-number.result c.self.invariant
+    (c.len-number.ensures.len ∙ sym (length-texts c.self.inside.texts.keys))
+    c.in_ok-put.ensures.put
+    (inserted ∙ ap (λ (ts : List (List ℕ)). ts ++ c.args.text.now ∷ []) (sym c.self.view_is))
+    (subst AreNames (sym inserted)
     (new_are_names c.self.inside.texts.keys c.args.self.now c.args.text.now c.len-number.result
-    c.self.view_is c.self.invariant c.requires new c.len-number.ensures.len
-    c.if-number-eq-MOST_NAMES.false)
+    c.self.view_is c.self.invariant.are c.requires new c.len-number.ensures.len
+    c.if-number-eq-MOST_NAMES.false))
 
 -- the names after the call
 names_after : (c : goal.After-remember-2)
@@ -65,5 +71,5 @@ pub returns-clause-names : goal.returns-clause-names
 returns-clause-names c =
     rw (names_after c)
     (new_are_names c.self.inside.texts.keys c.args.self.now c.args.text.now c.len-number.result
-    c.self.view_is c.self.invariant c.requires (sym c.in_default.ensures.there)
+    c.self.view_is c.self.invariant.are c.requires (sym c.in_default.ensures.there)
     c.len-number.ensures.len c.if-number-eq-MOST_NAMES.false)

@@ -1,17 +1,14 @@
-use Rattle.std.proofs.Common.{subst, sym}
-use Rattle.redo_names.specs.Inside.Names.{AreNames}
-use Rattle.redo_names.proofs.Keys.{texts-take}
-use Rattle.redo_names.proofs.NameLists.{AreNames-take}
+use Rattle.std.proofs.Common.{refl}
+use Rattle.redo_names.proofs.Keys.{texts, texts-take}
+use Rattle.redo_names.proofs.NameLists.{AreCopied-take}
 use Rattle.redo_names.proofs.names.Names.keep_first.Goals as goal
 
 pub invariant_of-self : goal.invariant_of-self
 invariant_of-self c =
-    let names = c.args.self.now in
-    let kept = c.truncate.new.self.keys in
-    subst AreNames
-    (sym (texts-take c.self.inside.texts.keys kept names c.args.count c.self.view_is
-    c.truncate.ensures.keys))
-    (AreNames-take names c.args.count (rw (← c.self.view_is) c.self.invariant))
+    AreCopied-take (texts c.self.inside.texts.keys) (texts c.truncate.new.self.keys)
+    c.self.inside.copies c.args.count c.self.invariant
+    (texts-take c.self.inside.texts.keys c.truncate.new.self.keys
+    (texts c.self.inside.texts.keys) c.args.count refl c.truncate.ensures.keys)
 
 pub returns : goal.returns
 returns c =
