@@ -152,14 +152,17 @@ def case_stubborn_script(tree: Tree) -> None:
 
 
 def case_killed(tree: Tree) -> None:
-    """A run that is killed by SIGKILL leaves no script behind, and no lock: the next run builds."""
-    tree.files(default__slow__do=SLOW, needed__do=":\n")
+    """A run that is killed by SIGKILL leaves no script behind, and no lock: the next run builds.
+
+    A build that is done again removes the files that the killed one left.
+    """
+    tree.files(default__slow__do=SLOW, needed__do=": >began.needed\nsleep 60\n")
     process = tree.start("redo", "a.slow")
-    tree.until("began", tree.path("began.a").exists)
+    tree.until("began", tree.path("began.needed").exists)
     process.kill()
     ended(process)
-    tree.files(default__slow__do="echo now\n")
-    tree.redo("a.slow")
+    tree.files(default__slow__do="echo now\n", needed__do=":\n")
+    tree.redo("a.slow", "needed")
     tree.check.same("a.slow", tree.read("a.slow"), "now\n")
     tree.check.same("left over", tree.left_over(), [])
     tree.check.same("sleepers", sleepers(tree, False), {})
