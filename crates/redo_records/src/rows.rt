@@ -97,10 +97,19 @@ impl DepRows {
             → IsTrue (room_of self.old u n) ⊎ ((u ≡ t) × Contains names.now n) }
         ensures count { rows_count self.new ≡ rows_count self.old }
     {
+        self.reserve_first(t, names.len())?;
         for &n in names {
             self.reserve_slot(t, n)?;
         }
         Ok(())
+    }
+
+    /// Reserves memory for exactly that many slots of `t`, if it has none.
+    fn reserve_first(&mut self, t: u32, count: usize) -> Result<(), AllocError>
+        requires { t < rows_count self.old }
+        ensures { self.new ≡ self.old }
+    {
+        self.targets[t as usize].reserve_first(count)
     }
 
     /// Reserves memory for rows of `t` on `n`.

@@ -271,7 +271,17 @@ impl Target {
         self.slots.as_slice()
     }
 
-    /// Reserves memory for rows on a name. No other call allocates.
+    /// Reserves memory for exactly that many slots, if there is none yet.
+    pub fn reserve_first(&mut self, count: usize) -> Result<(), AllocError>
+        ensures { self.new ≡ self.old }
+    {
+        if self.slots.is_empty() {
+            self.slots.reserve_exact(count)?;
+        }
+        Ok(())
+    }
+
+    /// Reserves memory for rows on a name. Only this and `reserve_first` allocate.
     pub fn add_slot(&mut self, n: u32) -> Result<(), AllocError>
         requires new { has_slot self.old.slots n ≡ false }
         ensures rows { (k : ℕ) → slot_at self.new.slots k ≡ slot_at self.old.slots k }
