@@ -14,7 +14,7 @@ use std::process::ExitCode;
 use std::rt::{Env, Files};
 use std::sync::Wait;
 use std::thread::Threads;
-use std::{env, fs, io};
+use std::{env, fs, io, mem};
 
 /// The words after the program's name.
 fn given_words<R: Env + AllocGlobal>(rt: &R) -> Result<Vec<String>, Fault> {
@@ -65,13 +65,15 @@ fn run<I: Read, R: Threads + Wait + Sync + Print + AllocGlobal>(
     }
 }
 
-/// Replays the history, and flushes standard output.
+/// Replays the history, and flushes standard output. The program ends then, so the system takes
+/// the database's memory back, which is faster than to drop it.
 fn replay<I: Read, R: Print + AllocGlobal>(
     rt: &R,
     input: &mut Watched<I>,
 ) -> Result<Verdict, Fault> {
     let mut out = Watched::new(io::writer(rt));
-    let verdict = replay_text(rt.alloc(), input, &mut out)?;
+    let (verdict, live) = replay_text(rt.alloc(), input, &mut out)?;
+    mem::forget(live);
     match out.flush() {
         Ok(()) => Ok(verdict),
         Err(_) => Err(Fault::Write),

@@ -9,6 +9,7 @@ use Rattle.redo_history.specs.declared.fault.HistoryFault.{HistoryFault}
 use Rattle.redo_history.specs.declared.fault.HistoryFault.TheVariants.{Memory}
 use Rattle.redo_history.proofs.NoFault.{no_fault}
 use Rattle.redo_history.proofs.OneHistory.{one_history}
+use Rattle.redo_live.specs.Inside.LiveState.{LiveState}
 use Rattle.redo_replay.specs.Replays.{IsReadAs, HasFault}
 use Rattle.redo_replay.specs.Verdicts.{IsSame, IsVerdict, verdict_at}
 use Rattle.redo_replay.specs.declared.verdict.Verdict.{Verdict}
@@ -21,15 +22,16 @@ HasRight input names verdict =
     × IsVerdict lines (verdict_at names verdict)
 
 -- a history's verdict is the same exactly if its lines are legal
-pub judged_same : (input : Text) (result : Result (Verdict × List Text) HistoryFault)
+pub judged_same : (input : Text) (result : Result (Verdict × LiveState) HistoryFault)
     (names : List Text) (lines : List (Line Text))
-    → IfOk result (λ judged. HasRight input judged.1 judged.0) → IsHistory input names lines
+    → IfOk result (λ judged. HasRight input judged.1.names judged.0)
+    → IsHistory input names lines
     → IfOk result (λ judged. IsSame judged.0 ↔ Legal texts lines)
 judged_same input (Err e) names lines right is = tt
 judged_same input (Ok judged) names lines (all, read, right) is =
-    let same : all ≡ lines = (one_history input judged.1 names all lines read is).1 in
+    let same : all ≡ lines = (one_history input judged.1.names names all lines read is).1 in
     subst (λ (found : List (Line Text)). IsSame judged.0 ↔ Legal texts found) same
-    (same_if_legal judged.1 all judged.0 right)
+    (same_if_legal judged.1.names all judged.0 right)
 
 -- a history's fault is `Memory`
 pub memory_alone : {H : Type 0} (input : Text) (result : Result H HistoryFault)

@@ -14,7 +14,6 @@ ghost use Rattle.redo_replay.specs.Inside.Verdicts.{IsVerdictBelow, IsJudged};
 use crate::verdict::Verdict;
 use redo_history::{HistoryFault, cut_at, read_header};
 use redo_live::Live;
-use redo_names::Names;
 use redo_terms::Line;
 use std::alloc::{AllocError, Global};
 
@@ -99,11 +98,13 @@ fn verdict_on(
     Ok(verdict)
 }
 
-/// The verdict on the history at the beginning of the input, and its names.
-fn verdict_of(alloc: Global, input: &[u8]) -> Result<(Verdict, Names), HistoryFault>
+/// The verdict on the history at the beginning of the input, and the database, which knows its
+/// names.
+fn verdict_of(alloc: Global, input: &[u8]) -> Result<(Verdict, Live), HistoryFault>
     ensures verdict { IfOk result (λ judged. (lines : List (LineOf Text))
-        × IsHistory input.now judged.1 lines × IsVerdict lines (verdict_at judged.1 judged.0)) }
-    ensures below { IfOk result (λ judged. IsVerdictBelow (length judged.1) judged.0) }
+        × IsHistory input.now judged.1.names lines
+        × IsVerdict lines (verdict_at judged.1.names judged.0)) }
+    ensures below { IfOk result (λ judged. IsVerdictBelow (length judged.1.names) judged.0) }
     ensures fault { IfErr result (IsHistoryFault input.now) }
     ensures bad_header { IsHistoryFault input.now HistoryFault.BadHeader
         → result ≡ Err HistoryFault.BadHeader }
@@ -111,22 +112,23 @@ fn verdict_of(alloc: Global, input: &[u8]) -> Result<(Verdict, Names), HistoryFa
     let (count, rest) = read_header(input)?;
     let mut live = Live::new(alloc)?;
     let verdict = verdict_on(alloc, count, rest, &mut live)?;
-    Ok((verdict, live.into_names()))
+    Ok((verdict, live))
 }
 
 /// Reads a history, and does the command of each line again once the line is read. Gives the
-/// verdict and the history's names. After a wrong reply it only reads on, since the fault of a
-/// later line comes first. Ignores what follows the lines.
-pub fn replay(alloc: Global, input: &[u8]) -> Result<(Verdict, Names), HistoryFault>
+/// verdict, and the database, which knows the history's names. After a wrong reply it only reads
+/// on, since the fault of a later line comes first. Ignores what follows the lines.
+pub fn replay(alloc: Global, input: &[u8]) -> Result<(Verdict, Live), HistoryFault>
     // The input is a history of these names, and the verdict on its lines is the right one: all of
     // them are legal, or this is the first wrong line and its right reply.
     ensures verdict { IfOk result (λ judged. (lines : List (LineOf Text))
-        × IsHistory input.now judged.1 lines × IsVerdict lines (verdict_at judged.1 judged.0)) }
+        × IsHistory input.now judged.1.names lines
+        × IsVerdict lines (verdict_at judged.1.names judged.0)) }
     ensures same { (names : List Text) (lines : List (LineOf Text))
         → IsHistory input.now names lines
         → IfOk result (λ judged. IsSame judged.0 ↔ Legal texts lines) }
     // Its numbers are those of the names.
-    ensures below { IfOk result (λ judged. IsVerdictBelow (length judged.1) judged.0) }
+    ensures below { IfOk result (λ judged. IsVerdictBelow (length judged.1.names) judged.0) }
     // A history is refused only if memory runs out.
     ensures only { (names : List Text) (lines : List (LineOf Text))
         → IsHistory input.now names lines → IfErr result (λ fault. fault ≡ HistoryFault.Memory) }

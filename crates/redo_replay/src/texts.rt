@@ -1,18 +1,20 @@
-ghost use Rattle.std.specs.Prelude.{◌≡◌, ◌≢◌, ◌↔◌, ◌⊎◌, Bool, List, Option, false, IfSome, IfOk, IfErr, IsErrOf, IsErrAnd, IsTrue};
+ghost use Rattle.std.specs.Prelude.{◌≡◌, ◌≢◌, ◌↔◌, ◌⊎◌, Bool, List, Option, false, IfSome, IfOk, IfErr, IsErrOf, IsErrAnd, IsTrue, length};
 ghost use Rattle.redo_model.specs.Names.{Text, texts};
 ghost use Rattle.redo_model.specs.History.{Line, Legal};
 ghost use Rattle.redo_whole.specs.Watched.{failures_of, has_failed};
 ghost use Rattle.redo_whole.specs.Devices.{known_in, WritesNothing};
 ghost use Rattle.redo_text.specs.Faults.{IsDeviceFault};
-ghost use Rattle.redo_replay.specs.Verdicts.{IsSame};
+ghost use Rattle.redo_replay.specs.Verdicts.{IsSame, verdict_at, verdict_text_of};
+ghost use Rattle.redo_replay.specs.Inside.Verdicts.{IsVerdictBelow};
 ghost use Rattle.redo_replay.specs.Replays.{IsKnownAs, HasVerdict, HasFault, WritesVerdict, WritesReplayPart, IsReplayCause};
 
 use crate::replays::replay;
 use crate::verdict::{Verdict, verdict_text};
 use redo_history::HistoryFault;
+use redo_live::Live;
 use redo_text::Fault;
 use redo_whole::{Watched, WholeFault, WriteFault, read_whole, write_whole};
-use std::alloc::Global;
+use std::alloc::{AllocError, Global};
 use std::io::{Read, Write};
 
 /// An input of more bytes is refused.
@@ -51,11 +53,21 @@ fn history_fault(fault: HistoryFault) -> Fault
     }
 }
 
-/// The verdict on the input's lines, and its text.
+/// The verdict's text, and the database, which is dropped if memory runs out.
+fn told(alloc: Global, verdict: &Verdict, live: Live) -> Result<(Vec<u8>, Live), AllocError>
+    requires { IsVerdictBelow (length live.names) verdict.now }
+    ensures { IfOk result (λ told. told.0.items
+        ≡ verdict_text_of (verdict_at live.names verdict.now)) }
+{
+    let text = verdict_text(alloc, verdict, live.names())?;
+    Ok((text, live))
+}
+
+/// The verdict on the input's lines, its text, and the database.
 fn verdict_on_input<R: Read>(
     alloc: Global,
     input: &mut Watched<R>,
-) -> Result<(Verdict, Vec<u8>), Fault>
+) -> Result<(Verdict, Vec<u8>, Live), Fault>
     ensures verdict { IfOk result (λ judged.
         HasVerdict (known_in R.remaining input.old) judged.0 judged.1.items) }
     ensures only { (lines : List (Line Text)) → IsKnownAs (known_in R.remaining input.old) lines
@@ -71,31 +83,32 @@ fn verdict_on_input<R: Read>(
         Ok(bytes) => bytes,
         Err(fault) => return Err(whole_fault(fault)),
     };
-    let (verdict, names) = match replay(alloc, &bytes) {
+    let (verdict, live) = match replay(alloc, &bytes) {
         Ok(judged) => judged,
         Err(fault) => return Err(history_fault(fault)),
     };
-    let text = verdict_text(alloc, &verdict, &names)?;
-    Ok((verdict, text))
+    let (text, live) = told(alloc, &verdict, live)?;
+    Ok((verdict, text, live))
 }
 
 /// Reads a history, does its commands again, and writes the verdict. Writes nothing before the
-/// verdict is complete.
+/// verdict is complete. Gives the verdict, and the database that did the commands: to drop it
+/// takes some of the time, which a program that ends can save.
 pub fn replay_text<R: Read, W: Write>(
     alloc: Global,
     input: &mut Watched<R>,
     out: &mut Watched<W>,
-) -> Result<Verdict, Fault>
+) -> Result<(Verdict, Live), Fault>
     // The input is a history, the verdict is the right one, and its text was written.
-    ensures verdict { IfOk result (WritesVerdict (known_in R.remaining input.old)
-        (known_in W.contents out.old) (known_in W.contents out.new)) }
+    ensures verdict { IfOk result (λ judged. WritesVerdict (known_in R.remaining input.old)
+        (known_in W.contents out.old) (known_in W.contents out.new) judged.0) }
 
     // A history is refused only if memory runs out or a device fails, and is the same exactly if
     // its lines are legal.
     ensures only { (lines : List (Line Text)) → IsKnownAs (known_in R.remaining input.old) lines
         → IfErr result (λ fault. (fault ≡ Fault.Memory) ⊎ IsDeviceFault fault) }
     ensures same { (lines : List (Line Text)) → IsKnownAs (known_in R.remaining input.old) lines
-        → IfOk result (λ verdict. IsSame verdict ↔ Legal texts lines) }
+        → IfOk result (λ judged. IsSame judged.0 ↔ Legal texts lines) }
 
     // Each fault has its cause.
     ensures cause { IfErr result (IsReplayCause (known_in R.remaining input.old)
@@ -110,9 +123,9 @@ pub fn replay_text<R: Read, W: Write>(
     ensures device { IsErrAnd result IsDeviceFault
         ↔ (IsTrue (has_failed input.old input.new) ⊎ IsTrue (has_failed out.old out.new)) }
 {
-    let (verdict, text) = verdict_on_input(alloc, input)?;
+    let (verdict, text, live) = verdict_on_input(alloc, input)?;
     match write_whole(out, &text) {
-        Ok(()) => Ok(verdict),
+        Ok(()) => Ok((verdict, live)),
         Err(WriteFault::Write) => Err(Fault::Write),
     }
 }

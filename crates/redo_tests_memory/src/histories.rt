@@ -7,7 +7,7 @@ use crate::failing::{ALL, NEVER, writer};
 use crate::told::again;
 use redo_history::{History, HistoryFault, history_text, read_history};
 use redo_names::Names;
-use redo_replay::{Verdict, replay, replay_text, verdict_text};
+use redo_replay::{Live, Verdict, replay, replay_text, verdict_text};
 use redo_text::{Fault, LineFault};
 use redo_whole::Watched;
 use std::alloc::{AllocError, Global};
@@ -48,9 +48,9 @@ fn check_verdict(
     Ok(())
 }
 
-/// The verdict on the history of the text, which has no fault, and the history's names.
-fn judged(rt: &impl Abort, alloc: Global, text: &str) -> Result<(Verdict, Names), AllocError>
-    ensures { IfOk result (λ judged. IsVerdictBelow (length judged.1) judged.0) }
+/// The verdict on the history of the text, which has no fault, and the database.
+fn judged(rt: &impl Abort, alloc: Global, text: &str) -> Result<(Verdict, Live), AllocError>
+    ensures { IfOk result (λ judged. IsVerdictBelow (length judged.1.names) judged.0) }
 {
     match replay(alloc, text.as_bytes()) {
         Ok(judged) => Ok(judged),
@@ -61,8 +61,8 @@ fn judged(rt: &impl Abort, alloc: Global, text: &str) -> Result<(Verdict, Names)
 
 /// The verdict on the history of the text has this text.
 fn check_said(rt: &impl Abort, alloc: Global, text: &str, want: &str) -> Result<(), AllocError> {
-    let (verdict, names) = again!(rt, alloc, AllocError, judged(rt, alloc, text));
-    check_verdict(rt, alloc, &verdict, &names, want)
+    let (verdict, live) = again!(rt, alloc, AllocError, judged(rt, alloc, text));
+    check_verdict(rt, alloc, &verdict, live.names(), want)
 }
 
 /// The text begins with the history's text.

@@ -26,13 +26,6 @@ impl Live {
         &self.names
     }
 
-    /// The names that are known. The rest is dropped.
-    pub fn into_names(self) -> Names
-        ensures { result ≡ self.names }
-    {
-        self.names
-    }
-
     /// Reads the line of this number of a history: its names become known, and nothing is done. On
     /// a fault, some of its names may stay.
     pub fn read_line(

@@ -28,7 +28,7 @@ pub returns-clause-verdict : goal.returns-clause-verdict
 returns-clause-verdict g c =
     let (lines, read, right) = c.in-Ok-replay.ensures.verdict in
     let known = g.R.Read.remaining (inner_of c.args.input.now) in
-    let names = c.in-Ok-replay.judged.1 in
+    let names = c.in-Ok-replay.judged.1.names in
     let is = subst (λ (input : Text). IsHistory input names lines) c.deref.ensures.value read in (
       names,
       lines,
