@@ -3,7 +3,7 @@ use Rattle.std.proofs.Common.{◌≡◌, ◌⊎◌, ◌↔◌, ◌∙◌, Bool, 
 use Rattle.std.specs.Prelude.{IsSome, Contains}
 use Rattle.std.proofs.lemmas.Bool.{cases_Bool, false≢true}
 use Rattle.redo_model.specs.State.{Records, Cell, TargetState, Idle, Building, Built, Failed, mark_in}
-use Rattle.redo_model.specs.OutOfDate.{IsTarget, HasRow, ReasonIn, HasReason, Depends, Chain, OutOfDate}
+use Rattle.redo_model.specs.OutOfDate.{IsTarget, HasFile, HasRow, ReasonIn, HasReason, Depends, Chain, OutOfDate}
 use Rattle.redo_model.specs.Inside.OutOfDate.{TouchesSeed, InRegion, DifferAt}
 
 pub differ_back : {N : Type 0} {seeds : List N} {old new : Records N}
@@ -189,19 +189,58 @@ module _ {N : Type 0} (r : Records N) where
   least_along test reasons spreads (n ∷ ns) t chain =
       spreads t n chain.0 (least_along test reasons spreads ns n chain.1)
 
--- rows of targets changed that have a reason now: what was out of date is
-pub still_out : {N : Type 0} {seeds : List N} {old new : Records N} → DifferAt seeds old new
-    → ((n : N) → old.cell n ≡ new.cell n)
-    → ((t : N) → Contains seeds t ⊎ (Contains seeds t → ⊥))
-    → ((t : N) → Contains seeds t → HasReason new t)
-    → (ns : List N) (t : N) → Chain (Depends old) (HasReason old) t ns → OutOfDate new t
-still_out d cells decide reasons [] t own = elim (decide t) [
-  | inl seed ↦ ([], reasons t seed)
-  | inr far ↦ ([], reason_kept d t far (λ n row. cells n) own)
-]
-still_out d cells decide reasons (n ∷ ns) t chain = elim (decide t) [
-  | inl seed ↦ ([], reasons t seed)
-  | inr far ↦
-      let rest = still_out d cells decide reasons ns n chain.1 in
-      (n ∷ rest.0, (step_kept d t n far chain.0, rest.1))
-]
+-- names changed that are out of date now, and none lost its file: what was out of date is
+module _ {N : Type 0} {seeds : List N} {old new : Records N} (d : DifferAt seeds old new)
+    (files : (n : N) → HasFile old n → HasFile new n)
+    (decide : (n : N) → Contains seeds n ⊎ (Contains seeds n → ⊥))
+    (outs : (n : N) → Contains seeds n → OutOfDate new n)
+  where
+    -- a target with a reason before has one now, or depends on a seed
+    out_by_reason : (t : N) → (Contains seeds t → ⊥) → (s : TargetState) → (new.cell t).state ≡ s
+        → ReasonIn s old t → OutOfDate new t
+    out_by_reason t far Idle is reason = absurd reason
+    out_by_reason t far (Building by) is reason =
+        ([], subst (λ (s : TargetState). ReasonIn s new t) (sym is) tt)
+    out_by_reason t far Failed is reason =
+        ([], subst (λ (s : TargetState). ReasonIn s new t) (sym is) tt)
+    out_by_reason t far Built is reason =
+        let own : ReasonIn Built new t → OutOfDate new t =
+        λ r. ([], subst (λ (s : TargetState). ReasonIn s new t) (sym is) r) in
+        elim reason [
+          | inl edited ↦ own (inl (subst (λ (c : Cell). c.file ≡ c.done → ⊥) (d.cell t far) edited))
+          | inr more ↦ elim more [
+            | inl always ↦ own (inr (inl (subst IsTrue (d.always t far) always)))
+            | inr news ↦ elim news [
+              | inl (n, row, file) ↦
+                  own (inr (inr (inl (n, subst IsTrue (d.created t n far) row, files n file))))
+              | inr (n, mark, row, other) ↦ elim (decide n) [
+                | inl seed ↦
+                    let has : IsSome (old.rows.change t n) = subst IsSome (sym row) refl in
+                    out_of_date_by_step new t n (
+                      (λ idle. let none : Built ≡ Idle = sym is ∙ idle in cc),
+                      subst IsSome (d.change t n far) has,
+                    ) (outs n seed)
+                | inr same ↦ own (inr (inr (inr (
+                  n,
+                  mark,
+                  sym (d.change t n far) ∙ row,
+                  subst (λ (c : Cell). mark ≡ mark_in c.state c → ⊥) (d.cell n same) other,
+                ))))
+              ]
+            ]
+          ]
+        ]
+
+    pub still_out : (ns : List N) (t : N) → Chain (Depends old) (HasReason old) t ns
+        → OutOfDate new t
+    still_out [] t own = elim (decide t) [
+      | inl seed ↦ outs t seed
+      | inr far ↦
+          out_by_reason t far (new.cell t).state refl
+          (subst (λ (c : Cell). ReasonIn c.state old t) (d.cell t far) own)
+    ]
+    still_out (n ∷ ns) t chain = elim (decide t) [
+      | inl seed ↦ outs t seed
+      | inr far ↦
+          out_of_date_by_step new t n (step_kept d t n far chain.0) (still_out ns n chain.1)
+    ]

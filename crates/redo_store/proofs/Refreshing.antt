@@ -1,21 +1,21 @@
 -- A command changes the records and rows at one name, so the memo was right but for that.
-use Rattle.std.proofs.Common.{◌≡◌, ◌∙◌, ◌≤◌, ℕ, length, Bool, true, false, cond, List, [], ◌∷◌, ◌⊎◌, Option, None, IsTrue, refl, sym, ap, subst, inl, inr}
+use Rattle.std.proofs.Common.{◌≡◌, ◌∙◌, ◌<◌, ◌≤◌, ℕ, length, Bool, true, false, cond, List, [], ◌∷◌, ◌⊎◌, Option, None, is_some, IsTrue, refl, sym, ap, subst, inl, inr}
 use Rattle.std.specs.List.{Contains}
 use Rattle.std.proofs.Math.ListN.{replicate}
 use Rattle.std.proofs.Math.Path.{fun_ext}
 use Rattle.std.proofs.lemmas.Bool.{false≢true, ne_eqb}
-use Rattle.std.proofs.lemmas.List.{get_or-set_other}
+use Rattle.std.proofs.lemmas.List.{get_or-set_other, get_or-set_same}
 use mathlib.Core.Logic.{dite}
 use native.Mathlib.Decide.{ℕ_discrete}
 use Rattle.redo_model.specs.Command as commands
-use Rattle.redo_model.specs.Names.{put, by_number}
+use Rattle.redo_model.specs.Names.{Text, put, by_number}
 use Rattle.redo_model.specs.Inside.OutOfDate.{DifferAt}
 use Rattle.redo_model.specs.State.{Cell, Mark, Records, TargetState, Idle, Building, Built, Failed, empty, idle, is_building, no_rows}
-use Rattle.redo_model.specs.OutOfDate.{HasReason, ReasonIn}
+use Rattle.redo_model.specs.OutOfDate.{HasReason, OutOfDate, ReasonIn}
 use Rattle.redo_model.proofs.Members.{contains_first, contains_cases, contains_none}
 use Rattle.redo_model.proofs.MorePlaces.{same_everywhere}
 use Rattle.redo_model.proofs.Region.{differ_back, still_out}
-use Rattle.redo_marks.specs.Memo.{IsRight, WasRight, memo_count}
+use Rattle.redo_marks.specs.Memo.{IsRight, WasRight, is_out, memo_count}
 use Rattle.redo_records.specs.Cells.{cell_at, with_cell_at}
 use Rattle.redo_records.specs.Rows.{TargetRows, rows_of, with_always, without_rows, rows_count, with_rows}
 use Rattle.redo_store.specs.Inside.Changes.{AreRowsAfter}
@@ -32,6 +32,11 @@ one_name n t there = elim (contains_cases n [] t there) [
   | inl same ↦ sym same
   | inr none ↦ absurd (contains_none t none)
 ]
+
+is_or_far : (n t : ℕ) → Contains (n ∷ []) t ⊎ (Contains (n ∷ []) t → ⊥)
+is_or_far n t = dite (ℕ_discrete t n)
+    (λ same. inl (subst (Contains (n ∷ [])) (sym same) (contains_first n [])))
+    (λ other. inr (λ there. other (one_name n t there)))
 
 reason_of_building : (r : Records ℕ) (t : ℕ) (state : TargetState) → IsTrue (is_building state)
     → ReasonIn state r t
@@ -66,25 +71,66 @@ module _ (memo : List Bool) (cells : List Cell) (targets : List TargetRows) (n :
       right,
     )
 
-    pub was_right_by_start : (c : Cell) (to : List TargetRows)
-        → rows_of to ≡ without_rows (rows_of targets) n
-        → WasRight (n ∷ []) memo (with_rows (with_cell_at cells n c) to)
-    was_right_by_start c to cleared =
-        let old = rows_of targets in (
-          with_rows cells targets,
-          record {
-            cell = λ m far. cell_far cells n m c far;
-            change = λ t m far.
-                ap (λ (f : ℕ → Option Mark). f m) (put_far n t (λ k. None) old.change far)
-                ∙ sym (ap (λ rows. rows.change t m) cleared);
-            created = λ t m far.
-                ap (λ (f : ℕ → Bool). f m) (put_far n t (λ k. false) old.created far)
-                ∙ sym (ap (λ rows. rows.created t m) cleared);
-            always = λ t far.
-                put_far n t false old.always far ∙ sym (ap (λ rows. rows.always t) cleared);
-          },
-          right,
+    -- the target was begun: its cell was written, and its rows are gone
+    module _ (c : Cell) (to : List TargetRows)
+        (cleared : rows_of to ≡ without_rows (rows_of targets) n)
+      where
+        differ_by_start : DifferAt (n ∷ []) (with_rows cells targets)
+            (with_rows (with_cell_at cells n c) to)
+        differ_by_start =
+            let old = rows_of targets in record {
+              cell = λ m far. cell_far cells n m c far;
+              change = λ t m far.
+                  ap (λ (f : ℕ → Option Mark). f m) (put_far n t (λ k. None) old.change far)
+                  ∙ sym (ap (λ rows. rows.change t m) cleared);
+              created = λ t m far.
+                  ap (λ (f : ℕ → Bool). f m) (put_far n t (λ k. false) old.created far)
+                  ∙ sym (ap (λ rows. rows.created t m) cleared);
+              always = λ t far.
+                  put_far n t false old.always far ∙ sym (ap (λ rows. rows.always t) cleared);
+            }
+
+        pub was_right_by_start : WasRight (n ∷ []) memo (with_rows (with_cell_at cells n c) to)
+        was_right_by_start = (with_rows cells targets, differ_by_start, right)
+
+        -- if it was out of date, the same targets are
+        pub right_by_start : n < length cells → IsTrue (is_building c.state)
+            → c.file ≡ (cell_at cells n).file → IsTrue (is_out memo n)
+            → IsRight memo (with_rows (with_cell_at cells n c) to)
+        right_by_start below building same marked t = (
+          λ is.
+              let was = (right t).0 is in
+              still_out differ_by_start
+              (λ m. subst (λ (f : Option Text). IsTrue (is_some f)) (file m)) (is_or_far n)
+              (λ u there. subst (OutOfDate new) (sym (one_name n u there)) ([], reason))
+              was.0 t was.1,
+          λ out. (right t).1
+              (still_out (differ_back differ_by_start)
+              (λ m. subst (λ (f : Option Text). IsTrue (is_some f)) (sym (file m))) (is_or_far n)
+              (λ u there.
+              subst (OutOfDate (with_rows cells targets)) (sym (one_name n u there))
+              ((right n).0 marked)) out.0 t out.1),
         )
+          where
+            new : Records ℕ
+            new = with_rows (with_cell_at cells n c) to
+
+            here : cell_at (with_cell_at cells n c) n ≡ c
+            here = get_or-set_same cells n c idle below
+
+            file : (m : ℕ) → (cell_at cells m).file ≡ (cell_at (with_cell_at cells n c) m).file
+            file m = elim (is_or_far n m) [
+              | inl there ↦
+                  subst
+                  (λ (k : ℕ). (cell_at cells k).file ≡ (cell_at (with_cell_at cells n c) k).file)
+                  (sym (one_name n m there)) (sym same ∙ sym (ap (λ (x : Cell). x.file) here))
+              | inr far ↦ ap (λ (x : Cell). x.file) (cell_far cells n m c far)
+            ]
+
+            reason : HasReason new n
+            reason =
+                reason_of_building new n (cell_at (with_cell_at cells n c) n).state
+                (subst (λ (x : Cell). IsTrue (is_building x.state)) (sym here) building)
 
     -- the target is being built: its rows change nothing that is out of date
     module _ (building : IsTrue (is_building (cell_at cells n).state)) where
@@ -94,21 +140,19 @@ module _ (memo : List Bool) (cells : List Cell) (targets : List TargetRows) (n :
       right_by_rows to differ t = (
         λ marked.
             let was = (right t).0 marked in
-            still_out differ (λ m. refl) decide (reasons to) was.0 t was.1,
+            still_out differ (λ m file. file) (is_or_far n) (outs to) was.0 t was.1,
         λ out. (right t).1
-            (still_out (differ_back differ) (λ m. refl) decide (reasons targets) out.0 t out.1),
+            (still_out (differ_back differ) (λ m file. file) (is_or_far n) (outs targets)
+            out.0 t out.1),
       )
         where
-          decide : (t : ℕ) → Contains (n ∷ []) t ⊎ (Contains (n ∷ []) t → ⊥)
-          decide t = dite (ℕ_discrete t n)
-              (λ same. inl (subst (Contains (n ∷ [])) (sym same) (contains_first n [])))
-              (λ other. inr (λ there. other (one_name n t there)))
-
-          reasons : (rows : List TargetRows) (t : ℕ) → Contains (n ∷ []) t
-              → HasReason (with_rows cells rows) t
-          reasons rows t there =
-              subst (HasReason (with_rows cells rows)) (sym (one_name n t there))
-              (reason_of_building (with_rows cells rows) n (cell_at cells n).state building)
+          outs : (rows : List TargetRows) (t : ℕ) → Contains (n ∷ []) t
+              → OutOfDate (with_rows cells rows) t
+          outs rows t there =
+              subst (OutOfDate (with_rows cells rows)) (sym (one_name n t there)) (
+                [],
+                reason_of_building (with_rows cells rows) n (cell_at cells n).state building,
+              )
 
       pub right_by_always : (to : List TargetRows) → rows_of to ≡ with_always (rows_of targets) n
           → IsRight memo (with_rows cells to)

@@ -54,6 +54,22 @@ fn refresh(memo: &mut Ood, records: &Records, rows: &DepRows, n: u32)
     memo.refresh(records, rows, &[n]);
 }
 
+/// Corrects the memo after a start of the name. Callers pass `was_out`: whether it was out of date
+/// before. If it was, what depends on it still is, and the memo is right.
+fn refresh_started(memo: &mut Ood, records: &Records, rows: &DepRows, n: u32, was_out: bool)
+    requires name { n < length records.now }
+    requires rows { rows_count rows.now ≡ length records.now }
+    requires memo { memo_count memo.old ≡ length records.now }
+    requires right { WasRight (n ∷ []) memo.old (with_rows records.now rows.now) }
+    requires same { IsTrue was_out → IsRight memo.old (with_rows records.now rows.now) }
+    ensures right { IsRight memo.new (with_rows records.now rows.now) }
+    ensures count { memo_count memo.new ≡ length records.now }
+{
+    if !was_out {
+        refresh(memo, records, rows, n);
+    }
+}
+
 impl Store {
     pub(crate) fn set_file(&mut self, n: u32, file: Option<FileStamp>)
         requires { n < count_of self.old }
@@ -74,9 +90,10 @@ impl Store {
         ensures after { HasEffect self.old self.new s (commands.Start t) }
         ensures kept { KeepsNames self.old self.new }
     {
+        let was_out = self.memo.is(t);
         self.records.start(s, t);
         self.rows.clear(t);
-        refresh(&mut self.memo, &self.records, &self.rows, t);
+        refresh_started(&mut self.memo, &self.records, &self.rows, t, was_out);
     }
 
     pub(crate) fn stamp(&mut self, t: u32, content: &[u8])

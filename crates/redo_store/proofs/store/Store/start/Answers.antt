@@ -1,17 +1,27 @@
-use Rattle.std.proofs.Common.{◌<◌, length, sym, subst}
+use Rattle.std.proofs.Common.{◌<◌, IsTrue, length, refl, sym, subst}
 use Rattle.redo_store.specs.Stored.{Stored}
 use Rattle.redo_store.specs.Inside.KeptStore.{stored_of}
 use Rattle.redo_store.proofs.Effects.{started}
 use Rattle.redo_store.proofs.Kept.{IsStored-set_cell, IsStored-set_rows}
-use Rattle.redo_store.proofs.Refreshing.{refreshed, was_right_by_start}
+use Rattle.redo_store.proofs.Refreshing.{refreshed, right_by_start, was_right_by_start}
 use Rattle.redo_store.proofs.store.Store.start.Goals as goal
 
-pub refresh-requires-clause-right : goal.refresh-requires-clause-right
-refresh-requires-clause-right c =
+pub refresh_started-requires-clause-right : goal.refresh_started-requires-clause-right
+refresh_started-requires-clause-right c =
     let inside = c.self.inside in
     rw c.start.ensures
     (was_right_by_start inside.memo inside.records inside.rows c.args.t
     c.self.invariant.memo_right _ c.clear.new.self c.clear.ensures.rows)
+
+pub refresh_started-requires-clause-same : goal.refresh_started-requires-clause-same
+refresh_started-requires-clause-same c out =
+    let inside = c.self.inside in
+    let below : c.args.t < length inside.records =
+    subst (λ (u : Stored). c.args.t < length u.cells) (sym c.self.view_is) c.requires.number in
+    rw c.start.ensures
+    (right_by_start inside.memo inside.records inside.rows c.args.t
+    c.self.invariant.memo_right _ c.clear.new.self c.clear.ensures.rows below refl refl
+    (subst IsTrue c.is-was_out.ensures out))
 
 pub invariant_of-self : goal.invariant_of-self
 invariant_of-self c =
@@ -21,7 +31,7 @@ invariant_of-self c =
     (rw c.start.ensures
     (IsStored-set_rows _ c.clear.new.self
     (IsStored-set_cell stored c.args.t _ kept (kept.few_builds c.args.t)) c.clear.ensures.count))
-    c.refresh.ensures.count c.refresh.ensures.right
+    c.refresh_started.ensures.count c.refresh_started.ensures.right
 
 pub returns-clause-after : goal.returns-clause-after
 returns-clause-after c =

@@ -6,7 +6,8 @@ use Rattle.redo_store.proofs.store.changes.change_each.Goals as goal
 pub loop-place-preserved : goal.loop-place-preserved
 loop-place-preserved c = record {
   so_far =
-      changed_more c.args.names.now c.loop-place.place c.loop-place-test.true c.loop-place.invariant.so_far
+      changed_more c.args.names.now c.loop-place.place c.loop-place-test.true
+      c.loop-place.invariant.so_far
       c.put_change.ensures.rows
       (ap (λ (cell : Cell). mark_in cell.state cell) c.cell.ensures);
   room = λ k. c.put_change.ensures.room c.args.t k ∙ c.loop-place.invariant.room k;
