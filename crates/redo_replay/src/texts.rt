@@ -92,8 +92,8 @@ fn verdict_on_input<R: Read>(
 }
 
 /// Reads a history, does its commands again, and writes the verdict. Writes nothing before the
-/// verdict is complete. Gives the verdict, and the database that did the commands: to drop it
-/// takes some of the time, which a program that ends can save.
+/// verdict is complete. Beside the verdict it gives the database that did the commands, of which
+/// no clause speaks: a program that ends need not take the time to drop it.
 pub fn replay_text<R: Read, W: Write>(
     alloc: Global,
     input: &mut Watched<R>,
