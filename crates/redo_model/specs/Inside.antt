@@ -9,6 +9,5 @@ pub mod Placed
 pub mod Journals
 pub mod Renaming
 pub mod Room
-pub mod Worked
 pub mod Merging
 pub mod Guarded

@@ -7,4 +7,3 @@ pub mod journals;
 pub mod regions;
 pub mod renaming;
 pub mod replies;
-pub mod worked;

@@ -1,0 +1,15 @@
+pub mod Answered
+pub mod Appearance
+pub mod ChainThrough
+pub mod ChangeRows
+pub mod Changed
+pub mod CommonPath
+pub mod ContentsAndBuilds
+pub mod CreatedRows
+pub mod Cycle
+pub mod Digests
+pub mod FailedMark
+pub mod FewTargets
+pub mod NamesWithoutAFile
+pub mod OwnReasons
+pub mod RowsOfBothKinds
