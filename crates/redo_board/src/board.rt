@@ -34,8 +34,8 @@ impl Board {
     {
         let rows = rows(plan);
         let end = sessions(plan);
-        let graph = Graph::new(alloc, plan)?;
         let words = vec![in alloc; 0u64; rows + 1 + plan.names().len() as usize]?;
+        let graph = Graph::new(alloc, plan)?;
         let (table, seat) = Table::of_words(alloc, words.as_slice(), plan)?;
         Ok((
             Board { table, rows, graph },

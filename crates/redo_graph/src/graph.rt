@@ -39,13 +39,14 @@ impl Graph {
     {
         let names = plan.names();
         let scripts = plan.scripts();
-        let pairs = Pairs::new(alloc, names.len(), listed_pairs(alloc, scripts)?)?;
-        let on = Pairs::new(alloc, names.len(), by_name(alloc, pairs.as_slice())?)?;
+        let count = names.len();
+        let sorted = sorted_numbers(alloc, names)?;
+        let ranks = ranks_of(alloc, &sorted)?;
+        let pairs = Pairs::new(alloc, count, listed_pairs(alloc, scripts)?)?;
+        let on = Pairs::new(alloc, count, by_name(alloc, pairs.as_slice())?)?;
         let mut tables = Tables::new(alloc, pairs);
         let steps = tables.scripts(alloc, scripts)?;
         tables.are_once();
-        let sorted = sorted_numbers(alloc, names)?;
-        let ranks = ranks_of(alloc, &sorted)?;
         Ok(Graph {
             steps,
             tables,

@@ -1,3 +1,4 @@
+pub mod Blank
 pub mod Kept
 pub mod Effects
 pub mod Refreshing

@@ -50,9 +50,9 @@ impl Redo {
         ensures calls { IfOk result (λ redo. calls_of redo ≡ 0) }
     {
         let count = names.len() as usize;
-        let store = Store::new(alloc, names)?;
         let holders = vec![in alloc; None; count]?;
         let grants = vec![in alloc; 0; count]?;
+        let store = Store::new(alloc, names)?;
         Ok(Redo {
             store,
             holders,

@@ -18,9 +18,9 @@ impl Redo {
         ensures order { IfOk result (λ redo. IsByNumber numbers (tables_order redo)) }
         ensures calls { IfOk result (λ redo. calls_of redo ≡ 0) }
     {
-        let store = Store::blank(alloc, numbers)?;
         let holders = vec![in alloc; None; numbers as usize]?;
         let grants = vec![in alloc; 0; numbers as usize]?;
+        let store = Store::blank(alloc, numbers)?;
         Ok(Redo {
             store,
             holders,

@@ -21,7 +21,7 @@ new-requires c = λ p there.
     let listed = c.in_ok-listed_pairs.ensures ∙ ap listed_by c.scripts-scripts.ensures.scripts in
     let numbers = listed_below c.args.plan.now c.scripts-scripts.ensures.plan p
     (subst (λ (l : List (ℕ × ℕ)). Contains l p) listed there) in
-    omega (arith, numbers.0, c.len.ensures.count, ap length c.names-names.ensures)
+    omega (arith, numbers.0, c.len-count.ensures.count, ap length c.names-names.ensures)
 
 pub new-requires-2 : goal.new-requires-2
 new-requires-2 c = λ p there.
@@ -35,7 +35,7 @@ new-requires-2 c = λ p there.
     let numbers = listed_below c.args.plan.now c.scripts-scripts.ensures.plan pair
     (subst (λ (l : List (ℕ × ℕ)). Contains l pair) listed
     ((c.in_ok-pairs.ensures.pairs pair).0 is_in)) in
-    omega (arith, numbers.1, c.len-2.ensures.count, ap length c.names-names.ensures)
+    omega (arith, numbers.1, c.len-count.ensures.count, ap length c.names-names.ensures)
   where
     pairs : List (ℕ × ℕ)
     pairs = c.in_ok-pairs.pairs.items
@@ -64,7 +64,7 @@ ranks_of-requires-clause-below c =
 pub ranks_of-requires-clause-few : goal.ranks_of-requires-clause-few
 ranks_of-requires-clause-few c =
     let same = ap length c.deref.ensures.value in
-    omega (arith, c.in_ok-sorted.ensures.whole, same, c.len.ensures.count)
+    omega (arith, c.in_ok-sorted.ensures.whole, same, c.len-count.ensures.count)
 
 pub returns : goal.returns
 returns c =
@@ -107,6 +107,6 @@ returns c =
       ranks = subst (λ (ns : List ℕ). AreRanks ns c.in_ok-ranks.ranks.items)
           c.deref.ensures.value c.in_ok-ranks.ensures;
       targets = ap (λ (of : PairsOf). of.count) (sym same) ∙ c.in_ok-pairs.ensures.count
-          ∙ c.len.ensures.count ∙ ap length names;
-      names = c.in_ok-on.ensures.count ∙ c.len-2.ensures.count ∙ ap length names;
+          ∙ c.len-count.ensures.count ∙ ap length names;
+      names = c.in_ok-on.ensures.count ∙ c.len-count.ensures.count ∙ ap length names;
     }

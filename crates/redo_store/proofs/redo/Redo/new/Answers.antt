@@ -1,5 +1,6 @@
 use Rattle.std.proofs.Common.{rules, ◌≡◌, ◌∙◌, ℕ, List, get_or, ap, arith}
 use Rattle.redo_model.proofs.MorePlaces.{same_everywhere}
+use Rattle.redo_store.proofs.Blank.{blank_state}
 use Rattle.redo_store.proofs.redo.Redo.new.Goals as goal
 
 pub invariant_of-result : goal.invariant_of-result
@@ -14,3 +15,10 @@ invariant_of-result c = record {
       omega (arith, none);
   few_applied = search rules;
 }
+
+pub returns-clause-empty : goal.returns-clause-empty
+returns-clause-empty c =
+    blank_state c.in_ok-store.store c.in_ok-holders.holders.items c.in_ok-grants.grants.items
+    c.len-count.result c.in_ok-store.ensures.empty
+    (c.in_ok-holders.ensures.items_if_clones_equal (λ y. search rules))
+    (c.in_ok-grants.ensures.items_if_clones_equal (λ y e. e))
