@@ -1,10 +1,12 @@
-ghost use Rattle.std.specs.Prelude.{◌≡◌, ◌⊎◌, ◌↔◌, ℕ, ◌<◌, ◌≤◌, ◌++◌, List, length, MatchOption, IfOk, IfErr, IsOkAnd};
+ghost use Rattle.std.specs.Prelude.{◌≡◌, ◌⊎◌, ◌↔◌, ℕ, ◌<◌, ◌≤◌, ◌++◌, List, [], length, map, MatchOption, IfOk, IfErr, OnOk, IsOkAnd};
+ghost use Rattle.std.specs.List.{AllByRecursion};
 ghost use Rattle.redo_names.specs.Inside.Names.{Extends};
 ghost use Rattle.redo_model.specs.Names.{Text};
 ghost use Rattle.redo_model.specs.History.{Line as LineOf};
 ghost use Rattle.redo_model.specs.Renaming.{IsLineBelow};
 ghost use Rattle.redo_terms.specs.Meaning.{line_of, line_at};
 ghost use Rattle.redo_history.specs.Histories.{header_of};
+ghost use Rattle.redo_history.specs.Recorded.{AreLinesBelow};
 ghost use Rattle.redo_history.specs.Inside.Recorded.{lines_of};
 ghost use Rattle.redo_history.specs.HistoryTexts.{IsHistory, IsHistoryLine};
 ghost use Rattle.redo_history.specs.Inside.HistoryTexts.{AddsLineNames};
@@ -115,6 +117,36 @@ pub fn read_line(
     })
 }
 
+/// Reads the lines of a history, of which its header counts so many. No name and no line is known before.
+fn read_lines(
+    alloc: Global,
+    count: usize,
+    rest: &[u8],
+    names: &mut Names,
+    lines: &mut Vec<Line>,
+) -> Result<(), HistoryFault>
+    requires few { count ≤ 1048576 }
+    requires names { names.old ≡ [] }
+    requires lines { lines.old.items ≡ [] }
+    ensures read { OnOk result (IsHistory (header_of count ++ rest.now) names.new
+        (map (line_at names.new) lines.new.items)) }
+    ensures below { OnOk result (AreLinesBelow names.new lines.new.items) }
+    ensures sessions { OnOk result
+        (AllByRecursion (λ line. line.session < 64) lines.new.items) }
+    ensures most { OnOk result (length lines.new.items ≤ 1048576) }
+    ensures fault { IfErr result (IsHistoryFault (header_of count ++ rest.now)) }
+{
+    let mut left = rest;
+    'lines: for number in 1..count + 1 {
+        let Some((text, after)) = cut_at(left, b'\n') else {
+            return Err(HistoryFault::Cut);
+        };
+        lines.push(read_line(alloc, number, text, names)?)?;
+        left = after;
+    }
+    Ok(())
+}
+
 /// The history at the beginning of the input.
 fn history_in(alloc: Global, input: &[u8]) -> Result<History, HistoryFault>
     ensures read { IfOk result (λ history. IsHistory input.now history.names (lines_of history)) }
@@ -123,16 +155,9 @@ fn history_in(alloc: Global, input: &[u8]) -> Result<History, HistoryFault>
         → result ≡ Err HistoryFault.BadHeader }
 {
     let (count, rest) = read_header(input)?;
-    let mut names = Names::new(alloc);
     let mut lines = Vec::with_capacity(alloc, count.min(rest.len() / SHORTEST_LINE))?;
-    let mut left = rest;
-    'lines: for number in 1..count + 1 {
-        let Some((text, after)) = cut_at(left, b'\n') else {
-            return Err(HistoryFault::Cut);
-        };
-        lines.push(read_line(alloc, number, text, &mut names)?)?;
-        left = after;
-    }
+    let mut names = Names::new(alloc);
+    read_lines(alloc, count, rest, &mut names, &mut lines)?;
     Ok(History::new(names, lines))
 }
 
