@@ -1,9 +1,10 @@
-ghost use Rattle.std.specs.Prelude.{◌≡◌, ◌<◌, ◌≤◌, ◌++◌, ℕ, List, IfOk, IfErr, IfSome, MatchOption, IsSomeAnd};
+ghost use Rattle.std.specs.Prelude.{◌≡◌, ◌<◌, ◌≤◌, ◌++◌, ℕ, List, [], IfOk, IfErr, IfSome, MatchOption, IsSomeAnd};
 ghost use Rattle.redo_model.specs.Names.{Text};
+ghost use Rattle.redo_model.specs.State.{empty};
 ghost use Rattle.redo_model.specs.Command.{Command};
 ghost use Rattle.redo_model.specs.History.{Line};
 ghost use Rattle.redo_text.specs.Grammar.{IsCommandLine};
-ghost use Rattle.redo_live.specs.Inside.LiveState.{calls_in};
+ghost use Rattle.redo_live.specs.Inside.LiveState.{state_in, calls_in};
 ghost use Rattle.redo_history.specs.Inside.HistoryFaults.{IsCutAt};
 ghost use Rattle.redo_log.specs.Logs.{log_header, IsLogOf, IsTornHeader};
 ghost use Rattle.redo_log.specs.Restores.{IsRestored, IsRestoredTo, IsRestoreCause, IsOfRoom};
@@ -109,6 +110,44 @@ impl Again {
             Err(Unanswered::Worn) => Err(RestoreFault::Worn),
         }
     }
+
+    /// Does all lines of a log again, which come after its header, by a database that knows nothing yet. Returns how
+    /// many they are, and how many bytes they and the header have.
+    fn redo_lines(
+        &mut self,
+        alloc: Global,
+        log: &[u8],
+        lines: &[u8],
+    ) -> Result<(usize, usize), RestoreFault>
+        requires log { log.now ≡ log_header ++ lines.now }
+        requires names { self.old.live.names ≡ [] }
+        requires state { state_in self.old.live ≡ empty }
+        requires calls { calls_in self.old.live ≡ 0 }
+        ensures restored { IfOk result (λ counts. (done : List (Line Text)) × (torn : Text)
+            × IsLogOf log.now done torn × IsRestoredTo done
+            record { live = self.new.live; lines = counts.0; bytes = counts.1 }) }
+        ensures only { (done : List (Line Text)) (torn : Text) → IsLogOf log.now done torn
+            → IfErr result IsOfRoom }
+        ensures same { (done : List (Line Text)) (torn : Text) → IsLogOf log.now done torn
+            → IfOk result (λ counts. IsRestoredTo done
+            record { live = self.new.live; lines = counts.0; bytes = counts.1 }) }
+        ensures cause { IfErr result (IsRestoreCause log.now) }
+    {
+        let mut left = lines;
+        let mut count = 0;
+        'lines: while let Some((text, _)) = cut_at(left, b'\n') {
+            let Some(rest) = self.redo(alloc, text, left)? else {
+                return Err(RestoreFault::Differs {
+                    line: count + 2,
+                    lines: count,
+                    bytes: log.len() - left.len(),
+                });
+            };
+            left = rest;
+            count += 1;
+        }
+        Ok((count, log.len() - left.len()))
+    }
 }
 
 /// Does again the lines of a log, without its header.
@@ -127,23 +166,10 @@ fn restore_lines(alloc: Global, log: &[u8], lines: &[u8]) -> Result<Restored, Re
         said: Vec::new(alloc),
         logged: Vec::new(alloc),
     };
-    let mut left = lines;
-    let mut count = 0;
-    'lines: while let Some((text, _)) = cut_at(left, b'\n') {
-        let Some(rest) = again.redo(alloc, text, left)? else {
-            return Err(RestoreFault::Differs {
-                line: count + 2,
-                lines: count,
-                bytes: log.len() - left.len(),
-            });
-        };
-        left = rest;
-        count += 1;
-    }
-    let bytes = log.len() - left.len();
+    let (lines, bytes) = again.redo_lines(alloc, log, lines)?;
     Ok(Restored {
         live: again.live,
-        lines: count,
+        lines,
         bytes,
     })
 }
