@@ -10,12 +10,10 @@ use std::io::{ErrorKind, Read, Write};
 
 const SESSIONS: u8 = 64;
 
-/// The database at the start of a conversation, and its log.
+/// What was restored of the log at the start of a conversation, and where the log goes on.
 #[derive(Drop)]
 pub struct Begun {
-    pub live: Live,
-    /// How many lines the log had.
-    pub restored: usize,
+    pub restored: Restored,
     pub log: Watched<LogWriter>,
 }
 
@@ -76,23 +74,23 @@ fn copy(rt: &HostRuntime, name: &str, bytes: &[u8]) -> Result<(), Fault> {
     Ok(())
 }
 
-/// Cuts a damaged log before the first line that differs, after it has copied it.
+/// Cuts a damaged log before the first line that differs, after it has copied it, and does the lines before it again.
 fn salvage(
     rt: &HostRuntime,
     name: &str,
     file: &File,
     damaged: &[u8],
     lines: usize,
-    kept: usize,
-) -> Result<(), Fault> {
+    kept: &[u8],
+) -> Result<Restored, Fault> {
     copy(rt, name, damaged)?;
-    cut(file, kept)?;
-    let gone = damaged.len().saturating_sub(kept);
+    cut(file, kept.len())?;
+    let gone = damaged.len().saturating_sub(kept.len());
     let line = format!(in rt.alloc();
         "redodb-live: {name}: {lines} lines kept, {gone} bytes cut off\n"
     )?;
     say(rt, &line);
-    Ok(())
+    Ok(restore(rt.alloc(), kept)?)
 }
 
 /// Does the lines of the log again, and cuts off a torn line.
@@ -105,10 +103,7 @@ fn resume(rt: &HostRuntime, asked: &LogFile, file: &File) -> Result<Restored, Fa
                 bytes: kept,
                 ..
             },
-        ) if asked.salvage => {
-            salvage(rt, &asked.name, file, &bytes, lines, kept)?;
-            Ok(restore(rt.alloc(), &bytes[..kept])?)
-        }
+        ) if asked.salvage => salvage(rt, &asked.name, file, &bytes, lines, &bytes[..kept]),
         Err(fault) => Err(Fault::from(fault)),
         Ok(restored) => {
             if restored.bytes < bytes.len() {
@@ -130,26 +125,28 @@ fn close_all(alloc: Global, live: &mut Live, logged: &mut Vec<u8>) -> Result<(),
     Ok(())
 }
 
-/// Restores the log of the arguments, and closes the sessions of its former run.
-pub fn begin(rt: &HostRuntime, asked: &LogFile) -> Result<Begun, Fault> {
-    let file = open(rt, &asked.name)?;
-    let Restored {
-        mut live,
-        lines,
-        bytes,
-    } = resume(rt, asked, &file)?;
-    let mut logged = Vec::new(rt.alloc());
-    if bytes == 0 {
+/// The log from here on, with its header if it has no line yet, and the lines that close the sessions of its former run.
+fn go_on(
+    alloc: Global,
+    restored: &mut Restored,
+    log: LogWriter,
+) -> Result<Watched<LogWriter>, Fault> {
+    let mut logged = Vec::new(alloc);
+    if restored.bytes == 0 {
         logged.extend_from_slice(LOG_HEADER)?;
     }
-    close_all(rt.alloc(), &mut live, &mut logged)?;
-    let mut log = Watched::new(LogWriter::new(file, asked.sync));
+    close_all(alloc, &mut restored.live, &mut logged)?;
+    let mut log = Watched::new(log);
     if write_whole(&mut log, &logged).is_err() || log.flush().is_err() {
         return Err(Fault::Log(LogFault::Write));
     }
-    Ok(Begun {
-        live,
-        restored: lines,
-        log,
-    })
+    Ok(log)
+}
+
+/// Restores the log of the arguments, and closes the sessions of its former run.
+pub fn begin(rt: &HostRuntime, asked: &LogFile) -> Result<Begun, Fault> {
+    let file = open(rt, &asked.name)?;
+    let mut restored = resume(rt, asked, &file)?;
+    let log = go_on(rt.alloc(), &mut restored, LogWriter::new(file, asked.sync))?;
+    Ok(Begun { restored, log })
 }

@@ -6,11 +6,10 @@ mod log;
 mod log_writer;
 
 use fault::{Fault, LogFault};
-use log::Begun;
 use redo_live::Live;
 use redo_talk::{TalkFault, talk};
 use redo_whole::{Watched, write_whole};
-use redo_words::{Conversation, WordsFault, conversation};
+use redo_words::{Conversation, LogFile, WordsFault, conversation};
 use std::io::Write;
 use std::process::ExitCode;
 use std::rt::Env;
@@ -72,21 +71,24 @@ fn talk_to<L: Write>(
     }
 }
 
+/// The conversation that a log keeps.
+fn converse_by_log(rt: &HostRuntime, asked: &LogFile) -> Result<(), Fault> {
+    let mut begun = log::begin(rt, asked)?;
+    let restored = begun.restored.lines;
+    talk_to(rt, &mut begun.restored.live, restored, &mut begun.log)
+}
+
+/// A conversation that nothing keeps.
+fn converse_alone(rt: &HostRuntime) -> Result<(), Fault> {
+    let mut live = Live::new(rt.alloc())?;
+    talk_to(rt, &mut live, 0, &mut Watched::new(io::sink()))
+}
+
 /// The conversation that the arguments ask for.
 fn converse(rt: &HostRuntime, conversation: &Conversation) -> Result<(), Fault> {
     match &conversation.log {
-        Some(asked) => {
-            let Begun {
-                mut live,
-                restored,
-                mut log,
-            } = log::begin(rt, asked)?;
-            talk_to(rt, &mut live, restored, &mut log)
-        }
-        None => {
-            let mut live = Live::new(rt.alloc())?;
-            talk_to(rt, &mut live, 0, &mut Watched::new(io::sink()))
-        }
+        Some(asked) => converse_by_log(rt, asked),
+        None => converse_alone(rt),
     }
 }
 
