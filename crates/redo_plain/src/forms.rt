@@ -122,31 +122,61 @@ pub(crate) fn number_of(text: &[u8], most: u64) -> Option<u64> {
     if number <= most { Some(number) } else { None }
 }
 
+/// Whether a word is the number of a grant.
+fn is_grant(word: &[u8]) -> bool {
+    match number_of(word, 4_294_967_295) {
+        Some(number) => number > 0,
+        None => false,
+    }
+}
+
+/// Whether these words are a reply that lists no name and names none.
+fn is_bare_reply(head: &[u8], rest: &[&[u8]]) -> bool {
+    match rest {
+        [] => head == b"ok".as_slice(),
+        [last] => match head {
+            b"granted" | b"busy" => is_grant(last),
+            b"stamped" => is_digest(last),
+            b"refused" => is_refusal(last),
+            _ => false,
+        },
+        _ => false,
+    }
+}
+
+/// Whether these words are a reply that lists names.
+fn is_list(head: &[u8], names: &[&[u8]]) -> bool {
+    let may_list = match head {
+        b"ood" | b"targets" | b"sources" => true,
+        b"stale" => !names.is_empty(),
+        _ => false,
+    };
+    may_list && names.iter().all(|word| is_name(word))
+}
+
+/// Whether these words refuse a command for a name that has a file.
+fn is_refused_for_a_name(head: &[u8], rest: &[&[u8]]) -> bool {
+    match rest {
+        [cause, name] => {
+            head == b"refused".as_slice() && *cause == b"exists".as_slice() && is_name(name)
+        }
+        _ => false,
+    }
+}
+
 /// The names in the words of a reply; none if the words are no reply.
 pub(crate) fn names_of_reply<'a, 'b>(words: &'b [&'a [u8]]) -> Option<&'b [&'a [u8]]> {
     let (head, rest) = words.split_first()?;
-    let (last, prefix) = words.split_last()?;
-    let no_name = &words[words.len()..];
-    match *head {
-        b"ok" if rest.is_empty() => Some(no_name),
-        b"granted" | b"busy" if rest.len() == 1 && number_of(last, 4_294_967_295)? > 0 => {
-            Some(no_name)
-        }
-        b"stamped" if rest.len() == 1 && is_digest(last) => Some(no_name),
-        b"stale" if rest.is_empty() => None,
-        b"stale" | b"ood" | b"targets" | b"sources" if rest.iter().all(|word| is_name(word)) => {
-            Some(rest)
-        }
-        b"refused" if rest.len() == 1 && is_refusal(last) => Some(no_name),
-        b"refused" if prefix == [b"refused".as_slice(), b"exists".as_slice()].as_slice() => {
-            if is_name(last) {
-                Some(&words[2..])
-            } else {
-                None
-            }
-        }
-        _ => None,
+    if is_bare_reply(head, rest) {
+        return rest.get(rest.len()..);
     }
+    if is_list(head, rest) {
+        return Some(rest);
+    }
+    if is_refused_for_a_name(head, rest) {
+        return rest.get(1..);
+    }
+    None
 }
 
 fn is_digest(word: &[u8]) -> bool {

@@ -1,6 +1,6 @@
 //! The result of a whole text: the run text of a session file, or the verdict on a history.
 use crate::plain::Plain;
-use crate::reader::{Asked, Fault, Reader};
+use crate::reader::{Asked, Fault, Reader, Told};
 use redo_terms::{Command, Refusal, Reply};
 use std::alloc::{AllocError, Global};
 
@@ -30,29 +30,46 @@ fn put_refusal(out: &mut Vec<u8>, plain: &Plain, refusal: &Refusal) -> Result<()
     }
 }
 
+/// Adds a word and a number.
+fn put_number(out: &mut Vec<u8>, alloc: Global, word: &str, number: u32) -> Result<(), AllocError> {
+    let text = format!(in alloc; "{word} {number}")?;
+    out.extend_from_slice(text.as_bytes())
+}
+
+/// Adds the text of a digest.
+fn put_digest(out: &mut Vec<u8>, alloc: Global, digest: &[u8; 20]) -> Result<(), AllocError> {
+    out.extend_from_slice(b"stamped ")?;
+    for byte in digest {
+        let digits = format!(in alloc; "{byte:02x}")?;
+        out.extend_from_slice(digits.as_bytes())?;
+    }
+    Ok(())
+}
+
+/// Adds the text of a reply.
+fn put_reply(
+    out: &mut Vec<u8>,
+    alloc: Global,
+    plain: &Plain,
+    reply: &Reply,
+) -> Result<(), AllocError> {
+    match reply {
+        Reply::Okay => put_names(out, plain, "ok", &[]),
+        Reply::Granted(grant) => put_number(out, alloc, "granted", *grant),
+        Reply::Busy(grant) => put_number(out, alloc, "busy", *grant),
+        Reply::Stale(names) => put_names(out, plain, "stale", names),
+        Reply::Stamped(digest) => put_digest(out, alloc, &digest.bytes),
+        Reply::Ood(names) => put_names(out, plain, "ood", names),
+        Reply::Targets(names) => put_names(out, plain, "targets", names),
+        Reply::Sources(names) => put_names(out, plain, "sources", names),
+        Reply::Refused(refusal) => put_refusal(out, plain, refusal),
+    }
+}
+
 /// The text of a reply.
 fn reply_text(alloc: Global, plain: &Plain, reply: &Reply) -> Result<Vec<u8>, AllocError> {
     let mut out = Vec::new(alloc);
-    match reply {
-        Reply::Okay => put_names(&mut out, plain, "ok", &[])?,
-        Reply::Granted(grant) => {
-            out.extend_from_slice(format!(in alloc; "granted {grant}")?.as_bytes())?;
-        }
-        Reply::Busy(grant) => {
-            out.extend_from_slice(format!(in alloc; "busy {grant}")?.as_bytes())?;
-        }
-        Reply::Stale(names) => put_names(&mut out, plain, "stale", names)?,
-        Reply::Stamped(digest) => {
-            out.extend_from_slice(b"stamped ")?;
-            for byte in &digest.bytes {
-                out.extend_from_slice(format!(in alloc; "{byte:02x}")?.as_bytes())?;
-            }
-        }
-        Reply::Ood(names) => put_names(&mut out, plain, "ood", names)?,
-        Reply::Targets(names) => put_names(&mut out, plain, "targets", names)?,
-        Reply::Sources(names) => put_names(&mut out, plain, "sources", names)?,
-        Reply::Refused(refusal) => put_refusal(&mut out, plain, refusal)?,
-    }
+    put_reply(&mut out, alloc, plain, reply)?;
     Ok(out)
 }
 
@@ -131,6 +148,18 @@ impl Run {
     }
 }
 
+/// The run text of the lines of a file.
+fn text_of(alloc: Global, run: &mut Run, asked: &[Asked]) -> Result<Vec<u8>, AllocError> {
+    run.call_all(alloc, asked)?;
+    run.close(alloc)?;
+    let (done, lines) = (run.done, run.lines);
+    let mut text = format!(in alloc; "history {done}\n")?.into_bytes();
+    text.extend_from_slice(&run.history)?;
+    text.extend_from_slice(format!(in alloc; "session 1 {lines}\n")?.as_bytes())?;
+    text.extend_from_slice(&run.own)?;
+    Ok(text)
+}
+
 /// The run text of a session file, or the file's fault.
 pub fn run_of(alloc: Global, file: &[u8]) -> Result<Vec<u8>, Fault> {
     let mut reader = Reader::new(alloc);
@@ -142,14 +171,42 @@ pub fn run_of(alloc: Global, file: &[u8]) -> Result<Vec<u8>, Fault> {
         own: Vec::new(alloc),
         lines: 0,
     };
-    run.call_all(alloc, &asked)?;
-    run.close(alloc)?;
-    let (done, lines) = (run.done, run.lines);
-    let mut text = Vec::from_slice(alloc, format!(in alloc; "history {done}\n")?.as_bytes())?;
-    text.extend_from_slice(&run.history)?;
-    text.extend_from_slice(format!(in alloc; "session 1 {lines}\n")?.as_bytes())?;
-    text.extend_from_slice(&run.own)?;
-    Ok(text)
+    Ok(text_of(alloc, &mut run, &asked)?)
+}
+
+/// The text of the verdict on a line whose right reply is this one, if it has another.
+fn differs(
+    alloc: Global,
+    number: usize,
+    line: &Told,
+    reply: &[u8],
+) -> Result<Option<Vec<u8>>, AllocError> {
+    if reply == line.reply.as_slice() {
+        return Ok(None);
+    }
+    let mut out = format!(in alloc; "differs {number} ")?.into_bytes();
+    out.extend_from_slice(reply)?;
+    out.push(b'\n')?;
+    Ok(Some(out))
+}
+
+/// The right reply to the command of a line, which it does.
+fn told_again(alloc: Global, plain: &mut Plain, line: &Told) -> Result<Vec<u8>, AllocError> {
+    let reply = plain.call(alloc, line.session, &line.command)?;
+    reply_text(alloc, plain, &reply)
+}
+
+/// The text of the verdict on these lines.
+fn verdict_on(alloc: Global, plain: &mut Plain, told: &[Told]) -> Result<Vec<u8>, AllocError> {
+    let mut number = 0usize;
+    for line in told {
+        number = number.saturating_add(1);
+        let reply = told_again(alloc, plain, line)?;
+        if let Some(verdict) = differs(alloc, number, line, &reply)? {
+            return Ok(verdict);
+        }
+    }
+    Ok(format!(in alloc; "same {number}\n")?.into_bytes())
 }
 
 /// The text of the verdict on a history, or the history's fault.
@@ -157,18 +214,5 @@ pub fn verdict_of(alloc: Global, history: &[u8]) -> Result<Vec<u8>, Fault> {
     let mut reader = Reader::new(alloc);
     let told = reader.history(alloc, history)?;
     let mut plain = Plain::of(alloc, reader.names)?;
-    let mut number = 0usize;
-    for line in &told {
-        number = number.saturating_add(1);
-        let reply = plain.call(alloc, line.session, &line.command)?;
-        let reply = reply_text(alloc, &plain, &reply)?;
-        if reply.as_slice() != line.reply.as_slice() {
-            let mut out = Vec::new(alloc);
-            out.extend_from_slice(format!(in alloc; "differs {number} ")?.as_bytes())?;
-            out.extend_from_slice(&reply)?;
-            out.push(b'\n')?;
-            return Ok(out);
-        }
-    }
-    Ok(Vec::from_slice(alloc, format!(in alloc; "same {number}\n")?.as_bytes())?)
+    Ok(verdict_on(alloc, &mut plain, &told)?)
 }
