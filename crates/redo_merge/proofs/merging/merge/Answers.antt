@@ -1,4 +1,5 @@
 use Rattle.std.proofs.Common.{arith, ℕ, List, ◌<◌, ◌≤◌, ap, get_or, length, subst, sym, ◌∙◌, refl}
+use Rattle.std.proofs.lemmas.Grind.{common_steps}
 use Rattle.std.proofs.Math.ListN.{replicate}
 use Rattle.redo_journal.specs.Journals.{entries_of}
 use Rattle.redo_merge.specs.Inside.Merging.{AreWithin, NoneMayCome}
@@ -116,3 +117,9 @@ returns c =
           c.merging.counts
           c.merging.next.items c.merging.lines.items c.merging.invariant.merging stuck left.0 more;
     }
+
+pub overflow_add-k : goal.overflow_add-k
+overflow_add-k c = grind (arith, common_steps)
+
+pub bounds-scripts-s : goal.bounds-scripts-s
+bounds-scripts-s c = grind (arith, common_steps)

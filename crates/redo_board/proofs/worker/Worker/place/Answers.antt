@@ -1,4 +1,5 @@
-use Rattle.std.proofs.Common.{◌≡◌, ◌∙◌, sym, subst}
+use Rattle.std.proofs.Common.{◌≡◌, ◌∙◌, sym, subst, arith}
+use Rattle.std.proofs.lemmas.Grind.{common_steps}
 use Rattle.std.proofs.lemmas.Result.{err_from_is_err_and}
 use Rattle.redo_journal.specs.Plans.{PlanOf}
 use Rattle.redo_board.specs.declared.worker.Worker.{Worker}
@@ -23,3 +24,12 @@ returns-in_err-list-clause-err g c =
     rw failed.1
     (still p w c.rows.self c.catch_up.new.self x c.rows.invariant.2 e.same.0 e.same.1 e.seat
     (c.list_first.ensures.same ∙ c.pass_row.ensures.same c.if-pass_row.false))
+
+pub rows-preserved-then-pass_row : goal.rows-preserved-then-pass_row
+rows-preserved-then-pass_row g c = grind (arith, common_steps)
+
+pub rows-preserved : goal.rows-preserved
+rows-preserved g c = grind (arith, common_steps)
+
+pub returns-then-try_row-clause-ok : goal.returns-then-try_row-clause-ok
+returns-then-try_row-clause-ok g c = grind (arith, common_steps)

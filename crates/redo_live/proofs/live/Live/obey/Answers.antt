@@ -1,4 +1,5 @@
 use Rattle.std.proofs.Common.{◌≡◌, ◌∙◌, ℕ, ◌<◌, ◌≤◌, ◌++◌, [], cond, List, length, sym, ap, subst, arith, rules, vec_len}
+use Rattle.std.proofs.lemmas.Grind.{common_steps}
 use Rattle.redo_names.specs.Inside.Names.{AreNames}
 use Rattle.redo_model.specs.Names.{Text}
 use Rattle.redo_model.specs.Reply.{Reply}
@@ -184,3 +185,6 @@ returns-clause-obeyed c =
     (c.in_ok-tell.ensures.logged
     ∙ ap (λ (t : Text). logged ++ t) (c.text_if.ensures
     ∙ ap (λ (t : Text). cond changes t []) c.deref-2.ensures.value))
+
+pub returns-clause-fits : goal.returns-clause-fits
+returns-clause-fits c = grind (arith, common_steps)

@@ -1,4 +1,5 @@
 use Rattle.std.proofs.Common.{◌≡◌, ◌≢◌, ◌∙◌, ℕ, ◌≤◌, List, [], ◌∷◌, ◌++◌, length, Some, true, false, slice_get, sym, ap, subst, arith}
+use Rattle.std.proofs.lemmas.Grind.{common_steps}
 use Rattle.std.specs.Prelude.{String}
 use Rattle.std.specs.Global.{Global}
 use Rattle.std.proofs.lemmas.Option.{slice_get_within}
@@ -73,3 +74,21 @@ returns-clause-names c =
     (new_are_names c.self.inside.texts.keys c.args.self.now c.args.text.now c.len-number.result
     c.self.view_is c.self.invariant.are c.requires (sym c.in_default.ensures.there)
     c.len-number.ensures.len c.if-number-eq-MOST_NAMES.false)
+
+pub overflow_cast-number : goal.overflow_cast-number
+overflow_cast-number c = grind (arith, common_steps)
+
+pub overflow_cast-result : goal.overflow_cast-result
+overflow_cast-result c = grind (arith, common_steps)
+
+pub invariant_of-self-in_err-insert : goal.invariant_of-self-in_err-insert
+invariant_of-self-in_err-insert c = grind (arith, common_steps)
+
+pub returns-clause-full : goal.returns-clause-full
+returns-clause-full c = grind (arith, common_steps)
+
+pub returns-in_err-insert-clause-full : goal.returns-in_err-insert-clause-full
+returns-in_err-insert-clause-full c = grind (arith, common_steps)
+
+pub returns-in_err-put-clause-full : goal.returns-in_err-put-clause-full
+returns-in_err-put-clause-full c = grind (arith, common_steps)

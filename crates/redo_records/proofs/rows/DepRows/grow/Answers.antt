@@ -1,4 +1,5 @@
 use Rattle.std.proofs.Common.{rules, ◌≡◌, ◌∙◌, ℕ, ◌+◌, ◌-◌, ◌++◌, Bool, true, cond, List, length, get_or, ap, sym, subst, vec_len, arith}
+use Rattle.std.proofs.lemmas.Grind.{common_steps}
 use Rattle.std.proofs.Math.ListN.{replicate, length-replicate}
 use Rattle.redo_records.specs.Rows.{TargetRows, bare, rows_of}
 use Rattle.redo_records.specs.Numbers.{NumberList}
@@ -90,3 +91,6 @@ returns-clause-rows c =
     c.append-targets.ensures.items same.targets
     ∙ ap (λ (xs : List TargetRows). old.targets.items ++ xs) c.in_ok-targets.ensures in
     ap rows_of targets ∙ rows_grown old.targets.items more ∙ ap rows_of c.self.view_is
+
+pub returns-clause-count : goal.returns-clause-count
+returns-clause-count c = grind (arith, common_steps)

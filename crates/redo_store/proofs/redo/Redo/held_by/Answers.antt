@@ -1,4 +1,5 @@
-use Rattle.std.proofs.Common.{◌≡◌, ◌+◌, ◌<◌, ◌↔◌, ℕ, IsTrue, length, subst, sym, ◌∙◌}
+use Rattle.std.proofs.Common.{◌≡◌, ◌+◌, ◌<◌, ◌↔◌, ℕ, IsTrue, length, subst, sym, ◌∙◌, arith}
+use Rattle.std.proofs.lemmas.Grind.{common_steps}
 use Rattle.redo_model.specs.Names.{IsListed, by_number}
 use Rattle.redo_model.proofs.Listing.{listed_more, each_below}
 use Rattle.redo_store.specs.Tables.{Tables, tables_count, locks_of}
@@ -27,3 +28,6 @@ returns-clause-below c =
 
 pub returns-clause-distinct : goal.returns-clause-distinct
 returns-clause-distinct c = rising c.loop-t.held.items c.loop-t.invariant
+
+pub returns-clause-held : goal.returns-clause-held
+returns-clause-held c = grind (arith, common_steps)
