@@ -8,14 +8,14 @@ use std::test::Fail;
 #[test]
 fn written(rt: HostRuntime) -> Result<(), Fail> {
     let alloc = rt.alloc();
+    let mut text = Vec::from_slice(alloc, b">")?;
     let mut names = Names::new(alloc);
+    let command = read_command(alloc, b"lock a", &mut names)?;
     let line = Line {
         session: 11,
-        command: read_command(alloc, b"lock a", &mut names)?,
+        command,
         reply: Reply::Granted(3),
     };
-    let mut text = Vec::new(alloc);
-    text.push(b'>')?;
     put_line(alloc, &mut text, &line, &names)?;
     assert!(rt; text.as_slice() == b">12 lock a => granted 3\n".as_slice());
     Ok(())

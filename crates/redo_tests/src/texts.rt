@@ -2,17 +2,26 @@
 use redo_names::Names;
 use redo_terms::{Command, Reply};
 use redo_text::{LineFault, ReadFault, command_text, fault_word, read_command, reply_text};
-use std::alloc::Global;
+use std::alloc::{AllocError, Global};
 use std::test::Fail;
 
 #[test]
-fn texts(rt: HostRuntime) -> Result<(), Fail> {
+fn text_of_a_command(rt: HostRuntime) -> Result<(), Fail> {
     let alloc = rt.alloc();
     let mut names = Names::new(alloc);
     let command = read_command(alloc, b"ifchange d b a.o b d", &mut names)?;
     let text = command_text(alloc, &command, &names)?;
     assert!(rt; text.as_slice() == b"ifchange d b a.o b d".as_slice());
-    let text = reply_text(alloc, &Reply::Busy(4294967295), &names)?;
+    Ok(())
+}
+
+#[test]
+fn text_of_a_reply(rt: HostRuntime) -> Result<(), AllocError> {
+    let text = reply_text(
+        rt.alloc(),
+        &Reply::Busy(4294967295),
+        &Names::new(rt.alloc()),
+    )?;
     assert!(rt; text.as_slice() == b"busy 4294967295".as_slice());
     Ok(())
 }

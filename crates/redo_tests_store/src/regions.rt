@@ -23,6 +23,11 @@ struct Graph {
     ghost rows_count: { rows_count rows ≡ NAMES },
 }
 
+/// Whether these targets are out of date by the memo.
+fn is_list(alloc: Global, ood: &Ood, out: &[u32]) -> Result<bool, AllocError> {
+    Ok(ood.list(alloc)?.as_slice() == out)
+}
+
 impl Graph {
     fn new(alloc: Global) -> Result<Graph, AllocError> {
         Ok(Graph {
@@ -106,10 +111,10 @@ impl Graph {
         requires { n < NAMES }
     {
         let mut ood = self.memo(alloc)?;
-        assert!(rt; ood.list(alloc)?.is_empty());
+        assert!(rt; is_list(alloc, &ood, &[])?);
         self.records.set_file(n, FileStamp::new(b"2"));
         assert!(rt; ood.refresh(&self.records, &self.rows, &[n]) == region);
-        assert!(rt; ood.list(alloc)?.as_slice() == out);
+        assert!(rt; is_list(alloc, &ood, out)?);
         Ok(())
     }
 
@@ -126,12 +131,12 @@ impl Graph {
         requires { t < NAMES }
     {
         let mut ood = self.memo(alloc)?;
-        assert!(rt; ood.list(alloc)?.is_empty());
+        assert!(rt; is_list(alloc, &ood, &[])?);
         assert!(rt; !self.is_building(t));
         self.records.start(0, t);
         self.rows.clear(t);
         assert!(rt; ood.refresh(&self.records, &self.rows, &[t]) == region);
-        assert!(rt; ood.list(alloc)?.as_slice() == out);
+        assert!(rt; is_list(alloc, &ood, out)?);
         Ok(())
     }
 }
