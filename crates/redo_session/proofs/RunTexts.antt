@@ -36,24 +36,25 @@ named_here names (script ∷ scripts) =
     let rest = named_here names scripts in
     λ i. first i ∷ rest i
 
-pub run_text_here : (p : PlanOf) (names : List Text) (scripts : List (List Item))
-    (history : List coded.Line) (text : Text) → p ≡ plan_here names scripts
+-- the text of a run of the plan
+pub plan_text : (p : PlanOf) (history : List coded.Line) (text : Text)
     → IsRun (scripts_named p) (map (line_at p.names) history)
     → text ≡ run_text_of (scripts_named p) (sessions_below (length p.scripts))
     (map (line_at p.names) history)
-    → IsRunText (scripts_at names scripts) text
-run_text_here p names scripts history text same run is =
+    → IsRunText (scripts_named p) text
+plan_text p history text run is =
     let lines : List (Line Text) = map (line_at p.names) history in
-    let named : scripts_named p ≡ scripts_at names scripts =
-    ap scripts_named same ∙ named_here names scripts in
     let name : List (model.Item ℕ) → List (model.Item Text) =
     λ script. map (named_item (text_at p.names)) script in
-    let long : length p.scripts ≡ length (scripts_at names scripts) =
-    sym (length-map p.scripts name) ∙ ap length named in (
-      lines,
-      subst (λ all. IsRun all lines) named run,
-      is ∙ (λ i. run_text_of (named i) (sessions_below (long i)) lines),
-    )
+    let long : length p.scripts ≡ length (scripts_named p) = sym (length-map p.scripts name) in
+    (lines, run, is ∙ ap (λ n. run_text_of (scripts_named p) (sessions_below n) lines) long)
+
+-- the plan's scripts are those of which it was made
+pub plan_text_here : (p : PlanOf) (names : List Text) (scripts : List (List Item)) (text : Text)
+    → p ≡ plan_here names scripts → IsRunText (scripts_named p) text
+    → IsRunText (scripts_at names scripts) text
+plan_text_here p names scripts text same is =
+    subst (λ all. IsRunText all text) (ap scripts_named same ∙ named_here names scripts) is
 
 -- the text of accepted files, which are neither none nor too many
 pub runs_as : {A : Type 0} (result : Result (Vec ℕ A) Fault) (files : List (Option Text))

@@ -6,6 +6,7 @@ ghost use Rattle.redo_run_text.specs.Files.{bytes_of_files, failures_of_files, f
 ghost use Rattle.redo_run_text.specs.Inside.Files.{scripts_at, AreScriptsBelow};
 ghost use Rattle.redo_text.specs.Faults.{IsDeviceFault};
 ghost use Rattle.redo_run_text.specs.Faults.{IsRunCause};
+ghost use Rattle.redo_journal.specs.Plans.{scripts_named};
 
 use crate::runs::run;
 use redo_board::Open;
@@ -15,7 +16,7 @@ use redo_run_text::{read_files, run_text};
 use redo_terms::Script;
 use redo_text::Fault;
 use redo_whole::{Watched, WriteFault, write_whole};
-use std::alloc::Global;
+use std::alloc::{AllocError, Global};
 use std::io::{Read, Write};
 use std::sync::Wait;
 use std::thread::Threads;
@@ -31,7 +32,19 @@ fn plan_fault(fault: PlanFault) -> Fault
     }
 }
 
-/// The run text of the scripts' sessions, each run on a thread of its own.
+/// The run text of the plan's sessions, each run on a thread of its own.
+fn text_of_plan<T: Threads + Wait + Sync>(
+    rt: &T,
+    alloc: Global,
+    plan: &Plan,
+) -> Result<Vec<u8>, AllocError>
+    ensures { IfOk result (λ text. IsRunText (scripts_named plan.now) text.items) }
+{
+    let outcome = run(rt, alloc, plan, &Open)?;
+    run_text(rt, alloc, plan, &outcome)
+}
+
+/// The run text of the scripts' sessions.
 fn text_of_scripts<T: Threads + Wait + Sync>(
     rt: &T,
     alloc: Global,
@@ -50,8 +63,7 @@ fn text_of_scripts<T: Threads + Wait + Sync>(
         Ok(plan) => plan,
         Err(fault) => return Err(plan_fault(fault)),
     };
-    let outcome = run(rt, alloc, &plan, &Open)?;
-    Ok(run_text(rt, alloc, &plan, &outcome)?)
+    Ok(text_of_plan(rt, alloc, &plan)?)
 }
 
 /// The run text of the files' sessions.
