@@ -80,28 +80,37 @@ fn replay<I: Read, R: Print + AllocGlobal>(
     }
 }
 
+/// Runs the session on standard input.
+fn run_input<R: Threads + Wait + Sync + Input + Print + AllocGlobal>(rt: &R) -> Result<(), Fault> {
+    let mut files = Vec::new(rt.alloc());
+    files.push(Watched::new(rt.reader()))?;
+    run(rt, &mut files)
+}
+
+fn run_named<R: Threads + Wait + Sync + Files + Print + AllocGlobal>(
+    rt: &R,
+    names: &[String],
+) -> Result<(), Fault> {
+    let mut files = open_all(rt, names)?;
+    run(rt, &mut files)
+}
+
+fn replay_named<R: Files + Print + AllocGlobal>(rt: &R, name: &str) -> Result<Verdict, Fault> {
+    let mut input = open(rt, 0, name)?;
+    replay(rt, &mut input)
+}
+
 /// Does the job. Only a replay has a verdict.
 fn done<R: Threads + Wait + Sync + Files + Input + Print + AllocGlobal>(
     rt: &R,
     job: &Job,
 ) -> Result<Option<Verdict>, Fault> {
     match job {
-        Job::Input => {
-            let mut files = Vec::new(rt.alloc());
-            files.push(Watched::new(rt.reader()))?;
-            run(rt, &mut files)?;
-            Ok(None)
-        }
-        Job::Run(names) => {
-            let mut files = open_all(rt, names)?;
-            run(rt, &mut files)?;
-            Ok(None)
-        }
-        Job::Replay(name) => {
-            let mut input = open(rt, 0, name)?;
-            Ok(Some(replay(rt, &mut input)?))
-        }
+        Job::Input => run_input(rt)?,
+        Job::Run(names) => run_named(rt, names)?,
+        Job::Replay(name) => return Ok(Some(replay_named(rt, name)?)),
     }
+    Ok(None)
 }
 
 fn asked<R: Env + AllocGlobal>(rt: &R) -> Result<Job, Fault> {
