@@ -1,8 +1,10 @@
-use Rattle.std.proofs.Common.{◌∙◌, sym, subst}
+use Rattle.std.proofs.Common.{◌∙◌, Err, ap, sym, subst, inl, inr}
 use Rattle.std.proofs.lemmas.Result.{err_from_is_err_and}
 use Rattle.redo_model.specs.Names.{Text}
 use Rattle.redo_whole.specs.Devices.{known_in}
+use Rattle.redo_whole.specs.Watched.{failures_of}
 use Rattle.redo_replay.specs.Replays.{HasVerdict}
+use Rattle.redo_replay.proofs.Inputs.{none_failed, one_fault}
 use Rattle.redo_replay.proofs.texts.replay_text.Goals as goal
 
 pub returns-in_err-verdict-clause-only : goal.returns-in_err-verdict-clause-only
@@ -19,3 +21,21 @@ returns-in-Err-Write-clause-part_written g c failed =
     let has =
     subst (λ (text : Text). HasVerdict known verdict text) whole c.in_ok-verdict.ensures.verdict
     in (verdict, sent, rest, has, sends)
+
+pub returns-in-Ok-clause-device : goal.returns-in-Ok-clause-device
+returns-in-Ok-clause-device g c = (
+  λ no. absurd no,
+  λ any. elim any [
+    | inl failed ↦ none_failed (failures_of c.args.input.now)
+        (failures_of c.verdict_on_input.new.input) (c.in_ok-verdict.ensures.others (λ no. no)) failed
+    | inr failed ↦ absurd (let wrong = c.in-Ok.ensures.write.1 failed in cc)
+  ],
+)
+
+pub returns-in-Err-Write-clause-cause : goal.returns-in-Err-Write-clause-cause
+returns-in-Err-Write-clause-cause g c =
+    c.in-Err-Write.ensures.write.0 (ap Err (one_fault c.in-Err-Write.field-0))
+
+pub returns-in-Err-Write-clause-device : goal.returns-in-Err-Write-clause-device
+returns-in-Err-Write-clause-device g c =
+    (λ yes. inr (c.in-Err-Write.ensures.write.0 (ap Err (one_fault c.in-Err-Write.field-0))), λ any. tt)
