@@ -1,4 +1,5 @@
 use Rattle.std.proofs.Common.{◌≡◌, ◌∙◌, sym, subst, arith, decimal, drop, length}
+use Rattle.std.proofs.lemmas.Grind.{common_steps}
 use Rattle.std.specs.Prelude.{Contains}
 use Rattle.std.proofs.lemmas.Fmt.{decimal_injective}
 use Rattle.redo_model.specs.Names.{Text}
@@ -28,3 +29,6 @@ returns-in_default-read_number-clause-fault c count rest few e =
       | in_default-read_number-via-in_default-read_number w ↦
           w.in_default-read_number.ensures count (omega arith) word
     ]
+
+pub returns-in-Some-read_number-clause-read : goal.returns-in-Some-read_number-clause-read
+returns-in-Some-read_number-clause-read c = grind (arith, common_steps)

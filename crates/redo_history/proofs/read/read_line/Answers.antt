@@ -1,4 +1,5 @@
-use Rattle.std.proofs.Common.{◌≡◌, List, [], ◌∷◌, inl, inr, refl, sym, subst}
+use Rattle.std.proofs.Common.{◌≡◌, List, [], ◌∷◌, inl, inr, refl, sym, subst, arith}
+use Rattle.std.proofs.lemmas.Grind.{common_steps}
 use Rattle.redo_model.specs.Names.{Text}
 use Rattle.redo_model.specs.Command as commands
 use Rattle.redo_terms.specs.Meaning.{command_of, line_at}
@@ -93,3 +94,9 @@ returns-clause-below c = (
       c.read_reply.ensures.kept c.in-Ok.ensures.within,
   c.in-Ok-read_reply.ensures.within,
 )
+
+pub returns-in-Err-read_reply-clause-kept : goal.returns-in-Err-read_reply-clause-kept
+returns-in-Err-read_reply-clause-kept c = grind (arith, common_steps)
+
+pub returns-clause-kept : goal.returns-clause-kept
+returns-clause-kept c = grind (arith, common_steps)

@@ -1,4 +1,5 @@
-use Rattle.std.proofs.Common.{◌∙◌, List, length, sym, ap, subst}
+use Rattle.std.proofs.Common.{◌∙◌, List, length, sym, ap, subst, arith}
+use Rattle.std.proofs.lemmas.Grind.{common_steps}
 use Rattle.redo_model.specs.Step.{effect_of}
 use Rattle.redo_records.specs.Rows.{by_number}
 use Rattle.redo_graph.specs.declared.step.Step.TheVariants as steps
@@ -52,3 +53,6 @@ returns-in-Done-clause-effect c =
     (subst (IsReady c.args.graph.now.tables (length c.args.cells.now))
     c.in-Done.is c.requires.ready)
     c.args.rows.now c.args.s c.in-Done.stamp))
+
+pub returns-in-Always-clause-effect : goal.returns-in-Always-clause-effect
+returns-in-Always-clause-effect c = grind (arith, common_steps)

@@ -1,4 +1,5 @@
 use Rattle.std.proofs.Common.{◌≡◌, ◌↔◌, ◌∙◌, ◌<◌, ◌++◌, ◌∷◌, [], ℕ, List, IsTrue, cond, get_or, length, sym, ap, subst, arith}
+use Rattle.std.proofs.lemmas.Grind.{common_steps}
 use Rattle.std.specs.List.{Contains}
 use Rattle.redo_model.proofs.Listing.{at_take_all}
 use Rattle.redo_order.proofs.Ranked.{PlacesOf, places_none, places_more, pushed_due}
@@ -77,3 +78,6 @@ returns c =
     at_take_all (λ ns. PlacesOf g.sorted (IsStaleIn c.args.cells.now c.args.out.now.marks) ns
     (Contains c.loop-place.ranks.items)) (names_on pairs places) c.loop-place.place-index
     (omega (arith, c.loop-place-test.false, length-names_on pairs places)) c.loop-place.invariant
+
+pub returns-in_err-push_if : goal.returns-in_err-push_if
+returns-in_err-push_if c = grind (arith, common_steps)

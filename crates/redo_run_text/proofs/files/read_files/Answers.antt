@@ -1,4 +1,5 @@
 use Rattle.std.proofs.Common.{◌∙◌, arith}
+use Rattle.std.proofs.lemmas.Grind.{common_steps}
 use Rattle.std.proofs.lemmas.Result.{err_from_is_err_and}
 use Rattle.std.proofs.Math.Seq.{map-set_same}
 use Rattle.redo_whole.specs.Watched.{failures_of, inner_of}
@@ -58,3 +59,15 @@ loop-at-preserved g c =
           (c.in_ok-script.ensures.others (λ none. none))
           ∙ c.loop-at.invariant.counts;
     }
+
+pub offset_bounds-files-at : goal.offset_bounds-files-at
+offset_bounds-files-at g c = grind (arith, common_steps)
+
+pub returns-in_err-script-clause-below : goal.returns-in_err-script-clause-below
+returns-in_err-script-clause-below g c = grind (arith, common_steps)
+
+pub returns-in_err-push-clause-some : goal.returns-in_err-push-clause-some
+returns-in_err-push-clause-some g c = grind (arith, common_steps)
+
+pub returns-clause-accepted : goal.returns-clause-accepted
+returns-clause-accepted g c = grind (arith, common_steps)

@@ -1,4 +1,5 @@
 use Rattle.std.proofs.Common.{◌<◌, ◌+◌, ◌++◌, ◌∙◌, List, ap, sym, append_assoc, append-nil, drop, map, length, arith}
+use Rattle.std.proofs.lemmas.Grind.{common_steps}
 use Rattle.std.specs.List.{flat_map}
 use Rattle.std.proofs.Math.ListN.{drop_of_length-le}
 use Rattle.std.proofs.lemmas.List.{length-map}
@@ -40,3 +41,6 @@ returns c =
     (λ (xs : List (model.Item Text)). c.loop-at.text.items ++ flat_map ended (skipped_lines_of xs))
     (sym past)
     ∙ c.loop-at.invariant
+
+pub put_skipped-requires : goal.put_skipped-requires
+put_skipped-requires c = grind (arith, common_steps)

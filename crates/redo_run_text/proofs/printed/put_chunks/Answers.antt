@@ -1,4 +1,5 @@
 use Rattle.std.proofs.Common.{◌≡◌, ◌+◌, ◌*◌, ◌<◌, ◌≤◌, ◌++◌, ◌∙◌, List, IfOk, ap, sym, subst, append_assoc, drop, take, get_or, length, map, arith, rules}
+use Rattle.std.proofs.lemmas.Grind.{common_steps}
 use Rattle.std.specs.List.{flat_map}
 use Rattle.std.proofs.lemmas.List.{length-take}
 use Rattle.redo_model.specs.Names.{Text}
@@ -68,3 +69,12 @@ loop-chunk-preserved c =
           (map (line_at p.names) (drop (from + n) lines)) c.put_parts.new.parts.items)
           (ap length c.deref-in-loop-chunk-2.ensures.value ∙ sym all) c.in_ok-put_parts.ensures;
     }
+
+pub put_parts-requires-clause-within : goal.put_parts-requires-clause-within
+put_parts-requires-clause-within c = grind (arith, common_steps)
+
+pub returns-in_err-put_parts-clause-parts : goal.returns-in_err-put_parts-clause-parts
+returns-in_err-put_parts-clause-parts c = grind (arith, common_steps)
+
+pub returns-clause-parts : goal.returns-clause-parts
+returns-clause-parts c = grind (arith, common_steps)

@@ -1,4 +1,5 @@
-use Rattle.std.proofs.Common.{◌≡◌, ◌<◌, List, sym, subst, length, get_or}
+use Rattle.std.proofs.Common.{◌≡◌, ◌<◌, List, sym, subst, length, get_or, arith}
+use Rattle.std.proofs.lemmas.Grind.{common_steps}
 use Rattle.redo_model.specs.Names.{Text}
 use Rattle.redo_terms.specs.Meaning.{line_at}
 use Rattle.redo_run_text.specs.Inside.Lines.{IsAnswerAt}
@@ -15,3 +16,7 @@ put_parts-requires-clause-spans g c n line span less line_is span_is =
     (c.in_ok-spans.ensures.spans n line span
     (subst (λ (xs : List Span). n < length xs) spans less) line_is
     (subst (λ (xs : List Span). span ≡ get_or xs n span) spans span_is)))
+
+pub returns-then-lines-le-MOST_ALONE-clause-parts :
+    goal.returns-then-lines-le-MOST_ALONE-clause-parts
+returns-then-lines-le-MOST_ALONE-clause-parts g c = grind (arith, common_steps)

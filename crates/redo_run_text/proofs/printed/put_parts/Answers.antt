@@ -1,4 +1,5 @@
 use Rattle.std.proofs.Common.{◌≡◌, ◌+◌, ◌∷◌, ◌∙◌, List, ap, sym, subst, drop, map, arith}
+use Rattle.std.proofs.lemmas.Grind.{common_steps}
 use Rattle.std.proofs.lemmas.List.{drop_more}
 use Rattle.redo_model.specs.Names.{Text}
 use Rattle.redo_model.specs.History as histories
@@ -40,3 +41,12 @@ loop-at-preserved c =
     (c.in_ok-put_own.ensures all later
     (subst (λ (ls : List (histories.Line Text)). ArePrinted (scripts_named p) all ls
     c.loop-at.parts.items) first c.loop-at.invariant))
+
+pub put_own-requires-clause-line : goal.put_own-requires-clause-line
+put_own-requires-clause-line c = grind (arith, common_steps)
+
+pub put_own-requires-clause-count : goal.put_own-requires-clause-count
+put_own-requires-clause-count c = grind (arith, common_steps)
+
+pub put_own-requires-clause-few : goal.put_own-requires-clause-few
+put_own-requires-clause-few c = grind (arith, common_steps)

@@ -1,4 +1,5 @@
 use Rattle.std.proofs.Common.{◌≡◌, ◌<◌, ◌++◌, ◌∙◌, true, List, [], ap, sym, subst, length, map, get_or, arith}
+use Rattle.std.proofs.lemmas.Grind.{common_steps}
 use Rattle.std.proofs.lemmas.List.{length-map}
 use Rattle.redo_names.specs.Names.{text_at}
 use Rattle.redo_model.specs.Renaming.{named_item}
@@ -44,3 +45,24 @@ loop-session-preserved g c =
     ∙ (λ k. c.loop-session.invariant k ++ session_text_of s (script k)
     (part_of s (map (line_at p.names) (c.deref.ensures.value k))))
     ∙ run_more (scripts_named p) s lines
+
+pub loop-session-init : goal.loop-session-init
+loop-session-init g c = grind (arith, common_steps)
+
+pub items_of-items-requires : goal.items_of-items-requires
+items_of-items-requires g c = grind (arith, common_steps)
+
+pub index-requires : goal.index-requires
+index-requires g c = grind (arith, common_steps)
+
+pub overflow_cast-session : goal.overflow_cast-session
+overflow_cast-session g c = grind (arith, common_steps)
+
+pub put_all-requires-clause-few : goal.put_all-requires-clause-few
+put_all-requires-clause-few g c = grind (arith, common_steps)
+
+pub returns-in_err-put_all : goal.returns-in_err-put_all
+returns-in_err-put_all g c = grind (arith, common_steps)
+
+pub returns : goal.returns
+returns g c = grind (arith, common_steps)

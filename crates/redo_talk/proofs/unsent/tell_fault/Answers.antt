@@ -28,3 +28,9 @@ returns-clause-err g c =
           written;
       log_first = inl refl;
     })
+
+pub returns-in_err-send-clause-err : goal.returns-in_err-send-clause-err
+returns-in_err-send-clause-err g c = grind (arith, common_steps)
+
+pub returns-clause-told : goal.returns-clause-told
+returns-clause-told g c = grind (arith, common_steps)

@@ -1,4 +1,5 @@
 use Rattle.std.proofs.Common.{◌≡◌, ℕ, ◌+◌, ◌<◌, ◌≤◌, List, [], ◌∷◌, ◌++◌, map, length, get_or, take, true, refl, sym, subst, ◌∙◌, arith, Vec}
+use Rattle.std.proofs.lemmas.Grind.{common_steps}
 use Rattle.std.specs.Global.{Global}
 use Rattle.std.proofs.lemmas.List.{map_push, take_more}
 use Rattle.std.proofs.lemmas.Result.{err_from_is_err_and}
@@ -84,3 +85,9 @@ returns-clause-reads c =
     let le : length (texts_of words) ≤ c.loop-word.word-index = omega (arith, length-texts words) in
     rest_done c.args.names.now c.loop-word.names
     (texts_of words) c.loop-word.word-index le c.loop-word.invariant.few c.loop-word.invariant.rest
+
+pub returns-in_err-push-clause-kept : goal.returns-in_err-push-clause-kept
+returns-in_err-push-clause-kept c = grind (arith, common_steps)
+
+pub returns-clause-numbers : goal.returns-clause-numbers
+returns-clause-numbers c = grind (arith, common_steps)

@@ -1,4 +1,5 @@
-use Rattle.std.proofs.Common.{◌≡◌, ◌∙◌, ℕ, map, Vec}
+use Rattle.std.proofs.Common.{◌≡◌, ◌∙◌, ℕ, map, Vec, arith}
+use Rattle.std.proofs.lemmas.Grind.{common_steps}
 use Rattle.std.specs.Global.{Global}
 use Rattle.std.proofs.lemmas.Result.{err_from_is_err_and}
 use Rattle.redo_names.specs.Names.{text_at}
@@ -57,3 +58,6 @@ returns-in_err-numbers-clause-left c =
     (some_left c.args.names.now c.number_of.new.names c.numbers_of.new.names
     (texts_of c.args.words.now) _ _ c.in_err-numbers.field-0.0 c.are_names.ensures.few
     c.in_ok-target.ensures.reads c.in_ok-number.ensures.reads c.in_err-numbers.ensures.left)
+
+pub returns-clause-within : goal.returns-clause-within
+returns-clause-within c = grind (arith, common_steps)

@@ -29,3 +29,6 @@ returns-in_err-extend_from_slice-clause-memory g c =
           c.loop-n.invariant.so_far
           c.in-Some.ensures.given,
     )
+
+pub loop-n-preserved : goal.loop-n-preserved
+loop-n-preserved g c = grind (arith, common_steps)

@@ -1,4 +1,5 @@
-use Rattle.std.proofs.Common.{rules, ◌≡◌, ◌∙◌, refl, sym, subst, true≢false, false, is_some, List, Option, map, string_bytes}
+use Rattle.std.proofs.Common.{rules, ◌≡◌, ◌∙◌, refl, sym, subst, true≢false, false, is_some, List, Option, map, string_bytes, arith}
+use Rattle.std.proofs.lemmas.Grind.{common_steps}
 use Rattle.clap.specs.Words.{Row, Text, app_of}
 use Rattle.redo_words.specs.Words.{Asks, redodb}
 use Rattle.redo_words.proofs.Matched.{by_words, no_fault}
@@ -25,3 +26,6 @@ returns-in-Ok-None-clause-only c job asks faultless =
     let asked = subst (λ (found : Option (Text × List Row)). Asks found job) (sym found.1) asks in
     let none : is_some c.in-Ok-None.field-0 ≡ false = search rules in
     absurd (true≢false (sym (c.in-Ok-None.ensures.only job asked) ∙ none))
+
+pub returns-then-is_empty-clause-sound : goal.returns-then-is_empty-clause-sound
+returns-then-is_empty-clause-sound c = grind (arith, common_steps)

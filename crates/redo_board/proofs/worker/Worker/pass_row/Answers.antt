@@ -1,4 +1,5 @@
 use Rattle.std.proofs.Common.{◌≡◌, ℕ, ◌+◌, ◌∷◌, [], ◌++◌, length, Some, refl, sym, ap, ◌∙◌, subst, arith}
+use Rattle.std.proofs.lemmas.Grind.{common_steps}
 use Rattle.std.proofs.lemmas.List.{length_push}
 use Rattle.redo_model.specs.Journals.{Numbered}
 use Rattle.redo_terms.specs.Meaning.{command_of}
@@ -128,3 +129,6 @@ returns-clause-waits g c =
 
 pub returns-clause-tries : goal.returns-clause-tries
 returns-clause-tries g c = λ filled. refl
+
+pub returns-then-word-eq0-clause-works : goal.returns-then-word-eq0-clause-works
+returns-then-word-eq0-clause-works g c = grind (arith, common_steps)

@@ -33,3 +33,12 @@ rows-preserved g c = grind (arith, common_steps)
 
 pub returns-then-try_row-clause-ok : goal.returns-then-try_row-clause-ok
 returns-then-try_row-clause-ok g c = grind (arith, common_steps)
+
+pub returns-in_err-list-clause-works : goal.returns-in_err-list-clause-works
+returns-in_err-list-clause-works g c = grind (arith, common_steps)
+
+pub try_row-requires-clause-belongs : goal.try_row-requires-clause-belongs
+try_row-requires-clause-belongs g c = grind (arith, common_steps)
+
+pub rows-smaller : goal.rows-smaller
+rows-smaller g c = grind (arith, common_steps)

@@ -188,3 +188,9 @@ returns-clause-obeyed c =
 
 pub returns-clause-fits : goal.returns-clause-fits
 returns-clause-fits c = grind (arith, common_steps)
+
+pub change-requires-clause-answers : goal.change-requires-clause-answers
+change-requires-clause-answers c = grind (arith, common_steps)
+
+pub returns-clause-names : goal.returns-clause-names
+returns-clause-names c = grind (arith, common_steps)

@@ -1,4 +1,5 @@
 use Rattle.std.proofs.Common.{◌-◌, List, [], ◌∷◌, ◌++◌, length, length-append, refl, sym, subst, inr, arith}
+use Rattle.std.proofs.lemmas.Grind.{common_steps}
 use Rattle.std.proofs.lemmas.Result.{err_from_is_err_and}
 use Rattle.std.specs.Prelude.{Contains}
 use Rattle.redo_model.specs.Names.{Text}
@@ -107,3 +108,9 @@ returns-clause-same c done torn log_of =
       lines = c.lines.count;
       bytes = length c.args.log.now - length left;
     })) (sym same) (restored_to c.args.log.now left lines live c.lines.count is counted)
+
+pub overflow_sub-result : goal.overflow_sub-result
+overflow_sub-result c = grind (arith, common_steps)
+
+pub lines-smaller : goal.lines-smaller
+lines-smaller c = grind (arith, common_steps)

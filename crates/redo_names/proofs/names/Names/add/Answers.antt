@@ -92,3 +92,15 @@ returns-in_err-insert-clause-full c = grind (arith, common_steps)
 
 pub returns-in_err-put-clause-full : goal.returns-in_err-put-clause-full
 returns-in_err-put-clause-full c = grind (arith, common_steps)
+
+pub returns-in_err-name-clause-full : goal.returns-in_err-name-clause-full
+returns-in_err-name-clause-full c = grind (arith, common_steps)
+
+pub returns-in_err-resize-clause-full : goal.returns-in_err-resize-clause-full
+returns-in_err-resize-clause-full c = grind (arith, common_steps)
+
+pub put-requires : goal.put-requires
+put-requires c = grind (arith, common_steps)
+
+pub invariant_of-self-in_err-put : goal.invariant_of-self-in_err-put
+invariant_of-self-in_err-put c = grind (arith, common_steps)

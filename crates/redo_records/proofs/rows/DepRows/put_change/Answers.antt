@@ -1,4 +1,5 @@
-use Rattle.std.proofs.Common.{refl}
+use Rattle.std.proofs.Common.{refl, arith}
+use Rattle.std.proofs.lemmas.Grind.{common_steps}
 use Rattle.redo_model.specs.State.{mark_in}
 use Rattle.redo_records.specs.Inside.Kept.{has_change}
 use Rattle.redo_records.proofs.Changed.{change_written}
@@ -36,3 +37,6 @@ returns-clause-rows c =
     c.index_mut.result.now c.put_change-was.new.self
     (mark_in c.args.cell.now.state c.args.cell.now) c.self.view_is c.requires.target c.index_mut.ensures.value
     (record { rows = e.rows; room = e.room; always = e.always })
+
+pub returns-clause-room : goal.returns-clause-room
+returns-clause-room c = grind (arith, common_steps)

@@ -1,4 +1,5 @@
-use Rattle.std.proofs.Common.{refl}
+use Rattle.std.proofs.Common.{refl, arith}
+use Rattle.std.proofs.lemmas.Grind.{common_steps}
 use Rattle.redo_records.specs.Inside.Kept.{has_created}
 use Rattle.redo_records.proofs.Changed.{created_written}
 use Rattle.redo_records.proofs.Writing.{kept_created, knows_row}
@@ -34,3 +35,9 @@ returns-clause-rows c =
     created_written c.self.inside.targets.items c.args.self.now c.args.t c.args.n
     c.index_mut.result.now c.put_created-was.new.self c.self.view_is c.requires.target
     c.index_mut.ensures.value (record { rows = e.rows; room = e.room; always = e.always })
+
+pub put_created-was-requires : goal.put_created-was-requires
+put_created-was-requires c = grind (arith, common_steps)
+
+pub returns-clause-room : goal.returns-clause-room
+returns-clause-room c = grind (arith, common_steps)

@@ -1,4 +1,5 @@
 use Rattle.std.proofs.Common.{◌≡◌, ◌∙◌, ◌<◌, sym, ap, arith, length, set}
+use Rattle.std.proofs.lemmas.Grind.{common_steps}
 use Rattle.std.proofs.lemmas.List.{get_or_default}
 use Rattle.redo_records.specs.Rows.{TargetRows}
 use Rattle.redo_records.specs.Inside.Kept.{slots_on, sits_on}
@@ -100,3 +101,15 @@ returns-clause-rows c =
     c.index_mut-3.result.now c.add_slot.new.self c.self.view_is c.requires.target
     c.index_mut-3.ensures.value
     (record { rows = e.rows; room = c.in_ok-add_slot.ensures.made; always = e.always })
+
+pub add_slot-requires : goal.add_slot-requires
+add_slot-requires c = grind (arith, common_steps)
+
+pub returns-in_err-add_slot-clause-rows : goal.returns-in_err-add_slot-clause-rows
+returns-in_err-add_slot-clause-rows c = grind (arith, common_steps)
+
+pub returns-in_err-add_slot-clause-err : goal.returns-in_err-add_slot-clause-err
+returns-in_err-add_slot-clause-err c = grind (arith, common_steps)
+
+pub returns-clause-made : goal.returns-clause-made
+returns-clause-made c = grind (arith, common_steps)

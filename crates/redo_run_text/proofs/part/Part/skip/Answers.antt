@@ -1,4 +1,5 @@
 use Rattle.std.proofs.Common.{◌≡◌, ◌<◌, ◌||◌, false, not, map, length, refl, arith}
+use Rattle.std.proofs.lemmas.Grind.{common_steps}
 use Rattle.std.proofs.lemmas.List.{length-map}
 use Rattle.redo_terms.specs.Inside.Meaning.{item_at}
 use Rattle.redo_run_text.proofs.PartTexts.{from_item, skipped_printed}
@@ -23,3 +24,9 @@ loop-at-preserved c =
           (item_at names item) (from_item names items at item less c.index-items-at.is)
           (omega arith) refl refl c.in_ok-put_skipped.ensures refl stopped;
     }
+
+pub returns-then-self-clause-done : goal.returns-then-self-clause-done
+returns-then-self-clause-done c = grind (arith, common_steps)
+
+pub put_skipped-requires : goal.put_skipped-requires
+put_skipped-requires c = grind (arith, common_steps)

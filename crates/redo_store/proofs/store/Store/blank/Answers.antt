@@ -1,4 +1,5 @@
 use Rattle.std.proofs.Common.{◌≡◌, ◌∙◌, ap, length, sym, subst, arith}
+use Rattle.std.proofs.lemmas.Grind.{common_steps}
 use Rattle.std.proofs.Math.ListN.{length-replicate}
 use Rattle.redo_model.specs.State.{idle}
 use Rattle.redo_marks.specs.Memo.{IsRight}
@@ -37,3 +38,6 @@ returns-clause-empty c =
 pub returns-clause-order : goal.returns-clause-order
 returns-clause-order c =
     ordered_by_number c.args.numbers c.in_ok-sorted.sorted.items c.in_ok-sorted.ensures
+
+pub returns-clause-count : goal.returns-clause-count
+returns-clause-count c = grind (arith, common_steps)

@@ -1,4 +1,5 @@
 use Rattle.std.proofs.Common.{◌≡◌, ◌<◌, ◌^◌, ◌∙◌, ℕ, List, ap, length, sym, subst, arith}
+use Rattle.std.proofs.lemmas.Grind.{common_steps}
 use Rattle.std.proofs.Math.ListN.{replicate, length-replicate}
 use Rattle.redo_model.specs.Renaming.{AllBelow}
 use Rattle.redo_model.specs.State.{idle}
@@ -51,3 +52,6 @@ returns-clause-empty c =
 
 pub returns-clause-order : goal.returns-clause-order
 returns-clause-order c = orders_alike c.in_ok-sorted.ensures
+
+pub returns-clause-count : goal.returns-clause-count
+returns-clause-count c = grind (arith, common_steps)

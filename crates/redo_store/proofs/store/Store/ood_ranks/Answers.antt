@@ -1,4 +1,5 @@
 use Rattle.std.proofs.Common.{◌↔◌, ◌∙◌, ◌++◌, ◌∷◌, [], cond, IsTrue, get_or, sym, subst, arith}
+use Rattle.std.proofs.lemmas.Grind.{common_steps}
 use Rattle.std.specs.List.{Contains}
 use Rattle.redo_model.specs.OutOfDate.{HasFile, OutOfDate}
 use Rattle.redo_model.proofs.Listing.{at_take_all}
@@ -44,3 +45,9 @@ returns c =
     c.deref-n-items.ensures.value all in
     same_places (λ n. Contains c.in_ok-out.out.items n × HasOne n) (λ n. HasOne n × IsOut n)
     (λ n. (λ p. (p.1, (out n).0 p.0), λ q. ((out n).1 q.1, q.0))) here
+
+pub rank-rank-requires : goal.rank-rank-requires
+rank-rank-requires c = grind (arith, common_steps)
+
+pub has_file-is_due-requires : goal.has_file-is_due-requires
+has_file-is_due-requires c = grind (arith, common_steps)

@@ -1,4 +1,5 @@
 use Rattle.std.proofs.Common.{◌++◌, ◌∷◌, [], cond, arith}
+use Rattle.std.proofs.lemmas.Grind.{common_steps}
 use Rattle.std.specs.List.{Contains}
 use Rattle.redo_model.specs.OutOfDate.{IsStale}
 use Rattle.redo_store.specs.Stored.{records_of}
@@ -34,3 +35,9 @@ returns c =
     at_take_all
     (λ ns. PlacesOf t.sorted (IsStale (records_of t)) ns (Contains c.loop-n.ranks.items))
     c.args.names.now c.loop-n.n-index c.loop-n-test.false c.loop-n.invariant
+
+pub rank-rank-requires : goal.rank-rank-requires
+rank-rank-requires c = grind (arith, common_steps)
+
+pub is_stale-is_due-requires : goal.is_stale-is_due-requires
+is_stale-is_due-requires c = grind (arith, common_steps)
