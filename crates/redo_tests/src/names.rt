@@ -46,18 +46,16 @@ fn check_followers(rt: &impl Abort, names: &mut Names, turn: Turn) {
 }
 
 /// Names are numbered in the order in which they come, and sorted by their bytes.
-#[test]
-fn numbers(rt: HostRuntime) -> Result<(), NamesFault> {
-    let mut names = Names::new(rt.alloc());
+fn check_numbers(rt: &impl Abort, names: &mut Names) -> Result<(), NamesFault> {
     for (text, want) in [("b", 0), ("a", 1), ("b", 0), ("a.c", 2), ("B", 3), ("a", 1)] {
-        assert!(rt; add(&rt, &mut names, text)? == want);
+        assert!(rt; add(rt, names, text)? == want);
     }
-    check_third(&rt, &names, b"a.c");
-    check_remembered(&rt, &mut names, b"a.c", Some(2));
-    check_remembered(&rt, &mut names, b"c", None);
-    check_followers(&rt, &mut names, Turn::First);
-    assert!(&rt; names.follower(3, Turn::Next).is_none());
-    check_followers(&rt, &mut names, Turn::Next);
+    check_third(rt, names, b"a.c");
+    check_remembered(rt, names, b"a.c", Some(2));
+    check_remembered(rt, names, b"c", None);
+    check_followers(rt, names, Turn::First);
+    assert!(rt; names.follower(3, Turn::Next).is_none());
+    check_followers(rt, names, Turn::Next);
     for (first, second, want) in [
         (0, 1, Ordering::Greater),
         (1, 2, Ordering::Less),
@@ -65,9 +63,15 @@ fn numbers(rt: HostRuntime) -> Result<(), NamesFault> {
         (2, 0, Ordering::Less),
         (2, 2, Ordering::Equal),
     ] {
-        check_order(&rt, &names, first, second, want);
+        check_order(rt, names, first, second, want);
     }
     Ok(())
+}
+
+#[test]
+fn numbers(rt: HostRuntime) -> Result<(), NamesFault> {
+    let mut names = Names::new(rt.alloc());
+    check_numbers(&rt, &mut names)
 }
 
 /// Adds the name of this number.
@@ -81,18 +85,21 @@ fn add_number(
 }
 
 /// There are at most 65,536 names. One more is a fault, and the others keep their numbers.
-#[test]
-fn full_names(rt: HostRuntime) -> Result<(), NamesFault> {
-    let alloc = rt.alloc();
-    let mut names = Names::new(alloc);
+fn check_full(rt: &impl Abort, alloc: Global, names: &mut Names) -> Result<(), NamesFault> {
     for number in 0..65536 {
-        assert!(rt; add_number(&rt, alloc, &mut names, number)? == number);
+        assert!(rt; add_number(rt, alloc, names, number)? == number);
     }
-    let one_more = add_number(&rt, alloc, &mut names, 65536);
+    let one_more = add_number(rt, alloc, names, 65536);
     assert!(rt; matches!(one_more, Err(NamesFault::Full)));
     for number in [0, 4096, 65535] {
-        assert!(rt; add_number(&rt, alloc, &mut names, number)? == number);
+        assert!(rt; add_number(rt, alloc, names, number)? == number);
     }
     assert!(rt; names.len() == 65536);
     Ok(())
+}
+
+#[test]
+fn full_names(rt: HostRuntime) -> Result<(), NamesFault> {
+    let mut names = Names::new(rt.alloc());
+    check_full(&rt, rt.alloc(), &mut names)
 }

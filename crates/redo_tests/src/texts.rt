@@ -3,27 +3,32 @@ use redo_names::Names;
 use redo_terms::{Command, Reply};
 use redo_text::{LineFault, ReadFault, command_text, fault_word, read_command, reply_text};
 use std::alloc::{AllocError, Global};
+use std::process::Abort;
 use std::test::Fail;
 
-#[test]
-fn text_of_a_command(rt: HostRuntime) -> Result<(), Fail> {
-    let alloc = rt.alloc();
-    let mut names = Names::new(alloc);
-    let command = read_command(alloc, b"ifchange d b a.o b d", &mut names)?;
-    let text = command_text(alloc, &command, &names)?;
+fn check_command(rt: &impl Abort, alloc: Global, names: &mut Names) -> Result<(), Fail> {
+    let command = read_command(alloc, b"ifchange d b a.o b d", names)?;
+    let text = command_text(alloc, &command, names)?;
     assert!(rt; text.as_slice() == b"ifchange d b a.o b d".as_slice());
     Ok(())
 }
 
 #[test]
-fn text_of_a_reply(rt: HostRuntime) -> Result<(), AllocError> {
-    let text = reply_text(
-        rt.alloc(),
-        &Reply::Busy(4294967295),
-        &Names::new(rt.alloc()),
-    )?;
+fn text_of_a_command(rt: HostRuntime) -> Result<(), Fail> {
+    let mut names = Names::new(rt.alloc());
+    check_command(&rt, rt.alloc(), &mut names)
+}
+
+fn check_reply(rt: &impl Abort, alloc: Global, names: &Names) -> Result<(), AllocError> {
+    let text = reply_text(alloc, &Reply::Busy(4294967295), names)?;
     assert!(rt; text.as_slice() == b"busy 4294967295".as_slice());
     Ok(())
+}
+
+#[test]
+fn text_of_a_reply(rt: HostRuntime) -> Result<(), AllocError> {
+    let names = Names::new(rt.alloc());
+    check_reply(&rt, rt.alloc(), &names)
 }
 
 #[test]
@@ -39,11 +44,8 @@ fn has_fault(alloc: Global, names: &mut Names, text: &str, want: LineFault) -> b
 }
 
 /// No line is skipped, and no name of these faulty lines stays.
-#[test]
-fn single_lines(rt: HostRuntime) -> Result<(), Fail> {
-    let alloc = rt.alloc();
-    let mut names = Names::new(alloc);
-    let command = read_command(alloc, b"lock a", &mut names)?;
+fn check_lines(rt: &impl Abort, alloc: Global, names: &mut Names) -> Result<(), Fail> {
+    let command = read_command(alloc, b"lock a", names)?;
     assert!(rt; matches!(command, Command::Lock(0)));
     for (text, want) in [
         ("", LineFault::UnknownCommand),
@@ -53,8 +55,14 @@ fn single_lines(rt: HostRuntime) -> Result<(), Fail> {
         ("lock -", LineFault::BadName),
         ("file b -", LineFault::BadStamp),
     ] {
-        assert!(rt; has_fault(alloc, &mut names, text, want), "{text:?}");
+        assert!(rt; has_fault(alloc, names, text, want), "{text:?}");
     }
     assert!(rt; names.len() == 1);
     Ok(())
+}
+
+#[test]
+fn single_lines(rt: HostRuntime) -> Result<(), Fail> {
+    let mut names = Names::new(rt.alloc());
+    check_lines(&rt, rt.alloc(), &mut names)
 }

@@ -106,6 +106,16 @@ fn check_database(
     database.check_lines(rt, alloc, names, lines)
 }
 
+fn check_texts(
+    rt: &impl Abort,
+    alloc: Global,
+    texts: [&str; 2],
+    lines: &[Line],
+) -> Result<(), Fail> {
+    let mut names = names_of(rt, alloc, texts)?;
+    check_database(rt, alloc, &mut names, lines)
+}
+
 #[test]
 fn databases(rt: HostRuntime) -> Result<(), Fail> {
     for (texts, lines) in [
@@ -113,8 +123,7 @@ fn databases(rt: HostRuntime) -> Result<(), Fail> {
         (["a", "b"], RING),
         (["T", "y"], APPEARANCE),
     ] {
-        let mut names = names_of(&rt, rt.alloc(), texts)?;
-        check_database(&rt, rt.alloc(), &mut names, lines)?;
+        check_texts(&rt, rt.alloc(), texts, lines)?;
     }
     Ok(())
 }

@@ -154,9 +154,9 @@ fn check_replay(rt: &impl Abort, alloc: Global, text: &str, want: &str) -> Resul
 /// A replay of the text.
 fn replayed(alloc: Global, text: &str, writer: &mut FaultyWriter) -> Result<(), Fault> {
     let mut input = Watched::new(text.as_bytes());
-    match replay_text(alloc, &mut input, &mut Watched::new(writer)) {
-        Ok(_) => Ok(()),
-        Err(fault) => Err(fault),
+    match replay_text(alloc, &mut input, &mut Watched::new(writer)).err() {
+        None => Ok(()),
+        Some(fault) => Err(fault),
     }
 }
 

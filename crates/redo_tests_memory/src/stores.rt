@@ -163,12 +163,22 @@ fn check_store(
     stored.check_lines(rt, alloc, names, lines, is_reserved)
 }
 
+fn check_stored(
+    rt: &impl Abort,
+    alloc: Global,
+    texts: [&str; 2],
+    lines: &[Line],
+    is_reserved: bool,
+) -> Result<(), Fail> {
+    let mut names = names_of(rt, alloc, texts)?;
+    check_store(rt, alloc, &mut names, lines, is_reserved)
+}
+
 #[test]
 fn stores(rt: HostRuntime) -> Result<(), Fail> {
     for (texts, lines) in [(["a", "b"], RING), (["T", "y"], APPEARANCE)] {
         for is_reserved in [false, true] {
-            let mut names = names_of(&rt, rt.alloc(), texts)?;
-            check_store(&rt, rt.alloc(), &mut names, lines, is_reserved)?;
+            check_stored(&rt, rt.alloc(), texts, lines, is_reserved)?;
         }
     }
     Ok(())

@@ -67,6 +67,21 @@ fn draw(
     Ok(())
 }
 
+/// Draws the commands of this seed, and compares both.
+fn draw_all(
+    rt: &impl Abort,
+    alloc: Global,
+    compared: &mut Compared,
+    seed: u32,
+    tally: &mut Tally,
+) -> Result<(), AllocError> {
+    let mut drawn = Commands::new(u64::from(seed));
+    for _ in 0..COMMANDS {
+        draw(rt, alloc, compared, &mut drawn, 1 + seed % NAMES, tally)?;
+    }
+    Ok(())
+}
+
 /// The commands of one list.
 fn compare(
     rt: &impl Abort,
@@ -78,18 +93,7 @@ fn compare(
     requires { length names.now ≡ NAMES }
 {
     let mut compared = Compared::new(alloc, names)?;
-    let mut drawn = Commands::new(u64::from(seed));
-    for _ in 0..COMMANDS {
-        draw(
-            rt,
-            alloc,
-            &mut compared,
-            &mut drawn,
-            1 + seed % NAMES,
-            tally,
-        )?;
-    }
-    Ok(())
+    draw_all(rt, alloc, &mut compared, seed, tally)
 }
 
 /// Each of these kinds often had this sort of reply.

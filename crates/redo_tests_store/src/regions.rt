@@ -98,8 +98,29 @@ impl Graph {
         Ok(ood)
     }
 
-    /// No target is out of date. A change of the name's file makes these out of date, and its
-    /// region has this many names.
+    /// No target is out of date by the memo. A change of the name's file makes these out of date,
+    /// and its region has this many names.
+    fn check_file(
+        &mut self,
+        rt: &impl Abort,
+        alloc: Global,
+        ood: &mut Ood,
+        n: u32,
+        region: u32,
+        out: &[u32],
+    ) -> Result<(), AllocError>
+        requires number { n < NAMES }
+        requires count { memo_count ood.old ≡ NAMES }
+        requires right { IsRight ood.old (with_rows self.old.records self.old.rows) }
+    {
+        assert!(rt; is_list(alloc, ood, &[])?);
+        self.records.set_file(n, FileStamp::new(b"2"));
+        assert!(rt; ood.refresh(&self.records, &self.rows, &[n]) == region);
+        assert!(rt; is_list(alloc, ood, out)?);
+        Ok(())
+    }
+
+    /// The same with the memo for these records and rows.
     fn change_file(
         &mut self,
         rt: &impl Abort,
@@ -111,15 +132,34 @@ impl Graph {
         requires { n < NAMES }
     {
         let mut ood = self.memo(alloc)?;
-        assert!(rt; is_list(alloc, &ood, &[])?);
-        self.records.set_file(n, FileStamp::new(b"2"));
-        assert!(rt; ood.refresh(&self.records, &self.rows, &[n]) == region);
-        assert!(rt; is_list(alloc, &ood, out)?);
+        self.check_file(rt, alloc, &mut ood, n, region, out)
+    }
+
+    /// No target is out of date by the memo. A start of the target makes these out of date, and its
+    /// region has this many names.
+    fn check_start(
+        &mut self,
+        rt: &impl Abort,
+        alloc: Global,
+        ood: &mut Ood,
+        t: u32,
+        region: u32,
+        out: &[u32],
+    ) -> Result<(), AllocError>
+        requires number { t < NAMES }
+        requires count { memo_count ood.old ≡ NAMES }
+        requires right { IsRight ood.old (with_rows self.old.records self.old.rows) }
+    {
+        assert!(rt; is_list(alloc, ood, &[])?);
+        assert!(rt; !self.is_building(t));
+        self.records.start(0, t);
+        self.rows.clear(t);
+        assert!(rt; ood.refresh(&self.records, &self.rows, &[t]) == region);
+        assert!(rt; is_list(alloc, ood, out)?);
         Ok(())
     }
 
-    /// No target is out of date. A start of the target makes these out of date, and its region has
-    /// this many names.
+    /// The same with the memo for these records and rows.
     fn begin(
         &mut self,
         rt: &impl Abort,
@@ -131,13 +171,7 @@ impl Graph {
         requires { t < NAMES }
     {
         let mut ood = self.memo(alloc)?;
-        assert!(rt; is_list(alloc, &ood, &[])?);
-        assert!(rt; !self.is_building(t));
-        self.records.start(0, t);
-        self.rows.clear(t);
-        assert!(rt; ood.refresh(&self.records, &self.rows, &[t]) == region);
-        assert!(rt; is_list(alloc, &ood, out)?);
-        Ok(())
+        self.check_start(rt, alloc, &mut ood, t, region, out)
     }
 }
 

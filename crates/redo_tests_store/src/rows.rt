@@ -3,7 +3,7 @@ ghost use Rattle.std.specs.Prelude.{◌≡◌, ◌<◌, IfOk};
 ghost use Rattle.redo_model.specs.Renaming.{AllBelow};
 ghost use Rattle.redo_records.specs.Rows.{rows_count};
 
-use redo_records::{Cell, DepRows, Mark, Place};
+use redo_records::{Cell, DepRows, Mark, Place, Slot};
 use std::alloc::{AllocError, Global};
 use std::process::Abort;
 
@@ -85,6 +85,11 @@ fn are_there(places: &[Place], numbers: &[u32]) -> bool {
     rest.next().is_none()
 }
 
+/// Whether the slot is for this name, and has these rows.
+fn is_slot(slot: &Slot, name: u32, has_change: bool, created: bool) -> bool {
+    slot.name() == name && slot.has_change() == has_change && slot.created() == created
+}
+
 /// What is there before the rows of 0 are cleared.
 fn check_rows(rt: &impl Abort, rows: &DepRows)
     requires { rows_count rows.now ≡ NAMES }
@@ -95,8 +100,7 @@ fn check_rows(rt: &impl Abort, rows: &DepRows)
     assert!(rt; rows.change_of(0, 2).is_none());
     let slots = rows.slots_of(0);
     assert!(rt; slots.len() == 2);
-    assert!(rt; slots[0].name() == 1 && slots[0].has_change() && !slots[0].created());
-    assert!(rt; slots[1].name() == 2 && !slots[1].has_change() && slots[1].created());
+    assert!(rt; is_slot(&slots[0], 1, true, false) && is_slot(&slots[1], 2, false, true));
     assert!(rt; rows.created(0, 2) && !rows.created(0, 1));
     assert!(rt; rows.always(0) && !rows.always(3));
     assert!(rt; !rows.has_room(3, 2, 2));
@@ -113,8 +117,7 @@ fn check_rest(rt: &impl Abort, rows: &DepRows)
     assert!(rt; !rows.always(0));
     let slots = rows.slots_of(0);
     assert!(rt; slots.len() == 2);
-    assert!(rt; slots[0].name() == 1 && !slots[0].has_change() && !slots[0].created());
-    assert!(rt; slots[1].name() == 2 && !slots[1].has_change() && !slots[1].created());
+    assert!(rt; is_slot(&slots[0], 1, false, false) && is_slot(&slots[1], 2, false, false));
     assert!(rt; rows.has_room(0, 1, 1) && rows.has_room(0, 2, 2) && rows.has_room(3, 1, 1));
     assert!(rt; !rows.has_room(0, 0, 0) && !rows.has_room(0, 3, 3));
 }
