@@ -1,4 +1,4 @@
 pub mod Ascii
-pub mod Keys
 pub mod NameLists
+pub mod Numbered
 pub mod Pieces

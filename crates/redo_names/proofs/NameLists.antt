@@ -1,13 +1,13 @@
 -- Growing lists of names.
-use Rattle.std.proofs.Common.{◌≡◌, ℕ, zero, suc, ◌<◌, ◌≤◌, Bool, true, false, cond, ◌||◌, List, [], ◌∷◌, ◌++◌, length, take, Some, slice_get, refl, sym, ap, subst, ◌∙◌, arith, length-append, append-nil, append_assoc}
+use Rattle.std.proofs.Common.{◌≡◌, ℕ, zero, suc, ◌<◌, Bool, true, false, cond, ◌||◌, List, [], ◌∷◌, ◌++◌, length, take, Some, slice_get, refl, sym, ap, ◌∙◌, arith, length-append, append-nil, append_assoc}
 use Rattle.std.specs.Prelude.{bytes_eq}
 use Rattle.std.specs.List.{AllByRecursion, IsDistinct}
 use Rattle.std.proofs.lemmas.Cmp.{nat_list_eq_equiv}
-use Rattle.std.proofs.lemmas.List.{length-take, take-take, take_all}
+use Rattle.std.proofs.lemmas.List.{length-take}
 use Rattle.std.proofs.lemmas.Slice.Eq.{bytes_eq-Decides}
 use Rattle.std.proofs.lemmas.Map.Keys.{IsDistinct-push}
 use Rattle.redo_names.specs.Names.{is_name, has, with_name, AreAllNames}
-use Rattle.redo_names.specs.Inside.Names.{Extends, AreNames, AreCopied}
+use Rattle.redo_names.specs.Inside.Names.{Extends, AreNames}
 
 pub Extends-same : (names : List (List ℕ)) → Extends names names
 Extends-same names = record { more = []; is = sym (append-nil names) }
@@ -85,40 +85,4 @@ AreNames-take names n are = record {
   few = omega (arith, length-take n names, are.few);
   distinct = distinct-take n names are.distinct;
   each = each-take (λ text. is_name text ≡ true) n names are.each;
-}
-
--- names and their copies
-take_again : (n : ℕ) (texts : List (List ℕ)) → take (length (take n texts)) texts ≡ take n texts
-take_again zero texts = refl
-take_again (suc n) [] = refl
-take_again (suc n) (text ∷ texts) = ap (λ (ts : List (List ℕ)). text ∷ ts) (take_again n texts)
-
-few_taken : (n : ℕ) (texts : List (List ℕ)) → length (take n texts) ≤ length texts
-few_taken zero texts = omega arith
-few_taken (suc n) [] = omega arith
-few_taken (suc n) (text ∷ texts) = omega (arith, few_taken n texts)
-
-pub AreCopied-take : (names kept copies : List (List ℕ)) (n : ℕ) → AreCopied names copies
-    → kept ≡ take n names → AreCopied kept copies
-AreCopied-take names kept copies n h is = record {
-  are = subst AreNames (sym is) (AreNames-take names n h.are);
-  copied =
-      ap (λ (ts : List (List ℕ)). take (length ts) copies) is
-      ∙ sym (take-take (length (take n names)) (length names) copies (few_taken n names))
-      ∙ ap (take (length (take n names))) h.copied
-      ∙ take_again n names
-      ∙ sym is;
-}
-
--- one more name, and its copy
-pub AreCopied-more : (names more old new : List (List ℕ)) (text : List ℕ) (n : ℕ)
-    → AreCopied names old → n ≡ length names → new ≡ take n old ++ text ∷ []
-    → more ≡ names ++ text ∷ [] → AreNames more → AreCopied more new
-AreCopied-more names more old new text n h counted put is are = record {
-  are = are;
-  copied =
-      let all : new ≡ more = put
-      ∙ ap (λ (ts : List (List ℕ)). ts ++ text ∷ [])
-      (ap (λ (k : ℕ). take k old) counted ∙ h.copied) ∙ sym is in
-      ap (take (length more)) all ∙ take_all (length more) more (omega arith);
 }

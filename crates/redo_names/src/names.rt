@@ -1,15 +1,15 @@
-ghost use Rattle.std.specs.Prelude.{◌≡◌, ◌<◌, ◌≤◌, ◌↔◌, List, ℕ, [], map, length, take, string_bytes, is_some, IfSome, IfOk, OnOk, OnErr, IsOk, IsErrOf, slice_get, true, false};
+ghost use Rattle.std.specs.Prelude.{◌≡◌, ◌<◌, ◌≤◌, ◌↔◌, List, ℕ, [], length, take, is_some, IsSome, IfSome, IfOk, OnOk, OnErr, IsOk, IsErrOf, slice_get, true, false};
 ghost use Rattle.std.specs.Cmp.Lexicographic.{slice_cmp};
 ghost use Rattle.std.specs.Ordering.{nat_cmp};
 ghost use Rattle.redo_names.specs.declared.names.NamesFault.TheVariants.{Memory};
 ghost use Rattle.redo_names.specs.Names.{is_name, has, with_name, text_at};
-ghost use Rattle.redo_names.specs.Inside.Names.{Extends, AreNames, AreCopied};
+ghost use Rattle.redo_names.specs.Inside.Names.{Extends, AreNames, AreNumbered};
 
 use crate::name::ascii_text;
 use crate::texts::Texts;
-use indexmap::IndexSet;
 use std::alloc::{AllocError, AllocFailed, Global};
 use std::cmp::Ordering;
+use std::collections::HashMap;
 use std::marker::Model;
 use thiserror::Error;
 
@@ -71,9 +71,12 @@ const NO_FOLLOWERS: Followers = Followers {
 /// Distinct names, each with a number: its place in the order in which they were added.
 #[derive(Drop)]
 pub struct Names {
-    texts: IndexSet<String>,
-    // the same texts, side by side, in which names are read; there may be others behind them
-    copies: Texts,
+    // the number of each name
+    numbers: HashMap<String, u32>,
+    // the names, side by side, in which they are read; there may be other texts behind them
+    texts: Texts,
+    // how many names there are
+    count: u32,
     // the number that was added or remembered last: the next name is often the same
     latest: u32,
     // what came after each name
@@ -83,10 +86,20 @@ pub struct Names {
 impl Model for Names {
     ghost Value = { List (List ℕ) };
 
-    ghost view = { λ names. map (λ text. string_bytes text) names.texts.keys };
+    ghost view = { λ names. take names.count names.texts };
 
-    ghost invariant = { λ names.
-        AreCopied (map (λ text. string_bytes text) names.texts.keys) names.copies };
+    ghost invariant = { λ names. AreNumbered names.numbers names.count names.texts };
+}
+
+/// Takes the numbers of the names from `first` on out of the map.
+fn forget(numbers: &mut HashMap<String, u32>, texts: &Texts, first: u32, count: u32)
+    requires order { first ≤ count }
+    requires numbered { AreNumbered numbers.old count texts.now }
+    ensures { AreNumbered numbers.new first texts.now }
+{
+    for number in first..count {
+        numbers.remove(ascii_text(texts.get(number as usize)));
+    }
 }
 
 impl Names {
@@ -94,10 +107,10 @@ impl Names {
     pub fn new(alloc: Global) -> Self
         ensures { result ≡ [] }
     {
-        let texts = IndexSet::new(alloc);
         Names {
-            texts,
-            copies: Texts::new(alloc),
+            numbers: HashMap::new(alloc),
+            texts: Texts::new(alloc),
+            count: 0,
             latest: 0,
             followers: Vec::new(alloc),
         }
@@ -108,7 +121,7 @@ impl Names {
         ensures count { result ≡ length self.now }
         ensures names { AreNames self.now }
     {
-        self.texts.len() as u32
+        self.count
     }
 
     /// A law of names: they are distinct, each is a name, and there are at most 65,536.
@@ -177,7 +190,8 @@ impl Names {
 
     /// The number, if it is that of the text.
     fn if_at(&self, number: u32, text: &[u8]) -> Option<u32>
-        ensures { IfSome result (λ number. slice_get self.now number ≡ Some text.now) }
+        ensures found { IfSome result (λ found. slice_get self.now found ≡ Some text.now) }
+        ensures there { slice_get self.now number ≡ Some text.now → IsSome result }
     {
         if number < self.len() && self.text(number) == text {
             Some(number)
@@ -195,8 +209,8 @@ impl Names {
         if !text.is_ascii() {
             return None;
         }
-        match self.texts.get_full(ascii_text(text)) {
-            Some((number, _)) => Some(number as u32),
+        match self.numbers.get(ascii_text(text)) {
+            Some(number) => self.if_at(*number, text),
             None => None,
         }
     }
@@ -220,7 +234,7 @@ impl Names {
         requires { number < length self.now }
         ensures { result.now ≡ text_at self.now number }
     {
-        self.copies.get(number as usize)
+        self.texts.get(number as usize)
     }
 
     /// How two names compare, by their bytes.
@@ -253,17 +267,18 @@ impl Names {
             self.remember(number);
             return Ok(number);
         }
-        let number = self.texts.len();
-        if number == MOST_NAMES {
+        let number = self.count;
+        if number as usize == MOST_NAMES {
             return Err(NamesFault::Full);
         }
-        let alloc = *self.texts.allocator();
+        let alloc = *self.followers.allocator();
         let name = String::from_str(alloc, ascii_text(text))?;
-        self.followers.resize(number + 1, NO_FOLLOWERS)?;
-        self.copies.put(number, text)?;
-        self.texts.insert(name)?;
-        self.remember(number as u32);
-        Ok(number as u32)
+        self.followers.resize(number as usize + 1, NO_FOLLOWERS)?;
+        self.texts.put(number as usize, text)?;
+        self.numbers.insert(name, number)?;
+        self.count = number + 1;
+        self.remember(number);
+        Ok(number)
     }
 
     /// Forgets all names but the first `count`. Allocates nothing.
@@ -271,6 +286,7 @@ impl Names {
         requires { count ≤ length self.old }
         ensures { self.new ≡ take count self.old }
     {
-        self.texts.truncate(count as usize);
+        forget(&mut self.numbers, &self.texts, count, self.count);
+        self.count = count;
     }
 }
