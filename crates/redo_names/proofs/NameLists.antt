@@ -1,12 +1,12 @@
 -- Growing lists of names.
-use Rattle.std.proofs.Common.{◌≡◌, ℕ, zero, suc, ◌<◌, Bool, true, false, cond, ◌||◌, List, [], ◌∷◌, ◌++◌, length, take, Some, slice_get, refl, sym, ap, ◌∙◌, arith, length-append, append-nil, append_assoc}
+use Rattle.std.proofs.Common.{◌≡◌, ℕ, zero, suc, ◌<◌, Bool, true, false, ◌||◌, List, [], ◌∷◌, ◌++◌, length, take, Some, slice_get, refl, sym, ap, ◌∙◌, arith, length-append, append-nil, append_assoc}
 use Rattle.std.specs.Prelude.{bytes_eq}
 use Rattle.std.specs.List.{AllByRecursion, IsDistinct}
 use Rattle.std.proofs.lemmas.Cmp.{nat_list_eq_equiv}
 use Rattle.std.proofs.lemmas.List.{length-take}
 use Rattle.std.proofs.lemmas.Slice.Eq.{bytes_eq-Decides}
 use Rattle.std.proofs.lemmas.Map.Keys.{IsDistinct-push}
-use Rattle.redo_names.specs.Names.{is_name, has, with_name, AreAllNames}
+use Rattle.redo_names.specs.Names.{is_name, has, AreAllNames}
 use Rattle.redo_names.specs.Inside.Names.{Extends, AreNames}
 
 pub Extends-same : (names : List (List ℕ)) → Extends names names
@@ -19,16 +19,6 @@ Extends-then first second third a b = record {
   is = b.is ∙ ap (λ (names : List (List ℕ)). names ++ b.more) a.is
       ∙ append_assoc first a.more b.more;
 }
-
-pub with_name-new : (names : List (List ℕ)) (text : List ℕ) → has names text ≡ false
-    → with_name names text ≡ names ++ text ∷ []
-with_name-new names text new = ap (λ (there : Bool). cond there names (names ++ text ∷ [])) new
-
--- a new name's number is the count of those before it
-pub slice_get-last : (names : List (List ℕ)) (text : List ℕ)
-    → slice_get (names ++ text ∷ []) (length names) ≡ Some text
-slice_get-last [] text = refl
-slice_get-last (_ ∷ names) text = slice_get-last names text
 
 -- what has a number is among the names
 pub has-at : (names : List (List ℕ)) (text : List ℕ) (number : ℕ)

@@ -27,7 +27,8 @@ returns-in-Ok-clause-device g c = (
   λ no. absurd no,
   λ any. elim any [
     | inl failed ↦ none_failed (failures_of c.args.input.now)
-        (failures_of c.verdict_on_input.new.input) (c.in_ok-verdict.ensures.others (λ no. no)) failed
+        (failures_of c.verdict_on_input.new.input)
+        (c.in_ok-verdict.ensures.others (λ no. no)) failed
     | inr failed ↦ absurd (let wrong = c.in-Ok.ensures.write.1 failed in cc)
   ],
 )
@@ -38,4 +39,5 @@ returns-in-Err-Write-clause-cause g c =
 
 pub returns-in-Err-Write-clause-device : goal.returns-in-Err-Write-clause-device
 returns-in-Err-Write-clause-device g c =
-    (λ yes. inr (c.in-Err-Write.ensures.write.0 (ap Err (one_fault c.in-Err-Write.field-0))), λ any. tt)
+    let failed = c.in-Err-Write.ensures.write.0 (ap Err (one_fault c.in-Err-Write.field-0)) in
+    (λ yes. inr failed, λ any. tt)
