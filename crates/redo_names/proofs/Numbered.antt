@@ -1,21 +1,21 @@
 -- Names, and what a map has at each of them.
-use Rattle.std.proofs.Common.{◌≡◌, ◌≢◌, ℕ, zero, suc, ◌+◌, ◌<◌, ◌≤◌, Bool, true, false, cond, ◌||◌, List, [], ◌∷◌, ◌++◌, length, take, Option, Some, None, slice_get, refl, sym, ap, subst, ◌∙◌, ◌⊎◌, inl, inr, arith, slice_index_or, length-append}
-use Rattle.std.specs.Prelude.{String, bytes_eq, is_some, IfSome, IsSome}
+use Rattle.std.proofs.Common.{◌≡◌, ◌≢◌, ◌↔◌, ℕ, zero, suc, ◌+◌, ◌<◌, ◌≤◌, Bool, true, false, cond, ◌||◌, List, [], ◌∷◌, ◌++◌, length, take, Option, Some, None, slice_get, refl, sym, ap, subst, ◌∙◌, ◌⊎◌, inl, inr, arith, slice_index_or, length-append}
+use Rattle.std.specs.Prelude.{String, bytes_eq, string_bytes, is_some, IfSome}
 use Rattle.std.specs.Global.{Global}
-use Rattle.std.specs.HashMap.{HashMap, get_by_text}
+use Rattle.std.specs.HashMap.{HashMap, IsEmpty, get_by_text}
 use Rattle.std.specs.List.{AllByRecursion}
-use Rattle.std.specs.Map.{update}
-use Rattle.std.proofs.lemmas.List.{length-take, take_all}
+use Rattle.std.specs.Map.{lookup, update}
+use Rattle.std.proofs.lemmas.List.{length-take, take-take, take_all}
 use Rattle.std.proofs.lemmas.Option.{slice_get-get_or}
 use Rattle.std.proofs.lemmas.Slice.Eq.{bytes_eq-Decides}
 use Rattle.redo_names.specs.Names.{is_name, has}
 use Rattle.redo_names.specs.Inside.Names.{AreNames, AreNumbered}
-use Rattle.redo_names.proofs.NameLists.{AreNames-push, has-at}
+use Rattle.redo_names.proofs.NameLists.{AreNames-none, AreNames-push, AreNames-take, has-at}
 
--- each name has its number
+-- each name has its number, and no other text has one
 abbrev pub HaveNumbers : (List ℕ → Option ℕ) → List (List ℕ) → Type 0
 HaveNumbers at names =
-    (number : ℕ) (text : List ℕ) → slice_get names number ≡ Some text → at text ≡ Some number
+    (number : ℕ) (text : List ℕ) → slice_get names number ≡ Some text ↔ at text ≡ Some number
 
 pub length-taken : (n : ℕ) (texts : List (List ℕ)) → n ≤ length texts → length (take n texts) ≡ n
 length-taken n texts long = omega (arith, length-take n texts, long)
@@ -71,42 +71,28 @@ place (name ∷ names) text there = by (bytes_eq text name) refl there (place na
         let rest = later there in
         (suc rest.0, rest.1)
 
--- a text that the map doesn't have is no name
-pub has-none : (at : List ℕ → Option ℕ) (names : List (List ℕ)) (text : List ℕ)
-    → HaveNumbers at names → at text ≡ None → has names text ≡ false
-has-none at names text all none = by (has names text) refl
+-- the map has what is a name, and nothing else
+pub has-mapped : (at : List ℕ → Option ℕ) (names : List (List ℕ)) (text : List ℕ)
+    → HaveNumbers at names → is_some (at text) ≡ has names text
+has-mapped at names text all = by (at text) refl (has names text) refl
   where
-    by : (there : Bool) → has names text ≡ there → there ≡ false
-    by false there = refl
-    by true there =
-        let found = place names text there in
-        let some : at text ≡ Some found.0 = all found.0 text found.1 in
-        absurd cc
+    by : (found : Option ℕ) → at text ≡ found → (there : Bool) → has names text ≡ there
+        → is_some found ≡ has names text
+    by (Some number) is there said = sym (has-at names text number ((all number text).1 is))
+    by None is false said = sym said
+    by None is true said =
+        let at_place = place names text said in
+        absurd (let some = sym is ∙ (all at_place.0 text).0 at_place.1 in cc)
 
--- nor is one that isn't the name with the number that the map has
-has-other : (at : List ℕ → Option ℕ) (names : List (List ℕ)) (text : List ℕ) (number : ℕ)
-    → HaveNumbers at names → at text ≡ Some number → ¬ (slice_get names number ≡ Some text)
-    → has names text ≡ false
-has-other at names text number all is other = by (has names text) refl
+-- what the map has for a text is the number of that name
+pub found-mapped : (at : List ℕ → Option ℕ) (names : List (List ℕ)) (text : List ℕ)
+    → HaveNumbers at names → IfSome (at text) (λ number. slice_get names number ≡ Some text)
+found-mapped at names text all = by (at text) refl
   where
-    same : (k : ℕ) → Some number ≡ Some k → number ≡ k
-    same k e = cc
-
-    by : (there : Bool) → has names text ≡ there → there ≡ false
-    by false there = refl
-    by true there =
-        let found = place names text there in
-        let number_is : number ≡ found.0 = same found.0 (sym is ∙ all found.0 text found.1) in
-        absurd (other (subst (λ (k : ℕ). slice_get names k ≡ Some text) (sym number_is) found.1))
-
--- whether a text is a name shows in a search that looks at the number that the map has
-pub has-searched : (at : List ℕ → Option ℕ) (names : List (List ℕ)) (text : List ℕ) (number : ℕ)
-    (found : Option ℕ) → HaveNumbers at names → at text ≡ Some number
-    → IfSome found (λ k. slice_get names k ≡ Some text)
-    → (slice_get names number ≡ Some text → IsSome found) → is_some found ≡ has names text
-has-searched at names text number (Some k) all is found there = sym (has-at names text k found)
-has-searched at names text number None all is found there =
-    sym (has-other at names text number all is (λ got. absurd (let some = there got in cc)))
+    by : (found : Option ℕ) → at text ≡ found
+        → IfSome found (λ number. slice_get names number ≡ Some text)
+    by (Some number) is = (all number text).1 is
+    by None is = tt
 
 -- a name among the names and one more
 pushed : (names : List (List ℕ)) (text : List ℕ) (number : ℕ) (name : List ℕ)
@@ -124,70 +110,121 @@ pushed (x ∷ names) text (suc number) name got =
       | inr last ↦ inr (ap suc last.0, last.1)
     ]
 
+kept-at : (names : List (List ℕ)) (text : List ℕ) (number : ℕ) (name : List ℕ)
+    → slice_get names number ≡ Some name → slice_get (names ++ text ∷ []) number ≡ Some name
+kept-at [] text number name got = absurd cc
+kept-at (x ∷ names) text zero name got = got
+kept-at (x ∷ names) text (suc number) name got = kept-at names text number name got
+
+last-at : (names : List (List ℕ)) (text : List ℕ)
+    → slice_get (names ++ text ∷ []) (length names) ≡ Some text
+last-at [] text = refl
+last-at (x ∷ names) text = last-at names text
+
+same_number : (n k : ℕ) → Some n ≡ Some k → n ≡ k
+same_number n k e = cc
+
 -- a new name is put into the map
 pub HaveNumbers-more : (at after : List ℕ → Option ℕ) (names : List (List ℕ)) (text : List ℕ)
     (count : ℕ) → HaveNumbers at names → has names text ≡ false → count ≡ length names
     → ((name : List ℕ) → after name ≡ update bytes_eq at text (Some count) name)
     → HaveNumbers after (names ++ text ∷ [])
-HaveNumbers-more at after names text count all new counted put number name got =
-    elim (pushed names text number name got) [
-      | inl here ↦ put name
-          ∙ ap (λ (same : Bool). cond same (Some count) (at name)) (other here)
-          ∙ all number name here
-      | inr last ↦ put name
-          ∙ ap (λ (same : Bool). cond same (Some count) (at name))
-          ((bytes_eq-Decides text name).1 last.1)
+HaveNumbers-more at after names text count all new counted put number name = (there, back)
+  where
+    put_as : (same : Bool) → bytes_eq text name ≡ same
+        → after name ≡ cond same (Some count) (at name)
+    put_as same is = put name ∙ ap (λ (b : Bool). cond b (Some count) (at name)) is
+
+    there : slice_get (names ++ text ∷ []) number ≡ Some name → after name ≡ Some number
+    there got = elim (pushed names text number name got) [
+      | inl here ↦ put_as false (other here) ∙ (all number name).0 here
+      | inr last ↦ put_as true ((bytes_eq-Decides text name).1 last.1)
           ∙ ap Some (counted ∙ sym last.0)
     ]
-  where
-    other : slice_get names number ≡ Some name → bytes_eq text name ≡ false
-    other here = by (bytes_eq text name) refl
       where
-        by : (same : Bool) → bytes_eq text name ≡ same → same ≡ false
-        by false same = refl
-        by true same =
-            let text_is : text ≡ name = (bytes_eq-Decides text name).0 same in
-            let there : has names text ≡ true =
-            has-at names text number (here ∙ ap Some (sym text_is)) in
-            absurd cc
+        other : slice_get names number ≡ Some name → bytes_eq text name ≡ false
+        other here = by (bytes_eq text name) refl
+          where
+            by : (same : Bool) → bytes_eq text name ≡ same → same ≡ false
+            by false same = refl
+            by true same =
+                let text_is : text ≡ name = (bytes_eq-Decides text name).0 same in
+                let there : has names text ≡ true =
+                has-at names text number (here ∙ ap Some (sym text_is)) in
+                absurd cc
 
--- a later name is taken out of the map
-pub HaveNumbers-less : (at now after : List ℕ → Option ℕ) (texts : List (List ℕ))
-    (first count number : ℕ) (text : List ℕ) → HaveNumbers at (take count texts)
-    → HaveNumbers now (take first texts) → slice_get texts number ≡ Some text
-    → first ≤ number → number < count
-    → ((name : List ℕ) → after name ≡ update bytes_eq now text None name)
-    → HaveNumbers after (take first texts)
-HaveNumbers-less at now after texts first count number text all kept is from below cut k name got =
-    cut name ∙ ap (λ (same : Bool). cond same None (now name)) other ∙ kept k name got
-  where
-    here : (slice_get texts k ≡ Some name) × (k < first)
-    here = taken first texts k name got
-
-    same_number : Some number ≡ Some k → number ≡ k
-    same_number e = cc
-
-    other : bytes_eq text name ≡ false
-    other = by (bytes_eq text name) refl
+    back : after name ≡ Some number → slice_get (names ++ text ∷ []) number ≡ Some name
+    back is = by (bytes_eq text name) refl
       where
-        by : (same : Bool) → bytes_eq text name ≡ same → same ≡ false
-        by false same = refl
+        by : (same : Bool) → bytes_eq text name ≡ same
+            → slice_get (names ++ text ∷ []) number ≡ Some name
+        by false same =
+            kept-at names text number name
+            ((all number name).1 (sym (put_as false same) ∙ is))
         by true same =
-            let text_is : text ≡ name = (bytes_eq-Decides text name).0 same in
-            let first_is : at text ≡ Some number =
-            all number text (untaken count texts number text is below) in
-            let second_is : at name ≡ Some k =
-            all k name (untaken count texts k name here.0 (omega (arith, here.1, from, below))) in
-            let number_is : number ≡ k =
-            same_number (sym first_is ∙ ap at text_is ∙ second_is) in
-            absurd (omega (arith, number_is, from, here.1))
+            let number_is : count ≡ number =
+            same_number count number (sym (put_as true same) ∙ is) in
+            subst (λ (k : ℕ). slice_get (names ++ text ∷ []) k ≡ Some name)
+            (sym counted ∙ number_is)
+            (last-at names text ∙ ap Some ((bytes_eq-Decides text name).0 same))
 
--- the first names keep their numbers
-pub HaveNumbers-take : (at : List ℕ → Option ℕ) (texts : List (List ℕ)) (first count : ℕ)
-    → HaveNumbers at (take count texts) → first ≤ count → HaveNumbers at (take first texts)
-HaveNumbers-take at texts first count all few number text got =
-    let here = taken first texts number text got in
-    all number text (untaken count texts number text here.0 (omega (arith, here.1, few)))
+-- the last name is taken out of the map
+pub HaveNumbers-less : (at after : List ℕ → Option ℕ) (texts : List (List ℕ)) (count : ℕ)
+    (text : List ℕ) → HaveNumbers at (take (suc count) texts)
+    → slice_get texts count ≡ Some text
+    → ((name : List ℕ) → after name ≡ update bytes_eq at text None name)
+    → HaveNumbers after (take count texts)
+HaveNumbers-less at after texts count text all last cut number name = (there, back)
+  where
+    cut_as : (same : Bool) → bytes_eq text name ≡ same
+        → after name ≡ cond same None (at name)
+    cut_as same is = cut name ∙ ap (λ (b : Bool). cond b None (at name)) is
+
+    last_number : at text ≡ Some count
+    last_number = (all count text).0 (untaken (suc count) texts count text last (omega arith))
+
+    there : slice_get (take count texts) number ≡ Some name → after name ≡ Some number
+    there got =
+        let here = taken count texts number name got in
+        let is : at name ≡ Some number =
+        (all number name).0
+        (untaken (suc count) texts number name here.0 (omega (arith, here.1))) in
+        by is here.1 (bytes_eq text name) refl
+      where
+        by : at name ≡ Some number → number < count → (same : Bool) → bytes_eq text name ≡ same
+            → after name ≡ Some number
+        by is less false same = cut_as false same ∙ is
+        by is less true same =
+            let number_is : count ≡ number =
+            same_number count number
+            (sym last_number ∙ ap at ((bytes_eq-Decides text name).0 same) ∙ is) in
+            absurd (omega (arith, number_is, less))
+
+    back : after name ≡ Some number → slice_get (take count texts) number ≡ Some name
+    back is = by (bytes_eq text name) refl
+      where
+        by : (same : Bool) → bytes_eq text name ≡ same
+            → slice_get (take count texts) number ≡ Some name
+        by true same = absurd (let none = sym (cut_as true same) ∙ is in cc)
+        by false same =
+            within
+            (taken (suc count) texts number name
+            ((all number name).1 (sym (cut_as false same) ∙ is)))
+          where
+            same_text : Some text ≡ Some name → text ≡ name
+            same_text e = cc
+
+            other : slice_get texts number ≡ Some name → number ≢ count
+            other got is =
+                let text_is : text ≡ name =
+                same_text (sym last ∙ ap (slice_get texts) (sym is) ∙ got) in
+                let yes : bytes_eq text name ≡ true = (bytes_eq-Decides text name).1 text_is in
+                absurd (let no = sym same ∙ yes in cc)
+
+            within : (slice_get texts number ≡ Some name) × (number < suc count)
+                → slice_get (take count texts) number ≡ Some name
+            within here =
+                untaken count texts number name here.0 (omega (arith, here.1, other here.0))
 
 -- the names after a new one was put behind them
 pub taken-more : (count : ℕ) (texts after : List (List ℕ)) (text : List ℕ)
@@ -198,6 +235,18 @@ taken-more count texts after text long put =
     ap (take (count + 1)) put
     ∙ take_all (count + 1) more
     (omega (arith, length-append (take count texts) (text ∷ []), length-taken count texts long))
+
+pub AreNumbered-none : {S : Type 0} (numbers : HashMap (String Global) ℕ S)
+    (texts : List (List ℕ)) → IsEmpty numbers → AreNumbered numbers 0 texts
+AreNumbered-none numbers texts empty = record {
+  are = AreNames-none;
+  long = omega arith;
+  found = λ number text.
+      (λ got. absurd cc, λ got. absurd (let is = sym (none text) ∙ got in cc));
+}
+  where
+    none : (text : List ℕ) → get_by_text numbers text ≡ None
+    none text = ap (lookup (λ (name : String Global). bytes_eq text (string_bytes name))) empty
 
 pub AreNumbered-more : {S : Type 0} (old new : HashMap (String Global) ℕ S) (count : ℕ)
     (texts after : List (List ℕ)) (text : List ℕ) → AreNumbered old count texts
@@ -219,3 +268,17 @@ AreNumbered-more old new count texts after text are is absent few put updates =
           (HaveNumbers-more (λ name. get_by_text old name) (λ name. get_by_text new name) names
           text count are.found absent (sym counted) updates);
     }
+
+pub AreNumbered-less : {S : Type 0} (old new : HashMap (String Global) ℕ S) (count : ℕ)
+    (texts : List (List ℕ)) (text : List ℕ) → AreNumbered old (suc count) texts
+    → slice_get texts count ≡ Some text
+    → ((name : List ℕ) → get_by_text new name
+    ≡ update bytes_eq (λ name. get_by_text old name) text None name)
+    → AreNumbered new count texts
+AreNumbered-less old new count texts text are last updates = record {
+  are = subst AreNames (take-take count (suc count) texts (omega arith))
+      (AreNames-take (take (suc count) texts) count are.are);
+  long = omega (arith, are.long);
+  found = HaveNumbers-less (λ name. get_by_text old name) (λ name. get_by_text new name) texts
+      count text are.found last updates;
+}

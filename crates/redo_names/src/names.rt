@@ -97,7 +97,7 @@ fn forget(numbers: &mut HashMap<String, u32>, texts: &Texts, first: u32, count: 
     requires numbered { AreNumbered numbers.old count texts.now }
     ensures { AreNumbered numbers.new first texts.now }
 {
-    for number in first..count {
+    for number in (first..count).rev() {
         numbers.remove(ascii_text(texts.get(number as usize)));
     }
 }
@@ -209,10 +209,7 @@ impl Names {
         if !text.is_ascii() {
             return None;
         }
-        match self.numbers.get(ascii_text(text)) {
-            Some(number) => self.if_at(*number, text),
-            None => None,
-        }
+        self.numbers.get(ascii_text(text)).copied()
     }
 
     /// Remembers a number: a text that is looked up next is compared with its name first, and then with the name that

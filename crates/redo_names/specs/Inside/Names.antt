@@ -1,5 +1,5 @@
 -- The invariant of a list of names, and how it grows.
-use Rattle.std.specs.Prelude.{◌≡◌, ℕ, ◌≤◌, List, ◌++◌, length, take, bytes_eq, Some, slice_get, String}
+use Rattle.std.specs.Prelude.{◌≡◌, ◌↔◌, ℕ, ◌≤◌, List, ◌++◌, length, take, bytes_eq, Some, slice_get, String}
 use Rattle.std.specs.Global.{Global}
 use Rattle.std.specs.HashMap.{HashMap, get_by_text}
 use Rattle.std.specs.List.{IsDistinct}
@@ -16,10 +16,10 @@ pub record AreNames (names : List (List ℕ)) : Type 0 where
   pub distinct : IsDistinct bytes_eq names
   pub each : AreAllNames names
 
--- the first `count` of the texts are names, and the map has the number of each
+-- the first `count` of the texts are names, and the map has the number of each and no more
 pub record AreNumbered {S : Type 0} (numbers : HashMap (String Global) ℕ S) (count : ℕ)
     (texts : List (List ℕ)) : Type 0 where
   pub are : AreNames (take count texts)
   pub long : count ≤ length texts
   pub found : (number : ℕ) (text : List ℕ) → slice_get (take count texts) number ≡ Some text
-      → get_by_text numbers text ≡ Some number
+      ↔ get_by_text numbers text ≡ Some number

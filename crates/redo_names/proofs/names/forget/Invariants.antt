@@ -1,8 +1,9 @@
-use Rattle.std.specs.HashMap.{get_by_text}
-use Rattle.std.proofs.Common.{take}
-use Rattle.redo_names.proofs.Numbered.{HaveNumbers}
+use Rattle.std.proofs.Common.{◌≤◌}
+use Rattle.redo_names.specs.Inside.Names.{AreNumbered}
 use Rattle.redo_names.proofs.names.forget.Given as goal
 
 abbrev pub invariant-loop-number : goal.invariant-loop-number
-invariant-loop-number l =
-    HaveNumbers (λ name. get_by_text l.numbers name) (take l.first l.texts)
+invariant-loop-number l = record {
+  numbered : AreNumbered l.numbers l.number l.texts;
+  from : l.first ≤ l.number;
+}

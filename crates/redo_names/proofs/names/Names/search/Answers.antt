@@ -1,7 +1,8 @@
-use Rattle.std.proofs.Common.{◌≡◌, ◌∙◌, ℕ, List, Some, None, ap, subst, sym}
+use Rattle.std.proofs.Common.{◌≡◌, ◌∙◌, ℕ, List, Option, Some, slice_get, ap, subst, sym}
 use Rattle.std.specs.HashMap.{get_by_text}
+use Rattle.std.specs.Prelude.{is_some, IfSome}
 use Rattle.redo_names.proofs.Ascii.{is_no_name}
-use Rattle.redo_names.proofs.Numbered.{HaveNumbers, has-none, has-searched}
+use Rattle.redo_names.proofs.Numbered.{HaveNumbers, found-mapped, has-mapped}
 use Rattle.redo_names.proofs.names.Names.search.Goals as goal
 
 pub returns-then-not-is_ascii-clause-there : goal.returns-then-not-is_ascii-clause-there
@@ -9,19 +10,23 @@ returns-then-not-is_ascii-clause-there c =
     sym (is_no_name c.args.self.now c.args.text.now c.are_names.ensures.each
     c.if-not-is_ascii.ensures.cases)
 
-pub returns-in-Some-clause-there : goal.returns-in-Some-clause-there
-returns-in-Some-clause-there c =
+pub returns-clause-found : goal.returns-clause-found
+returns-clause-found c =
     let at = λ (name : List ℕ). get_by_text c.self.inside.numbers name in
-    let is : at c.args.text.now ≡ Some c.in-Some.number.now =
-    ap at (sym c.ascii_text.ensures) ∙ sym c.in-Some.ensures.value in
-    has-searched at c.args.self.now c.args.text.now c.in-Some.number.now c.if_at.result
-    (subst (HaveNumbers at) c.self.view_is c.self.invariant.found) is c.if_at.ensures.found
-    c.if_at.ensures.there
+    let names = c.args.self.now in
+    let text = c.args.text.now in
+    let is : c.copied.result ≡ at text =
+    c.copied.ensures ∙ c.get.ensures.value ∙ ap at c.ascii_text.ensures in
+    subst (λ (found : Option ℕ). IfSome found (λ number. slice_get names number ≡ Some text))
+    (sym is)
+    (found-mapped at names text (subst (HaveNumbers at) c.self.view_is c.self.invariant.found))
 
-pub returns-in-None-clause-there : goal.returns-in-None-clause-there
-returns-in-None-clause-there c =
+pub returns-clause-there : goal.returns-clause-there
+returns-clause-there c =
     let at = λ (name : List ℕ). get_by_text c.self.inside.numbers name in
-    let none : at c.args.text.now ≡ None =
-    ap at (sym c.ascii_text.ensures) ∙ sym c.in-None.ensures.value in
-    sym (has-none at c.args.self.now c.args.text.now
-    (subst (HaveNumbers at) c.self.view_is c.self.invariant.found) none)
+    let names = c.args.self.now in
+    let text = c.args.text.now in
+    let is : c.copied.result ≡ at text =
+    c.copied.ensures ∙ c.get.ensures.value ∙ ap at c.ascii_text.ensures in
+    ap is_some is
+    ∙ has-mapped at names text (subst (HaveNumbers at) c.self.view_is c.self.invariant.found)
