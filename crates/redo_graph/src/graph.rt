@@ -3,6 +3,7 @@ ghost use Rattle.redo_graph.specs.Pairs.{AreAscending, IsStart};
 ghost use Rattle.redo_graph.specs.Graphs.{IsGraphOf, IsOnce};
 
 use crate::keys::{by_name, listed_pairs};
+use crate::numbering::Numbering;
 use crate::pairs::Pairs;
 use crate::step::{Listed, Step};
 use crate::tables::Tables;
@@ -44,8 +45,9 @@ impl Graph {
         let ranks = ranks_of(alloc, &sorted)?;
         let pairs = Pairs::new(alloc, count, listed_pairs(alloc, scripts)?)?;
         let on = Pairs::new(alloc, count, by_name(alloc, pairs.as_slice())?)?;
-        let mut tables = Tables::new(alloc, pairs);
-        let steps = tables.scripts(alloc, scripts)?;
+        let mut numbering = Numbering::new(alloc, pairs);
+        let steps = numbering.scripts(alloc, scripts)?;
+        let tables = numbering.into_tables(alloc)?;
         tables.are_once();
         Ok(Graph {
             steps,

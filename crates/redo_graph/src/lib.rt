@@ -4,6 +4,7 @@
 mod count;
 mod graph;
 mod keys;
+mod numbering;
 mod once;
 mod pairs;
 mod step;

@@ -1,6 +1,8 @@
--- How the tables grow.
+-- How the tables grow, and what holds of them.
 use Rattle.std.specs.Prelude.{◌≡◌, ℕ, List, ◌++◌, Some, Contains, slice_get}
 use Rattle.std.specs.List.{AllZip}
+use Rattle.redo_model.specs.Names.{Text}
+use Rattle.redo_graph.specs.Graphs.{IsOnce}
 use Rattle.redo_graph.specs.Steps.{TablesOf}
 
 -- the second list begins with the first
@@ -13,6 +15,11 @@ pub record Grows (old new : TablesOf) : Type 0 where
   pub listed : IsPrefix old.listed new.listed
   pub stamps : IsPrefix old.stamps new.stamps
   pub digests : IsPrefix old.digests new.digests
+
+-- no stamp and no digest has two numbers
+pub record AreOnce (stamps : List Text) (digests : List (List ℕ)) : Type 0 where
+  pub stamp : IsOnce stamps
+  pub digest : IsOnce digests
 
 -- each of the keys is one of the pairs
 abbrev pub Covers : List (ℕ × ℕ) → List (ℕ × ℕ) → Type 0

@@ -11,7 +11,7 @@ use Rattle.redo_graph.specs.declared.step.Step.{Step}
 use Rattle.redo_graph.specs.Graphs.{IsOn}
 use Rattle.redo_graph.specs.Inside.Named.{AreByName}
 use Rattle.redo_graph.specs.Pairs.{PairsOf, AreAscending, AreThose}
-use Rattle.redo_graph.specs.Steps.{AllMean, listed_by}
+use Rattle.redo_graph.specs.Steps.{TablesOf, AllMean, listed_by}
 use Rattle.redo_graph.proofs.Below.{listed_below}
 use Rattle.redo_graph.proofs.ByName.{on_each}
 use Rattle.redo_graph.proofs.graph.Graph.new.Goals as goal
@@ -52,7 +52,7 @@ new-requires-2 c = λ p there.
 
 pub scripts-requires : goal.scripts-requires
 scripts-requires c = λ p there.
-    subst (λ (of : PairsOf). Contains of.items p) (sym c.new-tables.ensures.pairs)
+    subst (λ (of : PairsOf). Contains of.items p) (sym c.new-numbering.ensures.pairs)
     ((c.in_ok-pairs.ensures.pairs p).1
     (subst (λ (l : List (ℕ × ℕ)). Contains l p) (sym c.in_ok-listed_pairs.ensures) there))
 
@@ -68,10 +68,12 @@ ranks_of-requires-clause-few c =
 
 pub returns : goal.returns
 returns c =
-    let tables = c.scripts.new.self in
+    let tables = c.in_ok-tables.tables in
+    let numbered : tables ≡ c.scripts.new.self = c.in_ok-tables.ensures in
     let pairs = c.in_ok-pairs.pairs in
     let same : pairs ≡ tables.pairs =
-    sym (c.in_ok-steps.ensures.grows.pairs ∙ c.new-tables.ensures.pairs) in
+    sym (ap (λ (of : TablesOf). of.pairs) numbered ∙ c.in_ok-steps.ensures.grows.pairs
+    ∙ c.new-numbering.ensures.pairs) in
     let scripts : scripts_of c.scripts-scripts.result.now ≡ c.args.plan.now.scripts =
     c.scripts-scripts.ensures.scripts in
     let steps : List (List Step) = map (λ row. row.items) c.in_ok-steps.steps.items in
@@ -90,7 +92,8 @@ returns c =
     (λ there. each.0 (those.0 there), λ is. those.1 (each.1 is)) in
     record {
       means = subst (λ (l : List (List (Item ℕ))). AllZip (AllMean tables) l steps) scripts
-          c.in_ok-steps.ensures.steps;
+          (subst (λ (of : TablesOf). AllZip (AllMean of) (scripts_of c.scripts-scripts.result.now)
+          steps) (sym numbered) c.in_ok-steps.ensures.steps);
       pairs_cover = cover;
       below = λ p there.
           listed_below c.args.plan.now c.scripts-scripts.ensures.plan p ((cover p).0 there);

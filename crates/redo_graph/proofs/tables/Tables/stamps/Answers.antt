@@ -1,12 +1,8 @@
 use Rattle.std.proofs.Common.{subst}
-use Rattle.std.specs.Prelude.{bytes_eq}
 use Rattle.redo_graph.specs.Graphs.{IsOnce}
 use Rattle.redo_graph.specs.Steps.{TablesOf}
-use Rattle.redo_graph.proofs.Growing.{once_from_distinct}
-use Rattle.redo_graph.proofs.Bytes.{bytes_itself}
 use Rattle.redo_graph.proofs.tables.Tables.stamps.Goals as goal
 
 pub returns-clause-once : goal.returns-clause-once
 returns-clause-once c =
-    subst (λ (t : TablesOf). IsOnce t.stamps) c.self.view_is
-    (once_from_distinct bytes_eq bytes_itself c.self.inside.stamps.keys c.as_slice.ensures.unique)
+    subst (λ (tables : TablesOf). IsOnce tables.stamps) c.self.view_is c.self.invariant.stamp

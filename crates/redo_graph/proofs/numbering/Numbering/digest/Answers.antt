@@ -2,7 +2,7 @@ use Rattle.std.proofs.Common.{List, ℕ, refl, sym, subst}
 use Rattle.std.specs.Prelude.{bytes_eq}
 use Rattle.redo_graph.specs.Inside.Tables.{IsPrefix}
 use Rattle.redo_graph.proofs.Growing.{on_ok, prefix_same, prefix_insert}
-use Rattle.redo_graph.proofs.tables.Tables.digest.Goals as goal
+use Rattle.redo_graph.proofs.numbering.Numbering.digest.Goals as goal
 
 pub returns-clause-grows : goal.returns-clause-grows
 returns-clause-grows c =

@@ -4,7 +4,7 @@ use Rattle.std.proofs.lemmas.Result.{IfOk-weaker}
 use Rattle.std.proofs.lemmas.Slice.Eq.{bytes_eq-Decides}
 use Rattle.redo_graph.specs.Inside.Tables.{IsPrefix}
 use Rattle.redo_graph.proofs.Growing.{on_ok, prefix_same, prefix_insert}
-use Rattle.redo_graph.proofs.tables.Tables.stamp_number.Goals as goal
+use Rattle.redo_graph.proofs.numbering.Numbering.stamp_number.Goals as goal
 
 pub returns-clause-number : goal.returns-clause-number
 returns-clause-number c =

@@ -3,7 +3,7 @@ use Rattle.std.specs.List.{AllZip}
 use Rattle.redo_terms.specs.Inside.Meaning.{item_of}
 use Rattle.redo_graph.specs.Steps.{AllMean}
 use Rattle.redo_graph.specs.Inside.Tables.{Grows}
-use Rattle.redo_graph.proofs.tables.Tables.scripts.Given as goal
+use Rattle.redo_graph.proofs.numbering.Numbering.scripts.Given as goal
 
 abbrev pub invariant-loop-script : goal.invariant-loop-script
 invariant-loop-script l = record {

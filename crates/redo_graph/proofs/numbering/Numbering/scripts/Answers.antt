@@ -11,7 +11,7 @@ use Rattle.redo_graph.specs.Pairs.{PairsOf}
 use Rattle.redo_graph.specs.Steps.{AllMean, Means, listed_in}
 use Rattle.redo_graph.proofs.Covered.{covers_part}
 use Rattle.redo_graph.proofs.Growing.{all_mapped, all_mapped_right, all_next, all_weaker, grows_then, means_more}
-use Rattle.redo_graph.proofs.tables.Tables.scripts.Goals as goal
+use Rattle.redo_graph.proofs.numbering.Numbering.scripts.Goals as goal
 
 pub script-requires : goal.script-requires
 script-requires c = λ p there.

@@ -1,6 +1,6 @@
 use Rattle.std.proofs.Common.{take}
 use Rattle.redo_graph.specs.Inside.Tables.{ArePlaces}
-use Rattle.redo_graph.proofs.tables.push_places.Given as goal
+use Rattle.redo_graph.proofs.numbering.push_places.Given as goal
 
 abbrev pub invariant-loop-name : goal.invariant-loop-name
 invariant-loop-name l =

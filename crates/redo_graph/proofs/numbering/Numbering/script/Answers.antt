@@ -9,7 +9,7 @@ use Rattle.redo_graph.specs.Pairs.{PairsOf}
 use Rattle.redo_graph.specs.Steps.{Means, listed_in}
 use Rattle.redo_graph.proofs.Covered.{covers_part}
 use Rattle.redo_graph.proofs.Growing.{all_mapped, all_next, all_weaker, grows_then, means_more}
-use Rattle.redo_graph.proofs.tables.Tables.script.Goals as goal
+use Rattle.redo_graph.proofs.numbering.Numbering.script.Goals as goal
 
 pub step-requires : goal.step-requires
 step-requires c = λ p there.

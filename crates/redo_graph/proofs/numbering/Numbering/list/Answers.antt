@@ -2,7 +2,7 @@ use Rattle.std.proofs.Common.{◌≡◌, length, refl, sym, subst, arith}
 use Rattle.std.specs.List.{Contains}
 use Rattle.redo_graph.specs.Steps.{TablesOf}
 use Rattle.redo_graph.proofs.Growing.{listed_from}
-use Rattle.redo_graph.proofs.tables.Tables.list.Goals as goal
+use Rattle.redo_graph.proofs.numbering.Numbering.list.Goals as goal
 
 pub push_places-requires : goal.push_places-requires
 push_places-requires c = λ p there.

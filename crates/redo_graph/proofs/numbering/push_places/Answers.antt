@@ -3,7 +3,7 @@ use Rattle.std.proofs.lemmas.List.{get_or_default}
 use Rattle.std.specs.List.{Contains}
 use Rattle.redo_graph.proofs.Covered.{covers_name}
 use Rattle.redo_graph.proofs.Growing.{all_next}
-use Rattle.redo_graph.proofs.tables.push_places.Goals as goal
+use Rattle.redo_graph.proofs.numbering.push_places.Goals as goal
 
 pub unreachable-requires : goal.unreachable-requires
 unreachable-requires c =

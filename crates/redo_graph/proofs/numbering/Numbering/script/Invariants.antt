@@ -3,7 +3,7 @@ use Rattle.std.specs.List.{AllZip}
 use Rattle.redo_terms.specs.Meaning.{command_of}
 use Rattle.redo_graph.specs.Steps.{Means}
 use Rattle.redo_graph.specs.Inside.Tables.{Grows}
-use Rattle.redo_graph.proofs.tables.Tables.script.Given as goal
+use Rattle.redo_graph.proofs.numbering.Numbering.script.Given as goal
 
 abbrev pub invariant-loop-item : goal.invariant-loop-item
 invariant-loop-item l = record {
