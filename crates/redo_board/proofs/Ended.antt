@@ -2,7 +2,7 @@
 use Rattle.std.proofs.Common.{◌≡◌, ℕ, ◌<◌, ◌≤◌, ◌⊎◌, ⊎_elim, List, [], ◌∷◌, ◌++◌, length, map, refl, sym, ap, ◌∙◌, subst, inl, inr, arith}
 use mathlib.Core.Logic.{dite}
 use native.Mathlib.Decide.{ℕ_discrete, dec_lt}
-use Rattle.redo_model.specs.Names.{texts}
+use Rattle.redo_model.specs.Names.{texts, text_at}
 use Rattle.redo_model.specs.History.{Legal}
 use Rattle.redo_model.specs.Renaming.{named_line}
 use Rattle.redo_model.specs.Placed.{line_of, part_of}
@@ -10,7 +10,6 @@ use Rattle.redo_model.specs.Journals.{IsJointOrder}
 use Rattle.redo_model.proofs.HistoriesByName.{legal_by_name}
 use Rattle.redo_model.proofs.Naming.{numbering_is_renaming}
 use Rattle.redo_model.proofs.Texts.{texts_are_names}
-use Rattle.redo_names.specs.Names.{text_at}
 use Rattle.redo_journal.specs.Plans.{PlanOf, IsPlan, script_of}
 use Rattle.redo_model.specs.Seen.{HasSeen}
 use Rattle.redo_joint.specs.ByRows.{records_left}

@@ -4,7 +4,7 @@ use mathlib.Core.Option.{some}
 use lib.ListN.{get_elem?}
 use Rattle.atomic_table.specs.Table.{State}
 use Rattle.std.specs.List.{AllByRecursion}
-use Rattle.redo_model.specs.Names.{Text, texts}
+use Rattle.redo_model.specs.Names.{Text, texts, text_at}
 use Rattle.redo_model.specs.History as histories
 use Rattle.redo_model.specs.History.{Legal}
 use Rattle.redo_model.specs.Renaming.{named_line, IsLineBelow}
@@ -12,7 +12,6 @@ use Rattle.redo_model.specs.Placed.{Place, line_of, part_of, is_row, IsPlaced}
 use Rattle.redo_model.specs.Inside.Journals.{IsOfPlan}
 use Rattle.redo_model.specs.Seen.{HasSeen, StandsIn}
 use Rattle.redo_joint.specs.Words.{row_words_of, claim_word_of}
-use Rattle.redo_names.specs.Names.{text_at}
 use Rattle.redo_journal.specs.Plans.{PlanOf, script_of}
 use Rattle.redo_board.specs.Rows.{naming_of, rows_of}
 use Rattle.redo_board.specs.Core.{Line, Begins}

@@ -8,9 +8,9 @@ use Rattle.std.proofs.lemmas.Bool.Decides.{nat_tests}
 use Rattle.std.proofs.lemmas.Slice.Eq.{bytes_eq-Decides}
 use Rattle.std.proofs.lemmas.Fmt.{decimal_is_IsNumeral}
 use Rattle.std.proofs.lemmas.Str.Parse.{digit_from_value}
-use Rattle.redo_names.specs.Names.{is_name, is_visible, begins_comment, is_reserved}
+use Rattle.redo_names.specs.Names.{is_name, begins_comment, is_reserved}
 use Rattle.redo_names.specs.declared.name.TheConstants.{LONGEST_NAME}
-use Rattle.redo_model.specs.Names.{Text}
+use Rattle.redo_model.specs.Names.{Text, is_visible}
 use Rattle.redo_model.specs.Command.{Command, File, Gone, Lock, Unlock, Start, IfChange, IfCreate, Always, Stamp, Done, Failed, Ood, Targets, Sources}
 use Rattle.redo_model.specs.Reply.{Refusal, NotLocked, Building, NotBuilding, Itself, Exists, Reply, Okay, Granted, Busy, Stale, Stamped, Refused}
 use Rattle.redo_model.specs.Reply as replies

@@ -3,8 +3,7 @@ use Rattle.std.proofs.Common.{◌≡◌, ℕ, ◌+◌, ◌<◌, ◌≤◌, ◌^�
 use Rattle.std.specs.Prelude.{codes, decimal}
 use Rattle.std.specs.List.{flat_map}
 use Rattle.std.proofs.lemmas.Fmt.{decimal_injective}
-use Rattle.redo_names.specs.Names.{is_visible}
-use Rattle.redo_model.specs.Names.{Text}
+use Rattle.redo_model.specs.Names.{Text, is_visible}
 use Rattle.redo_model.specs.Command.{Command}
 use Rattle.redo_model.specs.History.{Line}
 use Rattle.redo_text.specs.Grammar.{IsCommandLine}

@@ -2,8 +2,7 @@
 use Rattle.std.proofs.Common.{◌≡◌, List, [], ◌∷◌, ◌++◌, ◌∙◌, sym, map}
 use Rattle.std.specs.List.{AllByRecursion}
 use Rattle.std.proofs.lemmas.Simd.{map-map}
-use Rattle.redo_names.specs.Names.{text_at}
-use Rattle.redo_model.specs.Names.{Text}
+use Rattle.redo_model.specs.Names.{Text, text_at}
 use Rattle.redo_model.specs.Renaming.{named_line}
 use Rattle.redo_terms.specs.Meaning.{line_of, line_at}
 use Rattle.redo_terms.specs.declared.reply.Line.{Line}

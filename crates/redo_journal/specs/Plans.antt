@@ -1,9 +1,8 @@
 -- The scripts of a run.
 use Rattle.std.specs.Prelude.{ℕ, ◌≤◌, List, [], length, map, slice_index_or}
 use Rattle.std.specs.List.{AllByRecursion}
-use Rattle.redo_names.specs.Names.{text_at}
 use Rattle.redo_names.specs.Inside.Names.{AreNames}
-use Rattle.redo_model.specs.Names.{Text}
+use Rattle.redo_model.specs.Names.{Text, text_at}
 use Rattle.redo_model.specs.Command as commands
 use Rattle.redo_model.specs.Renaming.{IsBelow, named_item}
 use Rattle.redo_terms.specs.declared.script.Item.{Item}

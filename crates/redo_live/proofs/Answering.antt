@@ -5,9 +5,8 @@ use Rattle.std.specs.Cmp.{tied_itself}
 use Rattle.std.specs.declared.cmp.Ordering.{Ordering}
 use Rattle.std.specs.declared.cmp.Ordering.TheVariants.{Less}
 use Rattle.std.proofs.lemmas.Cmp.{nat_cmp_total, on_total}
-use Rattle.redo_names.specs.Names.{text_at}
 use Rattle.redo_names.specs.Inside.Names.{AreNames, Extends}
-use Rattle.redo_model.specs.Names.{Text, texts, numbers}
+use Rattle.redo_model.specs.Names.{Text, texts, numbers, text_at}
 use Rattle.redo_model.specs.State.{State}
 use Rattle.redo_model.specs.Command.{Command, names_in}
 use Rattle.redo_model.specs.Reply.{Reply}

@@ -7,9 +7,9 @@ use Rattle.std.proofs.lemmas.Bool.{false≢true}
 use Rattle.std.proofs.lemmas.List.Folds.{list_any_at}
 use Rattle.std.proofs.lemmas.List.Quantifiers.{position-Some}
 use Rattle.std.proofs.lemmas.Option.{same_Some, slice_get_within, get_or_from_slice_get}
-use Rattle.redo_names.specs.Names.{has, text_at}
+use Rattle.redo_names.specs.Names.{has}
 use Rattle.redo_names.specs.Inside.Names.{AreNames}
-use Rattle.redo_model.specs.Names.{Text, texts, by_number}
+use Rattle.redo_model.specs.Names.{Text, texts, by_number, text_at}
 use Rattle.redo_model.specs.State.{Cell, State, TargetState, target_state}
 use Rattle.redo_model.specs.OutOfDate.{HasChangeRow, HasCreatedRow}
 use Rattle.redo_model.specs.Deps as model

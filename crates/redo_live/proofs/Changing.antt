@@ -1,7 +1,7 @@
 -- A line changes something over names if it does over their numbers.
 use Rattle.std.proofs.Common.{◌≡◌, ℕ, not, List, is_some, refl, ap, ◌∙◌, length}
 use Rattle.std.specs.declared.cmp.Ordering.{Ordering}
-use Rattle.redo_names.specs.Names.{text_at}
+use Rattle.redo_model.specs.Names.{text_at}
 use Rattle.redo_names.specs.Inside.Names.{AreNames}
 use Rattle.redo_model.specs.State.{Records, Cell}
 use Rattle.redo_model.specs.Command.{Command, File, Gone, Lock, Unlock, Start, IfChange, IfCreate, Always, Stamp, Done, Failed, Ood, Targets, Sources}

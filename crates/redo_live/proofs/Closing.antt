@@ -7,9 +7,8 @@ use Rattle.std.specs.declared.cmp.Ordering.{Ordering}
 use Rattle.std.proofs.lemmas.Bool.{false≢true, eq-eqb}
 use Rattle.std.proofs.lemmas.List.{map-append}
 use Rattle.std.proofs.lemmas.List.Elements.{Contains-append_cases}
-use Rattle.redo_names.specs.Names.{text_at}
 use Rattle.redo_names.specs.Inside.Names.{AreNames}
-use Rattle.redo_model.specs.Names.{Text, numbers, texts}
+use Rattle.redo_model.specs.Names.{Text, numbers, texts, text_at}
 use Rattle.redo_model.specs.State.{State, is_building, target_state, empty}
 use Rattle.redo_model.specs.Command.{Unlock, Failed}
 use Rattle.redo_model.specs.Step.{after, is_held_by}

@@ -13,9 +13,8 @@ use Rattle.std.proofs.lemmas.List.Elements.{All-contains, All-from_recursion}
 use Rattle.std.proofs.lemmas.List.Kept.{AllPairs-from_increasing}
 use Rattle.std.proofs.lemmas.List.Sorted.{Contains-permutation, IsPermutation-sym}
 use Rattle.std.proofs.lemmas.Simd.{map-map}
-use Rattle.redo_names.specs.Names.{text_at}
 use Rattle.redo_names.specs.Inside.Names.{AreNames}
-use Rattle.redo_model.specs.Names.{Text, texts}
+use Rattle.redo_model.specs.Names.{Text, texts, text_at}
 use Rattle.redo_model.specs.State.{State}
 use Rattle.redo_model.specs.Reply as replies
 use Rattle.redo_model.specs.History.{LegalFrom, left_by}

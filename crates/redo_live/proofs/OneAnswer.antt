@@ -5,8 +5,8 @@ use Rattle.std.specs.List.{AllByRecursion, list_all}
 use Rattle.std.specs.Str.{all_ascii_digits}
 use Rattle.std.proofs.lemmas.Fmt.{decimal_digit, decimal_injective}
 use Rattle.std.proofs.lemmas.List.{append_cancel_right}
-use Rattle.redo_names.specs.Names.{is_name, AreAllNames, is_visible}
-use Rattle.redo_model.specs.Names.{Text}
+use Rattle.redo_names.specs.Names.{is_name, AreAllNames}
+use Rattle.redo_model.specs.Names.{Text, is_visible}
 use Rattle.redo_model.specs.State.{TargetState, Idle, Building, Built, Failed}
 use Rattle.redo_model.specs.Deps as model
 use Rattle.redo_model.specs.Why as whys

@@ -1,7 +1,7 @@
 //! The answers about a name: words, each with the space before it.
 ghost use Rattle.std.specs.Prelude.{◌≡◌, ◌+◌, ◌++◌, Some, length, map, decimal, option_map, OnOk, IfSome};
 ghost use Rattle.std.specs.List.{flat_map};
-ghost use Rattle.redo_names.specs.Names.{text_at};
+ghost use Rattle.redo_model.specs.Names.{text_at};
 ghost use Rattle.redo_model.specs.Inside.Deps.{AreDepsBelow};
 ghost use Rattle.redo_model.specs.Why.{end_of};
 ghost use Rattle.redo_model.specs.Inside.Why.{IsReasonBelow, IsWhyBelow, named_reason};

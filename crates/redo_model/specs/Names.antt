@@ -1,6 +1,6 @@
 -- How names are distinguished and ordered. The definitions are for names of any kind: the contracts
 -- use texts, and the code uses numbers.
-use Rattle.std.specs.Prelude.{◌≡◌, ℕ, Bool, cond, List, bytes_eq, ◌==◌, ◌↔◌, AllPairs, Contains}
+use Rattle.std.specs.Prelude.{◌≡◌, ℕ, Bool, ◌&&◌, nat_le, cond, List, [], slice_index_or, bytes_eq, ◌==◌, ◌↔◌, AllPairs, Contains}
 use Rattle.std.specs.Ordering.{nat_cmp}
 use Rattle.std.specs.declared.cmp.Ordering.{Ordering}
 use Rattle.std.specs.declared.cmp.Ordering.TheVariants.{Less}
@@ -9,6 +9,14 @@ use Rattle.std.specs.Cmp.Lexicographic.{slice_cmp}
 -- bytes
 abbrev pub Text : Type 0
 Text = List ℕ
+
+-- a printed byte of ASCII, and no space
+abbrev pub is_visible : ℕ → Bool
+is_visible byte = nat_le 33 byte && nat_le byte 126
+
+-- the name that has this number
+abbrev pub text_at : List Text → ℕ → Text
+text_at names n = slice_index_or names n []
 
 pub record Naming (N : Type 0) : Type 0 where
   pub same : N → N → Bool

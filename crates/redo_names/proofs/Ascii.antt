@@ -5,7 +5,8 @@ use Rattle.std.specs.List.{list_all}
 use Rattle.std.specs.Str.{IsAscii, IsNotAscii}
 use Rattle.std.proofs.lemmas.Bool.Decides.{nat_tests}
 use Rattle.std.proofs.lemmas.Slice.Eq.{bytes_eq-Decides}
-use Rattle.redo_names.specs.Names.{is_name, is_visible, is_reserved, has, AreAllNames}
+use Rattle.redo_model.specs.Names.{is_visible}
+use Rattle.redo_names.specs.Names.{is_name, is_reserved, has, AreAllNames}
 
 both : (a b : Bool) → (a && b) ≡ true → (a ≡ true) × (b ≡ true)
 both true b h = (refl, h)

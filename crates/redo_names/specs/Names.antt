@@ -1,10 +1,7 @@
 -- What a name is, and lists of distinct names.
-use Rattle.std.specs.Prelude.{◌≡◌, ℕ, Bool, true, false, ◌&&◌, ◌||◌, not, ◌==◌, nat_le, List, [], ◌∷◌, ◌++◌, length, if◌then◌else◌, bytes_eq, slice_index_or, codes}
+use Rattle.std.specs.Prelude.{◌≡◌, ℕ, Bool, true, false, ◌&&◌, ◌||◌, not, ◌==◌, nat_le, List, [], ◌∷◌, ◌++◌, length, if◌then◌else◌, bytes_eq, codes}
 use Rattle.std.specs.List.{list_all, list_any, AllByRecursion}
-
--- a printed byte of ASCII, and no space
-abbrev pub is_visible : ℕ → Bool
-is_visible byte = nat_le 33 byte && nat_le byte 126
+use Rattle.redo_model.specs.Names.{is_visible}
 
 -- a line that begins with '#' is a comment
 abbrev pub begins_comment : List ℕ → Bool
@@ -28,10 +25,6 @@ has names text = list_any (bytes_eq text) names
 -- the names, with this one at the end if it is new
 abbrev pub with_name : List (List ℕ) → List ℕ → List (List ℕ)
 with_name names text = if has names text then names else names ++ text ∷ []
-
--- the name that has this number
-abbrev pub text_at : List (List ℕ) → ℕ → List ℕ
-text_at names n = slice_index_or names n []
 
 -- each text is a name
 abbrev pub AreAllNames : List (List ℕ) → Type 0

@@ -1,7 +1,8 @@
 ghost use Rattle.std.specs.Prelude.{◌≡◌};
 ghost use Rattle.std.specs.List.{list_all};
 ghost use Rattle.std.specs.Str.{IsAscii};
-ghost use Rattle.redo_names.specs.Names.{is_name as name_test, is_reserved as reserved_test, is_visible};
+ghost use Rattle.redo_model.specs.Names.{is_visible};
+ghost use Rattle.redo_names.specs.Names.{is_name as name_test, is_reserved as reserved_test};
 
 /// How many bytes a name has at most.
 pub const LONGEST_NAME: usize = 255;

@@ -1,8 +1,9 @@
 ghost use Rattle.std.specs.Prelude.{◌≡◌, ◌<◌, ◌≤◌, ◌↔◌, List, ℕ, [], length, take, is_some, IsSome, IfSome, IfOk, OnOk, OnErr, IsOk, IsErrOf, slice_get, true, false};
 ghost use Rattle.std.specs.Cmp.Lexicographic.{slice_cmp};
 ghost use Rattle.std.specs.Ordering.{nat_cmp};
+ghost use Rattle.redo_model.specs.Names.{text_at};
 ghost use Rattle.redo_names.specs.declared.names.NamesFault.TheVariants.{Memory};
-ghost use Rattle.redo_names.specs.Names.{is_name, has, with_name, text_at};
+ghost use Rattle.redo_names.specs.Names.{is_name, has, with_name};
 ghost use Rattle.redo_names.specs.Inside.Names.{Extends, AreNames, AreNumbered};
 
 use crate::name::ascii_text;

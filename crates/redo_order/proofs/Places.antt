@@ -10,10 +10,9 @@ use Rattle.std.proofs.lemmas.Cmp.{nat_cmp_total, nat_list_cmp_total, tied_itself
 use Rattle.std.proofs.lemmas.List.{get_or_default}
 use Rattle.std.proofs.lemmas.List.Elements.{Contains-get_or}
 use Rattle.std.proofs.lemmas.List.Sums.{position_or_len_is}
-use Rattle.redo_model.specs.Names.{texts}
+use Rattle.redo_model.specs.Names.{texts, text_at}
 use Rattle.redo_model.specs.Inside.Renaming.{OrdersAlike, numbering}
 use Rattle.redo_model.proofs.Texts.{texts_are_names}
-use Rattle.redo_names.specs.Names.{text_at}
 use Rattle.redo_order.specs.Orders.{AreSorted, place, by_place}
 use Rattle.redo_order.specs.Inside.Orders.{IsOrderOf}
 

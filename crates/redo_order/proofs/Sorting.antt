@@ -18,7 +18,7 @@ use Rattle.std.proofs.lemmas.Map.Keys.{IsDistinct-from_apart, apart_from_distinc
 use Rattle.std.proofs.lemmas.Map.Text.{is_eq-slice_cmp}
 use Rattle.redo_model.specs.Renaming.{AllBelow}
 use Rattle.redo_model.proofs.Listing.{each_below as all_from}
-use Rattle.redo_names.specs.Names.{text_at}
+use Rattle.redo_model.specs.Names.{text_at}
 use Rattle.redo_names.specs.Inside.Names.{AreNames}
 use Rattle.redo_order.specs.Inside.Numbered.{AreNumbered}
 use Rattle.redo_order.specs.Orders.{AreSorted}

@@ -2,9 +2,8 @@
 use Rattle.std.proofs.Common.{◌≡◌, ◌≢◌, ℕ, ◌+◌, List, [], ◌∷◌, ◌++◌, refl, ap, ◌∙◌, sym, subst, length, arith, append_assoc, length-append}
 use Rattle.std.specs.Prelude.{bytes_eq}
 use Rattle.std.specs.List.{IsDistinct}
-use Rattle.redo_names.specs.Names.{text_at}
 use Rattle.redo_names.specs.Inside.Names.{Extends}
-use Rattle.redo_model.specs.Names.{Text, texts}
+use Rattle.redo_model.specs.Names.{Text, texts, text_at}
 use Rattle.redo_model.specs.State.{State, empty}
 use Rattle.redo_model.specs.Step.{Answers, after}
 use Rattle.redo_model.specs.History.{left_by, Legal}

@@ -3,8 +3,7 @@ use Rattle.std.proofs.Common.{◌≡◌, ℕ, suc, ◌+◌, ◌<◌, List, [], �
 use Rattle.std.specs.List.{AllByRecursion}
 use Rattle.std.proofs.lemmas.List.{flat_map_more, get_or-map}
 use Rattle.std.proofs.lemmas.Simd.{map-map}
-use Rattle.redo_names.specs.Names.{text_at}
-use Rattle.redo_model.specs.Names.{Text}
+use Rattle.redo_model.specs.Names.{Text, text_at}
 use Rattle.redo_model.specs.Command as model
 use Rattle.redo_model.specs.Renaming.{IsBelow, named_item}
 use Rattle.redo_model.specs.History as histories

@@ -9,8 +9,7 @@ use Rattle.std.proofs.lemmas.Simd.{map-map}
 use lib.ListN.{get_or-map}
 use mathlib.Core.Logic.{dite}
 use native.Mathlib.Decide.{dec_lt}
-use Rattle.redo_names.specs.Names.{text_at}
-use Rattle.redo_model.specs.Names.{Text, texts, Naming}
+use Rattle.redo_model.specs.Names.{Text, texts, Naming, text_at}
 use Rattle.redo_model.specs.Command.{Item}
 use Rattle.redo_model.specs.History as histories
 use Rattle.redo_model.specs.History.{Legal}

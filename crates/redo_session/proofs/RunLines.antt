@@ -5,8 +5,8 @@ use Rattle.std.specs.Prelude.{IsTrue, nat_le}
 use Rattle.std.specs.List.{AllByRecursion, filter_map, cons_option, list_all}
 use Rattle.std.proofs.lemmas.Bool.{leb-true}
 use Rattle.std.proofs.lemmas.List.{length-map}
-use Rattle.redo_names.specs.Names.{is_name, is_visible, is_reserved}
-use Rattle.redo_model.specs.Names.{Text, texts}
+use Rattle.redo_names.specs.Names.{is_name, is_reserved}
+use Rattle.redo_model.specs.Names.{Text, texts, is_visible}
 use Rattle.redo_model.specs.Command.{Command, Item, Lock, Unlock, Failed, commands_in, asked_lock}
 use Rattle.redo_model.specs.Reply.{Reply, lets_through}
 use Rattle.redo_model.specs.Closing.{ClosesAfter, builds}

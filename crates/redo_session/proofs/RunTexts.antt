@@ -5,8 +5,7 @@ use mathlib.Core.Logic.{dite}
 use native.Mathlib.Decide.{dec_lt}
 use Rattle.std.proofs.lemmas.List.{length-map}
 use Rattle.std.proofs.lemmas.Simd.{map-map}
-use Rattle.redo_names.specs.Names.{text_at}
-use Rattle.redo_model.specs.Names.{Text}
+use Rattle.redo_model.specs.Names.{Text, text_at}
 use Rattle.redo_model.specs.Command as model
 use Rattle.redo_model.specs.History.{Line}
 use Rattle.redo_model.specs.Renaming.{named_item}

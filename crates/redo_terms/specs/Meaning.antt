@@ -1,7 +1,6 @@
 -- What the values of the code mean: over numbers, and over the names that the numbers stand for.
 use Rattle.std.specs.Prelude.{ℕ, List, box_value, option_map}
-use Rattle.redo_names.specs.Names.{text_at}
-use Rattle.redo_model.specs.Names.{Text, Naming, numbers, texts}
+use Rattle.redo_model.specs.Names.{Text, Naming, numbers, texts, text_at}
 use Rattle.redo_model.specs.Command as commands
 use Rattle.redo_model.specs.Reply as replies
 use Rattle.redo_model.specs.History as histories

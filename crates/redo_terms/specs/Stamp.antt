@@ -1,7 +1,7 @@
 -- What a file stamp is.
 use Rattle.std.specs.Prelude.{ℕ, Bool, ◌&&◌, ◌||◌, not, nat_le, List, length, bytes_eq, codes}
 use Rattle.std.specs.List.{list_all}
-use Rattle.redo_names.specs.Names.{is_visible}
+use Rattle.redo_model.specs.Names.{is_visible}
 
 -- "-" is no stamp, and "=>" is the arrow of a history
 abbrev pub is_placeholder : List ℕ → Bool

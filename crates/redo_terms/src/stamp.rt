@@ -5,7 +5,7 @@ ghost use Rattle.std.specs.Cmp.Rules.{hashing};
 ghost use Rattle.std.specs.Hash as fed;
 ghost use Rattle.std.specs.List.{list_all};
 ghost use Rattle.std.proofs.Common.{rules};
-ghost use Rattle.redo_names.specs.Names.{is_visible};
+ghost use Rattle.redo_model.specs.Names.{is_visible};
 ghost use Rattle.redo_terms.specs.Stamp.{is_stamp as stamp_test, is_placeholder as placeholder_test};
 ghost use Rattle.redo_terms.specs.Inside.Stamp.{padded as padded_list, IsPadded, padded-take, length-taken};
 

@@ -2,10 +2,10 @@
 use Rattle.std.proofs.Common.{◌≡◌, ℕ, ◌+◌, ◌<◌, ◌≤◌, Bool, true, false, cond, List, [], ◌∷◌, ◌++◌, map, length, get_or, Result, Ok, Err, box_value, option_map, refl, sym, ap, ◌∙◌, arith, eqb, length-append}
 use Rattle.std.proofs.lemmas.Bool.Decides.{nat_tests}
 use Rattle.std.proofs.lemmas.List.{get_or_append_left}
-use Rattle.redo_names.specs.Names.{has, text_at, with_name}
+use Rattle.redo_names.specs.Names.{has, with_name}
 use Rattle.redo_names.specs.Inside.Names.{Extends}
 use Rattle.redo_names.proofs.NameLists.{Extends-same, Extends-then}
-use Rattle.redo_model.specs.Names.{Text}
+use Rattle.redo_model.specs.Names.{Text, text_at}
 use Rattle.redo_model.specs.Command as commands
 use Rattle.redo_model.specs.Renaming.{AllBelow, IsBelow}
 use Rattle.redo_terms.specs.declared.command.Command.{Command}

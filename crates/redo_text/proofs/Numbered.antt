@@ -5,9 +5,9 @@ use Rattle.std.specs.List.{list_all}
 use Rattle.std.proofs.lemmas.List.{length-map}
 use Rattle.std.proofs.lemmas.Option.{get_or_from_slice_get, slice_get_within, slice_get-get_or}
 use Rattle.std.proofs.lemmas.Slice.Eq.{bytes_eq-Decides}
-use Rattle.redo_names.specs.Names.{is_name, has, text_at, AreAllNames}
+use Rattle.redo_names.specs.Names.{is_name, has, AreAllNames}
 use Rattle.redo_names.specs.Inside.Names.{AreNames}
-use Rattle.redo_model.specs.Names.{Text}
+use Rattle.redo_model.specs.Names.{Text, text_at}
 use Rattle.redo_model.specs.Command.{Command}
 use Rattle.redo_text.specs.declared.fault.LineFault.TheVariants.{TooManyNames}
 use Rattle.redo_model.specs.Renaming.{AllBelow}

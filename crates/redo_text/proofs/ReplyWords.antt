@@ -11,8 +11,7 @@ use Rattle.std.proofs.lemmas.Fmt.{decimal_digit}
 use Rattle.hex.specs.Hex.{encode_lower, decode_sized, is_hex_digit}
 use Rattle.hex.specs.declared.error.FromHexError.{FromHexError}
 use Rattle.hex.proofs.HexLemmas.{decode_of-ok, decode_of-encode_lower, decode_sized-ok, decode_sized-twice, decode_sized-encode_lower}
-use Rattle.redo_names.specs.Names.{is_visible}
-use Rattle.redo_model.specs.Names.{Text}
+use Rattle.redo_model.specs.Names.{Text, is_visible}
 use Rattle.redo_text.specs.declared.fault.LineFault.TheVariants.{WrongWords, BadHex}
 use Rattle.redo_text.specs.Replies.{IsGrant, IsDigest}
 use Rattle.redo_text.specs.Questions.{words_of}

@@ -7,8 +7,8 @@ use Rattle.std.proofs.lemmas.List.Concat.{flat_map-cons}
 use Rattle.std.proofs.lemmas.List.Elements.{All-from_recursion}
 use Rattle.std.proofs.lemmas.List.Folds.{list_any-append}
 use Rattle.std.proofs.lemmas.Bool.Decides.{nat_tests}
-use Rattle.redo_names.specs.Names.{is_name, is_visible, is_reserved}
-use Rattle.redo_model.specs.Names.{Text}
+use Rattle.redo_names.specs.Names.{is_name, is_reserved}
+use Rattle.redo_model.specs.Names.{Text, is_visible}
 use Rattle.redo_terms.specs.Stamp.{is_stamp, is_placeholder}
 use Rattle.redo_text.specs.Texts.{after_space, spaced}
 use Rattle.redo_text.specs.Questions.{words_of, is_text_byte}

@@ -1,8 +1,7 @@
 //! What follows the word of a command.
 
 ghost use Rattle.std.specs.Prelude.{◌≡◌, ◌<◌, ◌∷◌, List, Some, map, ℕ};
-ghost use Rattle.redo_names.specs.Names.{text_at};
-ghost use Rattle.redo_model.specs.Names.{Text};
+ghost use Rattle.redo_model.specs.Names.{Text, text_at};
 ghost use Rattle.redo_model.specs.Renaming.{AllBelow, IsBelow};
 ghost use Rattle.redo_terms.specs.Meaning.{command_of};
 ghost use Rattle.redo_terms.specs.Inside.Meaning.{command_at};

@@ -1,5 +1,6 @@
 ghost use Rattle.std.specs.Prelude.{◌≡◌, ◌≤◌, ◌∷◌, map, length, IfOk, IfSome, true};
-ghost use Rattle.redo_names.specs.Names.{is_name as name_test, text_at};
+ghost use Rattle.redo_model.specs.Names.{text_at};
+ghost use Rattle.redo_names.specs.Names.{is_name as name_test};
 ghost use Rattle.redo_model.specs.Renaming.{AllBelow};
 ghost use Rattle.redo_text.specs.Questions.{words_of};
 ghost use Rattle.redo_text.specs.Inside.Reading.{IsCutAt, words_after};

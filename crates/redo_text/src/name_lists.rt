@@ -1,8 +1,8 @@
 ghost use Rattle.std.specs.Prelude.{◌≡◌, ◌≤◌, ◌∷◌, List, map, length, IfOk, IfErr, true};
 ghost use Rattle.std.specs.List.{list_all};
-ghost use Rattle.redo_names.specs.Names.{is_name as name_test, text_at};
+ghost use Rattle.redo_names.specs.Names.{is_name as name_test};
 ghost use Rattle.redo_names.specs.Inside.Names.{Extends};
-ghost use Rattle.redo_model.specs.Names.{Text};
+ghost use Rattle.redo_model.specs.Names.{Text, text_at};
 ghost use Rattle.redo_model.specs.Command as commands;
 ghost use Rattle.redo_model.specs.Renaming.{AllBelow};
 ghost use Rattle.redo_text.specs.Inside.Reading.{Reads, LeavesPrefix, LeavesSome, target_and_names_in, all_added, names_form_in, words_after};

@@ -1,7 +1,6 @@
 ghost use Rattle.std.specs.Prelude.{◌≤◌, List, ℕ, map, length, IfOk};
-ghost use Rattle.redo_names.specs.Names.{text_at};
 ghost use Rattle.redo_names.specs.Inside.Names.{Extends};
-ghost use Rattle.redo_model.specs.Names.{Text};
+ghost use Rattle.redo_model.specs.Names.{Text, text_at};
 ghost use Rattle.redo_model.specs.Reply.{Refused};
 ghost use Rattle.redo_model.specs.Renaming.{AllBelow, IsReplyBelow, named_refusal};
 ghost use Rattle.redo_terms.specs.Meaning.{refusal_of};

@@ -1,7 +1,7 @@
 ghost use Rattle.std.specs.Prelude.{◌≡◌, ◌∷◌, [], ◌<◌, length, IfOk, IfSome, OnErr, true};
-ghost use Rattle.redo_names.specs.Names.{is_name as name_test, text_at};
+ghost use Rattle.redo_names.specs.Names.{is_name as name_test};
 ghost use Rattle.redo_names.specs.Inside.Names.{Extends};
-ghost use Rattle.redo_model.specs.Names.{Text};
+ghost use Rattle.redo_model.specs.Names.{Text, text_at};
 ghost use Rattle.redo_text.specs.Questions.{has_bad_byte as bad_byte_test};
 ghost use Rattle.redo_text.specs.Inside.Reading.{Reads, name_in, file_stamp_in, file_stamp_or_none_in, content_in, added, words_after, IsNumbered};
 

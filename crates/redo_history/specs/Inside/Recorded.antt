@@ -1,7 +1,6 @@
 -- The value of a history.
 use Rattle.std.specs.Prelude.{ℕ, List, map}
-use Rattle.redo_names.specs.Names.{text_at}
-use Rattle.redo_model.specs.Names.{Text}
+use Rattle.redo_model.specs.Names.{Text, text_at}
 use Rattle.redo_model.specs.History.{Line}
 use Rattle.redo_model.specs.Renaming.{named_line}
 

@@ -1,7 +1,6 @@
 -- Answers over numbers, under the names that they stand for.
 use Rattle.std.specs.Prelude.{List}
-use Rattle.redo_names.specs.Names.{text_at}
-use Rattle.redo_model.specs.Names.{Text}
+use Rattle.redo_model.specs.Names.{Text, text_at}
 use Rattle.redo_model.specs.Deps as model
 use Rattle.redo_model.specs.Why as whys
 use Rattle.redo_model.specs.Inside.Deps.{named_deps}

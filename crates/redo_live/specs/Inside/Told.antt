@@ -1,8 +1,7 @@
 -- The contracts of the database's inner calls.
 use Rattle.std.specs.Prelude.{◌≡◌, ℕ, ◌+◌, ◌≤◌, List, ◌++◌, Some, length, ⊤}
 use Rattle.std.specs.List.{flat_map}
-use Rattle.redo_names.specs.Names.{text_at}
-use Rattle.redo_model.specs.Names.{Text, texts}
+use Rattle.redo_model.specs.Names.{Text, texts, text_at}
 use Rattle.redo_model.specs.Command.{Command}
 use Rattle.redo_model.specs.History.{Line}
 use Rattle.redo_model.specs.Renaming.{named_command}

@@ -1,8 +1,7 @@
 -- Why a command wasn't answered in this many bytes.
 use Rattle.std.specs.Prelude.{◌≡◌, ℕ, ◌<◌, List, [], ◌∷◌, ◌++◌, length}
 use Rattle.std.specs.List.{flat_map}
-use Rattle.redo_names.specs.Names.{text_at}
-use Rattle.redo_model.specs.Names.{Text, texts}
+use Rattle.redo_model.specs.Names.{Text, texts, text_at}
 use Rattle.redo_model.specs.Command.{Command}
 use Rattle.redo_model.specs.History.{Line, left_by}
 use Rattle.redo_model.specs.Renaming.{named_command}

@@ -2,13 +2,12 @@
 ghost use Rattle.std.specs.Prelude.{◌≡◌, ◌<◌, ◌++◌, length, option_map, IfOk, IfSome, IsNone, OnOk, OnErr};
 ghost use Rattle.std.specs.List.{flat_map};
 ghost use Rattle.redo_names.specs.Inside.Names.{AreNames};
-ghost use Rattle.redo_names.specs.Names.{text_at};
 ghost use Rattle.redo_model.specs.Deps.{AreDeps};
 ghost use Rattle.redo_model.specs.Inside.Deps.{AreDepsBelow};
 ghost use Rattle.redo_model.specs.Inside.Unknown.{IsUnknown};
 ghost use Rattle.redo_model.specs.Why.{TellsWhy};
 ghost use Rattle.redo_model.specs.Inside.Why.{IsWhyBelow};
-ghost use Rattle.redo_model.specs.Names.{Text, texts};
+ghost use Rattle.redo_model.specs.Names.{Text, texts, text_at};
 ghost use Rattle.redo_model.specs.State.{target_state};
 ghost use Rattle.redo_ood.specs.Meaning.{why_of};
 ghost use Rattle.redo_store.specs.Meaning.{deps_of};

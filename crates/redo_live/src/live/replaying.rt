@@ -1,8 +1,7 @@
 //! How the lines of a history are read, and their commands done again.
 ghost use Rattle.std.specs.Prelude.{◌≡◌, ◌+◌, ◌<◌, length, IfOk, IfErr, OnOk, OnErr};
-ghost use Rattle.redo_names.specs.Names.{text_at};
 ghost use Rattle.redo_names.specs.Inside.Names.{Extends};
-ghost use Rattle.redo_model.specs.Names.{texts};
+ghost use Rattle.redo_model.specs.Names.{texts, text_at};
 ghost use Rattle.redo_model.specs.Step.{Answers, after};
 ghost use Rattle.redo_model.specs.Renaming.{IsBelow, IsReplyBelow, IsLineBelow, named_command};
 ghost use Rattle.redo_terms.specs.Meaning.{command_of, line_of, line_at, reply_of, reply_at};

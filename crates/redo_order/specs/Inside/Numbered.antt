@@ -1,7 +1,7 @@
 -- Pairs of a text and its number.
 use Rattle.std.specs.Prelude.{◌≡◌, ℕ, ◌<◌, List, slice_index_or, length}
 use Rattle.std.specs.Borrow.{Bor}
-use Rattle.redo_names.specs.Names.{text_at}
+use Rattle.redo_model.specs.Names.{text_at}
 
 -- the numbers below `count`, in order, each with its text
 pub record AreNumbered (names : List (List ℕ)) (count : ℕ)

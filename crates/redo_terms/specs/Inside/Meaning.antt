@@ -1,7 +1,6 @@
 -- The kind of a command, what an item means, and what both mean over the names of their numbers.
 use Rattle.std.specs.Prelude.{ℕ, List}
-use Rattle.redo_names.specs.Names.{text_at}
-use Rattle.redo_model.specs.Names.{Text}
+use Rattle.redo_model.specs.Names.{Text, text_at}
 use Rattle.redo_model.specs.Command as commands
 use Rattle.redo_model.specs.Renaming.{named_command, named_item}
 use Rattle.redo_terms.specs.declared.command.Command.{Command}

@@ -5,8 +5,8 @@ use Rattle.std.specs.Borrow.{Bor}
 use Rattle.std.specs.List.{list_all}
 use Rattle.hex.specs.Hex.{decode_of}
 use Rattle.hex.specs.declared.error.FromHexError.{FromHexError}
-use Rattle.redo_names.specs.Names.{is_name, has, text_at}
-use Rattle.redo_model.specs.Names.{Text}
+use Rattle.redo_names.specs.Names.{is_name, has}
+use Rattle.redo_model.specs.Names.{Text, text_at}
 use Rattle.redo_model.specs.Command.{Command, Item, File, Gone, Lock, Unlock, Start, IfChange, IfCreate, Always, Stamp, Done, Failed, Ood, Targets, Sources}
 use Rattle.redo_terms.specs.declared.kind.Kind.{Kind}
 use Rattle.redo_terms.specs.declared.kind.Kind.TheVariants as kinds

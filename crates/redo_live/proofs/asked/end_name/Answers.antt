@@ -1,5 +1,5 @@
 use Rattle.std.proofs.Common.{◌∙◌}
-use Rattle.redo_names.specs.Names.{text_at}
+use Rattle.redo_model.specs.Names.{text_at}
 use Rattle.redo_live.proofs.Asking.{end_is_last}
 use Rattle.redo_live.proofs.asked.end_name.Goals as goal
 

@@ -1,9 +1,8 @@
 use Rattle.std.proofs.Common.{◌≡◌, ◌<◌, ◌++◌, ◌∙◌, true, List, [], ap, sym, subst, length, map, get_or, arith}
 use Rattle.std.proofs.lemmas.Grind.{common_steps}
 use Rattle.std.proofs.lemmas.List.{length-map}
-use Rattle.redo_names.specs.Names.{text_at}
 use Rattle.redo_model.specs.Renaming.{named_item}
-use Rattle.redo_model.specs.Names.{Text}
+use Rattle.redo_model.specs.Names.{Text, text_at}
 use Rattle.redo_model.specs.Command.{Item}
 use Rattle.redo_model.specs.History.{part_of}
 use Rattle.redo_terms.specs.Meaning.{line_at}

@@ -1,7 +1,6 @@
 use Rattle.std.proofs.Common.{◌∷◌, ◌++◌, [], List, map, length, sym, ap, ◌∙◌, append_assoc}
 use Rattle.std.proofs.lemmas.List.{map_push}
-use Rattle.redo_names.specs.Names.{text_at}
-use Rattle.redo_model.specs.Names.{Text}
+use Rattle.redo_model.specs.Names.{Text, text_at}
 use Rattle.redo_text.specs.Inside.Reading.{words_after}
 use Rattle.redo_text.proofs.NameLists.{AllBelow-push}
 use Rattle.redo_text.proofs.known.known_numbers.Goals as goal

@@ -1,5 +1,5 @@
 use Rattle.std.proofs.Common.{◌≡◌, ◌++◌, map, length}
-use Rattle.redo_names.specs.Names.{text_at}
+use Rattle.redo_model.specs.Names.{text_at}
 use Rattle.redo_model.specs.Renaming.{AllBelow}
 use Rattle.redo_text.specs.Inside.Reading.{words_after}
 use Rattle.redo_text.proofs.known.known_numbers.Given as goal

@@ -3,7 +3,8 @@ use Rattle.std.proofs.lemmas.Grind.{common_steps}
 use Rattle.std.specs.Global.{Global}
 use Rattle.std.proofs.lemmas.List.{map_push, take_more}
 use Rattle.std.proofs.lemmas.Result.{err_from_is_err_and}
-use Rattle.redo_names.specs.Names.{is_name, text_at}
+use Rattle.redo_model.specs.Names.{text_at}
+use Rattle.redo_names.specs.Names.{is_name}
 use Rattle.redo_text.proofs.Added.{added_is, extends_then, all_below-Extends, texts-Extends}
 use Rattle.redo_text.proofs.Left.{prefix_left, prefix_kept, prefix_more}
 use Rattle.redo_text.proofs.NameLists.{texts_of, text_of, length-texts, all_at, AllBelow-push, fails_alike, rest_more, rest_none, rest_done}

@@ -2,7 +2,7 @@ use Rattle.std.proofs.Common.{◌≡◌, ◌∙◌, ℕ, map, Vec, arith}
 use Rattle.std.proofs.lemmas.Grind.{common_steps}
 use Rattle.std.specs.Global.{Global}
 use Rattle.std.proofs.lemmas.Result.{err_from_is_err_and}
-use Rattle.redo_names.specs.Names.{text_at}
+use Rattle.redo_model.specs.Names.{text_at}
 use Rattle.redo_text.proofs.Added.{text_at-Extends}
 use Rattle.redo_text.proofs.Left.{some_left}
 use Rattle.redo_text.proofs.NameLists.{texts_of, fails_alike, form_without_target, form_without_names, form_with_names}

@@ -1,6 +1,6 @@
 use Rattle.std.proofs.Common.{◌≡◌, ◌++◌, map, take}
 use Rattle.std.specs.List.{flat_map}
-use Rattle.redo_names.specs.Names.{text_at}
+use Rattle.redo_model.specs.Names.{text_at}
 use Rattle.redo_text.specs.Texts.{after_space}
 use Rattle.redo_text.proofs.text.put_names.Given as goal
 

@@ -1,8 +1,7 @@
 use Rattle.std.proofs.Common.{◌<◌, ◌++◌, ◌∙◌, ap, sym, map, length, refl, arith}
 use Rattle.std.proofs.lemmas.List.{length-map}
 use Rattle.redo_model.proofs.Scripts.{lets_named}
-use Rattle.redo_model.specs.Names.{Text}
-use Rattle.redo_names.specs.Names.{text_at}
+use Rattle.redo_model.specs.Names.{Text, text_at}
 use Rattle.redo_terms.specs.Meaning.{line_at, reply_of}
 use Rattle.redo_terms.specs.Inside.Meaning.{item_at}
 use Rattle.redo_run_text.proofs.PartTexts.{from_item, done_printed, closing_printed}
