@@ -1,7 +1,6 @@
 -- What is read from known bytes, and why it is refused.
-use Rattle.std.proofs.Common.{◌≡◌, ◌↔◌, ◌≤◌, ◌==◌, ℕ, false, not, List, Option, None, Some, Result, Ok, Err, length, refl, subst, sym, eq-eqb}
-use Rattle.std.specs.Prelude.{IfSome, IfOk, IfErr, IsTrue}
-use Rattle.std.proofs.lemmas.Bool.{both_ways, not_from_true}
+use Rattle.std.proofs.Common.{◌≡◌, ◌↔◌, ◌≤◌, ℕ, List, Option, None, Some, Result, Ok, Err, length, refl, sym, subst}
+use Rattle.std.specs.Prelude.{IfSome, IfOk, IfErr}
 use Rattle.redo_model.specs.Names.{Text, texts}
 use Rattle.redo_model.specs.History.{Line, Legal}
 use Rattle.redo_history.specs.HistoryTexts.{IsHistory}
@@ -64,13 +63,6 @@ pub read_known : (known : Option Text) (whole : Text) (names : List Text) (lines
 read_known None whole names lines same few is = tt
 read_known (Some bytes) whole names lines same few is =
     subst (λ (input : Text). IsReadAs input names lines) same (few, is)
-
--- a count that stays the same shows no failure
-pub none_failed : (before after : ℕ) → after ≡ before → IsTrue (not (after == before)) → ⊥
-none_failed before after same failed =
-    both_ways (not (after == before))
-    (subst (λ (count : ℕ). not (count == before) ≡ false) (sym same)
-    (not_from_true (before == before) (eq-eqb before before refl))) failed
 
 -- a writer has one fault
 pub one_fault : (fault : WriteFault) → fault ≡ Write

@@ -1,6 +1,7 @@
 -- A failure changes the count, and makes it greater than 0.
-use Rattle.std.proofs.Common.{◌≡◌, ◌+◌, ℕ, Bool, true, false, not, ◌||◌, ◌==◌, refl, ◌∙◌, eq-eqb, ne_eqb, arith}
-use Rattle.std.proofs.lemmas.Bool.{cond_both, eqb-true, not_from_true, not_from_false}
+use Rattle.std.proofs.Common.{◌≡◌, ◌+◌, ℕ, Bool, true, false, not, ◌||◌, ◌==◌, refl, sym, ◌∙◌, subst, eq-eqb, ne_eqb, arith}
+use Rattle.std.specs.Prelude.{IsTrue}
+use Rattle.std.proofs.lemmas.Bool.{both_ways, cond_both, eqb-true, not_from_true, not_from_false}
 use Rattle.redo_whole.specs.Inside.Counts.{counted, one_more}
 
 another : (n : ℕ) → one_more n ≡ n → ⊥
@@ -23,10 +24,20 @@ or_true : (b : Bool) → true ≡ (b || true)
 or_true true = refl
 or_true false = refl
 
+-- a count that stays the same isn't another
+pub same_count : (n : ℕ) → not (n == n) ≡ false
+same_count n = not_from_true (n == n) (eq-eqb n n refl)
+
+-- a count that stays the same shows no failure
+pub none_failed : (before after : ℕ) → after ≡ before → IsTrue (not (after == before)) → ⊥
+none_failed before after same failed =
+    both_ways (not (after == before))
+    (subst (λ (count : ℕ). not (count == before) ≡ false) (sym same) (same_count before)) failed
+
 -- the count changes exactly if there was a failure
 pub count_changes : (failed : Bool) (n : ℕ) → not (counted failed n == n) ≡ failed
 count_changes true n = not_from_false (one_more n == n) (ne_eqb (one_more n) n (another n))
-count_changes false n = not_from_true (n == n) (eq-eqb n n refl)
+count_changes false n = same_count n
 
 -- the count is 0 exactly if it was, and there was no failure
 pub count_is_some : (failed : Bool) (n : ℕ)

@@ -3,8 +3,9 @@ use Rattle.std.proofs.lemmas.Result.{err_from_is_err_and}
 use Rattle.redo_model.specs.Names.{Text}
 use Rattle.redo_whole.specs.Devices.{known_in}
 use Rattle.redo_whole.specs.Watched.{failures_of}
+use Rattle.redo_whole.proofs.Counts.{none_failed}
 use Rattle.redo_replay.specs.Replays.{HasVerdict}
-use Rattle.redo_replay.proofs.Inputs.{none_failed, one_fault}
+use Rattle.redo_replay.proofs.Inputs.{one_fault}
 use Rattle.redo_replay.proofs.texts.replay_text.Goals as goal
 
 pub returns-in_err-verdict-clause-only : goal.returns-in_err-verdict-clause-only

@@ -2,10 +2,11 @@ use Rattle.std.proofs.Common.{◌∙◌, false, sym, subst, inl, inr}
 use Rattle.std.proofs.lemmas.Result.{err_from_is_err_and}
 use Rattle.redo_model.specs.Names.{Text}
 use Rattle.redo_whole.specs.Watched.{failures_of, has_failed}
+use Rattle.redo_whole.proofs.Counts.{same_count}
 use Rattle.redo_session.specs.Runs.{RunsAs}
 use Rattle.redo_run_text.specs.Files.{bytes_of_files, failures_of_files, failed_files}
 use Rattle.redo_session.proofs.NoFault.{refused_only}
-use Rattle.redo_session.proofs.Devices.{device_read, is_same, none_failed}
+use Rattle.redo_session.proofs.Devices.{device_read, no_file_failed}
 use Rattle.redo_session.proofs.texts.run_texts.Goals as goal
 
 pub returns-in_err-text-clause-device : goal.returns-in_err-text-clause-device
@@ -15,13 +16,13 @@ returns-in_err-text-clause-device g c =
     (failures_of_files c.args.files.now) (failures_of_files c.text_of_files.new.files)
     (has_failed c.args.out.now c.args.out.now) c.in_err-text.field-0.0
     c.in_err-text.ensures.cause c.in_err-text.ensures.others
-    (is_same (failures_of c.args.out.now)))
+    (same_count (failures_of c.args.out.now)))
 
 pub returns-in-Ok-clause-device : goal.returns-in-Ok-clause-device
 returns-in-Ok-clause-device g c = (
   λ no. absurd no,
   λ up. elim up [
-    | inl any ↦ none_failed (failures_of_files c.args.files.now)
+    | inl any ↦ no_file_failed (failures_of_files c.args.files.now)
         (failures_of_files c.text_of_files.new.files) (c.in_ok-text.ensures.others (λ no. no)) any
     | inr failed ↦ absurd (let wrong = c.in-Ok.ensures.write.1 failed in cc)
   ],
