@@ -70,6 +70,14 @@ fn asked(text: &[u8]) -> Option<(u8, &[u8])>
     Some((session, command))
 }
 
+/// How much of a log was done again.
+#[derive(Clone, Copy)]
+struct Extent {
+    lines: usize,
+    /// Those of the lines, and of the header.
+    bytes: usize,
+}
+
 /// A database that does a log's lines, and buffers for one of them.
 #[derive(Drop)]
 struct Again {
@@ -111,26 +119,25 @@ impl Again {
         }
     }
 
-    /// Does all lines of a log again, which come after its header, by a database that knows nothing yet. Returns how
-    /// many they are, and how many bytes they and the header have.
+    /// Does all lines of a log again, which come after its header, by a database that knows nothing yet.
     fn redo_lines(
         &mut self,
         alloc: Global,
         log: &[u8],
         lines: &[u8],
-    ) -> Result<(usize, usize), RestoreFault>
+    ) -> Result<Extent, RestoreFault>
         requires log { log.now ≡ log_header ++ lines.now }
         requires names { self.old.live.names ≡ [] }
         requires state { state_in self.old.live ≡ empty }
         requires calls { calls_in self.old.live ≡ 0 }
-        ensures restored { IfOk result (λ counts. (done : List (Line Text)) × (torn : Text)
+        ensures restored { IfOk result (λ extent. (done : List (Line Text)) × (torn : Text)
             × IsLogOf log.now done torn × IsRestoredTo done
-            record { live = self.new.live; lines = counts.0; bytes = counts.1 }) }
+            record { live = self.new.live; lines = extent.lines; bytes = extent.bytes }) }
         ensures only { (done : List (Line Text)) (torn : Text) → IsLogOf log.now done torn
             → IfErr result IsOfRoom }
         ensures same { (done : List (Line Text)) (torn : Text) → IsLogOf log.now done torn
-            → IfOk result (λ counts. IsRestoredTo done
-            record { live = self.new.live; lines = counts.0; bytes = counts.1 }) }
+            → IfOk result (λ extent. IsRestoredTo done
+            record { live = self.new.live; lines = extent.lines; bytes = extent.bytes }) }
         ensures cause { IfErr result (IsRestoreCause log.now) }
     {
         let mut left = lines;
@@ -146,7 +153,10 @@ impl Again {
             left = rest;
             count += 1;
         }
-        Ok((count, log.len() - left.len()))
+        Ok(Extent {
+            lines: count,
+            bytes: log.len() - left.len(),
+        })
     }
 }
 
@@ -166,11 +176,11 @@ fn restore_lines(alloc: Global, log: &[u8], lines: &[u8]) -> Result<Restored, Re
         said: Vec::new(alloc),
         logged: Vec::new(alloc),
     };
-    let (lines, bytes) = again.redo_lines(alloc, log, lines)?;
+    let extent = again.redo_lines(alloc, log, lines)?;
     Ok(Restored {
         live: again.live,
-        lines,
-        bytes,
+        lines: extent.lines,
+        bytes: extent.bytes,
     })
 }
 
