@@ -165,6 +165,21 @@ fn put_numbered(out: &mut Vec<u8>, word: &[u8], number: u32) -> Result<(), Alloc
     put_word(out, Buffer::new().format(number).as_bytes())
 }
 
+/// Writes a word, and the names of these numbers after it.
+fn put_list(
+    out: &mut Vec<u8>,
+    word: &[u8],
+    names: &Names,
+    numbers: &[u32],
+) -> Result<(), AllocError>
+    requires { AllBelow (length names.now) numbers.now }
+    ensures { OnOk result (out.new.items ≡ out.old.items ++ word.now
+        ++ flat_map after_space (map (text_at names.now) numbers.now)) }
+{
+    out.extend_from_slice(word)?;
+    put_names(out, names, numbers)
+}
+
 /// Writes the words of a refusal.
 fn put_refusal(out: &mut Vec<u8>, refusal: Refusal, names: &Names) -> Result<(), AllocError>
     requires { IsReplyBelow (length names.now) (Refused (refusal_of refusal)) }
@@ -195,35 +210,25 @@ pub fn put_reply(
         (out.new.items ≡ out.old.items ++ reply_text_of (reply_at names.now reply.now)) }
 {
     match reply {
-        Reply::Okay => out.extend_from_slice(b"ok")?,
-        Reply::Granted(grant) => put_numbered(out, b"granted", *grant)?,
-        Reply::Busy(grant) => put_numbered(out, b"busy", *grant)?,
-        Reply::Stale(stale) => {
-            out.extend_from_slice(b"stale")?;
-            put_names(out, names, stale)?;
+        Reply::Okay => {
+            out.extend_from_slice(b"ok")?;
+            Ok(())
         }
+        Reply::Granted(grant) => put_numbered(out, b"granted", *grant),
+        Reply::Busy(grant) => put_numbered(out, b"busy", *grant),
+        Reply::Stale(stale) => put_list(out, b"stale", names, stale),
         Reply::Stamped(digest) => {
             out.extend_from_slice(b"stamped")?;
-            put_hex(alloc, out, &digest.bytes)?;
+            put_hex(alloc, out, &digest.bytes)
         }
-        Reply::Ood(ood) => {
-            out.extend_from_slice(keyword(Kind::Ood))?;
-            put_names(out, names, ood)?;
-        }
-        Reply::Targets(targets) => {
-            out.extend_from_slice(keyword(Kind::Targets))?;
-            put_names(out, names, targets)?;
-        }
-        Reply::Sources(sources) => {
-            out.extend_from_slice(keyword(Kind::Sources))?;
-            put_names(out, names, sources)?;
-        }
+        Reply::Ood(ood) => put_list(out, keyword(Kind::Ood), names, ood),
+        Reply::Targets(targets) => put_list(out, keyword(Kind::Targets), names, targets),
+        Reply::Sources(sources) => put_list(out, keyword(Kind::Sources), names, sources),
         Reply::Refused(refusal) => {
             out.extend_from_slice(b"refused")?;
-            put_refusal(out, *refusal, names)?;
+            put_refusal(out, *refusal, names)
         }
     }
-    Ok(())
 }
 
 /// The text of a reply, without LF.
