@@ -8,6 +8,7 @@ mod laws;
 mod logs;
 mod printed;
 mod read;
+mod verdict;
 
 pub use cuts::{cut_at, cut_at_arrow, cut_at_space};
 pub use fault::HistoryFault;
@@ -20,3 +21,4 @@ pub use logs::{cut_lines, one_cut};
 pub use printed::{history_text, put_answer, put_header, put_line, put_number, put_session};
 pub use read::{read_header, read_history, read_line, session_of};
 pub use redo_journal::MOST_SESSIONS;
+pub use verdict::Verdict;

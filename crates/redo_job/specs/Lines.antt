@@ -4,8 +4,8 @@ use Rattle.std.specs.declared.alloc.Global.{Global}
 use Rattle.redo_text.specs.Faults.{fault_word_of}
 use Rattle.redo_text.specs.declared.fault.Fault.{Fault}
 use Rattle.redo_text.specs.declared.fault.Fault.TheVariants.{Memory, Usage, CannotOpen, Read, TooLong, Line, BadHeader, Cut, BadSession, BadReply, NoSession, TooManySessions, Write}
-use Rattle.redo_replay.specs.declared.verdict.Verdict.{Verdict}
-use Rattle.redo_replay.specs.declared.verdict.Verdict.TheVariants.{Same, Differs}
+use Rattle.redo_history.specs.declared.verdict.Verdict.{Verdict}
+use Rattle.redo_history.specs.declared.verdict.Verdict.TheVariants.{Same, Differs}
 
 -- "-" means standard input
 abbrev pub name_or_dash : Option (String Global) → List ℕ

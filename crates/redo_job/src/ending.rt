@@ -6,7 +6,7 @@ ghost use Rattle.redo_job.specs.Lines.{file_name, fault_line, said, said_of, in_
 
 use arrayvec::ArrayVec;
 use itoa::Buffer;
-use redo_replay::Verdict;
+use redo_history::Verdict;
 use redo_text::{Fault, fault_word};
 use redo_whole::{Watched, WriteFault, write_whole};
 use std::io::Write;

@@ -14,7 +14,7 @@ use Rattle.redo_whole.specs.declared.whole.WriteFault.TheVariants.{Write}
 use Rattle.redo_live.specs.Inside.LiveState.{LiveState}
 use Rattle.redo_replay.specs.Replays.{IsReadAs, HasFault}
 use Rattle.redo_replay.specs.Verdicts.{IsSame, IsVerdict, verdict_at}
-use Rattle.redo_replay.specs.declared.verdict.Verdict.{Verdict}
+use Rattle.redo_history.specs.declared.verdict.Verdict.{Verdict}
 use Rattle.redo_replay.proofs.OneVerdict.{same_if_legal}
 
 -- the bytes are a history of these names, and the verdict is the right one on its lines

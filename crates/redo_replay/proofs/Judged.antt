@@ -23,8 +23,8 @@ use Rattle.redo_history.proofs.MoreNames.{IsReplyBelow-Extends, reply_at-Extends
 use Rattle.redo_live.specs.Inside.LiveState.{LiveState, state_in}
 use Rattle.redo_replay.specs.Verdicts.{IsFirstWrong}
 use Rattle.redo_replay.specs.Inside.Verdicts.{IsJudged}
-use Rattle.redo_replay.specs.declared.verdict.Verdict.{Verdict}
-use Rattle.redo_replay.specs.declared.verdict.Verdict.TheVariants.{Same, Differs}
+use Rattle.redo_history.specs.declared.verdict.Verdict.{Verdict}
+use Rattle.redo_history.specs.declared.verdict.Verdict.TheVariants.{Same, Differs}
 
 -- after legal lines the database gives this reply to the command of this line
 module _ (live next : LiveState) (names : next.names ≡ live.names)

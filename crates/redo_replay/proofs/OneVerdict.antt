@@ -9,8 +9,8 @@ use Rattle.redo_model.proofs.Texts.{texts_are_names}
 use Rattle.redo_model.proofs.Unique.{one_answer}
 use Rattle.redo_terms.specs.Meaning.{reply_at}
 use Rattle.redo_replay.specs.Verdicts.{Verdict, Same, Differs, IsSame, IsVerdict, IsFirstWrong, verdict_at}
-use Rattle.redo_replay.specs.declared.verdict.Verdict as declared
-use Rattle.redo_replay.specs.declared.verdict.Verdict.TheVariants as coded
+use Rattle.redo_history.specs.declared.verdict.Verdict as declared
+use Rattle.redo_history.specs.declared.verdict.Verdict.TheVariants as coded
 
 -- this line's reply is wrong after these lines, which are legal, and this is the right one
 record IsWrong (st : State Text) (before : List (Line Text)) (wrong : Line Text)

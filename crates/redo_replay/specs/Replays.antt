@@ -6,7 +6,7 @@ use Rattle.redo_model.specs.History.{Line}
 use Rattle.redo_replay.specs.Verdicts.{IsVerdict, verdict_at, verdict_text_of}
 use Rattle.redo_history.specs.HistoryTexts.{IsHistory}
 use Rattle.redo_history.specs.HistoryFaults.{IsHistoryFault}
-use Rattle.redo_replay.specs.declared.verdict.Verdict as declared
+use Rattle.redo_history.specs.declared.verdict.Verdict as declared
 use Rattle.redo_history.specs.declared.fault.HistoryFault.{HistoryFault}
 use Rattle.redo_history.specs.declared.fault.HistoryFault.TheVariants as histories
 use Rattle.redo_text.specs.declared.fault.Fault.{Fault}

@@ -8,8 +8,8 @@ use Rattle.redo_model.specs.History.{Line, left_by, Legal}
 use Rattle.redo_terms.specs.Meaning.{reply_at}
 use Rattle.redo_text.specs.Texts.{reply_text_of}
 use Rattle.redo_history.specs.Histories.{ended}
-use Rattle.redo_replay.specs.declared.verdict.Verdict as declared
-use Rattle.redo_replay.specs.declared.verdict.Verdict.TheVariants as coded
+use Rattle.redo_history.specs.declared.verdict.Verdict as declared
+use Rattle.redo_history.specs.declared.verdict.Verdict.TheVariants as coded
 
 -- they are, in this many lines; or the first wrong reply is on this line, counted from 1, and this
 -- is the right one

@@ -7,8 +7,8 @@ mod texts;
 mod verdict;
 
 pub use laws::{one_verdict, same_where_legal};
-pub use redo_history::HistoryFault;
+pub use redo_history::{HistoryFault, Verdict};
 pub use redo_live::Live;
 pub use replays::replay;
 pub use texts::{INPUT_LIMIT, replay_text};
-pub use verdict::{Verdict, verdict_text};
+pub use verdict::verdict_text;

@@ -11,8 +11,7 @@ ghost use Rattle.redo_live.specs.Inside.LiveState.{state_in, calls_in};
 ghost use Rattle.redo_replay.specs.Verdicts.{IsSame, IsVerdict, verdict_at};
 ghost use Rattle.redo_replay.specs.Inside.Verdicts.{IsVerdictBelow, IsJudged};
 
-use crate::verdict::Verdict;
-use redo_history::{HistoryFault, cut_at, read_header};
+use redo_history::{HistoryFault, Verdict, cut_at, read_header};
 use redo_live::Live;
 use redo_terms::Line;
 use std::alloc::{AllocError, Global};

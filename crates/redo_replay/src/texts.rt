@@ -9,8 +9,8 @@ ghost use Rattle.redo_replay.specs.Inside.Verdicts.{IsVerdictBelow};
 ghost use Rattle.redo_replay.specs.Replays.{IsKnownAs, HasVerdict, HasFault, WritesVerdict, WritesReplayPart, IsReplayCause};
 
 use crate::replays::replay;
-use crate::verdict::{Verdict, verdict_text};
-use redo_history::HistoryFault;
+use crate::verdict::verdict_text;
+use redo_history::{HistoryFault, Verdict};
 use redo_live::Live;
 use redo_text::Fault;
 use redo_whole::{Watched, WholeFault, WriteFault, read_whole, write_whole};

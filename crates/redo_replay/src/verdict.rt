@@ -2,21 +2,10 @@ ghost use Rattle.std.specs.Prelude.{◌≡◌, length, IfOk};
 ghost use Rattle.redo_replay.specs.Verdicts.{verdict_at, verdict_text_of};
 ghost use Rattle.redo_replay.specs.Inside.Verdicts.{IsVerdictBelow};
 
-use redo_history::put_number;
+use redo_history::{Verdict, put_number};
 use redo_names::Names;
-use redo_terms::Reply;
 use redo_text::put_reply;
 use std::alloc::{AllocError, Global};
-
-/// Whether a history's replies are those of the database.
-#[derive(Debug, Drop)]
-pub enum Verdict {
-    /// They are, in this number of lines.
-    Same(usize),
-    /// The reply of this line, counted from 1, is the first that is wrong, and this is the right
-    /// one.
-    Differs { line: usize, reply: Reply },
-}
 
 /// The text of a verdict: one line, with its LF.
 pub fn verdict_text(alloc: Global, verdict: &Verdict, names: &Names) -> Result<Vec<u8>, AllocError>

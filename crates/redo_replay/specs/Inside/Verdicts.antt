@@ -7,8 +7,8 @@ use Rattle.redo_model.specs.Renaming.{IsReplyBelow}
 use Rattle.redo_terms.specs.Meaning.{reply_of}
 use Rattle.redo_live.specs.Inside.LiveState.{LiveState, state_in}
 use Rattle.redo_replay.specs.Verdicts.{IsSame, IsVerdict, verdict_at}
-use Rattle.redo_replay.specs.declared.verdict.Verdict as declared
-use Rattle.redo_replay.specs.declared.verdict.Verdict.TheVariants as coded
+use Rattle.redo_history.specs.declared.verdict.Verdict as declared
+use Rattle.redo_history.specs.declared.verdict.Verdict.TheVariants as coded
 
 -- the verdict's numbers are below n
 abbrev pub IsVerdictBelow : ℕ → declared.Verdict → Type 0
