@@ -54,11 +54,15 @@ impl DepRows {
         ensures room { IfOk result (λ rows. (t n : ℕ) → room_of rows t n ≡ false) }
     {
         let count = names as usize;
+        let slotted = vec![in alloc; 0; count]?;
+        let awaited = made::empty_lists(alloc, count)?;
+        let needed = made::empty_lists(alloc, count)?;
+        let targets = made::bare_targets(alloc, count)?;
         Ok(DepRows {
-            targets: made::bare_targets(alloc, count)?,
-            needed: made::empty_lists(alloc, count)?,
-            awaited: made::empty_lists(alloc, count)?,
-            slotted: vec![in alloc; 0; count]?,
+            targets,
+            needed,
+            awaited,
+            slotted,
         })
     }
 
@@ -72,11 +76,11 @@ impl DepRows {
     {
         let alloc = *self.targets.allocator();
         let more = names as usize - self.targets.len();
-        let mut targets = made::bare_targets(alloc, more)?;
-        let mut needed = made::empty_lists(alloc, more)?;
-        let mut awaited = made::empty_lists(alloc, more)?;
-        let slotted = extended(alloc, &self.slotted, names as usize, 0)?;
         made::reserve_each(&mut self.targets, &mut self.needed, &mut self.awaited, more)?;
+        let slotted = extended(alloc, &self.slotted, names as usize, 0)?;
+        let mut awaited = made::empty_lists(alloc, more)?;
+        let mut needed = made::empty_lists(alloc, more)?;
+        let mut targets = made::bare_targets(alloc, more)?;
         let _targets = self.targets.append(&mut targets);
         let _needed = self.needed.append(&mut needed);
         let _awaited = self.awaited.append(&mut awaited);

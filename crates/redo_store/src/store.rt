@@ -67,8 +67,8 @@ impl Store {
         let count = names.len();
         let sorted = sorted_numbers(alloc, names)?;
         let ranks = ranks_of(alloc, &sorted)?;
-        let memo = Ood::new(alloc, count)?;
         let records = Records::new(alloc, count)?;
+        let memo = Ood::new(alloc, count)?;
         let rows = DepRows::new(alloc, count)?;
         Ok(Store {
             records,

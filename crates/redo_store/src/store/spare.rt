@@ -21,8 +21,8 @@ impl Store {
     {
         let sorted = numbers_below(alloc, numbers)?;
         let ranks = numbers_below(alloc, numbers)?;
-        let memo = Ood::new(alloc, numbers)?;
         let records = Records::new(alloc, numbers)?;
+        let memo = Ood::new(alloc, numbers)?;
         let rows = DepRows::new(alloc, numbers)?;
         Ok(Store {
             records,
