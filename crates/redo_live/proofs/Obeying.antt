@@ -1,10 +1,9 @@
 -- The line of the answer answers a session's command.
-use Rattle.std.proofs.Common.{◌≡◌, ◌+◌, ◌<◌, ℕ, Bool, cond, List, [], ◌∷◌, ◌++◌, refl, sym, ap, ◌∙◌, subst, length}
+use Rattle.std.proofs.Common.{◌≡◌, ◌+◌, ◌<◌, ℕ, Bool, cond, List, [], ◌∷◌, ◌++◌, sym, ap, ◌∙◌, subst, length}
 use Rattle.redo_names.specs.Inside.Names.{AreNames}
 use Rattle.redo_model.specs.Names.{Text, texts, text_at}
 use Rattle.redo_model.specs.State.{State}
 use Rattle.redo_model.specs.Command.{Command}
-use Rattle.redo_model.specs.Reply.{Reply as ReplyOf}
 use Rattle.redo_model.specs.Step.{Answers, after}
 use Rattle.redo_model.specs.Changes.{changes}
 use Rattle.redo_model.specs.Renaming.{IsBelow, named_command, named_reply}
@@ -12,17 +11,14 @@ use Rattle.redo_model.specs.Inside.Renaming.{named_state, numbering}
 use Rattle.redo_model.proofs.StepsByName.{after_by_name}
 use Rattle.redo_model.proofs.Texts.{texts_are_names}
 use Rattle.redo_terms.specs.Meaning.{command_of, reply_of, line_at, by_text}
-use Rattle.redo_terms.specs.declared.command.Command.{Command as Asked}
 use Rattle.redo_terms.specs.declared.reply.Line.{Line}
 use Rattle.redo_terms.specs.declared.reply.Reply.{Reply}
 use Rattle.redo_text.specs.Grammar.{IsCommandLine, AddsNames}
 use Rattle.redo_store.specs.Tables.{Tables, state_of, tables_records, tables_order, calls_of}
 use Rattle.redo_store.specs.Inside.Tables.{tables_naming}
-use Rattle.redo_history.specs.Histories.{line_text_of}
 use Rattle.redo_live.specs.Inside.Answered.{logged_text}
 use Rattle.redo_live.specs.Inside.LiveState.{LiveState, state_in, calls_in}
 use Rattle.redo_live.specs.Inside.Kept.{IsKept}
-use Rattle.redo_live.specs.Inside.Ordered.{IsSortedReply}
 use Rattle.redo_live.specs.Inside.Told.{IsTold, IsObeyed, AnswersText, IsUnansweredFor}
 use Rattle.redo_live.specs.Inside.Withheld.{WouldObey, IsUnobeyedFor, IsWithheldFor}
 use Rattle.redo_live.specs.declared.fault.Withheld.{Withheld}
@@ -30,26 +26,6 @@ use Rattle.redo_live.specs.declared.fault.Withheld.TheVariants.{Unanswered, TooL
 use Rattle.redo_live.proofs.Answering.{renaming, now_answers}
 use Rattle.redo_live.proofs.Changing.{changes_by_name}
 use Rattle.redo_live.proofs.Keeping.{IsKept-after}
-
--- the line with the database's reply, whose names were put into order
-pub line_is_told : (live : LiveState) (session : ℕ) (command : Asked) (reply copy sorted : Reply)
-    (text : Text)
-    → Answers (tables_naming live.tables) (state_of live.tables) session (command_of command)
-    (reply_of reply)
-    → reply_of copy ≡ reply_of reply
-    → IsSortedReply (by_text live.names).order (reply_of copy) (reply_of sorted)
-    → text ≡ line_text_of (line_at live.names
-    (record { session = session; command = command; reply = sorted }))
-    → IsTold live session (command_of command)
-    (record { session = session; command = command; reply = sorted }) reply text
-line_is_told live session command reply copy sorted text answers same is_sorted is_text = record {
-  session_is = refl;
-  command_is = refl;
-  answers = answers;
-  sorted = subst (λ (of_numbers : ReplyOf ℕ). IsSortedReply (by_text live.names).order of_numbers
-      (reply_of sorted)) same is_sorted;
-  text_is = is_text;
-}
 
 module _ (names : List Text) (are : AreNames names) (tables : Tables)
     (kept : IsKept names (state_of tables) (calls_of tables)) (session : ℕ) (command : Command ℕ)

@@ -8,11 +8,10 @@ ghost use Rattle.redo_store.specs.Stored.{has_room_for};
 ghost use Rattle.redo_store.specs.Tables.{tables_count};
 
 use crate::fault::{Unanswered, Withheld};
-use crate::ordering::ordered;
-use crate::told::{line_text, tell, text_if};
+use crate::told::{answered, line_text, tell, text_if};
 use redo_names::{MOST_NAMES, Names};
 use redo_store::Redo;
-use redo_terms::{Command, Line};
+use redo_terms::Command;
 use redo_text::read_command;
 use std::alloc::{AllocError, Global};
 use std::marker::Model;
@@ -193,12 +192,7 @@ impl Live {
         self.make_room(&command)?;
         let old_line = self.take_line(alloc);
         let reply = self.redo.reply(alloc, session, &command)?;
-        let copy = reply.copy(alloc)?;
-        let line = Line {
-            session,
-            command,
-            reply: ordered(&self.names, copy),
-        };
+        let line = answered(alloc, session, command, &reply, &self.names)?;
         let text = line_text(alloc, &line, &self.names, old_line)?;
         let size = text.len();
         if size > most {

@@ -1,12 +1,14 @@
 ghost use Rattle.std.specs.Prelude.{◌≡◌, ◌++◌, [], length, if◌then◌else◌, IfOk, OnOk, OnErr};
 ghost use Rattle.redo_model.specs.Renaming.{IsLineBelow};
-ghost use Rattle.redo_terms.specs.Meaning.{line_of, line_at};
+ghost use Rattle.redo_terms.specs.Meaning.{command_of, reply_of, line_of, line_at, by_text};
 ghost use Rattle.redo_history.specs.Histories.{line_text_of};
+ghost use Rattle.redo_live.specs.Inside.Ordered.{IsSortedReply};
 ghost use Rattle.redo_live.specs.Inside.Told.{TellsNothing};
 
+use crate::ordering::ordered;
 use redo_history::put_line;
 use redo_names::Names;
-use redo_terms::Line;
+use redo_terms::{Command, Line, Reply};
 use std::alloc::{AllocError, Global};
 
 /// The text if `wanted`, else nothing.
@@ -14,6 +16,27 @@ pub(crate) fn text_if(wanted: bool, text: &[u8]) -> &[u8]
     ensures { result.now ≡ (if wanted then text.now else []) }
 {
     if wanted { text } else { &[] }
+}
+
+/// The line of a command that got this reply; its list of names is in the order of their texts.
+pub(crate) fn answered(
+    alloc: Global,
+    session: u8,
+    command: Command,
+    reply: &Reply,
+    names: &Names,
+) -> Result<Line, AllocError>
+    ensures session { IfOk result (λ line. line.session ≡ session) }
+    ensures command { IfOk result (λ line. command_of line.command ≡ command_of command) }
+    ensures reply { IfOk result (λ line. IsSortedReply (by_text names.now).order
+        (reply_of reply.now) (reply_of line.reply)) }
+{
+    let copy = reply.copy(alloc)?;
+    Ok(Line {
+        session,
+        command,
+        reply: ordered(names, copy),
+    })
 }
 
 /// The line of a history, with its LF, in the memory of an older one.

@@ -2,17 +2,18 @@ use Rattle.std.proofs.Common.{◌≡◌, ◌∙◌, ℕ, ◌<◌, ◌≤◌, ◌
 use Rattle.std.proofs.lemmas.Grind.{common_steps}
 use Rattle.redo_names.specs.Inside.Names.{AreNames}
 use Rattle.redo_model.specs.Names.{Text}
-use Rattle.redo_model.specs.Reply.{Reply}
+use Rattle.redo_model.specs.Command.{Command}
+use Rattle.redo_model.specs.Step.{Answers}
 use Rattle.redo_model.specs.Renaming.{IsBelow}
-use Rattle.redo_terms.specs.Meaning.{command_of, reply_of, by_text}
-use Rattle.redo_terms.specs.declared.reply.Line.{Line}
+use Rattle.redo_terms.specs.Meaning.{command_of, reply_of}
 use Rattle.redo_store.specs.Tables.{state_of, calls_of, tables_count}
+use Rattle.redo_store.specs.Inside.Tables.{tables_naming}
 use Rattle.redo_live.specs.Inside.LiveState.{LiveState, calls_in}
 use Rattle.redo_live.specs.Inside.Kept.{live_of}
-use Rattle.redo_live.specs.Inside.Ordered.{IsSortedReply}
+use Rattle.redo_live.specs.Inside.Told.{IsTold}
 use Rattle.redo_live.specs.Inside.Withheld.{WouldObey}
 use Rattle.redo_live.proofs.Answering.{below_more, now_below}
-use Rattle.redo_live.proofs.Obeying.{kept_after, line_is_told, obeyed, would_obey}
+use Rattle.redo_live.proofs.Obeying.{kept_after, obeyed, would_obey}
 use Rattle.redo_live.proofs.live.Live.obey.Goals as goal
 
 pub reply-requires-clause-numbers : goal.reply-requires-clause-numbers
@@ -49,14 +50,11 @@ line_text-requires c =
     let are : AreNames names = subst AreNames (sym old_names) c.requires.names in
     let below : IsBelow (length names) command =
     subst (λ (ns : List Text). IsBelow (length ns) command) (sym old_names) c.requires.below in
-    let sorted : IsSortedReply (by_text names).order (reply_of c.in_ok-reply.reply)
-    (reply_of c.ordered.result) =
-    subst (λ (reply : Reply ℕ). IsSortedReply (by_text names).order reply
-    (reply_of c.ordered.result)) c.in_ok-copy.ensures c.ordered.ensures in (
-      below,
+    let told = c.in_ok-line.line in (
+      subst (IsBelow (length names)) (sym c.in_ok-line.ensures.command) below,
       now_below names are tables c.self.invariant.state.within c.args.session command below
-          (reply_of c.in_ok-reply.reply) (reply_of c.ordered.result)
-          c.in_ok-reply.ensures.answers sorted,
+          (reply_of c.in_ok-reply.reply) (reply_of told.reply) c.in_ok-reply.ensures.answers
+          c.in_ok-line.ensures.reply,
     )
 
 pub returns-then-size-most-clause-cause : goal.returns-then-size-most-clause-cause
@@ -74,14 +72,15 @@ returns-then-size-most-clause-cause c =
     let below : IsBelow (length names) command =
     subst (λ (ns : List Text). IsBelow (length ns) command) (sym old_names) c.requires.below in
     let text = c.in_ok-text.text in
-    let told : Line = record {
-      session = c.args.session;
-      command = c.args.command;
-      reply = c.ordered.result;
+    let told = c.in_ok-line.line in
+    let is : IsTold (live_of c.self.inside) c.args.session command told c.in_ok-reply.reply
+    text.items = record {
+      session_is = c.in_ok-line.ensures.session;
+      command_is = c.in_ok-line.ensures.command;
+      answers = c.in_ok-reply.ensures.answers;
+      sorted = c.in_ok-line.ensures.reply;
+      text_is = c.in_ok-text.ensures;
     } in
-    let is = line_is_told (live_of c.self.inside) c.args.session c.args.command
-    c.in_ok-reply.reply c.in_ok-copy.copy c.ordered.result text.items
-    c.in_ok-reply.ensures.answers c.in_ok-copy.ensures c.ordered.ensures c.in_ok-text.ensures in
     let counted : vec_len text ≡ length text.items = search rules in (
       omega (arith, c.if-size-most.true),
       subst (WouldObey c.args.self.now c.args.session command) (sym (c.len-size.ensures ∙ counted))
@@ -102,7 +101,8 @@ changes-changes-requires c =
     let few : length names ≤ tables_count tables =
     subst (λ (l : LiveState). length l.names ≤ tables_count l.tables)
     (sym (c.self.view_is ∙ c.take_line-old_line.ensures)) c.in_ok-make_room.ensures.count in
-    below_more (length names) (tables_count tables) command few below
+    subst (IsBelow (tables_count tables)) (sym c.in_ok-line.ensures.command)
+    (below_more (length names) (tables_count tables) command few below)
 
 pub change-requires-clause-numbers : goal.change-requires-clause-numbers
 change-requires-clause-numbers c =
@@ -117,7 +117,8 @@ change-requires-clause-numbers c =
     let few : length names ≤ tables_count tables =
     subst (λ (l : LiveState). length l.names ≤ tables_count l.tables)
     (sym (c.self.view_is ∙ c.take_line-old_line.ensures)) c.in_ok-make_room.ensures.count in
-    below_more (length names) (tables_count tables) command few below
+    subst (IsBelow (tables_count tables)) (sym c.in_ok-line.ensures.command)
+    (below_more (length names) (tables_count tables) command few below)
 
 pub invariant_of-self : goal.invariant_of-self
 invariant_of-self c =
@@ -133,14 +134,15 @@ invariant_of-self c =
     let below : IsBelow (length names) command =
     subst (λ (ns : List Text). IsBelow (length ns) command) (sym old_names) c.requires.below in
     let text = c.in_ok-text.text in
-    let told : Line = record {
-      session = c.args.session;
-      command = c.args.command;
-      reply = c.ordered.result;
+    let told = c.in_ok-line.line in
+    let is : IsTold (live_of c.self.inside) c.args.session command told c.in_ok-reply.reply
+    text.items = record {
+      session_is = c.in_ok-line.ensures.session;
+      command_is = c.in_ok-line.ensures.command;
+      answers = c.in_ok-reply.ensures.answers;
+      sorted = c.in_ok-line.ensures.reply;
+      text_is = c.in_ok-text.ensures;
     } in
-    let is = line_is_told (live_of c.self.inside) c.args.session c.args.command
-    c.in_ok-reply.reply c.in_ok-copy.copy c.ordered.result text.items
-    c.in_ok-reply.ensures.answers c.in_ok-copy.ensures c.ordered.ensures c.in_ok-text.ensures in
     record {
       state = kept_after names are tables c.self.invariant.state c.args.session command below told
           c.in_ok-reply.reply text.items is c.change.new.self c.change.ensures.after
@@ -168,14 +170,15 @@ returns-clause-obeyed c =
     let below : IsBelow (length names) command =
     subst (λ (ns : List Text). IsBelow (length ns) command) (sym old_names) c.requires.below in
     let text = c.in_ok-text.text in
-    let told : Line = record {
-      session = c.args.session;
-      command = c.args.command;
-      reply = c.ordered.result;
+    let told = c.in_ok-line.line in
+    let is : IsTold (live_of c.self.inside) c.args.session command told c.in_ok-reply.reply
+    text.items = record {
+      session_is = c.in_ok-line.ensures.session;
+      command_is = c.in_ok-line.ensures.command;
+      answers = c.in_ok-reply.ensures.answers;
+      sorted = c.in_ok-line.ensures.reply;
+      text_is = c.in_ok-text.ensures;
     } in
-    let is = line_is_told (live_of c.self.inside) c.args.session c.args.command
-    c.in_ok-reply.reply c.in_ok-copy.copy c.ordered.result text.items
-    c.in_ok-reply.ensures.answers c.in_ok-copy.ensures c.ordered.ensures c.in_ok-text.ensures in
     let changes = c.changes-changes.result in
     obeyed names are tables c.self.invariant.state c.args.session command below told
     c.in_ok-reply.reply text.items is c.change.new.self c.change.ensures.after
@@ -190,7 +193,11 @@ pub returns-clause-fits : goal.returns-clause-fits
 returns-clause-fits c = grind (arith, common_steps)
 
 pub change-requires-clause-answers : goal.change-requires-clause-answers
-change-requires-clause-answers c = grind (arith, common_steps)
+change-requires-clause-answers c =
+    let tables = c.self.inside.redo in
+    subst (λ (command : Command ℕ). Answers (tables_naming tables) (state_of tables)
+    c.args.session command (reply_of c.in_ok-reply.reply)) (sym c.in_ok-line.ensures.command)
+    c.in_ok-reply.ensures.answers
 
 pub returns-clause-names : goal.returns-clause-names
 returns-clause-names c = grind (arith, common_steps)
