@@ -16,7 +16,7 @@ use std::thread;
 use std::thread::Threads;
 
 /// Where a text has the command and reply of a printed line, with the LF after them.
-#[derive(Clone, Copy, Debug)]
+#[derive(Clone, Copy)]
 pub(crate) struct Span {
     pub(crate) start: usize,
     pub(crate) end: usize,
@@ -75,7 +75,7 @@ pub(crate) fn put_lines(
 }
 
 /// A chunk of the history, printed.
-#[derive(Debug, Drop)]
+#[derive(Drop)]
 pub(crate) struct Printed {
     pub(crate) text: Vec<u8>,
     /// Where the text has the command and reply of each line.

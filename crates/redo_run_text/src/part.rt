@@ -118,7 +118,7 @@ fn put_header(text: &mut Vec<u8>, session: u8, count: usize) -> Result<(), Alloc
 }
 
 /// What is printed of a session so far.
-#[derive(Debug, Drop)]
+#[derive(Drop)]
 pub(crate) struct Part {
     /// How many lines of its script are printed.
     next: usize,

@@ -43,7 +43,7 @@ impl From<WriteFault> for TalkFault {
 }
 
 /// The fault of a line: the session's number in the answer, 0 if the line has none, and its word.
-#[derive(Clone, Copy, Debug)]
+#[derive(Clone, Copy)]
 pub(crate) struct Refusal {
     pub number: u8,
     pub word: &'static str,

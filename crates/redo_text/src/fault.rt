@@ -154,7 +154,7 @@ pub enum ReplyFault {
 }
 
 /// Why a line could not be read, apart from its number.
-#[derive(Debug, Drop)]
+#[derive(Drop)]
 pub(crate) enum Unread {
     Memory,
     Fault(LineFault),

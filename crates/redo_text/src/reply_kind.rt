@@ -9,7 +9,7 @@ use crate::keywords::keyword;
 use redo_terms::Kind;
 
 /// The kind of a reply: its case alone.
-#[derive(Clone, Copy, Debug)]
+#[derive(Clone, Copy)]
 pub(crate) enum ReplyKind {
     Okay,
     Granted,
