@@ -1,5 +1,5 @@
--- How names are distinguished and ordered. The definitions are for names of any kind: the contracts
--- use texts, and the code uses numbers.
+-- Texts, and how names of any kind are distinguished and ordered: the contracts use texts, and the
+-- code uses numbers.
 use Rattle.std.specs.Prelude.{◌≡◌, ℕ, Bool, ◌&&◌, nat_le, cond, List, [], slice_index_or, bytes_eq, ◌==◌, ◌↔◌, AllPairs, Contains}
 use Rattle.std.specs.Ordering.{nat_cmp}
 use Rattle.std.specs.declared.cmp.Ordering.{Ordering}
