@@ -1,13 +1,53 @@
-ghost use Rattle.std.specs.Prelude.{◌≡◌, ◌+◌, ◌≤◌, length, replicate, vec_capacity, IfOk, OnOk};
+ghost use Rattle.std.specs.Prelude.{◌≡◌, ◌+◌, ◌≤◌, ℕ, length, replicate, slice_index_or, vec_capacity, IfOk, OnOk};
 ghost use Rattle.redo_records.specs.Rows.{bare};
 ghost use Rattle.redo_records.specs.Inside.Kept.{AreEmpty};
 
+use crate::lists::extended;
 use crate::numbers::Numbers;
 use crate::target::Target;
 use std::alloc::{AllocError, Global};
 
+/// What more names take that have no rows and no slots.
+#[derive(Drop)]
+pub(crate) struct More {
+    pub(crate) targets: Vec<Target>,
+    pub(crate) needed: Vec<Numbers>,
+    pub(crate) awaited: Vec<Numbers>,
+    /// For each name, the earlier ones too, how many targets have a slot for it.
+    pub(crate) slotted: Vec<usize>,
+}
+
+/// What that many more names take, if there are `names` in all then.
+pub(crate) fn more_names(
+    alloc: Global,
+    more: usize,
+    slotted: &[usize],
+    names: usize,
+) -> Result<More, AllocError>
+    requires { length slotted.now ≤ names }
+    ensures targets { IfOk result (λ made. made.targets.items ≡ replicate more bare) }
+    ensures needed { IfOk result (λ made. length made.needed.items ≡ more) }
+    ensures awaited { IfOk result (λ made. length made.awaited.items ≡ more) }
+    ensures no_needed { IfOk result (λ made. AreEmpty made.needed.items) }
+    ensures no_awaited { IfOk result (λ made. AreEmpty made.awaited.items) }
+    ensures count { IfOk result (λ made. length made.slotted.items ≡ names) }
+    ensures same { IfOk result (λ made. (n : ℕ)
+        → slice_index_or made.slotted.items n 0 ≡ slice_index_or slotted.now n 0) }
+{
+    let slotted = extended(alloc, slotted, names, 0)?;
+    let awaited = empty_lists(alloc, more)?;
+    let needed = empty_lists(alloc, more)?;
+    let targets = bare_targets(alloc, more)?;
+    Ok(More {
+        targets,
+        needed,
+        awaited,
+        slotted,
+    })
+}
+
 /// That many targets without rows and slots.
-pub(crate) fn bare_targets(alloc: Global, count: usize) -> Result<Vec<Target>, AllocError>
+fn bare_targets(alloc: Global, count: usize) -> Result<Vec<Target>, AllocError>
     ensures { IfOk result (λ targets. targets.items ≡ replicate count bare) }
 {
     let mut targets = Vec::with_capacity(alloc, count)?;
@@ -18,7 +58,7 @@ pub(crate) fn bare_targets(alloc: Global, count: usize) -> Result<Vec<Target>, A
 }
 
 /// That many lists without numbers.
-pub(crate) fn empty_lists(alloc: Global, count: usize) -> Result<Vec<Numbers>, AllocError>
+fn empty_lists(alloc: Global, count: usize) -> Result<Vec<Numbers>, AllocError>
     ensures count { IfOk result (λ lists. length lists.items ≡ count) }
     ensures empty { IfOk result (λ lists. AreEmpty lists.items) }
 {

@@ -10,7 +10,6 @@ ghost use Rattle.redo_records.specs.Target.{Ascending};
 ghost use Rattle.redo_records.specs.Rows.{rows_count, rows_of, room_of, target_at, has_slot, with_change, with_created, with_always, without_rows, HasChangeRowOn, HasCreatedRowOn, by_number, with_rows};
 
 use crate::cell::Cell;
-use crate::lists::extended;
 use crate::mark::Mark;
 use crate::news::{News, first_news};
 use crate::numbers::{Numbers, Place};
@@ -53,16 +52,12 @@ impl DepRows {
         ensures rows { IfOk result (λ rows. rows_of rows ≡ no_rows) }
         ensures room { IfOk result (λ rows. (t n : ℕ) → room_of rows t n ≡ false) }
     {
-        let count = names as usize;
-        let slotted = vec![in alloc; 0; count]?;
-        let awaited = made::empty_lists(alloc, count)?;
-        let needed = made::empty_lists(alloc, count)?;
-        let targets = made::bare_targets(alloc, count)?;
+        let made = made::more_names(alloc, names as usize, &[], names as usize)?;
         Ok(DepRows {
-            targets,
-            needed,
-            awaited,
-            slotted,
+            targets: made.targets,
+            needed: made.needed,
+            awaited: made.awaited,
+            slotted: made.slotted,
         })
     }
 
@@ -77,14 +72,11 @@ impl DepRows {
         let alloc = *self.targets.allocator();
         let more = names as usize - self.targets.len();
         made::reserve_each(&mut self.targets, &mut self.needed, &mut self.awaited, more)?;
-        let slotted = extended(alloc, &self.slotted, names as usize, 0)?;
-        let mut awaited = made::empty_lists(alloc, more)?;
-        let mut needed = made::empty_lists(alloc, more)?;
-        let mut targets = made::bare_targets(alloc, more)?;
-        let _targets = self.targets.append(&mut targets);
-        let _needed = self.needed.append(&mut needed);
-        let _awaited = self.awaited.append(&mut awaited);
-        self.slotted = slotted;
+        let mut made = made::more_names(alloc, more, &self.slotted, names as usize)?;
+        let _targets = self.targets.append(&mut made.targets);
+        let _needed = self.needed.append(&mut made.needed);
+        let _awaited = self.awaited.append(&mut made.awaited);
+        self.slotted = made.slotted;
         Ok(())
     }
 

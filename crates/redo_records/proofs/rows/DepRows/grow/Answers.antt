@@ -19,9 +19,9 @@ invariant_of-self-2 c =
     let old = c.self.inside in
     let room = c.reserve_each.new in
     let more = c.args.names - c.len.result in
-    let made = c.in_ok-targets.targets in
-    let needed = c.in_ok-needed.needed in
-    let awaited = c.in_ok-awaited.awaited in
+    let made = c.in_ok-made.made.targets in
+    let needed = c.in_ok-made.made.needed in
+    let awaited = c.in_ok-made.made.awaited in
     let same = c.in_ok-reserve_each.ensures in
     let old_len : vec_len old.targets ≡ length old.targets.items = search rules in
     let room_len : vec_len room.targets ≡ length room.targets.items = search rules in
@@ -31,7 +31,7 @@ invariant_of-self-2 c =
     let needed_len : vec_len needed ≡ length needed.items = search rules in
     let awaited_len : vec_len awaited ≡ length awaited.items = search rules in
     let made_count : length made.items ≡ more =
-    ap length c.in_ok-targets.ensures ∙ length-replicate more bare in
+    ap length c.in_ok-made.ensures.targets ∙ length-replicate more bare in
     let count : length old.targets.items + more ≡ c.args.names =
     omega (arith, c.requires, ap length c.self.view_is, c.len.ensures, old_len) in
     let targets : c.append-targets.new.self.items ≡ old.targets.items ++ replicate more bare =
@@ -39,11 +39,11 @@ invariant_of-self-2 c =
     (c.append-targets.ensures.succeeds
     (omega (arith, same.room, room_len, made_len, made_count)))
     c.append-targets.ensures.items same.targets
-    ∙ ap (λ (xs : List TargetRows). old.targets.items ++ xs) c.in_ok-targets.ensures in
+    ∙ ap (λ (xs : List TargetRows). old.targets.items ++ xs) c.in_ok-made.ensures.targets in
     let need : c.append-needed.new.self.items ≡ old.needed.items ++ needed.items =
     joined _ _ room.needed.items old.needed.items needed.items
     (c.append-needed.ensures.succeeds
-    (omega (arith, same.needed_room, needed_room_len, needed_len, c.in_ok-needed.ensures.count)))
+    (omega (arith, same.needed_room, needed_room_len, needed_len, c.in_ok-made.ensures.needed)))
     c.append-needed.ensures.items same.needed in
     let await : c.append-awaited.new.self.items ≡ old.awaited.items ++ awaited.items =
     joined _ _ room.awaited.items old.awaited.items awaited.items
@@ -53,17 +53,17 @@ invariant_of-self-2 c =
       same.awaited_room,
       awaited_room_len,
       awaited_len,
-      c.in_ok-awaited.ensures.count,
+      c.in_ok-made.ensures.awaited,
     )))
     c.append-awaited.ensures.items same.awaited in
-    let slotted = c.in_ok-slotted.slotted.items in
+    let slotted = c.in_ok-made.made.slotted.items in
     let kept =
     kept_grown old.targets.items more old.needed.items needed.items old.awaited.items awaited.items
     old.slotted.items slotted (omega (arith, count))
-    c.in_ok-needed.ensures.count c.in_ok-needed.ensures.empty
-    c.in_ok-awaited.ensures.count c.in_ok-awaited.ensures.empty
-    (c.in_ok-slotted.ensures.count ∙ sym count)
-    (λ n. c.in_ok-slotted.ensures.same n
+    c.in_ok-made.ensures.needed c.in_ok-made.ensures.no_needed
+    c.in_ok-made.ensures.awaited c.in_ok-made.ensures.no_awaited
+    (c.in_ok-made.ensures.count ∙ sym count)
+    (λ n. c.in_ok-made.ensures.same n
     ∙ ap (λ (xs : List ℕ). get_or xs n 0) c.deref.ensures.value)
     c.self.invariant in
     subst (λ (ts : List TargetRows). IsKept ts c.append-needed.new.self.items
@@ -78,18 +78,18 @@ returns-clause-rows c =
     let old = c.self.inside in
     let room = c.reserve_each.new in
     let more = c.args.names - c.len.result in
-    let made = c.in_ok-targets.targets in
+    let made = c.in_ok-made.made.targets in
     let same = c.in_ok-reserve_each.ensures in
     let room_len : vec_len room.targets ≡ length room.targets.items = search rules in
     let made_len : vec_len made ≡ length made.items = search rules in
     let made_count : length made.items ≡ more =
-    ap length c.in_ok-targets.ensures ∙ length-replicate more bare in
+    ap length c.in_ok-made.ensures.targets ∙ length-replicate more bare in
     let targets : c.append-targets.new.self.items ≡ old.targets.items ++ replicate more bare =
     joined _ _ room.targets.items old.targets.items made.items
     (c.append-targets.ensures.succeeds
     (omega (arith, same.room, room_len, made_len, made_count)))
     c.append-targets.ensures.items same.targets
-    ∙ ap (λ (xs : List TargetRows). old.targets.items ++ xs) c.in_ok-targets.ensures in
+    ∙ ap (λ (xs : List TargetRows). old.targets.items ++ xs) c.in_ok-made.ensures.targets in
     ap rows_of targets ∙ rows_grown old.targets.items more ∙ ap rows_of c.self.view_is
 
 pub returns-clause-count : goal.returns-clause-count
