@@ -1,16 +1,33 @@
-//! Tests of names, of texts, of reports, and of runs whose readers and writers fail.
+//! Tests of the database and the layers below it, of names and texts, of reports, of runs whose
+//! readers and writers fail, and of the live database, its log and its conversation.
 #![tactic(auto)]
 
 #[cfg(test)]
+mod bits;
+#[cfg(test)]
 mod devices;
+#[cfg(test)]
+mod digests;
 #[cfg(test)]
 mod finish;
 #[cfg(test)]
 mod lines;
 #[cfg(test)]
+mod live;
+#[cfg(test)]
+mod log;
+#[cfg(test)]
 mod names;
 #[cfg(test)]
+mod records;
+#[cfg(test)]
+mod regions;
+#[cfg(test)]
+mod rows;
+#[cfg(test)]
 mod shared;
+#[cfg(test)]
+mod talk;
 #[cfg(test)]
 mod texts;
 #[cfg(test)]

@@ -4,7 +4,7 @@ ghost use Rattle.redo_model.specs.State.{is_building};
 ghost use Rattle.redo_records.specs.Cells.{cell_at};
 ghost use Rattle.redo_records.specs.Rows.{rows_count, with_rows};
 ghost use Rattle.redo_marks.specs.Memo.{memo_count, IsRight};
-ghost use Rattle.redo_tests_store.specs.declared.regions.TheConstants.{NAMES};
+ghost use Rattle.redo_tests.specs.declared.regions.TheConstants.{NAMES};
 
 use redo_ood::Ood;
 use redo_records::{DepRows, Records, State, digest_of};

@@ -1,5 +1,5 @@
 use Rattle.redo_store.proofs.Refreshing.{was_right_by_start}
-use Rattle.redo_tests_store.proofs.regions.Graph.check_start.Goals as goal
+use Rattle.redo_tests.proofs.regions.Graph.check_start.Goals as goal
 
 pub refresh-requires-clause-right : goal.refresh-requires-clause-right
 refresh-requires-clause-right g c =

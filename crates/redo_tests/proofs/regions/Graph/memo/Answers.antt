@@ -1,6 +1,6 @@
 use Rattle.redo_model.specs.State.{empty}
-use Rattle.redo_tests_store.proofs.Seeds.{differ_everywhere, numbers_below}
-use Rattle.redo_tests_store.proofs.regions.Graph.memo.Goals as goal
+use Rattle.redo_tests.proofs.Seeds.{differ_everywhere, numbers_below}
+use Rattle.redo_tests.proofs.regions.Graph.memo.Goals as goal
 
 pub refresh-requires-clause-seeds : goal.refresh-requires-clause-seeds
 refresh-requires-clause-seeds c =
