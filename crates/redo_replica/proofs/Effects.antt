@@ -62,6 +62,27 @@ module _ (tables : TablesOf) (cells : List CompactCell) (n : ℕ) (below : n < l
           rows = rows_of tables.stamps tables.digests tables.pairs.items rows (always i);
         }
 
+    pub file_effect : (s i : ℕ) → HasEffect tables cells rows
+        (set cells n (record (cell_at cells n) { file = Some i })) rows s (steps.File n i)
+    file_effect s i x means =
+        cell_written (record (cell_at cells n) { file = Some i }) refl
+        ∙ ap (λ (text : Text). effect_of by_number (records_in tables cells rows) s
+        (commands.File n text))
+        (get_or_from_slice_get tables.stamps i means.0 [] means.2)
+        ∙ ap (effect_of by_number (records_in tables cells rows) s) (sym means.1)
+
+    pub gone_effect : (s : ℕ) → HasEffect tables cells rows
+        (set cells n (record (cell_at cells n) { file = None })) rows s (steps.Gone n)
+    gone_effect s x means =
+        cell_written (record (cell_at cells n) { file = None }) refl
+        ∙ ap (effect_of by_number (records_in tables cells rows) s) (sym means)
+
+    pub failed_effect : (s : ℕ) → HasEffect tables cells rows
+        (set cells n (record (cell_at cells n) { state = coded.Failed })) rows s (steps.Failed n)
+    failed_effect s x means =
+        cell_written (record (cell_at cells n) { state = coded.Failed }) refl
+        ∙ ap (effect_of by_number (records_in tables cells rows) s) (sym means)
+
     pub stamp_effect : (s i : ℕ) → HasEffect tables cells rows
         (set cells n (record (cell_at cells n) { digest = Some i })) rows s (steps.Stamp n i)
     stamp_effect s i x means =

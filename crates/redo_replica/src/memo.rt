@@ -1,4 +1,4 @@
-ghost use Rattle.std.specs.Prelude.{◌≡◌, ◌↔◌, ◌⊎◌, ◌<◌, ℕ, Some, IfOk, IfSome, Contains};
+ghost use Rattle.std.specs.Prelude.{◌≡◌, ◌↔◌, ◌⊎◌, ◌<◌, [], ℕ, Some, IfOk, IfSome, Contains, false, replicate};
 ghost use Rattle.redo_model.specs.State.{empty};
 ghost use Rattle.redo_marks.specs.Memo.{memo_count, IsRight};
 ghost use Rattle.redo_replica.specs.Replicas.{records_in};
@@ -38,16 +38,26 @@ impl Model for Memo {
     ghost invariant = { KeepsMemo };
 }
 
+/// Two sets in which none of these names is marked.
+fn two_empty_sets(alloc: Global, names: u32) -> Result<(NameSet, NameSet), AllocError>
+    ensures first { IfOk result (λ sets.
+        sets.0 ≡ record { marks = replicate names false; queue = [] }) }
+    ensures second { IfOk result (λ sets.
+        sets.1 ≡ record { marks = replicate names false; queue = [] }) }
+{
+    let first = NameSet::new(alloc, names)?;
+    let second = NameSet::new(alloc, names)?;
+    Ok((first, second))
+}
+
 impl Memo {
     /// Nothing is out of date.
     pub(crate) fn new(alloc: Global, names: u32) -> Result<Memo, AllocError>
         ensures count { IfOk result (λ memo. memo_count memo.out ≡ names) }
         ensures right { IfOk result (λ memo. IsRight memo.out empty.records) }
     {
-        let out = NameSet::new(alloc, names)?;
-        let seeds = NameSet::new(alloc, names)?;
-        let region = NameSet::new(alloc, names)?;
-        let outdated = NameSet::new(alloc, names)?;
+        let (out, seeds) = two_empty_sets(alloc, names)?;
+        let (region, outdated) = two_empty_sets(alloc, names)?;
         Ok(Memo {
             out,
             seeds,

@@ -1,4 +1,4 @@
-use Rattle.std.proofs.Common.{◌∙◌, ℕ, List, length, get_or, sym, ap, subst, arith}
+use Rattle.std.proofs.Common.{◌∙◌, ◌<◌, ℕ, List, length, get_or, sym, ap, subst, arith}
 use Rattle.redo_model.specs.State.{mark_in}
 use Rattle.redo_records.specs.Meaning.{target_state_of}
 use Rattle.redo_replica.specs.declared.cell.CompactCell.{CompactCell}
@@ -6,6 +6,7 @@ use Rattle.redo_replica.specs.CompactCells.{HasEntries, cell_of}
 use Rattle.redo_replica.specs.PairRows.{IsChanged}
 use Rattle.redo_replica.proofs.Fitting.{changed_marks}
 use Rattle.redo_replica.proofs.Listed.{changed_all, changed_more, place_inside, put_sized}
+use Rattle.redo_replica.proofs.NamesOn.{name_below}
 use Rattle.redo_replica.proofs.changes.change_each.Goals as goal
 
 pub loop-place-preserved : goal.loop-place-preserved
@@ -51,3 +52,28 @@ returns-clause-after c = λ t names are.
     changed_all c.args.graph.now.tables c.args.cells.now c.args.rows.now c.loop-place.rows t names
     c.loop-place.place-index (omega (arith, are.count, c.loop-place-test.false))
     (c.loop-place.invariant.so_far t names are)
+
+pub bounds-pairs-place : goal.bounds-pairs-place
+bounds-pairs-place c =
+    subst (λ (ps : List (ℕ × ℕ)). get_or c.args.places.now c.loop-place.place-index 0 < length ps)
+    (sym c.pairs-pairs.ensures.pairs)
+    (place_inside c.args.graph.now.tables.pairs.items (length c.args.cells.now)
+    c.args.places.now c.loop-place.place-index c.requires.places c.loop-place-test.true)
+
+pub get-requires : goal.get-requires
+get-requires c =
+    subst (λ (ps : List (ℕ × ℕ)).
+    (get_or ps (get_or c.args.places.now c.loop-place.place-index 0) (0, 0)).1
+    < length c.args.cells.now) (sym c.pairs-pairs.ensures.pairs)
+    (name_below c.args.graph.now.tables.pairs.items c.args.places.now (length c.args.cells.now)
+    c.loop-place.place-index c.requires.places c.loop-place-test.true)
+
+pub put_change-requires : goal.put_change-requires
+put_change-requires c =
+    omega (
+      arith,
+      c.loop-place.invariant.count,
+      c.requires.rows,
+      place_inside c.args.graph.now.tables.pairs.items (length c.args.cells.now)
+          c.args.places.now c.loop-place.place-index c.requires.places c.loop-place-test.true,
+    )

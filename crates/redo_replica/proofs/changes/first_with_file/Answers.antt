@@ -1,9 +1,10 @@
-use Rattle.std.proofs.Common.{◌≡◌, ◌∙◌, ℕ, List, Some, get_or, ap, arith}
+use Rattle.std.proofs.Common.{◌≡◌, ◌∙◌, ◌<◌, ℕ, List, Some, length, get_or, sym, ap, subst, arith}
 use Rattle.std.specs.Prelude.{is_some}
 use Rattle.redo_model.specs.State.{has_file}
 use Rattle.redo_replica.specs.declared.cell.CompactCell.{CompactCell}
 use Rattle.redo_replica.specs.Replicas.{records_in}
-use Rattle.redo_replica.proofs.Listed.{file_there, find_here, find_more, find_none, same_name}
+use Rattle.redo_replica.proofs.Listed.{file_there, find_here, find_more, find_none, place_inside, same_name}
+use Rattle.redo_replica.proofs.NamesOn.{name_below}
 use Rattle.redo_replica.proofs.changes.first_with_file.Goals as goal
 
 pub returns-then-is_some : goal.returns-then-is_some
@@ -43,3 +44,18 @@ returns c = λ rows t names are.
     find_none (has_file (records_in c.args.graph.now.tables c.args.cells.now rows)) names
     c.loop-place.place-index (omega (arith, are.count, c.loop-place-test.false))
     ∙ c.loop-place.invariant rows t names are
+
+pub bounds-pairs-place : goal.bounds-pairs-place
+bounds-pairs-place c =
+    subst (λ (ps : List (ℕ × ℕ)). get_or c.args.places.now c.loop-place.place-index 0 < length ps)
+    (sym c.pairs-pairs.ensures.pairs)
+    (place_inside c.args.graph.now.tables.pairs.items (length c.args.cells.now)
+    c.args.places.now c.loop-place.place-index c.requires c.loop-place-test.true)
+
+pub get-requires : goal.get-requires
+get-requires c =
+    subst (λ (ps : List (ℕ × ℕ)).
+    (get_or ps (get_or c.args.places.now c.loop-place.place-index 0) (0, 0)).1
+    < length c.args.cells.now) (sym c.pairs-pairs.ensures.pairs)
+    (name_below c.args.graph.now.tables.pairs.items c.args.places.now (length c.args.cells.now)
+    c.loop-place.place-index c.requires c.loop-place-test.true)

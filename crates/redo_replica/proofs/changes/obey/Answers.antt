@@ -6,7 +6,7 @@ use Rattle.redo_graph.specs.declared.step.Step.TheVariants as steps
 use Rattle.redo_replica.specs.declared.cell.CompactCell.{CompactCell}
 use Rattle.redo_replica.specs.Replicas.{records_in}
 use Rattle.redo_replica.specs.Inside.Changes.{HasEffect, IsReady}
-use Rattle.redo_replica.proofs.Effects.{done_effect, stamp_effect}
+use Rattle.redo_replica.proofs.Effects.{done_effect, failed_effect, file_effect, gone_effect, stamp_effect}
 use Rattle.redo_replica.proofs.Listed.{listed_places}
 use Rattle.redo_replica.proofs.changes.obey.Goals as goal
 
@@ -56,3 +56,44 @@ returns-in-Done-clause-effect c =
 
 pub returns-in-Always-clause-effect : goal.returns-in-Always-clause-effect
 returns-in-Always-clause-effect c = grind (arith, common_steps)
+
+pub returns-in-File-clause-effect : goal.returns-in-File-clause-effect
+returns-in-File-clause-effect c =
+    subst (HasEffect c.args.graph.now.tables c.args.cells.now c.args.rows.now c.set_file.new.self
+    c.args.rows.now c.args.s) (sym c.in-File.is) (
+    subst (λ (cells : List CompactCell). HasEffect c.args.graph.now.tables c.args.cells.now
+    c.args.rows.now cells c.args.rows.now c.args.s (steps.File c.in-File.n c.in-File.stamp))
+    (sym c.set_file.ensures)
+    (file_effect c.args.graph.now.tables c.args.cells.now c.in-File.n
+    (subst (IsReady c.args.graph.now.tables (length c.args.cells.now))
+    c.in-File.is c.requires.ready)
+    c.args.rows.now c.args.s c.in-File.stamp))
+
+pub returns-in-Gone-clause-effect : goal.returns-in-Gone-clause-effect
+returns-in-Gone-clause-effect c =
+    subst (HasEffect c.args.graph.now.tables c.args.cells.now c.args.rows.now
+    c.set_file-in-Gone.new.self c.args.rows.now c.args.s) (sym c.in-Gone.is) (
+    subst (λ (cells : List CompactCell). HasEffect c.args.graph.now.tables c.args.cells.now
+    c.args.rows.now cells c.args.rows.now c.args.s (steps.Gone c.in-Gone.n))
+    (sym c.set_file-in-Gone.ensures)
+    (gone_effect c.args.graph.now.tables c.args.cells.now c.in-Gone.n
+    (subst (IsReady c.args.graph.now.tables (length c.args.cells.now))
+    c.in-Gone.is c.requires.ready)
+    c.args.rows.now c.args.s))
+
+pub returns-in-Failed-clause-effect : goal.returns-in-Failed-clause-effect
+returns-in-Failed-clause-effect c =
+    subst (HasEffect c.args.graph.now.tables c.args.cells.now c.args.rows.now c.failed.new.self
+    c.args.rows.now c.args.s) (sym c.in-Failed.is) (
+    subst (λ (cells : List CompactCell). HasEffect c.args.graph.now.tables c.args.cells.now
+    c.args.rows.now cells c.args.rows.now c.args.s (steps.Failed c.in-Failed.t))
+    (sym c.failed.ensures)
+    (failed_effect c.args.graph.now.tables c.args.cells.now c.in-Failed.t
+    (subst (IsReady c.args.graph.now.tables (length c.args.cells.now))
+    c.in-Failed.is c.requires.ready)
+    c.args.rows.now c.args.s))
+
+pub returns-in-Start-clause-effect : goal.returns-in-Start-clause-effect
+returns-in-Start-clause-effect c =
+    subst (HasEffect c.args.graph.now.tables c.args.cells.now c.args.rows.now c.start.new.cells
+    c.start.new.rows c.args.s) (sym c.in-Start.is) c.start.ensures.effect

@@ -6,6 +6,7 @@ use Rattle.redo_order.proofs.Ranked.{PlacesOf, places_none, places_more, pushed_
 use Rattle.redo_marks.specs.NameSet.{size_of}
 use Rattle.redo_replica.specs.Inside.Changes.{HavePlaces}
 use Rattle.redo_replica.specs.Inside.Lists.{IsStaleIn, names_on}
+use Rattle.redo_replica.proofs.Listed.{place_inside}
 use Rattle.redo_replica.proofs.NamesOn.{length-names_on, name_below, name_there}
 use Rattle.redo_replica.proofs.lists.stale_ranks.Goals as goal
 
@@ -22,6 +23,13 @@ read_below : (pairs read : List (ℕ × ℕ)) (places : List ℕ) (i count : ℕ
 read_below pairs read places i count is have in' =
     subst (λ (ps : List (ℕ × ℕ)). (get_or ps (get_or places i 0) (0, 0)).1 < count) (sym is)
     (name_below pairs places count i have in')
+
+pub bounds-pairs-place : goal.bounds-pairs-place
+bounds-pairs-place c =
+    subst (λ (ps : List (ℕ × ℕ)). get_or c.args.places.now c.loop-place.place-index 0 < length ps)
+    (sym c.pairs-pairs.ensures.pairs)
+    (place_inside c.args.graph.now.tables.pairs.items (length c.args.cells.now)
+    c.args.places.now c.loop-place.place-index c.requires.places c.loop-place-test.true)
 
 pub rank_of-rank-requires-clause-name : goal.rank_of-rank-requires-clause-name
 rank_of-rank-requires-clause-name c =
