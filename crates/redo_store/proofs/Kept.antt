@@ -11,10 +11,8 @@ use Rattle.redo_model.proofs.MorePlaces.{same_everywhere}
 use Rattle.redo_records.specs.Cells.{cell_at}
 use Rattle.redo_records.specs.Rows.{TargetRows, rows_count}
 use Rattle.redo_records.proofs.Effects.{set_is_put}
-use Rattle.redo_order.specs.Orders.{AreSorted}
 use Rattle.redo_order.specs.Inside.Orders.{IsOrderOf}
 use Rattle.redo_order.proofs.Counting.{up_to, listed_up_to}
-use Rattle.redo_order.proofs.Places.{listed_by_place}
 use Rattle.redo_store.specs.Stored.{Stored}
 use Rattle.redo_store.specs.Inside.Stored.{IsStored}
 use Rattle.redo_store.specs.Tables.{Tables, tables_records, locks_of, state_of}
@@ -50,7 +48,7 @@ IsStored-set_rows t to h same = record {
 }
 
 -- no cell is built at first
-pub none_built : (count : ℕ) (cells : List Cell) → cells ≡ replicate count idle
+none_built : (count : ℕ) (cells : List Cell) → cells ≡ replicate count idle
     → (n : ℕ) → (cell_at cells n).builds ≤ 0
 none_built count cells all_idle n =
     let none : (cell_at cells n).builds ≡ 0 =
@@ -59,17 +57,15 @@ none_built count cells all_idle n =
     omega arith
 
 -- a store in which nothing is known
-pub IsStored-new : (names : List (List ℕ)) (t : Stored) → AreSorted names t.sorted
-    → t.cells ≡ replicate (length names) idle → rows_count t.rows ≡ length names
-    → length names < 2 ^ 32 → IsStored t
-IsStored-new names t sorted cells each few =
-    let count : length t.cells ≡ length names =
-    ap length cells ∙ length-replicate (length names) idle in
+pub IsStored-new : (t : Stored) (count : ℕ) → IsOrderOf count t.sorted
+    → t.cells ≡ replicate count idle → rows_count t.rows ≡ count → count < 2 ^ 32 → IsStored t
+IsStored-new t count order cells each few =
+    let counted : length t.cells ≡ count = ap length cells ∙ length-replicate count idle in
     record {
-      rows_for_each = each ∙ sym count;
-      all_in_order = subst (λ (m : ℕ). IsOrderOf m t.sorted) (sym count) (listed_by_place sorted);
-      few_builds = λ n. omega (arith, none_built (length names) t.cells cells n);
-      few_names = subst (λ (m : ℕ). m < 2 ^ 32) (sym count) few;
+      rows_for_each = each ∙ sym counted;
+      all_in_order = subst (λ (m : ℕ). IsOrderOf m t.sorted) (sym counted) order;
+      few_builds = λ n. omega (arith, none_built count t.cells cells n);
+      few_names = subst (λ (m : ℕ). m < 2 ^ 32) (sym counted) few;
     }
 
 -- a store whose numbers are in their own order

@@ -6,6 +6,8 @@ ghost use Rattle.redo_model.specs.Command.{asked_lock};
 ghost use Rattle.redo_model.specs.Step.{Replies, Tells, records_after, verdict_of};
 ghost use Rattle.redo_model.specs.Renaming.{IsBelow, IsReplyBelow};
 ghost use Rattle.redo_model.specs.Inside.Renaming.{OrdersAlike, numbering};
+ghost use Rattle.redo_order.specs.Orders.{AreRanks};
+ghost use Rattle.redo_order.specs.Inside.Orders.{IsOrderOf};
 ghost use Rattle.redo_terms.specs.Meaning.{command_of, reply_of, refusal_of};
 
 use crate::table::{answer, answers, effect, effects};
@@ -67,9 +69,26 @@ impl Store {
         let count = names.len();
         let sorted = sorted_numbers(alloc, names)?;
         let ranks = ranks_of(alloc, &sorted)?;
+        Store::with_order(alloc, count, sorted, ranks)
+    }
+
+    /// The empty store for as many names, in this order.
+    fn with_order(
+        alloc: Global,
+        count: u32,
+        sorted: Vec<u32>,
+        ranks: Vec<u32>,
+    ) -> Result<Store, AllocError>
+        requires order { IsOrderOf count sorted.items }
+        requires ranks { AreRanks sorted.items ranks.items }
+        ensures empty { IfOk result (λ store. records_of store ≡ empty.records) }
+        ensures count { IfOk result (λ store. count_of store ≡ count) }
+        ensures sorted { IfOk result (λ store. store.sorted ≡ sorted.items) }
+        ensures applied { IfOk result (λ store. applied_of store ≡ 0) }
+    {
         let records = Records::new(alloc, count)?;
-        let memo = Ood::new(alloc, count)?;
         let rows = DepRows::new(alloc, count)?;
+        let memo = Ood::new(alloc, count)?;
         Ok(Store {
             records,
             rows,

@@ -1,8 +1,10 @@
 //! A store with numbers for names that come later.
 
 ghost use Rattle.std.specs.Prelude.{◌≡◌, ◌≤◌, IfOk, OnOk, OnErr};
+ghost use Rattle.std.specs.List.{range_with_len};
 ghost use Rattle.redo_model.specs.State.{empty};
 ghost use Rattle.redo_order.specs.Orders.{IsByNumber};
+ghost use Rattle.redo_records.specs.Rows.{rows_count, rows_of};
 ghost use Rattle.redo_store.specs.Stored.{records_of, order_of, count_of, applied_of};
 
 use crate::store::Store;
@@ -10,6 +12,31 @@ use redo_ood::Ood;
 use redo_order::numbers_below;
 use redo_records::{DepRows, Records};
 use std::alloc::{AllocError, Global};
+
+/// Rows for that many names, which are sorted and ranked by their numbers. It allocates before anything changes.
+fn number_rows(
+    alloc: Global,
+    numbers: u32,
+    rows: &mut DepRows,
+    sorted: &mut Vec<u32>,
+    ranks: &mut Vec<u32>,
+) -> Result<(), AllocError>
+    requires { rows_count rows.old ≤ numbers }
+    ensures sorted { OnOk result (sorted.new.items ≡ range_with_len 0 numbers) }
+    ensures ranks { OnOk result (ranks.new.items ≡ range_with_len 0 numbers) }
+    ensures count { OnOk result (rows_count rows.new ≡ numbers) }
+    ensures rows { rows_of rows.new ≡ rows_of rows.old }
+    ensures same_rows { OnErr result (rows.new ≡ rows.old) }
+    ensures same_sorted { OnErr result (sorted.new ≡ sorted.old) }
+    ensures same_ranks { OnErr result (ranks.new ≡ ranks.old) }
+{
+    let new_sorted = numbers_below(alloc, numbers)?;
+    let new_ranks = numbers_below(alloc, numbers)?;
+    rows.grow(numbers)?;
+    *sorted = new_sorted;
+    *ranks = new_ranks;
+    Ok(())
+}
 
 impl Store {
     /// The empty store with that many numbers for names, in their own order: each is idle, and without a file.
@@ -21,17 +48,7 @@ impl Store {
     {
         let sorted = numbers_below(alloc, numbers)?;
         let ranks = numbers_below(alloc, numbers)?;
-        let records = Records::new(alloc, numbers)?;
-        let memo = Ood::new(alloc, numbers)?;
-        let rows = DepRows::new(alloc, numbers)?;
-        Ok(Store {
-            records,
-            rows,
-            memo,
-            sorted,
-            ranks,
-            applied: 0,
-        })
+        Store::with_order(alloc, numbers, sorted, ranks)
     }
 
     /// More numbers for names, up to `numbers` in all, and all of them in their own order. It allocates before anything
@@ -45,15 +62,17 @@ impl Store {
         ensures err { OnErr result (self.new ≡ self.old) }
     {
         let alloc = *self.sorted.allocator();
-        let sorted = numbers_below(alloc, numbers)?;
-        let ranks = numbers_below(alloc, numbers)?;
         let records = self.records.grown(alloc, numbers)?;
         let memo = self.memo.grown(alloc, numbers)?;
-        self.rows.grow(numbers)?;
+        number_rows(
+            alloc,
+            numbers,
+            &mut self.rows,
+            &mut self.sorted,
+            &mut self.ranks,
+        )?;
         self.records = records;
         self.memo = memo;
-        self.sorted = sorted;
-        self.ranks = ranks;
         Ok(())
     }
 }

@@ -1,15 +1,13 @@
-use Rattle.std.proofs.Common.{◌≡◌, ◌<◌, ◌^◌, ◌∙◌, ℕ, List, ap, length, sym, subst, arith}
-use Rattle.std.proofs.lemmas.Grind.{common_steps}
-use Rattle.std.proofs.Math.ListN.{replicate, length-replicate}
+use Rattle.std.proofs.Common.{◌≡◌, ◌∙◌, ℕ, List, ap, length, sym, subst, arith}
+use Rattle.std.proofs.lemmas.Result.{IfOk-weaker}
+use Rattle.redo_model.specs.Names.{texts}
 use Rattle.redo_model.specs.Renaming.{AllBelow}
-use Rattle.redo_model.specs.State.{idle}
-use Rattle.redo_marks.specs.Memo.{IsRight}
-use Rattle.redo_order.specs.Orders.{AreRanks}
-use Rattle.redo_store.specs.Stored.{Stored}
-use Rattle.redo_store.proofs.Kept.{IsStored-new}
-use Rattle.redo_order.proofs.Places.{orders_alike}
-use Rattle.redo_store.proofs.Refreshing.{empty_records}
+use Rattle.redo_model.specs.Inside.Renaming.{OrdersAlike, numbering}
+use Rattle.redo_order.specs.Orders.{AreRanks, by_place}
+use Rattle.redo_order.specs.Inside.Orders.{IsOrderOf}
+use Rattle.redo_order.proofs.Places.{listed_by_place, orders_alike}
 use Rattle.redo_order.proofs.Sorting.{sorted_below}
+use Rattle.redo_store.specs.Stored.{Stored, count_of, order_of}
 use Rattle.redo_store.proofs.store.Store.new.Goals as goal
 
 pub ranks_of-requires-clause-below : goal.ranks_of-requires-clause-below
@@ -22,36 +20,27 @@ ranks_of-requires-clause-few c =
     let same = ap length c.deref.ensures.value in
     omega (arith, c.in_ok-sorted.ensures.whole, same, c.len-count.ensures.count)
 
-pub invariant_of-result : goal.invariant_of-result
-invariant_of-result c =
-    let names = c.args.names.now in
-    let cells = c.in_ok-records.records in
-    let rows = c.in_ok-rows.rows in
-    let sorted = c.in_ok-sorted.sorted.items in
-    let stored : Stored = record { cells = cells; rows = rows; sorted = sorted; applied = 0 } in
-    let few : length names < 2 ^ 32 = omega arith in
-    let all_idle : cells ≡ replicate (length names) idle =
-    c.in_ok-records.ensures ∙ ap (λ n. replicate n idle) c.len-count.ensures.count in
-    let count : length cells ≡ length names =
-    ap length all_idle ∙ length-replicate (length names) idle in
-    let first = empty_records c.len-count.result cells rows c.in_ok-records.ensures
-    c.in_ok-rows.ensures.rows in
-    record {
-      stored = IsStored-new names stored c.in_ok-sorted.ensures all_idle
-          (c.in_ok-rows.ensures.count ∙ c.len-count.ensures.count) few;
-      ranked = subst (λ (ns : List ℕ). AreRanks ns c.in_ok-ranks.ranks.items)
-          c.deref.ensures.value c.in_ok-ranks.ensures;
-      memo_for_each = c.in_ok-memo.ensures.count ∙ c.len-count.ensures.count ∙ sym count;
-      memo_right = subst (IsRight c.in_ok-memo.memo) (sym first) c.in_ok-memo.ensures.right;
-    }
+pub with_order-requires-clause-order : goal.with_order-requires-clause-order
+with_order-requires-clause-order c =
+    subst (λ (n : ℕ). IsOrderOf n c.in_ok-sorted.sorted.items) (sym c.len-count.ensures.count)
+    (listed_by_place c.in_ok-sorted.ensures)
 
-pub returns-clause-empty : goal.returns-clause-empty
-returns-clause-empty c =
-    empty_records c.len-count.result c.in_ok-records.records c.in_ok-rows.rows
-    c.in_ok-records.ensures c.in_ok-rows.ensures.rows
-
-pub returns-clause-order : goal.returns-clause-order
-returns-clause-order c = orders_alike c.in_ok-sorted.ensures
+pub with_order-requires-clause-ranks : goal.with_order-requires-clause-ranks
+with_order-requires-clause-ranks c =
+    subst (λ (ns : List ℕ). AreRanks ns c.in_ok-ranks.ranks.items) c.deref.ensures.value
+    c.in_ok-ranks.ensures
 
 pub returns-clause-count : goal.returns-clause-count
-returns-clause-count c = grind (arith, common_steps)
+returns-clause-count c =
+    IfOk-weaker c.with_order.result (λ store. count_of store ≡ c.len-count.result)
+    (λ store. count_of store ≡ length c.args.names.now) (λ store e. e ∙ c.len-count.ensures.count)
+    c.with_order.ensures.count
+
+pub returns-clause-order : goal.returns-clause-order
+returns-clause-order c =
+    let names = c.args.names.now in
+    let sorted = c.in_ok-sorted.sorted.items in
+    IfOk-weaker c.with_order.result (λ (store : Stored). store.sorted ≡ sorted)
+    (λ store. OrdersAlike (numbering names) texts (order_of store))
+    (λ store e. subst (λ (ns : List ℕ). OrdersAlike (numbering names) texts (by_place ns)) (sym e)
+    (orders_alike c.in_ok-sorted.ensures)) c.with_order.ensures.sorted
