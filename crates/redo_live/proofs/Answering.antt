@@ -1,5 +1,5 @@
 -- The answer to a command that was read, over the names of its numbers.
-use Rattle.std.proofs.Common.{◌≡◌, ◌≢◌, ℕ, ◌≤◌, List, [], ◌∷◌, refl, sym, ap, ◌∙◌, subst, length, arith}
+use Rattle.std.proofs.Common.{◌≡◌, ◌≢◌, ℕ, ◌≤◌, List, [], ◌∷◌, refl, length, arith}
 use Rattle.std.specs.Cmp.Lexicographic.{nat_list_cmp_total}
 use Rattle.std.specs.Cmp.{tied_itself}
 use Rattle.std.specs.declared.cmp.Ordering.{Ordering}
@@ -10,20 +10,19 @@ use Rattle.redo_model.specs.Names.{Text, texts, numbers, text_at}
 use Rattle.redo_model.specs.State.{State}
 use Rattle.redo_model.specs.Command.{Command, names_in}
 use Rattle.redo_model.specs.Reply.{Reply}
-use Rattle.redo_model.specs.Step.{Answers, after}
+use Rattle.redo_model.specs.Step.{Answers}
 use Rattle.redo_model.specs.Renaming.{AllBelow, IsBelow, IsReplyBelow, named_command, named_reply}
 use Rattle.redo_model.specs.Inside.Renaming.{IsRenaming, OrdersAlike, named_state, numbering}
 use Rattle.redo_model.proofs.Texts.{same_texts, texts_are_names}
 use Rattle.redo_model.proofs.Naming.{numbering_is_renaming}
 use Rattle.redo_model.proofs.RepliesByName.{one_number}
 use Rattle.redo_model.proofs.AnswersByName.{answers_by_name}
-use Rattle.redo_model.proofs.StepsByName.{after_by_name}
 use Rattle.redo_terms.specs.Meaning.{by_text}
 use Rattle.redo_order.specs.Orders.{by_place, place}
 use Rattle.redo_store.specs.Tables.{Tables, tables_order, state_of}
 use Rattle.redo_live.specs.Inside.Ordered.{IsSortedReply}
 use Rattle.redo_live.specs.Inside.Within.{IsStateWithin}
-use Rattle.redo_live.proofs.Within.{IsStateWithin-after, IsReplyBelow-answers}
+use Rattle.redo_live.proofs.Within.{IsReplyBelow-answers}
 use Rattle.redo_live.proofs.MoreNames.{named_state-Extends, IsStateWithin-Extends}
 use Rattle.redo_live.proofs.Reordered.{AreOrders, answers_again}
 
@@ -88,22 +87,3 @@ module _ (old new : List Text) (old_are : AreNames old) (new_are : AreNames new)
     pub within_kept : IsStateWithin (length new) st
     within_kept =
         IsStateWithin-Extends old new grows (renaming old old_are) (renaming new new_are) st within
-
-    module _ (next : State ℕ) (order : ℕ → ℕ → Ordering) (session : ℕ) (command : Command ℕ)
-        (below : IsBelow (length new) command)
-        (steps : next ≡ after (numbers order) st session command)
-      where
-        pub next_within : IsStateWithin (length new) next
-        next_within =
-            subst (IsStateWithin (length new)) (sym steps)
-            (IsStateWithin-after (length new) order st session command within_kept below)
-
-        pub next_is : named_state (numbering new) next
-            ≡ after texts (named_state (numbering old) st) session
-            (named_command (text_at new) command)
-        next_is =
-            ap (named_state (numbering new)) steps
-            ∙ after_by_name (renaming new new_are) texts texts_are_names
-            order st session command below
-            ∙ ap (λ (at : State Text). after texts at session (named_command (text_at new) command))
-            state_kept

@@ -1,5 +1,5 @@
 -- The line of the answer answers a session's command.
-use Rattle.std.proofs.Common.{◌≡◌, ◌+◌, ◌<◌, ℕ, Bool, cond, List, [], ◌∷◌, ◌++◌, sym, ap, ◌∙◌, subst, length}
+use Rattle.std.proofs.Common.{◌≡◌, ◌+◌, ◌<◌, ◌⊎◌, inl, inr, ℕ, Bool, cond, List, [], ◌∷◌, ◌++◌, refl, sym, ap, ◌∙◌, subst, length}
 use Rattle.redo_names.specs.Inside.Names.{AreNames}
 use Rattle.redo_model.specs.Names.{Text, texts, text_at}
 use Rattle.redo_model.specs.State.{State}
@@ -17,15 +17,23 @@ use Rattle.redo_text.specs.Grammar.{IsCommandLine, AddsNames}
 use Rattle.redo_store.specs.Tables.{Tables, state_of, tables_records, tables_order, calls_of}
 use Rattle.redo_store.specs.Inside.Tables.{tables_naming}
 use Rattle.redo_live.specs.Inside.Answered.{logged_text}
-use Rattle.redo_live.specs.Inside.LiveState.{LiveState, state_in, calls_in}
+use Rattle.redo_live.specs.Inside.LiveState.{LiveState, state_in, calls_in, IsSameDatabase}
 use Rattle.redo_live.specs.Inside.Kept.{IsKept}
 use Rattle.redo_live.specs.Inside.Told.{IsTold, IsObeyed, AnswersText, IsUnansweredFor}
 use Rattle.redo_live.specs.Inside.Withheld.{WouldObey, IsUnobeyedFor, IsWithheldFor}
+use Rattle.redo_live.specs.declared.fault.Unanswered.TheVariants.{Memory}
 use Rattle.redo_live.specs.declared.fault.Withheld.{Withheld}
 use Rattle.redo_live.specs.declared.fault.Withheld.TheVariants.{Unanswered, TooLong}
 use Rattle.redo_live.proofs.Answering.{renaming, now_answers}
 use Rattle.redo_live.proofs.Changing.{changes_by_name}
 use Rattle.redo_live.proofs.Keeping.{IsKept-after}
+
+before : (names : List Text) (tables : Tables) (old : LiveState) → names ≡ old.names
+    → state_of tables ≡ state_of old.tables
+    → named_state (numbering names) (state_of tables) ≡ state_in old
+before names tables old old_names old_state =
+    ap (named_state (numbering names)) old_state
+    ∙ ap (λ (ns : List Text). named_state (numbering ns) (state_of old.tables)) old_names
 
 module _ (names : List Text) (are : AreNames names) (tables : Tables)
     (kept : IsKept names (state_of tables) (calls_of tables)) (session : ℕ) (command : Command ℕ)
@@ -54,11 +62,6 @@ module _ (names : List Text) (are : AreNames names) (tables : Tables)
     module _ (old : LiveState) (old_names : names ≡ old.names)
         (old_state : state_of tables ≡ state_of old.tables)
       where
-        before : named_state (numbering names) (state_of tables) ≡ state_in old
-        before =
-            ap (named_state (numbering names)) old_state
-            ∙ ap (λ (ns : List Text). named_state (numbering ns) (state_of old.tables)) old_names
-
         told_command : (line_at names told).command
             ≡ named_command (text_at old.names) command
         told_command =
@@ -69,7 +72,8 @@ module _ (names : List Text) (are : AreNames names) (tables : Tables)
             (line_at names told).reply
         told_there =
             let line = line_at names told in
-            subst (λ (st : State Text). Answers texts st session line.command line.reply) before
+            subst (λ (st : State Text). Answers texts st session line.command line.reply)
+            (before names tables old old_names old_state)
             (subst (λ (asked : Command ℕ). Answers texts
             (named_state (numbering names) (state_of tables)) session
             (named_command (text_at names) asked) line.reply) (sym is.command_is) told_answers)
@@ -114,7 +118,7 @@ module _ (names : List Text) (are : AreNames names) (tables : Tables)
         obeyed old said said_after logged logged_after b old_names old_state old_calls changing
             says logs =
             let line = line_at names told in
-            let same = before old old_names old_state in
+            let same = before names tables old old_names old_state in
             let is_changing : b ≡ changes (state_in old).records line.command line.reply =
             changing ∙ sym told_changes
             ∙ ap (λ (st : State Text). changes st.records line.command line.reply) same in
@@ -137,6 +141,72 @@ module _ (names : List Text) (are : AreNames names) (tables : Tables)
                 calls = counted ∙ ap (λ (n : ℕ). n + 1) old_calls;
               };
             }
+
+-- why a text of at most so many bytes wasn't appended
+abbrev pub IsUntoldFor : Text → ℕ → Withheld → Type 0
+IsUntoldFor text most why =
+    (why ≡ Unanswered Memory) ⊎ ((why ≡ TooLong (length text)) × (most < length text))
+
+-- then its command isn't obeyed
+pub untold : (old : LiveState) (session : ℕ) (command : Command ℕ) (most : ℕ) (why : Withheld)
+    (text : Text) → WouldObey old session command (length text) → IsUntoldFor text most why
+    → IsUnobeyedFor old session command most why
+untold old session command most why text would (inl e) =
+    subst (IsUnobeyedFor old session command most) (sym e) refl
+untold old session command most why text would (inr (e, more)) =
+    subst (IsUnobeyedFor old session command most) (sym e) (more, would)
+
+module _ (old mid : LiveState) (names : mid.names ≡ old.names) (same : IsSameDatabase old mid) where
+  same_state : state_in mid ≡ state_in old
+  same_state = before mid.names mid.tables old names same.state
+
+  -- the same for a database that knew the same
+  pub obeyed_before : (new : LiveState) (session asking : ℕ) (command asked : Command ℕ)
+      (said said_after logged logged_after : Text) → asking ≡ session → asked ≡ command
+      → IsObeyed mid new asking asked said said_after logged logged_after
+      → IsObeyed old new session command said said_after logged logged_after
+  obeyed_before new session asking command asked said said_after logged logged_after session_is
+      command_is obeys =
+      let line = obeys.line in
+      subst (λ (s : ℕ). IsObeyed old new s command said said_after logged logged_after) session_is
+      (subst (λ (k : Command ℕ). IsObeyed old new asking k said said_after logged logged_after)
+      command_is record {
+        line = line;
+        session_is = obeys.session_is;
+        command_is = obeys.command_is
+            ∙ ap (λ (ns : List Text). named_command (text_at ns) asked) names;
+        answers = subst (λ (st : State Text). Answers texts st asking line.command line.reply)
+            same_state obeys.answers;
+        after_is = obeys.after_is
+            ∙ ap (λ (st : State Text). after texts st asking line.command) same_state;
+        told = record {
+          says = obeys.told.says;
+          logs = obeys.told.logs
+              ∙ ap (λ (st : State Text). logged ++ logged_text st line) same_state;
+          calls = obeys.told.calls ∙ ap (λ (n : ℕ). n + 1) same.calls;
+        };
+      })
+
+  pub unobeyed_before : (session asking : ℕ) (command asked : Command ℕ) (most : ℕ)
+      (why : Withheld) → asking ≡ session → asked ≡ command
+      → IsUnobeyedFor mid asking asked most why → IsUnobeyedFor old session command most why
+  unobeyed_before session asking command asked most (Unanswered why) session_is command_is e = e
+  unobeyed_before session asking command asked most (TooLong size) session_is command_is
+      (more, would) =
+      let line = would.line in (
+        more,
+        subst (λ (s : ℕ). WouldObey old s command size) session_is
+            (subst (λ (k : Command ℕ). WouldObey old asking k size) command_is record {
+              line = line;
+              session_is = would.session_is;
+              command_is = would.command_is
+                  ∙ ap (λ (ns : List Text). named_command (text_at ns) asked) names;
+              answers = subst
+                  (λ (st : State Text). Answers texts st asking line.command line.reply)
+                  same_state would.answers;
+              size_is = would.size_is;
+            }),
+      )
 
 -- and the text that was read, if the names before are a prefix of these
 pub answered : (old mid new : LiveState) (session : ℕ) (text : Text) (command : Command ℕ)

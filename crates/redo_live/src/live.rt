@@ -2,16 +2,19 @@ ghost use Rattle.std.specs.Prelude.{◌≡◌, ◌≤◌, ◌<◌, ◌+◌, [], 
 ghost use Rattle.redo_names.specs.Inside.Names.{Extends, AreNames};
 ghost use Rattle.redo_model.specs.State.{empty};
 ghost use Rattle.redo_model.specs.Renaming.{IsBelow};
-ghost use Rattle.redo_terms.specs.Meaning.{command_of};
+ghost use Rattle.redo_model.specs.Step.{Answers};
+ghost use Rattle.redo_terms.specs.Meaning.{by_text, command_of, reply_of};
 ghost use Rattle.redo_text.specs.Questions.{line_fault};
 ghost use Rattle.redo_store.specs.Stored.{has_room_for};
-ghost use Rattle.redo_store.specs.Tables.{tables_count};
+ghost use Rattle.redo_store.specs.Tables.{state_of, tables_count};
+ghost use Rattle.redo_store.specs.Inside.Tables.{tables_naming};
+ghost use Rattle.redo_live.specs.Inside.Ordered.{IsSortedReply};
 
 use crate::fault::{Unanswered, Withheld};
-use crate::told::{answered, line_text, tell, text_if};
+use crate::told::{answered, line_text, tell_within, text_if};
 use redo_names::{MOST_NAMES, Names};
 use redo_store::Redo;
-use redo_terms::Command;
+use redo_terms::{Command, Line, Reply};
 use redo_text::read_command;
 use std::alloc::{AllocError, Global};
 use std::marker::Model;
@@ -189,18 +192,46 @@ impl Live {
         ensures untold { OnErr result
             (TellsNothing said.old.items said.new.items logged.old.items logged.new.items) }
     {
-        self.make_room(&command)?;
-        let old_line = self.take_line(alloc);
-        let reply = self.redo.reply(alloc, session, &command)?;
+        let reply = self.reply_in_room(alloc, session, &command)?;
         let line = answered(alloc, session, command, &reply, &self.names)?;
-        let text = line_text(alloc, &line, &self.names, old_line)?;
-        let size = text.len();
-        if size > most {
-            return Err(Withheld::TooLong(size));
-        }
-        let changes = self.redo.changes(&line.command, &reply);
-        tell(said, &text, logged, text_if(changes, &text))?;
-        self.redo.change(session, &line.command, &reply);
+        self.carry_out(alloc, &line, &reply, most, said, logged)
+    }
+
+    /// Tells the line of a command with this reply, and makes its change, in reserved memory.
+    fn carry_out(
+        &mut self,
+        alloc: Global,
+        line: &Line,
+        reply: &Reply,
+        most: usize,
+        said: &mut Vec<u8>,
+        logged: &mut Vec<u8>,
+    ) -> Result<(), Withheld>
+        requires names { AreNames self.old.names }
+        requires calls { calls_in self.old < 4294836223 }
+        requires count { length self.old.names ≤ tables_count self.old.tables }
+        requires below { IsBelow (length self.old.names) (command_of line.now.command) }
+        requires room { has_room_for self.old.tables.store (command_of line.now.command) ≡ true }
+        requires answers { Answers (tables_naming self.old.tables) (state_of self.old.tables)
+            line.now.session (command_of line.now.command) (reply_of reply.now) }
+        requires sorted { IsSortedReply (by_text self.old.names).order (reply_of reply.now)
+            (reply_of line.now.reply) }
+        ensures obeyed { OnOk result (IsObeyed self.old self.new line.now.session
+            (command_of line.now.command)
+            said.old.items said.new.items logged.old.items logged.new.items) }
+        ensures fits { OnOk result (length said.new.items ≤ length said.old.items + most) }
+        ensures cause { IfErr result (IsUnobeyedFor self.old line.now.session
+            (command_of line.now.command) most) }
+        ensures names { self.new.names ≡ self.old.names }
+        ensures err { OnErr result (self.new ≡ self.old) }
+        ensures untold { OnErr result
+            (TellsNothing said.old.items said.new.items logged.old.items logged.new.items) }
+    {
+        let old_line = self.take_line(alloc);
+        let text = line_text(alloc, line, &self.names, old_line)?;
+        let changes = self.redo.changes(&line.command, reply);
+        tell_within(said, &text, most, logged, text_if(changes, &text))?;
+        self.redo.change(line.session, &line.command, reply);
         self.line = text;
         Ok(())
     }
@@ -210,6 +241,28 @@ impl Live {
         ensures { self.new ≡ self.old }
     {
         mem::replace(&mut self.line, Vec::new(alloc))
+    }
+
+    /// The reply to the command, after memory was reserved for the names and for its change.
+    fn reply_in_room(
+        &mut self,
+        alloc: Global,
+        session: u8,
+        command: &Command,
+    ) -> Result<Reply, AllocError>
+        requires below { IsBelow (length self.old.names) (command_of command.now) }
+        requires names { AreNames self.old.names }
+        requires calls { calls_in self.old < 4294836223 }
+        ensures names { self.new.names ≡ self.old.names }
+        ensures known { IsSameDatabase self.old self.new }
+        ensures count { OnOk result (length self.new.names ≤ tables_count self.new.tables) }
+        ensures room { OnOk result
+            (has_room_for self.new.tables.store (command_of command.now) ≡ true) }
+        ensures answers { IfOk result (λ reply. Answers (tables_naming self.new.tables)
+            (state_of self.new.tables) session (command_of command.now) (reply_of reply)) }
+    {
+        self.make_room(command)?;
+        self.redo.reply(alloc, session, command)
     }
 
     /// Reserves memory for the names, and for the change of the command.

@@ -1,10 +1,13 @@
-ghost use Rattle.std.specs.Prelude.{◌≡◌, ◌++◌, [], length, if◌then◌else◌, IfOk, OnOk, OnErr};
+ghost use Rattle.std.specs.Prelude.{◌≡◌, ◌<◌, ◌≤◌, ◌⊎◌, ◌++◌, [], length, if◌then◌else◌, IfOk, IfErr, OnOk, OnErr};
 ghost use Rattle.redo_model.specs.Renaming.{IsLineBelow};
 ghost use Rattle.redo_terms.specs.Meaning.{command_of, reply_of, line_of, line_at, by_text};
 ghost use Rattle.redo_history.specs.Histories.{line_text_of};
 ghost use Rattle.redo_live.specs.Inside.Ordered.{IsSortedReply};
 ghost use Rattle.redo_live.specs.Inside.Told.{TellsNothing};
+ghost use Rattle.redo_live.specs.declared.fault.Unanswered.TheVariants.{Memory};
+ghost use Rattle.redo_live.specs.declared.fault.Withheld.TheVariants.{Unanswered, TooLong};
 
+use crate::fault::Withheld;
 use crate::ordering::ordered;
 use redo_history::put_line;
 use redo_names::Names;
@@ -72,5 +75,29 @@ pub(crate) fn tell(
         said.truncate(before);
         return Err(refused);
     }
+    Ok(())
+}
+
+/// Does as `tell`, if the first text has at most `most` bytes.
+pub(crate) fn tell_within(
+    said: &mut Vec<u8>,
+    text: &[u8],
+    most: usize,
+    logged: &mut Vec<u8>,
+    kept: &[u8],
+) -> Result<(), Withheld>
+    ensures said { OnOk result (said.new.items ≡ said.old.items ++ text.now) }
+    ensures logged { OnOk result (logged.new.items ≡ logged.old.items ++ kept.now) }
+    ensures fits { OnOk result (length text.now ≤ most) }
+    ensures cause { IfErr result (λ why. (why ≡ Unanswered Memory)
+        ⊎ ((why ≡ TooLong (length text.now)) × (most < length text.now))) }
+    ensures err { OnErr result
+        (TellsNothing said.old.items said.new.items logged.old.items logged.new.items) }
+{
+    let size = text.len();
+    if size > most {
+        return Err(Withheld::TooLong(size));
+    }
+    tell(said, text, logged, kept)?;
     Ok(())
 }
