@@ -1,7 +1,7 @@
 //! All orders of some sessions' lines: lists of sessions, each as often as it has lines.
 ghost use Rattle.std.specs.Prelude.{◌+◌, ◌<◌, length, IfSome};
 
-use crate::rules::{Standing, all_fit, is_placed};
+use crate::rules::{Standing, all_fit, placed_lines};
 use crate::told::Told;
 use redo_journal::Plan;
 use std::alloc::{AllocError, Global};
@@ -61,7 +61,17 @@ pub(crate) fn advance(order: &mut [u8]) -> bool {
     true
 }
 
-/// Advances to the first order in which the lines are a placed history, if there is one.
+/// Makes the order the last one that begins with the same lines, this many and one more.
+fn pass_over(order: &mut [u8], placed: usize) {
+    if placed < order.len() {
+        let rest = &mut order[placed + 1..];
+        rest.sort_unstable();
+        rest.reverse();
+    }
+}
+
+/// Advances to the first order in which the lines are a placed history, if there is one. It passes
+/// over all orders that begin as one whose first lines are none.
 fn finds(
     rt: &impl Abort,
     plan: &Plan,
@@ -69,11 +79,15 @@ fn finds(
     order: &mut [u8],
     standing: &mut Standing,
 ) -> bool {
-    let fit = all_fit(plan, told);
+    if !all_fit(plan, told) {
+        return false;
+    }
     for _ in 0..MOST_ORDERS {
-        if is_placed(told, order, standing) && fit {
+        let placed = placed_lines(told, order, standing);
+        if placed == order.len() {
             return true;
         }
+        pass_over(order, placed);
         if !advance(order) {
             return false;
         }

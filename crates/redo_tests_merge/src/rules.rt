@@ -148,14 +148,19 @@ pub(crate) fn all_fit(plan: &Plan, told: &[Vec<Told>]) -> bool {
     true
 }
 
-/// Whether the lines in this order of their sessions are a placed history.
-pub(crate) fn is_placed(told: &[Vec<Told>], order: &[u8], standing: &mut Standing) -> bool {
+/// How many of the lines in this order of their sessions, from the first on, are a placed history.
+pub(crate) fn placed_lines(told: &[Vec<Told>], order: &[u8], standing: &mut Standing) -> usize {
     standing.clear();
-    for session in order {
+    for (place, session) in order.iter().enumerate() {
         match standing.next_of(told, *session) {
             Some(one) if standing.takes(one.place) => {}
-            _ => return false,
+            _ => return place,
         }
     }
-    true
+    order.len()
+}
+
+/// Whether all lines in this order of their sessions are a placed history.
+pub(crate) fn is_placed(told: &[Vec<Told>], order: &[u8], standing: &mut Standing) -> bool {
+    placed_lines(told, order, standing) == order.len()
 }
