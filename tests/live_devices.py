@@ -4,7 +4,8 @@ import resource
 import subprocess
 from pathlib import Path
 
-from talks import HEADER, TOP, Checks, Ended, Talk, ended, fault, greeting
+from processes import Ended
+from talks import HEADER, TOP, Checks, Talk, ended, fault, greeting
 
 USAGE = [
     ["--log"], ["--sync"], ["--salvage"], ["--log", "J", "--log", "J"], ["--log", "J", "word"], ["word"], ["-"], ["--"],

@@ -7,14 +7,14 @@ import subprocess
 from pathlib import Path
 from typing import IO, Iterable
 
+from processes import Ended
+
 TOP = Path(__file__).resolve().parent.parent
 PROGRAM = TOP / "crates/redo_live_cli/out/redo_live_cli"
 REDODB = TOP / "crates/redo_cli/out/redo_cli"
 HEADER = "redodb-log 1\n"
 # an answer that isn't there after this many seconds doesn't come
 SECONDS = 60
-# a status, standard output and standard error
-Ended = tuple[int, str, str]
 # each line that is sent, with the lines of its answer
 Pairs = list[tuple[str, list[str]]]
 
