@@ -3,12 +3,11 @@ ghost use Rattle.redo_names.specs.Inside.Names.{Extends, AreNames};
 ghost use Rattle.redo_model.specs.State.{empty};
 ghost use Rattle.redo_model.specs.Renaming.{IsBelow};
 ghost use Rattle.redo_model.specs.Step.{Answers};
-ghost use Rattle.redo_terms.specs.Meaning.{by_text, command_of, reply_of};
+ghost use Rattle.redo_terms.specs.Meaning.{command_of, reply_of};
 ghost use Rattle.redo_text.specs.Questions.{line_fault};
 ghost use Rattle.redo_store.specs.Stored.{has_room_for};
 ghost use Rattle.redo_store.specs.Tables.{state_of, tables_count};
 ghost use Rattle.redo_store.specs.Inside.Tables.{tables_naming};
-ghost use Rattle.redo_live.specs.Inside.Ordered.{IsSortedReply};
 
 use crate::fault::{Unanswered, Withheld};
 use crate::told::{answered, line_text, tell_within, text_if};
@@ -56,7 +55,8 @@ impl Model for Live {
 
 impl Live {
     ghost use Rattle.redo_live.specs.Inside.LiveState.{state_in, calls_in, IsAsKnown, IsSameDatabase};
-    ghost use Rattle.redo_live.specs.Inside.Told.{IsUnansweredFor, IsObeyed, AnswersText, TellsNothing};
+    ghost use Rattle.redo_live.specs.Inside.Told.{IsUnansweredFor, AnswersText, TellsNothing};
+    ghost use Rattle.redo_live.specs.Inside.Told.{IsDue, IsObeyed};
     ghost use Rattle.redo_live.specs.Inside.Withheld.{IsWithheldFor, IsUnobeyedFor};
 
     /// The empty database.
@@ -207,15 +207,7 @@ impl Live {
         said: &mut Vec<u8>,
         logged: &mut Vec<u8>,
     ) -> Result<(), Withheld>
-        requires names { AreNames self.old.names }
-        requires calls { calls_in self.old < 4294836223 }
-        requires count { length self.old.names ≤ tables_count self.old.tables }
-        requires below { IsBelow (length self.old.names) (command_of line.now.command) }
-        requires room { has_room_for self.old.tables.store (command_of line.now.command) ≡ true }
-        requires answers { Answers (tables_naming self.old.tables) (state_of self.old.tables)
-            line.now.session (command_of line.now.command) (reply_of reply.now) }
-        requires sorted { IsSortedReply (by_text self.old.names).order (reply_of reply.now)
-            (reply_of line.now.reply) }
+        requires { IsDue self.old line.now reply.now }
         ensures obeyed { OnOk result (IsObeyed self.old self.new line.now.session
             (command_of line.now.command)
             said.old.items said.new.items logged.old.items logged.new.items) }

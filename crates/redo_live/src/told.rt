@@ -78,7 +78,7 @@ pub(crate) fn tell(
     Ok(())
 }
 
-/// Does as `tell`, if the first text has at most `most` bytes.
+/// Appends one text of at most `most` bytes to `said` and another to `logged`, or neither.
 pub(crate) fn tell_within(
     said: &mut Vec<u8>,
     text: &[u8],

@@ -1,10 +1,11 @@
 -- The contracts of the database's inner calls.
-use Rattle.std.specs.Prelude.{◌≡◌, ℕ, ◌+◌, ◌≤◌, List, ◌++◌, Some, length, ⊤}
+use Rattle.std.specs.Prelude.{◌≡◌, ℕ, ◌+◌, ◌≤◌, ◌<◌, List, ◌++◌, Some, length, true, ⊤}
 use Rattle.std.specs.List.{flat_map}
+use Rattle.redo_names.specs.Inside.Names.{AreNames}
 use Rattle.redo_model.specs.Names.{Text, texts, text_at}
 use Rattle.redo_model.specs.Command.{Command}
 use Rattle.redo_model.specs.History.{Line}
-use Rattle.redo_model.specs.Renaming.{named_command}
+use Rattle.redo_model.specs.Renaming.{IsBelow, named_command}
 use Rattle.redo_model.specs.Step.{Answers, after}
 use Rattle.redo_terms.specs.Meaning.{command_of, reply_of, line_at, by_text}
 use Rattle.redo_terms.specs.declared.reply.Line.{Line as LineOfNumbers}
@@ -12,7 +13,8 @@ use Rattle.redo_terms.specs.declared.reply.Reply.{Reply as ReplyOfNumbers}
 use Rattle.redo_text.specs.Questions.{line_fault}
 use Rattle.redo_text.specs.declared.fault.ReadFault.{ReadFault}
 use Rattle.redo_text.specs.declared.fault.ReadFault.TheVariants as read
-use Rattle.redo_store.specs.Tables.{state_of}
+use Rattle.redo_store.specs.Stored.{has_room_for}
+use Rattle.redo_store.specs.Tables.{state_of, tables_count}
 use Rattle.redo_store.specs.Inside.Tables.{tables_naming}
 use Rattle.redo_history.specs.Histories.{line_text_of}
 use Rattle.redo_live.specs.Inside.Answered.{IsAnswered, logged_text}
@@ -32,6 +34,18 @@ abbrev pub IsUnansweredFor : LiveState → Text → Unanswered → Type 0
 IsUnansweredFor live text Memory = ⊤
 IsUnansweredFor live text Worn = 4294836223 ≤ calls_in live
 IsUnansweredFor live text (Fault fault) = line_fault live.names text ≡ Some fault
+
+-- the reply is the database's to the line's command, and the line has it with its names in the
+-- order of their texts; a call is left for the command, and memory is reserved for its change
+pub record IsDue (live : LiveState) (line : LineOfNumbers) (reply : ReplyOfNumbers) : Type 0 where
+  pub names : AreNames live.names
+  pub calls : calls_in live < 4294836223
+  pub count : length live.names ≤ tables_count live.tables
+  pub below : IsBelow (length live.names) (command_of line.command)
+  pub room : has_room_for live.tables.store (command_of line.command) ≡ true
+  pub answers : Answers (tables_naming live.tables) (state_of live.tables) line.session
+      (command_of line.command) (reply_of reply)
+  pub sorted : IsSortedReply (by_text live.names).order (reply_of reply) (reply_of line.reply)
 
 -- the line has the database's reply to the session's command, with its names in the order of their
 -- texts, and this is its text
