@@ -1,5 +1,5 @@
-//! Tests of the database and the layers below it, of names and texts, of reports, of runs whose
-//! readers and writers fail, and of the live database, its log and its conversation.
+//! Tests of the database and the layers below it, of names and texts, of merging, of reports, of
+//! runs whose readers and writers fail, and of the live database, its log and its conversation.
 #![tactic(auto)]
 
 #[cfg(test)]
@@ -18,6 +18,8 @@ mod lines;
 mod live;
 #[cfg(test)]
 mod log;
+#[cfg(test)]
+mod merge;
 #[cfg(test)]
 mod names;
 #[cfg(test)]

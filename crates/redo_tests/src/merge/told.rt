@@ -1,5 +1,5 @@
 //! Journals made from lists of answers, and lines compared with them.
-use crate::plans::command_at;
+use crate::merge::plans::command_at;
 use redo_journal::{Closing, Entry, Journal, Place, Plan};
 use redo_terms::{Command, Kind, Line, Refusal, Reply};
 use std::alloc::{AllocError, Global};

@@ -1,8 +1,8 @@
 //! Random plans, and what a simple database answers to their lines in a random order.
 ghost use Rattle.std.specs.Prelude.{◌<◌};
 
-use crate::plans::command_at;
-use crate::told::{Answer, Told};
+use crate::merge::plans::command_at;
+use crate::merge::told::{Answer, Told};
 use redo_journal::{Place, Plan};
 use redo_terms::Command;
 use redo_testing::{Random, planned};

@@ -1,8 +1,8 @@
 //! All orders of some sessions' lines: lists of sessions, each as often as it has lines.
 ghost use Rattle.std.specs.Prelude.{◌+◌, ◌<◌, length, IfSome};
 
-use crate::rules::{Standing, all_fit, placed_lines};
-use crate::told::Told;
+use crate::merge::rules::{Standing, all_fit, placed_lines};
+use crate::merge::told::Told;
 use redo_journal::Plan;
 use std::alloc::{AllocError, Global};
 use std::process::Abort;

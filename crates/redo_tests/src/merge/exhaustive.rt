@@ -1,10 +1,10 @@
 //! Compares merging with the search over all orders, on random histories.
 ghost use Rattle.std.specs.Prelude.{◌<◌, length};
 
-use crate::cases::{Tally, check};
-use crate::changed::{Change, with_change};
-use crate::drawn::{Drawn, draw};
-use crate::rules::{Standing, is_placed};
+use crate::merge::cases::{Tally, check};
+use crate::merge::changed::{Change, with_change};
+use crate::merge::drawn::{Drawn, draw};
+use crate::merge::rules::{Standing, is_placed};
 use redo_testing::Random;
 use std::alloc::{AllocError, Global};
 use std::process::Abort;

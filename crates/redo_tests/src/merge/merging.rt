@@ -1,7 +1,7 @@
 //! Journals by hand: whether they are journals of their scripts, and their joint order.
-use crate::closings::CLOSINGS;
-use crate::guarded::GUARDED;
-use crate::told::{Answer, Told, Wanted, are_wanted, entry_of};
+use crate::merge::closings::CLOSINGS;
+use crate::merge::guarded::GUARDED;
+use crate::merge::told::{Answer, Told, Wanted, are_wanted, entry_of};
 use redo_journal::{Closing, Entry, Journal, Place, Plan, are_journals};
 use redo_merge::merge;
 use redo_terms::{Kind, Line};

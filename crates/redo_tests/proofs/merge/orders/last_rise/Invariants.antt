@@ -1,5 +1,5 @@
 use Rattle.std.specs.Prelude.{◌+◌, ◌<◌, length, IfSome}
-use Rattle.redo_tests_merge.proofs.orders.last_rise.Given as goal
+use Rattle.redo_tests.proofs.merge.orders.last_rise.Given as goal
 
 -- the place that was found is not the last
 abbrev pub invariant-loop-at : goal.invariant-loop-at

@@ -1,6 +1,6 @@
 //! Changed journals: other places, exchanged lines, journals that are cut short.
-use crate::drawn::Drawn;
-use crate::told::{Answer, Told, copied, count_of};
+use crate::merge::drawn::Drawn;
+use crate::merge::told::{Answer, Told, copied, count_of};
 use redo_journal::Place;
 use redo_testing::Random;
 use std::alloc::{AllocError, Global};

@@ -1,6 +1,6 @@
 //! Compares what merging finds with what the search over all orders finds.
-use crate::orders::first_order;
-use crate::told::{Told, are_lines, journals_of};
+use crate::merge::orders::first_order;
+use crate::merge::told::{Told, are_lines, journals_of};
 use redo_journal::{Journal, Plan, are_journals};
 use redo_merge::merge;
 use redo_terms::Line;

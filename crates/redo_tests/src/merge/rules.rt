@@ -1,6 +1,6 @@
 //! The rules of places, written once more: which place may come next, after the lines so far.
-use crate::plans::command_at;
-use crate::told::{Answer, Told};
+use crate::merge::plans::command_at;
+use crate::merge::told::{Answer, Told};
 use redo_journal::{Place, Plan};
 use redo_terms::Command;
 use std::alloc::{AllocError, Global};
