@@ -1,42 +1,16 @@
 //! A store with numbers for names that come later.
 
 ghost use Rattle.std.specs.Prelude.{◌≡◌, ◌≤◌, IfOk, OnOk, OnErr};
-ghost use Rattle.std.specs.List.{range_with_len};
+ghost use Rattle.redo_marks.specs.Memo.{memo_count, IsRight};
 ghost use Rattle.redo_model.specs.State.{empty};
 ghost use Rattle.redo_order.specs.Orders.{IsByNumber};
-ghost use Rattle.redo_records.specs.Rows.{rows_count, rows_of};
 ghost use Rattle.redo_store.specs.Stored.{records_of, order_of, count_of, applied_of};
 
 use crate::store::Store;
 use redo_ood::Ood;
 use redo_order::numbers_below;
-use redo_records::{DepRows, Records};
 use std::alloc::{AllocError, Global};
-
-/// Rows for that many names, which are sorted and ranked by their numbers. It allocates before anything changes.
-fn number_rows(
-    alloc: Global,
-    numbers: u32,
-    rows: &mut DepRows,
-    sorted: &mut Vec<u32>,
-    ranks: &mut Vec<u32>,
-) -> Result<(), AllocError>
-    requires { rows_count rows.old ≤ numbers }
-    ensures sorted { OnOk result (sorted.new.items ≡ range_with_len 0 numbers) }
-    ensures ranks { OnOk result (ranks.new.items ≡ range_with_len 0 numbers) }
-    ensures count { OnOk result (rows_count rows.new ≡ numbers) }
-    ensures rows { rows_of rows.new ≡ rows_of rows.old }
-    ensures same_rows { OnErr result (rows.new ≡ rows.old) }
-    ensures same_sorted { OnErr result (sorted.new ≡ sorted.old) }
-    ensures same_ranks { OnErr result (ranks.new ≡ ranks.old) }
-{
-    let new_sorted = numbers_below(alloc, numbers)?;
-    let new_ranks = numbers_below(alloc, numbers)?;
-    rows.grow(numbers)?;
-    *sorted = new_sorted;
-    *ranks = new_ranks;
-    Ok(())
-}
+use std::mem;
 
 impl Store {
     /// The empty store with that many numbers for names, in their own order: each is idle, and without a file.
@@ -62,17 +36,30 @@ impl Store {
         ensures err { OnErr result (self.new ≡ self.old) }
     {
         let alloc = *self.sorted.allocator();
+        let mut memo = self.memo.grown(alloc, numbers)?;
+        self.grow_with(&mut memo, numbers)
+    }
+
+    /// Grows all but the memo, and then swaps the store's memo for this one, which has that many names.
+    fn grow_with(&mut self, memo: &mut Ood, numbers: u32) -> Result<(), AllocError>
+        requires numbers { count_of self.old ≤ numbers }
+        requires memo { memo_count memo.old ≡ numbers }
+        requires right { IsRight memo.old (records_of self.old) }
+        ensures records { records_of self.new ≡ records_of self.old }
+        ensures applied { applied_of self.new ≡ applied_of self.old }
+        ensures count { OnOk result (count_of self.new ≡ numbers) }
+        ensures order { OnOk result (IsByNumber numbers (order_of self.new)) }
+        ensures err { OnErr result (self.new ≡ self.old) }
+    {
+        let alloc = *self.sorted.allocator();
         let records = self.records.grown(alloc, numbers)?;
-        let memo = self.memo.grown(alloc, numbers)?;
-        number_rows(
-            alloc,
-            numbers,
-            &mut self.rows,
-            &mut self.sorted,
-            &mut self.ranks,
-        )?;
+        let sorted = numbers_below(alloc, numbers)?;
+        let ranks = numbers_below(alloc, numbers)?;
+        self.rows.grow(numbers)?;
         self.records = records;
-        self.memo = memo;
+        self.sorted = sorted;
+        self.ranks = ranks;
+        mem::swap(&mut self.memo, memo);
         Ok(())
     }
 }
