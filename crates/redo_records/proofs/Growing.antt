@@ -60,7 +60,7 @@ module _ (targets : List TargetRows) (k : ℕ) where
   abbrev grown : List TargetRows
   grown = targets ++ replicate k bare
 
-  length-grown : length grown ≡ length targets + k
+  pub length-grown : length grown ≡ length targets + k
   length-grown =
       length-append targets (replicate k bare)
       ∙ ap (λ m. length targets + m) (length-replicate k bare)

@@ -1,7 +1,8 @@
-use Rattle.std.proofs.Common.{◌≡◌, ◌∙◌, true, ap, sym, subst, cond, refl}
+use Rattle.std.proofs.Common.{◌≡◌, ◌∙◌, ◌<◌, true, ap, sym, subst, cond, refl}
 use Rattle.std.specs.List.{insert}
 use Rattle.redo_records.specs.Numbers.{numbers_there}
-use Rattle.redo_records.specs.Inside.Numbers.{HasOneMore}
+use Rattle.redo_records.specs.Inside.Numbers.{InOrder, HasOneMore}
+use Rattle.redo_records.proofs.Inserting.{all_pairs_insert}
 use Rattle.redo_records.proofs.Places.{place_with, inserted}
 use Rattle.redo_records.proofs.numbers.put_new.Goals as goal
 use Rattle.redo_records.proofs.numbers.put_new.Goals.{After-insert-inserted}
@@ -24,3 +25,11 @@ returns-clause-more c =
     (numbers_there (insert ps c.make_room-gap.result (place_with c.args.x true))))
     c.make_room-gap.ensures.numbers
     (inserted ps c.make_room-gap.result (place_with c.args.x true) refl))
+
+pub returns-clause-order : goal.returns-clause-order
+returns-clause-order c =
+    let ps = c.make_room-gap.new.places.items in
+    let made = c.make_room-gap.ensures in
+    subst InOrder (sym (placed (goal.at.returns-clause-order c).After-insert-inserted))
+    (all_pairs_insert (λ p q. p.number < q.number) ps c.make_room-gap.result
+    (place_with c.args.x true) made.gap.within made.order made.gap.before made.gap.after)

@@ -1,6 +1,8 @@
-use Rattle.std.proofs.Common.{◌⊎◌, ◌≡◌, ◌↔◌, ◌∙◌, ◌+◌, ℕ, true, set, ap, sym, subst, length, Contains}
-use Rattle.redo_records.specs.Numbers.{NumberList, numbers_there}
+use Rattle.std.proofs.Common.{◌⊎◌, ◌≡◌, ◌↔◌, ◌∙◌, ◌+◌, ◌≤◌, ℕ, true, set, ap, sym, subst, length, Contains}
+use Rattle.redo_records.specs.Numbers.{Place, NumberList, numbers_there}
 use Rattle.redo_records.specs.Inside.Numbers.{IsPlaceOf, HasOneMore}
+use Rattle.std.specs.Prelude.{vec_capacity}
+use Rattle.redo_records.proofs.Ordered.{set_in_order}
 use Rattle.redo_records.proofs.Places.{place_with, put_back}
 use Rattle.redo_records.proofs.numbers.Numbers.insert.Goals as goal
 use Rattle.redo_records.proofs.numbers.Numbers.insert.Goals.{After-index_mut}
@@ -33,3 +35,16 @@ returns-in-Err-clause-each c =
     subst (λ (n : NumberList). (u : ℕ)
     → Contains new u ↔ (Contains n.items u ⊎ (u ≡ c.args.x))) c.self.view_is
     c.put_new.ensures.more.each
+
+pub invariant_of-self : goal.invariant_of-self
+invariant_of-self c =
+    let at =
+    subst (λ ps. IsPlaceOf ps c.args.x c.in-Ok.place) c.as_slice.ensures.value
+    c.in-Ok.ensures.found in
+    set_in_order (λ (p : Place). p.number) c.self.inside.places.items c.self.invariant c.in-Ok.place
+    (place_with c.args.x true) at.within (at.numbered (place_with c.args.x true))
+
+pub returns-in-Err-clause-room : goal.returns-in-Err-clause-room
+returns-in-Err-clause-room c =
+    subst (λ (n : NumberList). n.room ≤ vec_capacity c.put_new.new.places) c.self.view_is
+    c.put_new.ensures.capacity
