@@ -87,7 +87,6 @@ impl<'a> Worker<'a> {
     /// Does the next line of the script that is unguarded, or that the latest reply lets through;
     /// after these a closing command, while the session holds a target. Lends its entry; at the end
     /// there is none. If memory runs out its command isn't done, and the next step does it.
-    #[tactic(auto, using(crate::proofs::Lent::lent))]
     pub fn step<G: Gate>(
         &mut self,
         alloc: Global,

@@ -1,4 +1,5 @@
 use Rattle.std.proofs.Common.{◌≡◌, ℕ, length, option_map, ◌∙◌, sym, ap, subst}
+use Rattle.std.proofs.lemmas.Result.{err_from_is_err_and}
 use Rattle.redo_model.specs.Command.{Command, Lock, Unlock}
 use Rattle.redo_model.specs.Renaming.{IsBelow}
 use Rattle.redo_model.specs.Journals.{Numbered}
@@ -10,7 +11,8 @@ use Rattle.redo_board.specs.Plays.{own, own_build, own_way}
 use Rattle.redo_board.specs.Inside.Own.{way_by}
 use Rattle.redo_board.specs.Inside.Steps.{way_of}
 use Rattle.redo_board.specs.Kept.{WorksAt}
-use Rattle.redo_board.specs.Shown.{journal_of, tries_of}
+use Rattle.redo_board.specs.Outcomes.{Made}
+use Rattle.redo_board.specs.Shown.{session_of, journal_of, tries_of}
 use Rattle.redo_board.specs.Inside.Shown.{IsNextBy}
 use Rattle.redo_board.proofs.NextSteps.{needs-row, own_below, own_steps, lock_next}
 use Rattle.redo_board.proofs.Told.{way-claim, way-free}
@@ -46,8 +48,8 @@ lock-requires-clause-command g c =
     lock_next p w number c.in-Some.next.closing c.in-Claim.target
     (subst (IsNextBy p w number c.in-Some.next.closing) same c.in-Some.ensures.some)
 
-pub free-requires-clause-way : goal.free-requires-clause-way
-free-requires-clause-way g c =
+pub free-requires : goal.free-requires
+free-requires g c =
     let p = c.args.plan.now in
     let w = c.args.self.now in
     let number : ℕ = c.in-Some.next.number in
@@ -61,7 +63,11 @@ free-requires-clause-way g c =
     ∙ sym c.way_for.ensures ∙ ap way_of c.in-Free.is in
     let same : x ≡ Unlock c.in-Free.target =
     way-free x (own j x) (own_build j x) c.in-Free.target goes in
-    subst (λ y. own_way j y ≡ free c.in-Free.target) same goes
+    record {
+      belongs = c.requires;
+      command = subst (IsNextBy p w number c.in-Some.next.closing) same c.in-Some.ensures.some;
+      way = subst (λ y. own_way j y ≡ free c.in-Free.target) same goes;
+    }
 
 pub place-requires-clause-way : goal.place-requires-clause-way
 place-requires-clause-way g c =
@@ -119,4 +125,28 @@ returns-clause-works g c =
       | in-Claim v ↦ subst works (sym v.self-is) v.lock.ensures.works
       | in-Free v ↦ subst works (sym v.self-is) v.free.ensures.works
       | in-Row+in_ok-place-in-Row v ↦ subst works (sym v.self-is) v.place.ensures.works
+    ]
+
+pub returns-in_err-place-in-Row-clause-err : goal.returns-in_err-place-in-Row-clause-err
+returns-in_err-place-in-Row-clause-err g c =
+    let failed = err_from_is_err_and c.from_residual.result
+    c.from_residual.ensures.1 in
+    rw failed.1 c.in_err-place-in-Row.ensures.err
+
+pub returns-clause-ok : goal.returns-clause-ok
+returns-clause-ok g c =
+    let made = Made c.args.plan.now c.args.self.now in
+    elim c.match-way_for.branch [
+      | in-Claim v ↦ subst made (sym v.self-is) v.lock.ensures.made
+      | in-Free v ↦ subst made (sym v.self-is) v.free.ensures.made
+      | in-Row+in_ok-place-in-Row v ↦
+          subst made (sym v.self-is) v.in_ok-place-in-Row.ensures.ok
+    ]
+
+pub returns-clause-session : goal.returns-clause-session
+returns-clause-session g c =
+    elim c.match-way_for.branch [
+      | in-Claim v ↦ ap session_of v.self-is ∙ v.lock.ensures.session
+      | in-Free v ↦ ap session_of v.self-is ∙ v.free.ensures.session
+      | in-Row+in_ok-place-in-Row v ↦ ap session_of v.self-is ∙ v.place.ensures.session
     ]

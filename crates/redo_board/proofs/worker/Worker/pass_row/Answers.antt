@@ -1,18 +1,18 @@
 use Rattle.std.proofs.Common.{◌≡◌, ℕ, ◌+◌, ◌∷◌, [], ◌++◌, length, Some, refl, sym, ap, ◌∙◌, subst, arith}
-use Rattle.std.proofs.lemmas.Grind.{common_steps}
-use Rattle.std.proofs.lemmas.List.{length_push}
+use Rattle.std.proofs.lemmas.List.{length_push, append-nil}
 use Rattle.redo_model.specs.Journals.{Numbered}
 use Rattle.redo_terms.specs.Meaning.{command_of}
 use Rattle.redo_board.specs.Views.{ViewOf}
 use Rattle.redo_board.specs.Inside.Plays.{Lost}
 use Rattle.redo_board.specs.Shown.{journal_of, seen_by}
-use Rattle.redo_board.specs.Kept.{view_of}
+use Rattle.redo_board.specs.Kept.{WorksAt, view_of}
+use Rattle.redo_board.specs.Outcomes.{Waits}
 use Rattle.redo_board.specs.declared.worker.Worker.{Worker}
 use Rattle.redo_board.proofs.Steps.{misses_as, passes_as}
 use Rattle.redo_board.proofs.NextSteps.{few_words, own_below, row_next}
 use Rattle.redo_board.proofs.Works.{works_lost, waits_lost}
 use Rattle.redo_board.proofs.worker.Worker.pass_row.Goals as goal
-use Rattle.redo_board.proofs.worker.Worker.pass_row.Goals.{After-compare_exchange}
+use Rattle.redo_board.proofs.worker.Worker.pass_row.Goals.{After-compare_exchange, Then-word-eq0}
 
 pub load-word-requires : goal.load-word-requires
 load-word-requires g c =
@@ -31,8 +31,10 @@ load-word-requires g c =
           k.works.session n is-next w.tries k.works.tries near,
     )
 
-pub returns-then-word-eq0-clause-same : goal.returns-then-word-eq0-clause-same
-returns-then-word-eq0-clause-same g c = λ empty.
+-- a look at an empty row changes nothing
+unchanged : (g : _) (c : Then-word-eq0 g)
+    → record c.args.self.now { seat = c.load-word.new.seat } ≡ c.args.self.now
+unchanged g c =
     let e = c.load-word.ensures in
     let zero = c.if-word-eq0.true in
     λ i. record c.args.self.now {
@@ -43,6 +45,19 @@ returns-then-word-eq0-clause-same g c = λ empty.
         marker = c.args.self.now.seat.marker;
       };
     }
+
+pub returns-then-word-eq0-clause-same : goal.returns-then-word-eq0-clause-same
+returns-then-word-eq0-clause-same g c = λ empty. unchanged g c
+
+pub returns-then-word-eq0-clause-works : goal.returns-then-word-eq0-clause-works
+returns-then-word-eq0-clause-works g c =
+    subst (WorksAt c.args.plan.now c.args.board.now) (sym (unchanged g c)) c.requires.belongs.1
+
+pub returns-then-word-eq0-clause-waits : goal.returns-then-word-eq0-clause-waits
+returns-then-word-eq0-clause-waits g c =
+    let w = c.args.self.now in
+    subst (Waits c.args.plan.now w) (sym (unchanged g c))
+    (record { same = refl; next = refl; begins = ([], sym (append-nil (seen_by w))) })
 
 pub holds_its_target-requires : goal.holds_its_target-requires
 holds_its_target-requires g c =
@@ -129,6 +144,3 @@ returns-clause-waits g c =
 
 pub returns-clause-tries : goal.returns-clause-tries
 returns-clause-tries g c = λ filled. refl
-
-pub returns-then-word-eq0-clause-works : goal.returns-then-word-eq0-clause-works
-returns-then-word-eq0-clause-works g c = grind (arith, common_steps)
