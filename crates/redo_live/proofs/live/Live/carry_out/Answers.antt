@@ -12,6 +12,7 @@ use Rattle.redo_live.specs.Inside.Told.{IsDue, IsTold}
 use Rattle.redo_live.proofs.Answering.{below_more, now_below}
 use Rattle.redo_live.proofs.Obeying.{IsUntoldFor, kept_after, obeyed, untold, would_obey}
 use Rattle.redo_live.proofs.live.Live.carry_out.Goals as goal
+use Rattle.redo_live.proofs.live.Live.carry_out.Goals.{After-take_line-old_line}
 
 told : (live : LiveState) (line : LineOfNumbers) (reply : ReplyOfNumbers) (text : Text)
     → IsDue live line reply → text ≡ line_text_of (line_at live.names line)
@@ -24,13 +25,19 @@ told live line reply text due is = record {
   text_is = is;
 }
 
+-- what is required holds too of the database whose old line was taken
+due : (c : After-take_line-old_line) (live : LiveState) → live ≡ c.take_line-old_line.new.self
+    → IsDue live c.args.line.now c.args.reply.now
+due c live same =
+    subst (λ (l : LiveState). IsDue l c.args.line.now c.args.reply.now)
+    (sym (same ∙ c.take_line-old_line.ensures)) c.requires
+
 pub line_text-requires : goal.line_text-requires
 line_text-requires c =
     let line = c.args.line.now in
     let reply = c.args.reply.now in
-    let due : IsDue (live_of c.self.inside) line reply =
-    subst (λ (l : LiveState). IsDue l line reply)
-    (sym (c.self.view_is ∙ c.take_line-old_line.ensures)) c.requires in
+    let due = due (goal.at.line_text-requires c).After-take_line-old_line
+    (live_of c.self.inside) c.self.view_is in
     let names = c.self.inside.names in (
       due.below,
       now_below names due.names c.self.inside.redo c.self.invariant.state.within line.session
@@ -41,40 +48,18 @@ line_text-requires c =
 pub changes-changes-requires : goal.changes-changes-requires
 changes-changes-requires c =
     let line = c.args.line.now in
-    let reply = c.args.reply.now in
-    let due : IsDue (live_of c.self.inside) line reply =
-    subst (λ (l : LiveState). IsDue l line reply)
-    (sym (c.self.view_is ∙ c.take_line-old_line.ensures)) c.requires in
+    let due = due (goal.at.changes-changes-requires c).After-take_line-old_line
+    (live_of c.self.inside) c.self.view_is in
     below_more (length c.self.inside.names) (tables_count c.self.inside.redo)
     (command_of line.command) due.count due.below
 
 pub change-requires-clause-numbers : goal.change-requires-clause-numbers
 change-requires-clause-numbers c =
     let line = c.args.line.now in
-    let reply = c.args.reply.now in
-    let due : IsDue (live_of c.self.inside) line reply =
-    subst (λ (l : LiveState). IsDue l line reply)
-    (sym (c.self.view_is ∙ c.take_line-old_line.ensures)) c.requires in
+    let due = due (goal.at.change-requires-clause-numbers c).After-take_line-old_line
+    (live_of c.self.inside) c.self.view_is in
     below_more (length c.self.inside.names) (tables_count c.self.inside.redo)
     (command_of line.command) due.count due.below
-
-pub change-requires-clause-room : goal.change-requires-clause-room
-change-requires-clause-room c =
-    let line = c.args.line.now in
-    let reply = c.args.reply.now in
-    let due : IsDue (live_of c.self.inside) line reply =
-    subst (λ (l : LiveState). IsDue l line reply)
-    (sym (c.self.view_is ∙ c.take_line-old_line.ensures)) c.requires in
-    due.room
-
-pub change-requires-clause-answers : goal.change-requires-clause-answers
-change-requires-clause-answers c =
-    let line = c.args.line.now in
-    let reply = c.args.reply.now in
-    let due : IsDue (live_of c.self.inside) line reply =
-    subst (λ (l : LiveState). IsDue l line reply)
-    (sym (c.self.view_is ∙ c.take_line-old_line.ensures)) c.requires in
-    due.answers
 
 pub returns-in_err-tell_within-clause-cause : goal.returns-in_err-tell_within-clause-cause
 returns-in_err-tell_within-clause-cause c =
@@ -85,9 +70,8 @@ returns-in_err-tell_within-clause-cause c =
     let text = c.in_ok-text.text.items in
     let command = command_of line.command in
     let whole = c.self.view_is ∙ c.take_line-old_line.ensures in
-    let due : IsDue (live_of c.self.inside) line reply =
-    subst (λ (l : LiveState). IsDue l line reply)
-    (sym (c.self.view_is ∙ c.take_line-old_line.ensures)) c.requires in
+    let due = due (goal.at.returns-in_err-tell_within-clause-cause c).After-take_line-old_line
+    (live_of c.self.inside) c.self.view_is in
     let is = told (live_of c.self.inside) line reply text due c.in_ok-text.ensures in
     let failed = err_from_is_err_and c.from_residual-in_err-tell_within.result
     c.from_residual-in_err-tell_within.ensures.1 in
@@ -106,9 +90,8 @@ invariant_of-self c =
     let line = c.args.line.now in
     let reply = c.args.reply.now in
     let text = c.in_ok-text.text.items in
-    let due : IsDue (live_of c.self.inside) line reply =
-    subst (λ (l : LiveState). IsDue l line reply)
-    (sym (c.self.view_is ∙ c.take_line-old_line.ensures)) c.requires in
+    let due = due (goal.at.invariant_of-self c).After-take_line-old_line
+    (live_of c.self.inside) c.self.view_is in
     let is = told (live_of c.self.inside) line reply text due c.in_ok-text.ensures in
     record {
       state = kept_after names due.names tables c.self.invariant.state line.session
@@ -125,9 +108,8 @@ returns-clause-obeyed c =
     let reply = c.args.reply.now in
     let text = c.in_ok-text.text.items in
     let whole = c.self.view_is ∙ c.take_line-old_line.ensures in
-    let due : IsDue (live_of c.self.inside) line reply =
-    subst (λ (l : LiveState). IsDue l line reply)
-    (sym (c.self.view_is ∙ c.take_line-old_line.ensures)) c.requires in
+    let due = due (goal.at.returns-clause-obeyed c).After-take_line-old_line
+    (live_of c.self.inside) c.self.view_is in
     let is = told (live_of c.self.inside) line reply text due c.in_ok-text.ensures in
     let said = c.args.said.now.items in
     let logged = c.args.logged.now.items in
