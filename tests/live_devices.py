@@ -84,8 +84,6 @@ class Devices:
             run = subprocess.run([self.program], stdin=subprocess.DEVNULL, stdout=full, stderr=subprocess.PIPE,
                                  check=False)
         self.checks.check("full output", (run.returncode, run.stderr), (2, b"redodb-live: write\n"))
-        got = ended(self.program, "1 lock a\n", "--log", "/dev/full")
-        self.checks.check("full log", got, fault("/dev/full: write"))
 
     def limited(self, log: Path, limit: int, asked: str) -> Ended:
         """What is answered if no file can grow beyond this many bytes."""
@@ -145,7 +143,8 @@ class Devices:
         return notes.read_text().splitlines()
 
     def writes(self) -> None:
-        """Lines sent ahead share a write to the log, and one to the output after it; with --sync, a sync between."""
+        """Lines sent ahead share a write to the log, and one to the output after it; with --sync, a sync between.
+        At the start the folder of a new log is synced; with --sync, any log that was there, and its folder."""
         library = self.folder / "noting.so"
         subprocess.run(["cc", "-shared", "-fPIC", "-O1", "-o", library, TOP / "tests/noting.c"], check=True)
         asked = "1 lock a\n2 ood\n1 unlock b\n1 start a\n2 lock b\n"
@@ -160,10 +159,10 @@ class Devices:
             log = self.folder / f"noted{len(words)}.log"
             talk = ["--log", str(log), *words]
             got = self.noted(f"{log.stem}.begun", library, asked, *talk)
-            wanted = [f"log {len(HEADER)}", *sync, first, f"log {len(logged)}", *sync, out]
+            wanted = ["sync", f"log {len(HEADER)}", *sync, first, f"log {len(logged)}", *sync, out]
             self.checks.check(f"writes {words}", got, wanted)
             got = self.noted(f"{log.stem}.again", library, "3 ood\n", *talk)
-            wanted = [f"log {len(closing)}", *sync, first, f"out {len('3 ood => ood') + 1}"]
+            wanted = [*sync, *sync, f"log {len(closing)}", *sync, first, f"out {len('3 ood => ood') + 1}"]
             self.checks.check(f"writes of a restart {words}", got, wanted)
 
     def all(self) -> None:

@@ -170,7 +170,7 @@ class Logs:
         self.damaged.unlink()
 
     def places(self) -> None:
-        for name in ("nowhere/log", ".", ""):
+        for name in ("nowhere/log", "log/", ""):
             got = ended(self.program, "1 lock a\n", "--log", name, cwd=self.folder)
             self.checks.check(f"a log that can't be opened: {name!r}", got, fault(f"{name}: cannot open"))
 

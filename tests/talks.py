@@ -20,7 +20,7 @@ Pairs = list[tuple[str, list[str]]]
 
 
 class Checks:
-    """Counts what passed and what failed, and prints what failed."""
+    """Counts what passed, failed and was skipped, and prints what failed or was skipped."""
 
     def __init__(self) -> None:
         self.passed = self.failed = self.skipped = 0
@@ -32,11 +32,14 @@ class Checks:
             self.failed += 1
             print(f"failed: {name}\n  got:    {shown(got)}\n  wanted: {shown(wanted)}", flush=True)
 
+    def skip(self, cause: str) -> None:
+        self.skipped += 1
+        print(f"skipped: {cause}", flush=True)
+
     def end(self) -> int:
         """Prints the counts; returns the status."""
-        if self.skipped:
-            print(f"{self.skipped} skipped: no ./redodb is proved that could replay")
-        print(f"{self.passed} passed, {self.failed} failed")
+        skipped = f", {self.skipped} skipped" if self.skipped else ""
+        print(f"{self.passed} passed, {self.failed} failed{skipped}")
         return int(self.failed > 0)
 
 

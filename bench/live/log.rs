@@ -1,7 +1,9 @@
 // The log: a file of the lines that changed something.
 use crate::database::{Answers, Database};
-use std::fs::{File, OpenOptions, TryLockError};
+use crate::opening::{open, open_again, sync_folder};
+use std::fs::{File, OpenOptions};
 use std::io::{self, BufRead, BufReader, Read, Seek, Write};
+use std::os::unix::fs::FileExt;
 
 const HEADER: &[u8] = b"redodb-log 1\n";
 
@@ -9,6 +11,9 @@ pub struct Log {
     name: String,
     file: File,
     is_synced: bool,
+    // how many bytes of it were written, and how many of them are known to be on the disk
+    written: u64,
+    synced: u64,
 }
 
 // how far a log was restored: this many lines after the header, and this many bytes
@@ -30,11 +35,23 @@ fn is_answer(database: &mut Database, line: &[u8], answers: &mut Answers) -> boo
     answers.said == line
 }
 
+// whether the first bytes are those of a log, or all bytes a beginning of them
+fn is_log(name: &str, file: &File) -> Result<bool, String> {
+    let mut head = [0; HEADER.len()];
+    let length = file.metadata().map(|metadata| metadata.len());
+    let count = file.read_at(&mut head, 0);
+    let (Ok(length), Ok(count)) = (length, count) else {
+        return Err(format!("{name}: read"));
+    };
+    if count as u64 > length {
+        return Err(format!("{name}: not a regular file"));
+    }
+    Ok(HEADER.starts_with(&head[..count]))
+}
+
 // does the lines of a log again, up to the first that differs or has no LF
 fn restore(file: &File, database: &mut Database) -> io::Result<Restored> {
-    // of a device, which has no length, nothing is read
-    let length = file.metadata()?.len();
-    let mut input = BufReader::with_capacity(1 << 16, file.take(length));
+    let mut input = BufReader::with_capacity(1 << 16, file);
     let mut line = Vec::new();
     input.by_ref().take(HEADER.len() as u64).read_until(b'\n', &mut line)?;
     let mut restored = Restored { lines: 0, bytes: 0, differs: None };
@@ -61,13 +78,9 @@ fn restore(file: &File, database: &mut Database) -> io::Result<Restored> {
 impl Log {
     // The log of this name, which nobody else has open.
     pub fn open(name: &str, is_synced: bool) -> Result<Log, String> {
-        let opened = OpenOptions::new().read(true).append(true).create(true).open(name);
-        let file = opened.map_err(|_| format!("{name}: cannot open"))?;
-        match file.try_lock() {
-            Ok(()) => Ok(Log { name: name.to_string(), file, is_synced }),
-            Err(TryLockError::WouldBlock) => Err(format!("{name}: in use")),
-            Err(TryLockError::Error(_)) => Err(format!("{name}: cannot lock")),
-        }
+        let file = open(name).map_err(|cause| format!("{name}: {cause}"))?;
+        is_log(name, &file)?;
+        Ok(Log { name: name.to_string(), file, is_synced, written: 0, synced: 0 })
     }
 
     fn copy_to_damaged(&mut self) -> Result<(), String> {
@@ -79,7 +92,8 @@ impl Log {
         })?;
         self.file.rewind().map_err(|_| self.read_fault())?;
         io::copy(&mut self.file, &mut copy).map_err(|_| format!("{name}: write"))?;
-        copy.sync_data().map_err(|_| format!("{name}: write"))
+        let synced = copy.sync_data().and_then(|()| sync_folder(&name));
+        synced.map_err(|_| format!("{name}: write"))
     }
 
     fn read_fault(&self) -> String {
@@ -116,27 +130,53 @@ impl Log {
         if self.file.metadata().map_err(|_| self.read_fault())?.len() > restored.bytes {
             self.cut(restored.bytes)?;
         }
-        if restored.bytes == 0 {
-            self.append(HEADER)?;
-        }
+        self.settle(restored.bytes)?;
         let mut answers = Answers::default();
+        if restored.bytes == 0 {
+            answers.logged.extend_from_slice(HEADER);
+        }
         (1..=64).for_each(|session| database.close(session, &mut answers));
         self.append(&answers.logged)?;
         Ok((database, restored.lines))
+    }
+
+    // Syncs what was read, if that is asked for, and the folder, of a new log too. What can't be
+    // synced is written once more in its place, so that no later sync takes it for done.
+    fn settle(&mut self, bytes: u64) -> Result<(), String> {
+        (self.written, self.synced) = (bytes, bytes);
+        let fault = format!("{}: write", self.name);
+        if self.is_synced && bytes > 0 && self.file.sync_data().is_err() {
+            let mut text = vec![0; bytes as usize];
+            if let (Some(mut again), Ok(())) =
+                (open_again(&self.name, &self.file), self.file.read_exact_at(&mut text, 0))
+            {
+                let _ = again.write_all(&text);
+            }
+            return Err(fault);
+        }
+        if (self.is_synced || bytes == 0) && sync_folder(&self.name).is_err() {
+            return Err(fault);
+        }
+        Ok(())
     }
 
     fn cut(&mut self, length: u64) -> Result<(), String> {
         self.file.set_len(length).map_err(|_| format!("{}: write", self.name))
     }
 
-    // Appends lines; they are on the disk then, if that is asked for.
+    // Appends lines; they are on the disk then, if that is asked for, or cut off again.
     pub fn append(&mut self, lines: &[u8]) -> Result<(), String> {
         if lines.is_empty() {
             return Ok(());
         }
-        let written = self.file.write_all(lines);
-        let synced =
-            written.and_then(|()| if self.is_synced { self.file.sync_data() } else { Ok(()) });
-        synced.map_err(|_| format!("{}: write", self.name))
+        let fault = |_| format!("{}: write", self.name);
+        self.file.write_all(lines).map_err(fault)?;
+        self.written += lines.len() as u64;
+        if self.is_synced {
+            let synced = self.file.sync_data();
+            synced.inspect_err(|_| drop(self.file.set_len(self.synced))).map_err(fault)?;
+            self.synced = self.written;
+        }
+        Ok(())
     }
 }

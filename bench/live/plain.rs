@@ -16,6 +16,7 @@ mod memo;
 #[path = "../memo/names.rs"]
 #[allow(dead_code)]
 mod names;
+mod opening;
 #[path = "../memo/printing.rs"]
 #[allow(dead_code)]
 mod printing;

@@ -10,6 +10,9 @@ pub enum Fault {
     Usage,
     #[error("memory")]
     Memory,
+    /// The root folder can't be opened.
+    #[error("/: cannot open")]
+    Root,
     /// A read of standard input failed.
     #[error("-: read")]
     Read,
@@ -25,6 +28,10 @@ pub enum Fault {
 pub enum LogFault {
     #[error(": cannot open")]
     CannotOpen,
+    #[error(": not a regular file")]
+    NotRegular,
+    #[error(": has other links")]
+    HasLinks,
     #[error(": in use")]
     InUse,
     #[error(": cannot lock")]

@@ -1,12 +1,15 @@
 use crate::fault::{Fault, LogFault, say};
 use crate::log_writer::LogWriter;
+use crate::opening::{open, open_again, sync_folder};
 use redo_live::Live;
 use redo_log::{LOG_HEADER, RestoreFault, Restored, restore};
 use redo_whole::{Watched, WholeFault, read_whole, write_whole};
 use redo_words::LogFile;
 use std::alloc::{AllocError, Global};
-use std::fs::{File, OpenOptions, TryLockError};
-use std::io::{ErrorKind, Read, Write};
+use std::fs::{File, OpenOptions};
+use std::io;
+use std::io::{ErrorKind, Read, Seek, SeekFrom, Write};
+use std::os::unix::fs::FileExt;
 
 const SESSIONS: u8 = 64;
 
@@ -17,24 +20,23 @@ pub struct Begun {
     pub log: Watched<LogWriter>,
 }
 
-/// Opens the log, which no other process may have. The lock ends with the process.
-fn open(rt: &HostRuntime, name: &str) -> Result<File, LogFault> {
-    let opened = OpenOptions::new()
-        .read(true)
-        .append(true)
-        .create(true)
-        .open(rt, name);
-    let Ok(file) = opened else {
-        return Err(LogFault::CannotOpen);
+/// Whether the first bytes are those of a log, or all bytes a beginning of them.
+fn is_log(file: &File) -> Result<bool, LogFault> {
+    let mut head = [0u8; LOG_HEADER.len()];
+    let Ok(metadata) = file.metadata() else {
+        return Err(LogFault::Read);
     };
-    match file.try_lock() {
-        Ok(()) => Ok(file),
-        Err(TryLockError::WouldBlock) => Err(LogFault::InUse),
-        Err(TryLockError::Error(_)) => Err(LogFault::CannotLock),
+    let Ok(count) = file.read_at(&mut head, 0) else {
+        return Err(LogFault::Read);
+    };
+    // a file of /proc has no length, and more in it
+    if count as u64 > metadata.len() {
+        return Err(LogFault::NotRegular);
     }
+    Ok(LOG_HEADER.starts_with(&head[..count]))
 }
 
-/// All bytes of the log. Reads nothing of a device, which has no length.
+/// All bytes of the log.
 fn read(alloc: Global, file: &File) -> Result<Vec<u8>, Fault> {
     let Ok(metadata) = file.metadata() else {
         return Err(Fault::Log(LogFault::Read));
@@ -54,24 +56,33 @@ fn cut(file: &File, length: usize) -> Result<(), LogFault> {
     }
 }
 
-/// Copies the log to a new file beside it, and syncs the copy to the disk.
-fn copy(rt: &HostRuntime, name: &str, bytes: &[u8]) -> Result<(), Fault> {
+/// Copies all of an open file, and syncs the copy to the disk.
+fn copy_to(copy: &mut File, file: &File) -> io::Result<u64> {
+    let mut from = file;
+    from.seek(SeekFrom::Start(0))?;
+    let copied = io::copy(&mut from, copy)?;
+    copy.sync_data()?;
+    Ok(copied)
+}
+
+/// Copies the log to a new file beside it, which is on the disk then. Returns how many bytes it has.
+fn copy(rt: &HostRuntime, name: &str, file: &File) -> Result<u64, Fault> {
     let copied = format!(in rt.alloc(); "{name}.damaged")?;
     let opened = OpenOptions::new()
         .write(true)
         .create_new(true)
         .open(rt, copied.as_str());
-    let mut file = match opened {
-        Ok(file) => file,
+    let mut copy = match opened {
+        Ok(copy) => copy,
         Err(error) if error.kind() == ErrorKind::AlreadyExists => {
             return Err(Fault::Log(LogFault::IsCopied));
         }
         Err(_) => return Err(Fault::Log(LogFault::CannotCopy)),
     };
-    if file.write_all(bytes).is_err() || file.sync_data().is_err() {
-        return Err(Fault::Log(LogFault::CopyWrite));
+    match copy_to(&mut copy, file) {
+        Ok(count) if sync_folder(rt, name).is_ok() => Ok(count),
+        _ => Err(Fault::Log(LogFault::CopyWrite)),
     }
-    Ok(())
 }
 
 /// Cuts a damaged log before the first line that differs, after it has copied it, and does the lines before it again.
@@ -79,13 +90,12 @@ fn salvage(
     rt: &HostRuntime,
     name: &str,
     file: &File,
-    damaged: &[u8],
     lines: usize,
     kept: &[u8],
 ) -> Result<Restored, Fault> {
-    copy(rt, name, damaged)?;
+    let copied = copy(rt, name, file)?;
     cut(file, kept.len())?;
-    let gone = damaged.len().saturating_sub(kept.len());
+    let gone = copied.saturating_sub(kept.len() as u64);
     let line = format!(in rt.alloc();
         "redodb-live: {name}: {lines} lines kept, {gone} bytes cut off\n"
     )?;
@@ -94,16 +104,15 @@ fn salvage(
 }
 
 /// Does the lines of the log again, and cuts off a torn line.
-fn resume(rt: &HostRuntime, asked: &LogFile, file: &File) -> Result<Restored, Fault> {
-    let bytes = read(rt.alloc(), file)?;
-    match restore(rt.alloc(), &bytes) {
+fn resume(rt: &HostRuntime, asked: &LogFile, file: &File, bytes: &[u8]) -> Result<Restored, Fault> {
+    match restore(rt.alloc(), bytes) {
         Err(
             RestoreFault::Differs {
                 lines,
                 bytes: kept,
                 ..
             },
-        ) if asked.salvage => salvage(rt, &asked.name, file, &bytes, lines, &bytes[..kept]),
+        ) if asked.salvage => salvage(rt, &asked.name, file, lines, &bytes[..kept]),
         Err(fault) => Err(Fault::from(fault)),
         Ok(restored) => {
             if restored.bytes < bytes.len() {
@@ -112,6 +121,35 @@ fn resume(rt: &HostRuntime, asked: &LogFile, file: &File) -> Result<Restored, Fa
             Ok(restored)
         }
     }
+}
+
+/// Syncs what is left of the log. If that fails, the bytes are written once more in their place: else the system could
+/// take them for synced, and say so at the next start.
+fn settle(rt: &HostRuntime, name: &str, file: &File, bytes: &[u8]) -> Result<(), LogFault> {
+    if bytes.is_empty() || file.sync_data().is_ok() {
+        return Ok(());
+    }
+    if let Some(mut again) = open_again(rt, name, file) {
+        let _ = again.write_all(bytes);
+    }
+    Err(LogFault::Write)
+}
+
+/// Restores the log, whose first bytes are read before the others.
+fn restore_log(rt: &HostRuntime, asked: &LogFile, file: &File) -> Result<Restored, Fault> {
+    if !is_log(file)? {
+        if asked.salvage {
+            return salvage(rt, &asked.name, file, 0, &[]);
+        }
+        return Err(Fault::Log(LogFault::Differs { line: 1 }));
+    }
+    let mut bytes = read(rt.alloc(), file)?;
+    let restored = resume(rt, asked, file, &bytes)?;
+    bytes.truncate(restored.bytes);
+    if asked.sync {
+        settle(rt, &asked.name, file, &bytes)?;
+    }
+    Ok(restored)
 }
 
 /// Closes the sessions of the former run; `logged` gets the lines for the log.
@@ -146,7 +184,12 @@ fn go_on(
 /// Restores the log of the arguments, and closes the sessions of its former run.
 pub fn begin(rt: &HostRuntime, asked: &LogFile) -> Result<Begun, Fault> {
     let file = open(rt, &asked.name)?;
-    let mut restored = resume(rt, asked, &file)?;
-    let log = go_on(rt.alloc(), &mut restored, LogWriter::new(file, asked.sync))?;
+    let mut restored = restore_log(rt, asked, &file)?;
+    let is_new = restored.bytes == 0;
+    if (is_new || asked.sync) && sync_folder(rt, &asked.name).is_err() {
+        return Err(Fault::Log(LogFault::Write));
+    }
+    let log = LogWriter::new(file, asked.sync, restored.bytes as u64);
+    let log = go_on(rt.alloc(), &mut restored, log)?;
     Ok(Begun { restored, log })
 }

@@ -4,8 +4,10 @@
 mod fault;
 mod log;
 mod log_writer;
+mod opening;
 
 use fault::{Fault, LogFault};
+use opening::hold_closed;
 use redo_live::Live;
 use redo_talk::{TalkFault, talk};
 use redo_whole::{Watched, write_whole};
@@ -73,6 +75,7 @@ fn talk_to<L: Write>(
 
 /// The conversation that a log keeps.
 fn converse_by_log(rt: &HostRuntime, asked: &LogFile) -> Result<(), Fault> {
+    let _held = hold_closed(rt)?;
     let mut begun = log::begin(rt, asked)?;
     let restored = begun.restored.lines;
     talk_to(rt, &mut begun.restored.live, restored, &mut begun.log)

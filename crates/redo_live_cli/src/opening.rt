@@ -1,0 +1,90 @@
+use crate::fault::{Fault, LogFault};
+use std::fs::{File, Metadata, OpenOptions, TryLockError};
+use std::io::ErrorKind;
+use std::os::fd::AsRawFd;
+use std::os::unix::fs::MetadataExt;
+use std::path::Path;
+use std::{fs, io};
+
+/// That of standard error. Those of standard input and standard output come before it.
+const LAST_STANDARD: i32 = 2;
+
+/// Opens the root folder at each standard descriptor that is closed, so that no other file gets one: to read or to write
+/// there still fails.
+pub fn hold_closed(rt: &HostRuntime) -> Result<Vec<File>, Fault> {
+    let mut held = Vec::new(rt.alloc());
+    for _ in 0..=LAST_STANDARD {
+        let Ok(root) = File::open(rt, "/") else {
+            return Err(Fault::Root);
+        };
+        if root.as_raw_fd() > LAST_STANDARD {
+            break;
+        }
+        if held.push(root).is_err() {
+            return Err(Fault::Memory);
+        }
+    }
+    Ok(held)
+}
+
+fn is_same(one: &Metadata, other: &Metadata) -> bool {
+    one.dev() == other.dev() && one.ino() == other.ino()
+}
+
+/// Opens a regular file that has no other name. A file that takes its place meanwhile isn't touched.
+fn open_found(rt: &HostRuntime, name: &str, how: &OpenOptions) -> Result<File, LogFault> {
+    let Ok(found) = fs::symlink_metadata(rt, name) else {
+        return Err(LogFault::CannotOpen);
+    };
+    if !found.is_file() {
+        return Err(LogFault::NotRegular);
+    }
+    if found.nlink() > 1 {
+        return Err(LogFault::HasLinks);
+    }
+    let Ok(file) = how.open(rt, name) else {
+        return Err(LogFault::CannotOpen);
+    };
+    match file.metadata() {
+        Ok(opened) if is_same(&found, &opened) => Ok(file),
+        _ => Err(LogFault::CannotOpen),
+    }
+}
+
+/// Opens the log, which no other process may have. The lock ends with the process.
+pub fn open(rt: &HostRuntime, name: &str) -> Result<File, LogFault> {
+    // follows no link, whatever the name leads to
+    let created = OpenOptions::new()
+        .read(true)
+        .append(true)
+        .create_new(true)
+        .open(rt, name);
+    let file = match created {
+        Ok(file) => file,
+        Err(_) => open_found(rt, name, OpenOptions::new().read(true).append(true))?,
+    };
+    match file.try_lock() {
+        Ok(()) => Ok(file),
+        Err(TryLockError::WouldBlock) => Err(LogFault::InUse),
+        Err(TryLockError::Error(_)) => Err(LogFault::CannotLock),
+    }
+}
+
+/// Opens an open file by its name once more, to write from its beginning on.
+pub fn open_again(rt: &HostRuntime, name: &str, file: &File) -> Option<File> {
+    let again = open_found(rt, name, OpenOptions::new().write(true)).ok()?;
+    let (one, other) = (file.metadata().ok()?, again.metadata().ok()?);
+    is_same(&one, &other).then_some(again)
+}
+
+/// Syncs the folder of a file to the disk. A file system that knows no such sync is taken as it is.
+pub fn sync_folder(rt: &HostRuntime, name: &str) -> io::Result<()> {
+    let folder = match Path::new(name).parent() {
+        Some(folder) if folder != Path::new("") => folder,
+        _ => Path::new("."),
+    };
+    match File::open(rt, folder)?.sync_all() {
+        Err(error) if error.kind() == ErrorKind::InvalidInput => Ok(()),
+        synced => synced,
+    }
+}
