@@ -1,9 +1,21 @@
-"""`python3 -m redodb serve|record|picture ..`: the subcommands of redodb in Python."""
+"""The subcommands of redodb in Python: `redodb serve|record|picture ..`, which runs this file.
 
-import importlib
+An older Python has to read it up to the line about its version: there is nothing newer in it.
+"""
+
 import sys
 
-from . import __version__
+if sys.version_info < (3, 11):
+    sys.stderr.write("redodb: it needs Python 3.11, and %s is older\n" % sys.executable)
+    sys.exit(2)
+
+import importlib
+import os
+
+if not __package__:
+    sys.path.insert(0, os.path.dirname(os.path.dirname(os.path.realpath(__file__))))
+
+from redodb import __version__
 
 USAGE = """\
 usage: redodb serve [--top DIR] [--idle SECONDS]
@@ -24,10 +36,9 @@ def main(arguments: list[str]) -> int:
     word = arguments[0] if arguments else ""
     if word in MODULES:
         module = importlib.import_module(MODULES[word], "redodb")
-        status: int = module.main(arguments[1:])
-        return status
+        return int(module.main(arguments[1:]))
     if arguments == ["--version"]:
-        print(f"redodb {__version__}")
+        print("redodb " + __version__)
         return 0
     if arguments in (["--help"], ["-h"]):
         print(USAGE, end="")

@@ -103,6 +103,17 @@ class InstallCopy(InstallTest):
         for word in ("record", "picture", "serve"):
             self.assertTrue(self.said(redodb, word, "--help").startswith(f"usage: redodb {word}"))
 
+    def test_nothing_is_imported_from_the_working_folder(self) -> None:
+        self.installed()
+        for name in ("redodb/__init__", "redodb/__main__", "json", "os", "sitecustomize", "shutil"):
+            self.write(f"hostile/{name}.py", f"open('{self.top}/ran', 'w')\n")
+        hostile = self.top / "hostile"
+        for name in set(self.programs()) - {"redodb"}:
+            self.said(self.prefix / "bin" / name, "--version", cwd=hostile)
+        for word in ("record", "picture", "serve"):
+            self.said(self.prefix / "bin/redodb", word, "--help", cwd=hostile)
+        self.assertFalse((self.top / "ran").exists())
+
     def test_by_a_symbolic_link_from_elsewhere(self) -> None:
         self.installed()
         os.symlink(self.prefix / "bin/redodb", self.top / "link")

@@ -1,14 +1,27 @@
 """The words of `python3 -m redodb`, and how ./redodb passes them on."""
 
+import ast
 import os
 import subprocess
 import sys
 import unittest
+from pathlib import Path
 
 import beside  # noqa: F401
 from redodb import __version__
 from redodb.__main__ import MODULES
-from trees import TOP
+from trees import TOP, TreeTest
+
+PROGRAMS = sorted((TOP / "bin").glob("redo*"))
+OLDER = f"""#!{sys.executable} -IS
+import runpy
+import sys
+
+sys.version_info = (3, 10, 14, "final", 0)
+sys.argv = sys.argv[next(n for n, word in enumerate(sys.argv) if n and word[0] != "-"):]
+runpy.run_path(sys.argv[0], run_name="__main__")
+"""
+"""A python3 that says that it is older."""
 
 
 def run(*words: str) -> tuple[int, str, str]:
@@ -74,6 +87,47 @@ class Script(unittest.TestCase):
         for words in (("--help",), ("--version",), ("Record",), ("records",)):
             with self.subTest(words):
                 self.assertEqual(run(str(TOP / "redodb"), *words), (2, "", "redodb: usage\n"))
+
+
+class OlderPython(TreeTest):
+    """Each program says in one line that it needs a newer Python."""
+
+    def setUp(self) -> None:
+        super().setUp()
+        self.python = self.write("older/python3", OLDER)
+        self.python.chmod(0o755)
+
+    def said(self, status: int, *words: str | Path) -> str:
+        """Return the one line that a program says, without the path of Python."""
+        path = f"{self.top}/older:{os.environ['PATH']}"
+        run = subprocess.run(
+            words, env={**os.environ, "PATH": path}, capture_output=True, text=True, check=False
+        )
+        self.assertEqual((run.returncode, run.stdout), (status, ""), run.stderr)
+        self.assertEqual(run.stderr.count("\n"), 1, run.stderr)
+        return run.stderr.partition(",")[0]
+
+    def test_programs_of_redo(self) -> None:
+        for program in PROGRAMS:
+            for word in ("--help", "x"):
+                said = self.said(1, self.python, "-IS", program, word)
+                self.assertEqual(said, f"{program.name}: it needs Python 3.11")
+
+    def test_words_of_redodb(self) -> None:
+        for word in MODULES:
+            self.assertEqual(
+                self.said(2, TOP / "redodb", word, "--help"), "redodb: it needs Python 3.11"
+            )
+
+    def test_install(self) -> None:
+        said = self.said(2, TOP / "install", self.top / "prefix")
+        self.assertEqual(said, "install: it needs Python 3.11")
+
+    def test_older_pythons_can_read_the_files(self) -> None:
+        main = TOP / "python/redodb/__main__.py"
+        for file, version in ((main, 4), (TOP / "install", 6), *((path, 4) for path in PROGRAMS)):
+            with self.subTest(file):
+                ast.parse(file.read_text(), feature_version=(3, version))
 
 
 if __name__ == "__main__":
