@@ -62,16 +62,20 @@ class RecordMake(AgreeTest):
         lines = re.findall("# (.*) is built$", self.run_tool("make", "-n"), re.M)
         return {name for line in lines for name in ([line] if line == "a b.o" else line.split(" "))}
 
-    def test_each_touched_source(self) -> None:
+    def test_each_edited_or_touched_source(self) -> None:
         self.built()
         lines = self.recorded("make")
         self.assertEqual(self.assert_agrees(lines), set())
         found = {}
         for name in FILES:
             if not name.endswith("Makefile"):
-                with self.touched(name):
+                with self.edited(name):
                     found[name] = self.assert_agrees(lines)
                     self.assertEqual(self.assert_agrees(self.recorded("make")), found[name])
+                with self.touched(name):
+                    self.assertEqual(self.assert_agrees(self.recorded("make")), found[name])
+                    # once recorded, contents count
+                    self.assertEqual(self.out_of_date(lines) - self.phony, set())
         self.assertEqual(found["util.h"], {"main.o", "util.o", "app", "inner/result"})
         self.assertEqual(found["a b.h"], {"a b.o", "app"})
         self.assertEqual(found["version.txt"], {"version.h", "main.o", "app"})
@@ -126,6 +130,81 @@ class RecordMake(AgreeTest):
         status, out, errors = record("make", str(self.top))
         self.assertEqual((status, out, errors.count("\n")), (2, "", 1))
         self.assertRegex(errors, r"\Aredodb record: .*No rule to make target 'version.txt'")
+
+
+VARIABLES = """\
+define lines
+one
+
+aside: two
+three: four
+endef
+.RECIPEPREFIX = >
+all: a.x b.x c.x d.x e.x f.x g.x h.x i.x j.x k.x many.x n=o.x
+a.x: FLAGS = -O2 -Wall
+b.x: FLAGS := -O2 $$x
+c.x: FLAGS += -g
+d.x: FLAGS ?= some other
+e.x: FLAGS != echo some other
+f.x: override FLAGS = some
+g.x: export FLAGS = some
+h.x: private FLAGS = some
+i.x: export override private FLAGS ::= some
+j.x: FLAGS := $(lines)
+k.x: FLAGS =
+k.x: FLAGS += $(lines)
+many.x: FIRST = some
+many.x: SECOND := some
+many.x: export THIRD := $(lines)
+n=o.x: FLAGS = some
+%.x: OF_PATTERN = some
+%.x: private OF_PATTERN += other
+all: OF_ALL = some
+b.in: OF_A_SOURCE = some
+%.x: %.in shared
+> cp $< $@ # $@ is built
+c.x: c.in shared | order
+> cp $< $@ # $@ is built
+order:
+> touch order # $@ is built
+"""
+STEMS = ("a", "b", "c", "d", "e", "f", "g", "h", "i", "j", "k", "many", "n=o")
+
+
+@unittest.skipUnless(has_tools("make"), "wants make and redodb-live")
+class VariablesOfTargets(AgreeTest):
+    """A variable of a target is printed like a rule, and is none."""
+
+    files = {"Makefile": VARIABLES, "shared": "", **{f"{stem}.in": "" for stem in STEMS}}
+    phony = {"all"}
+
+    def wanted(self) -> set[str]:
+        """Return what `make -n` would build."""
+        return set(re.findall("# (.*) is built$", self.run_tool("make", "-n"), re.M))
+
+    def test_names(self) -> None:
+        """The names are those of the files, whether all are built or none."""
+        names = {f"{stem}.{end}" for stem in STEMS for end in ("in", "x")} | {"all", "shared"}
+        for built in (False, True):
+            with self.subTest(built=built):
+                found = {word for line in self.recorded("make") for word in line.split(" ")[2:]}
+                self.assertLessEqual(names, found)
+                of_variables = "FLAGS|some|OF_|lines|aside|[+:!?]=|-O2|-g|RECIPE|FIRST|three"
+                self.assertEqual({word for word in found if re.search(of_variables, word)}, set())
+            self.run_tool("make")
+
+    def test_each_edited_source(self) -> None:
+        self.run_tool("make")
+        self.assertEqual(self.assert_agrees(self.recorded("make")), set())
+        targets = {f"{stem}.in": {f"{stem}.x"} for stem in STEMS}
+        targets["shared"] = {f"{stem}.x" for stem in STEMS}
+        for name, wanted in targets.items():
+            with self.subTest(name):
+                lines = self.recorded("make")
+                self.write(name, "edited\n")
+                self.assertEqual(self.assert_agrees(lines), wanted)
+                self.assertEqual(self.assert_agrees(self.recorded("make")), wanted)
+                self.run_tool("make")
 
 
 if __name__ == "__main__":

@@ -1,5 +1,6 @@
 """What GNU make knows: the database that `make -pn` prints, of the goals that it was given."""
 
+import itertools
 import os
 import re
 import subprocess
@@ -15,9 +16,10 @@ _RECIPE = b"#  recipe to execute "
 _CONSIDERED = b"#  File has been updated."
 _ALSO = b"#  Also makes: "
 _NO_TARGET = b"# Not a target:"
+_SEARCHED = b"#  Implicit rule search has "
 
 Stanza = list[bytes]
-"""The lines about one file: `# Not a target:` if it is none, its rule, what make knows of it."""
+"""The lines about one file: variables, `# Not a target:` if it is none, its rule, and the rest."""
 
 
 def read_make(top: bytes, words: list[str]) -> Graph:
@@ -69,8 +71,15 @@ def _databases(text: bytes) -> list[tuple[bytes, list[Stanza]]]:
 
 
 def _rule(stanza: Stanza) -> bytes:
-    """Return the rule of a stanza, which is no comment; nothing if it has none."""
-    return next((line for line in stanza if not line.startswith((b"#", b"\t"))), b"")
+    """Return the rule of a stanza; nothing if it has none.
+
+    It is the last line before what make knows of the file. Before it are variables of the target,
+    which look like rules, and may have several lines.
+    """
+    first = list(itertools.takewhile(lambda line: not line.startswith(_SEARCHED), stanza))
+    if len(first) == len(stanza):
+        return b""
+    return next((line for line in reversed(first) if not line.startswith(b"#  ")), b"")
 
 
 def _head(stanza: Stanza) -> bytes:
@@ -106,7 +115,7 @@ def _inputs(stanza: Stanza, known: set[bytes]) -> list[bytes]:
 
 def _add(graph: Graph, folder: bytes, stanza: Stanza, known: set[bytes]) -> None:
     """Add the target of a stanza to the graph, if make met it on the way to its goals."""
-    if stanza[0] == _NO_TARGET or _CONSIDERED not in stanza:
+    if _NO_TARGET in stanza or _CONSIDERED not in stanza:
         return
     inputs = [os.path.join(folder, name) for name in _inputs(stanza, known)]
     has_recipe = any(line.startswith(_RECIPE) for line in stanza)
