@@ -9,6 +9,29 @@ function __redodb_word
     test (count $words) -gt 1; and contains -- $words[2] $argv
 end
 
+# Prints names, each with a NUL, so that none is an option or a home. A tab would end it: such names are left out.
+function __redodb_names
+    for name in $argv
+        switch $name
+            case '*'\t'*'
+            case '-*' '~*'
+                printf './%s\0' $name
+            case '*'
+                printf '%s\0' $name
+        end
+    end
+end
+
+function __redodb_targets
+    __redodb_names (redo-targets -0 2>/dev/null | string split0)
+end
+
+# Whether nothing is typed yet, and a file here has a name like an option or a home.
+function __redodb_odd
+    set -l files ./-* ./\~*
+    test -z "$(commandline -ct)"; and test (count $files) -gt 0
+end
+
 complete -c redodb -n '__redodb_at 1' -f -a run -d 'Run session files side by side'
 complete -c redodb -n '__redodb_at 1' -f -a replay -d 'Do a stored history again'
 complete -c redodb -n '__redodb_at 1' -f -a serve -d 'Be the server of a tree'
@@ -33,17 +56,27 @@ for program in redo redo-ifchange redo-ifcreate redo-log redo-whichdo redo-why r
     complete -c $program -l help -d 'Print a summary'
     complete -c $program -l version -d 'Print the version'
 end
-for program in redo redo-ifchange redo-log redo-why
-    complete -c $program -a '(redo-targets 2>/dev/null)' -d Target
+for program in redo-log redo-why
+    complete -c $program -f -a '(__redodb_targets | string split0)' -d Target
 end
+for program in redo redo-ifchange redo-ifcreate redo-whichdo
+    complete -c $program -a '(__redodb_targets | string split0)' -d Target
+    complete -c $program -n __redodb_odd -f -a '(__redodb_names * | string split0)'
+end
+for program in redo-ood redo-sources redo-targets
+    complete -c $program -f -s 0 -d 'End each by a NUL'
+end
+complete -c redo-targets -l edited -d 'Those that were edited'
 complete -c redo -s j -l jobs -x -d 'Scripts at once'
 complete -c redo -s k -l keep-going -d 'Go on after a failure'
 complete -c redo -l shuffle -d 'Build in random order'
 complete -c redo -s x -l xtrace -d 'Print commands'
 complete -c redo -s v -l verbose -d 'Print lines of scripts'
+complete -c redo -l overwrite -d 'Build edited targets'
 complete -c redo -l no-log -d 'Keep no log'
 complete -c redo -l no-color -d 'No colours'
 complete -c redo -l no-status -d 'No progress'
+complete -c redo-targets -l edited -d 'Those that somebody edited'
 complete -c redo-why -l json -d 'Print objects'
 complete -c redo-log -s n -l no-recurse -d 'The log of the target alone'
 complete -c redo-log -l no-color -d 'No colours'

@@ -15,8 +15,13 @@ _redodb_words() {
 
 _redo_targets() {
     local -a names
-    names=(${(f)"$(redo-targets 2>/dev/null)"})
+    names=(${(0)"$(redo-targets -0 2>/dev/null)"})
+    names=(${names:#[-~]*} ./${^${(M)names:#[-~]*}})  # neither an option nor a home
     compadd -a names
+}
+
+_redo_files() {
+    if [[ -n $PREFIX ]]; then _files; else _path_files -g '[^-~]*'; fi
 }
 
 _redodb_program() {
@@ -43,14 +48,19 @@ case $service in
     redo)
         _arguments '(-j --jobs)'{-j,--jobs=}'[scripts at once]:number:' '(-k --keep-going)'{-k,--keep-going}'[go on after a failure]' \
             '--shuffle[build in random order]' '(-x --xtrace)'{-x,--xtrace}'[print commands]' \
-            '(-v --verbose)'{-v,--verbose}'[print lines of scripts]' '--no-log[keep no log]' '--no-color[no colours]' \
+            '(-v --verbose)'{-v,--verbose}'[print lines of scripts]' '--overwrite[build edited targets]' '--no-log[keep no log]' '--no-color[no colours]' \
             '--no-status[no progress]' '--help[print a summary]' '--version[print the version]' \
-            '*:target:{ _redo_targets; _files }' ;;
+            '*:target:{ _redo_targets; _redo_files }' ;;
     redo-why) _arguments '--json[print objects]' '--help[print a summary]' '--version[print the version]' '*:target:_redo_targets' ;;
     redo-log)
         _arguments '(-n --no-recurse)'{-n,--no-recurse}'[the log of the target alone]' '--no-color[no colours]' \
             '--help[print a summary]' '--version[print the version]' '*:target:_redo_targets' ;;
     redo-ifchange|redo-ifcreate|redo-whichdo)
-        _arguments '--help[print a summary]' '--version[print the version]' '*:target:{ _redo_targets; _files }' ;;
+        _arguments '--help[print a summary]' '--version[print the version]' '*:target:{ _redo_targets; _redo_files }' ;;
+    redo-targets)
+        _arguments '--edited[those that were edited]' '-0[end each by a NUL]' '--help[print a summary]' \
+            '--version[print the version]' ;;
+    redo-ood|redo-sources)
+        _arguments '-0[end each by a NUL]' '--help[print a summary]' '--version[print the version]' ;;
     *) _arguments '--help[print a summary]' '--version[print the version]' ;;
 esac

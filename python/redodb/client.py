@@ -22,7 +22,8 @@ class Client(Commands):
     server is started if there is none, and ends `idle` seconds after its last client. A call
     that isn't answered within timeout seconds raises TimeoutError; without a timeout it waits as
     long as it takes. All calls raise RefusedError, FaultError, and ServerError if the server has
-    ended. Names may be text or bytes, and come as bytes.
+    ended; the first one UntrustedError for a tree of another user, and OtherTree for one within
+    another. Names may be text or bytes, and come as bytes.
 
     >>> with Client(top) as client:
     ...     client.file("main.c", "1")
@@ -47,7 +48,7 @@ class Client(Commands):
 
     @property
     def session(self) -> int:
-        """The number of the session, from 1 to 64."""
+        """The number of the session, from 1 to 63."""
         return self._lines.session
 
     def close(self) -> None:

@@ -16,6 +16,18 @@ class NameTooLong(BadName):
     """The name of this path has more than 255 bytes."""
 
 
+class OtherTree(BadName):
+    """The path is in another tree: a folder between the top and it has a .redo of its own."""
+
+
+class UntrustedError(RedodbError):
+    """A tree, or a file of it, is somebody else's, or a link where a file belongs."""
+
+
+class RuleError(RedodbError):
+    """What is in the place of a .do file can't be run; the text says why."""
+
+
 class RefusedError(RedodbError):
     """The database refused a command, and everything is as it was before.
 

@@ -3,32 +3,45 @@
 A program that starts often asks by `Lines.ask` and reads the answers itself; `client.Client` has a
 method for each command instead.
 """
+import os
 import select
+import sys
 import time
-from _socket import AF_UNIX, MSG_DONTWAIT, SOCK_CLOEXEC, SOCK_STREAM, socket
+from _socket import (
+    AF_UNIX,
+    MSG_DONTWAIT,
+    SO_PEERCRED,
+    SOCK_CLOEXEC,
+    SOCK_STREAM,
+    SOL_SOCKET,
+    socket,
+)
 
 from .errors import ProtocolError, ServerError
 from .places import Places
 
 TYPE_CHECKING = False
 if TYPE_CHECKING:
-    from collections.abc import Iterable
+    from collections.abc import Callable, Iterable
 
 _MOST_READ = 1 << 16
-_LONGEST_PATH = 100
+_A_MOMENT = 200  # milliseconds
 _LOOKS = 60
 """So often an answer is looked for before the program sleeps. Most come within that."""
 
 
 class Lines:
-    """One connection, which is one session. Requests go out together, while answers are read.
+    """One connection, and its session, 0 if it has none. Requests go out together, while answers
+    are read.
 
     deadline is a time of time.monotonic(), or None. After a TimeoutError the connection can be used
     on; answers that come late are kept in `late`, by the number of the request. `number` is the
-    last one.
+    last one. `patience` is a time in seconds, and what is called once if a wait without a deadline
+    takes so long.
     """
 
     def __init__(self, connected: socket) -> None:
+        self.patience: "tuple[float, Callable[[], None]] | None" = None
         self.session = 0
         self.number = 0
         self.late: dict[int, bytes] = {}
@@ -36,23 +49,34 @@ class Lines:
         self._rest = b""
         self._unsent = b""
 
-    def greet(self, deadline: float | None = None) -> bool:
+    def greet(self, deadline: float | None = None, only_asks: bool = False) -> bool:
         """Wait for the session, which may take the time until one is free.
 
-        Return False if the server ended before. Raises ServerError, TimeoutError.
+        Who only asks takes none, and waits for none; `take_session` is for later. Return False if
+        the server ended before. Raises ServerError, TimeoutError.
         """
-        while b"\n" not in self._rest:
-            data = self._receive(deadline)
-            if not data:
+        if only_asks:
+            self._unsent = b"0 question\n"
+            self._send()
+        while True:
+            line = self._first_line(deadline)
+            if not line:
                 self.close()
                 return False
-            self._rest += data
-        line, _, self._rest = self._rest.partition(b"\n")
-        word, _, number = line.partition(b" ")
-        if word != b"session" or not number.isdigit():
-            self._complain(line)
-        self.session = int(number)
-        return True
+            word, _, number = line.partition(b" ")
+            if word != b"session" or not number.isdigit():
+                self._complain(line)
+            self.session = int(number)
+            if not only_asks or not self.session:
+                return True
+
+    def take_session(self, deadline: float | None = None) -> bool:
+        """Take a session for a connection without one. Return False if none is free."""
+        return self._has_session(self.ask(b"session", deadline))
+
+    def wait_turn(self, deadline: float | None = None) -> None:
+        """Take a session as soon as one is free."""
+        self._has_session(self.ask(b"turn", deadline))
 
     def ask(self, request: bytes, deadline: float | None = None) -> bytes:
         """Return the answer to a request. Raises ServerError, TimeoutError."""
@@ -84,6 +108,25 @@ class Lines:
     def close(self) -> None:
         """End the connection, and with it the session."""
         self._socket.close()
+
+    def _first_line(self, deadline: float | None) -> bytes:
+        """Return a line before any request was answered, or b"" at the end."""
+        while b"\n" not in self._rest:
+            data = self._receive(deadline)
+            if not data:
+                return b""
+            self._rest += data
+        line, _, self._rest = self._rest.partition(b"\n")
+        return line
+
+    def _has_session(self, answer: bytes) -> bool:
+        word, _, number = answer.partition(b" ")
+        if word == b"session" and number.isdigit():
+            self.session = int(number)
+            return True
+        if answer != b"busy":
+            self._complain(answer)
+        return False
 
     def _answers(self, wanted: range, data: bytes, deadline: float | None) -> list[bytes]:
         """Return the answers to requests, of which some may be in the data that came."""
@@ -119,8 +162,10 @@ class Lines:
         poll = select.poll()
         while True:
             poll.register(self._socket, select.POLLIN | (select.POLLOUT if self._unsent else 0))
-            left = None if deadline is None else max(0.0, deadline - time.monotonic()) * 1000
-            events = poll.poll(left)
+            if deadline is None:
+                events = self._polled(poll)
+            else:
+                events = poll.poll(max(0.0, deadline - time.monotonic()) * 1000)
             if not events:
                 raise TimeoutError("no answer from the server in time")
             if events[0][1] & ~select.POLLOUT:
@@ -139,9 +184,23 @@ class Lines:
                     return receive(_MOST_READ, MSG_DONTWAIT)
                 except BlockingIOError:
                     pass
+            if self.patience is not None:
+                poll = select.poll()
+                poll.register(self._socket, select.POLLIN)
+                self._polled(poll)
             return receive(_MOST_READ)
         except ConnectionResetError:
             return b""
+
+    def _polled(self, poll: select.poll) -> list[tuple[int, int]]:
+        """Wait for an event. If that takes long, call; not if this process was stopped itself."""
+        if self.patience is None:
+            return poll.poll()
+        seconds, call = self.patience
+        events = poll.poll(seconds * 1000) or poll.poll(_A_MOMENT)
+        if not events:
+            call()
+        return events or poll.poll()
 
     def _take(self, data: bytes, wanted: range, answers: dict[int, bytes]) -> None:
         lines = (self._rest + data).split(b"\n")
@@ -161,13 +220,22 @@ class Lines:
 
 
 def dial(places: Places) -> socket | None:
-    """Return a connection to the server of a tree, or None if no server listens."""
+    """Return a connection to the server of a tree, or None if no server listens.
+
+    Raises UntrustedError if the tree, or who listens, isn't trusted.
+    """
     connection = socket(AF_UNIX, SOCK_STREAM | SOCK_CLOEXEC)
     try:
-        if len(places.socket) <= _LONGEST_PATH:
-            connection.connect(places.socket)
-        else:
-            _connect_by_folder(connection, places)
+        place = places.open_socket()
+        try:
+            connection.connect(f"/proc/self/fd/{place}")  # its own path may be too long
+        finally:
+            os.close(place)
+        peer = connection.getsockopt(SOL_SOCKET, SO_PEERCRED, 12)
+        if int.from_bytes(peer[4:8], sys.byteorder) != os.geteuid():
+            from . import private
+
+            private.check_peer(connection, places.socket, places.top)
         return connection
     except (FileNotFoundError, ConnectionRefusedError):
         connection.close()
@@ -175,13 +243,3 @@ def dial(places: Places) -> socket | None:
     except BaseException:
         connection.close()
         raise
-
-
-def _connect_by_folder(connection: socket, places: Places) -> None:
-    import os
-
-    folder = os.open(places.server, os.O_PATH | os.O_DIRECTORY | os.O_CLOEXEC)
-    try:
-        connection.connect(f"/proc/self/fd/{folder}/socket")
-    finally:
-        os.close(folder)

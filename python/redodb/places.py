@@ -1,7 +1,15 @@
 """The top of a tree, the paths under its .redo, and the program that is the database."""
 import os
+from stat import S_ISDIR, S_ISLNK, S_ISSOCK
+
+from .names import name_of, unescape
 
 HOME = b".redo"
+SHARED = 0o1002
+"""The mode of a folder like /tmp: all may make files, and nobody may remove those of others."""
+
+_FOLDER = os.O_RDONLY | os.O_DIRECTORY | os.O_NOFOLLOW | os.O_CLOEXEC
+_PLACE = os.O_PATH | os.O_NOFOLLOW | os.O_CLOEXEC
 
 
 class Places:
@@ -26,32 +34,106 @@ class Places:
         self.run = self.home + b"/run"
 
     def make(self) -> None:
-        """Make what is missing of .redo and the server's folder, which is the owner's alone."""
+        """Make what is missing of .redo and the server's folder, which is the owner's alone.
+
+        Raises UntrustedError, and OSError.
+        """
+        from . import private
+
+        if not os.path.lexists(self.server):
+            private.write_once(self.home + b"/.gitignore", b"*\n")
+        os.close(private.open_folder(self.server, 0o700))
+
+    def open_socket(self) -> int:
+        """Return a descriptor by which the server's socket can be named.
+
+        Raises UntrustedError, and OSError. What is the caller's without doubt is seen here.
+        """
+        files: list[int] = []
         try:
-            os.mkdir(self.home)
-        except FileExistsError:
+            for name, flags in ((self.home, _FOLDER), (b"server", _FOLDER), (b"socket", _PLACE)):
+                files.append(os.open(name, flags, dir_fd=files[-1] if files else None))
+            home, server, socket = map(os.fstat, files)
+            if _is_mine(self.top, home) and server.st_uid == home.st_uid == socket.st_uid:
+                if S_ISSOCK(socket.st_mode):
+                    return files.pop()
+        except OSError:
             pass
-        private_folder(self.server)
+        finally:
+            for file in files:
+                os.close(file)
+        from . import private
 
-
-def private_folder(path: bytes) -> None:
-    """Make a folder of mode 0700, or give this mode to the folder that is there."""
-    try:
-        os.mkdir(path, 0o700)
-    except FileExistsError:
-        if os.lstat(path).st_mode & 0o777 != 0o700:
-            os.chmod(path, 0o700)
+        return private.open_socket(self.socket)
 
 
 def find_top(folder: bytes = b".") -> bytes | None:
-    """Return the nearest folder upwards that has .redo, absolute and resolved, or None."""
+    """Return the nearest folder upwards that has .redo, absolute and resolved, or None.
+
+    Raises UntrustedError if it is somebody else's, and OtherTree if there is one more above it.
+    """
     here = os.path.realpath(folder)
-    while not os.path.isdir(os.path.join(here, HOME)):
+    top = None
+    while True:
+        home = _home_of(here)
+        if home is not None and top is None:
+            if not _is_mine(here, home):
+                from . import private
+
+                private.check_tree(here, home)
+            top = here
+        elif home is not None and top is not None:
+            from . import private
+
+            private.check_above(top, here, home)
         above = os.path.dirname(here)
         if above == here:
-            return None
+            return top
         here = above
-    return here
+
+
+def name_inside(path: bytes, top: bytes, seen: set[bytes]) -> bytes:
+    """Return the name of a path as name_of, if it is in this tree and in no other.
+
+    Folders that were seen aren't looked at; all that are in order are added. Raises OtherTree too.
+    """
+    name = name_of(path, top)
+    check_inside(name, top, seen)
+    return name
+
+
+def check_inside(name: bytes, top: bytes, seen: set[bytes]) -> None:
+    """Raise OtherTree if a folder below the top on the way to a name has .redo, as name_inside."""
+    if b"/" not in name or name.startswith((b"../", b"/")):
+        return  # at the top, outside of it, or no file
+    folder = os.path.dirname(unescape(name))
+    looked_at = []
+    while folder and folder not in seen:
+        inner = os.path.join(top, folder)
+        if os.access(os.path.join(inner, HOME, b"."), os.F_OK):
+            from . import private
+
+            raise private.two_trees(inner, top)
+        looked_at.append(folder)
+        folder = os.path.dirname(folder)
+    seen.update(looked_at)
+
+
+def _home_of(folder: bytes) -> os.stat_result | None:
+    """Return what is known of .redo in a folder, or None if that is no folder, and no link."""
+    try:
+        home = os.lstat(os.path.join(folder, HOME))
+    except OSError:
+        return None
+    return home if S_ISDIR(home.st_mode) or S_ISLNK(home.st_mode) else None
+
+
+def _is_mine(top: bytes, home: os.stat_result) -> bool:
+    """Say whether a tree is the caller's without doubt."""
+    folder, caller = os.stat(top), os.geteuid()
+    is_shared = folder.st_mode & SHARED == SHARED
+    is_own = home.st_uid == caller and folder.st_uid in (caller, 0)
+    return is_own and not is_shared and S_ISDIR(home.st_mode)
 
 
 def package_folder() -> bytes:

@@ -8,24 +8,35 @@ from .errors import ServerError
 from .lines import Lines, dial
 from .places import Places, find_program, package_folder
 
+TYPE_CHECKING = False
+if TYPE_CHECKING:
+    from collections.abc import Callable
+
 START_SECONDS = 10.0
 _PAUSE = 0.02
 
 
-def connect(top: bytes, timeout: float | None = None, idle: float = 3.0) -> Lines:
-    """Return a connection to the server of a tree, with its session.
+def connect(
+    top: bytes,
+    timeout: float | None = None,
+    idle: float = 3.0,
+    only_asks: bool = False,
+    patience: "tuple[float, Callable[[], None]] | None" = None,
+) -> Lines:
+    """Return a connection to the server of a tree, with its session; with none if it only asks.
 
     If no server listens, one is started, which ends `idle` seconds after its last client. More
-    than 64 connections wait for a session, for ever or timeout seconds. Raises ServerError,
-    TimeoutError.
+    than 63 connections wait for a session, for ever or timeout seconds. `patience` is that of
+    Lines. Raises ServerError, TimeoutError.
     """
     places = Places(top)
     deadline = None if timeout is None else time.monotonic() + timeout
     give_up = time.monotonic() + START_SECONDS
     while True:
         lines = dialled(places) or started(places, idle, give_up)
+        lines.patience = patience
         try:
-            if lines.greet(deadline):
+            if lines.greet(deadline, only_asks):
                 return lines
         except BaseException:
             lines.close()
@@ -42,8 +53,10 @@ def dialled(places: Places) -> Lines | None:
 
 def started(places: Places, idle: float, give_up: float) -> Lines:
     """Start a server, and return a connection to it. One program at a time tries."""
+    from . import private
+
     places.make()
-    turn = os.open(places.starting, os.O_RDWR | os.O_CREAT | os.O_CLOEXEC, 0o600)
+    turn = private.open_file(places.starting, os.O_RDWR | os.O_CREAT)
     try:
         fcntl.flock(turn, fcntl.LOCK_EX)
         while True:
@@ -65,7 +78,9 @@ def _start(places: Places, idle: float) -> None:
     """Start a server in the background, and return when it listens, or found another one there."""
     import subprocess
 
-    errors = os.open(places.errors, os.O_WRONLY | os.O_CREAT | os.O_APPEND | os.O_CLOEXEC, 0o600)
+    from . import private
+
+    errors = private.open_file(places.errors, os.O_WRONLY | os.O_CREAT | os.O_APPEND)
     try:
         before = os.fstat(errors).st_size
         command = [
@@ -98,8 +113,10 @@ def _start(places: Places, idle: float) -> None:
 
 def _last_error(places: Places, before: int) -> str:
     """Return `: ` and the last line of the server's errors after this many bytes, if any."""
+    from . import private
+
     try:
-        with open(places.errors, "rb") as errors:
+        with open(private.open_file(places.errors, os.O_RDONLY), "rb") as errors:
             errors.seek(before)
             lines = errors.read().decode(errors="replace").splitlines()
     except OSError:

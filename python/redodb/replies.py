@@ -193,8 +193,8 @@ def read_digest(answer: bytes, request: bytes) -> str:
 
 
 def read_names(answer: bytes, request: bytes) -> Names:
-    """Read the answer to `ood`, `targets` or `sources`, which begins with this word."""
-    rest = _rest(answer, request, request)
+    """Read the answer to a request for a list of names, which begins with its word."""
+    rest = _rest(answer, request.partition(b" ")[0], request)
     return Names(tuple(rest.split(b" ")) if rest else ())
 
 

@@ -129,13 +129,30 @@ def made(target: Name) -> Request[str | None]:
     return _one(b"made " + _name(target), replies.read_made)
 
 
+def edited(names: Iterable[Name] | None) -> Request[Names]:
+    lines = (b"edited",) if names is None else _chunks(b"edited", names)
+    return Request(lines, replies.read_names, _all_names)
+
+
+def late(since: int, names: Iterable[Name]) -> Request[Names]:
+    return Request(_chunks(b"late %d" % since, names), replies.read_names, _all_names)
+
+
 def look(names: Iterable[Name] | None) -> Request[int]:
     lines = (b"look",) if names is None else _chunks(b"look", names)
     return Request(lines, replies.read_count, sum)
 
 
-def group(number: int) -> Request[None]:
-    return _one(b"group %d" % number, replies.read_ok)
+def group(number: int, run: bytes = b"") -> Request[None]:
+    """run is the socket of a redo that is in the environment of the group's processes.
+
+    Then that tells the group from others, and else the moment when its leader began.
+    """
+    from .procfs import UNKNOWN, leader, own_namespace
+
+    began, namespace = (UNKNOWN, own_namespace()) if run else leader(number)
+    socket = run.hex().encode() or UNKNOWN
+    return _one(b"group %d %b %b %b" % (number, began, namespace, socket), replies.read_ok)
 
 
 def ungroup(number: int) -> Request[None]:

@@ -197,7 +197,7 @@ class Calls(ServedTree):
 
     def test_wait_for_a_session_no_longer_than_they_may(self) -> None:
         self.serve(idle=5)
-        clients = [self.client() for _ in range(64)]
+        clients = [self.client() for _ in range(63)]
 
         async def work() -> None:
             with self.assertRaises(TimeoutError):

@@ -1,10 +1,8 @@
 """What the server finds when it looks at files."""
-import hashlib
 import os
-import time
-from pathlib import Path
 
 import beside  # noqa: F401
+from digests import link, plain
 from redodb.names import name_of
 from redodb.stamps import stamp_of
 from served import ServedTree
@@ -150,7 +148,7 @@ class Looking(ServedTree):
     def test_takes_folders_links_and_names_outside(self) -> None:
         self.write("top/in", "x")
         self.write("beside", "x")
-        os.symlink("../beside", os.path.join(self.top, "top", "link"))
+        os.symlink(b"../beside", os.path.join(self.top, "top", "link"))
         inner = self.places
         self.end_servers()
         self.servers.clear()
@@ -160,7 +158,7 @@ class Looking(ServedTree):
         self.one = self.client()
         self.assertEqual(self.one.talk("1 look . in link ../beside .."), ["1 ok 5"])
         self.assertEqual(self.state(".."), "idle lock - file folder")
-        self.assertRegex(self.state("link"), "idle lock - file link-[0-9a-f]{40}")
+        self.assertEqual(self.state("link"), f"idle lock - file {link(b'../beside', plain(b'x'))}")
         self.assertEqual(self.state("../beside"), f"idle lock - file {self.stamp('../beside')}")
 
     def test_at_what_is_no_name_is_a_fault_and_says_nothing(self) -> None:
@@ -229,130 +227,6 @@ class Looking(ServedTree):
         self.assertEqual(self.one.talk("1 look"), ["1 ok 0"])
 
 
-class LookingAgain(ServedTree):
-    """Each look, also one at files that were found right before, is at the files as they are."""
-
-    def setUp(self) -> None:
-        super().setUp()
-        self.serve(idle=5)
-        self.one = self.client()
-        self.write("d/beside", "beside")
-        self.write("d/file", "12345")
-        self.file = os.path.join(self.top, "d/file")
-        self.absent = os.path.join(self.top, "d/absent")
-        os.utime(self.file, ns=(0, 1_700_000_000_000_000_000))
-        names = "d/file d/beside d d/absent none/absent a%20b"
-        self.assertEqual(
-            self.one.talk(
-                "1 gone d/absent", "2 gone none/absent", "3 gone a%20b", f"4 look {names}", "5 look"
-            ),
-            ["1 ok", "2 ok", "3 ok", "4 ok 3", "5 ok 0"],
-        )
-
-    def noticed(self, name: str, stamp: str) -> None:
-        """The next look finds this one difference, and the one after it none."""
-        self.assertEqual(
-            self.one.talk("6 look", "7 look", f"8 state {name}", "9 look"),
-            ["6 ok 1", "7 ok 0", f"8 idle lock - file {stamp}", "9 ok 0"],
-        )
-
-    def plain(self, path: str) -> str:
-        status = os.lstat(path)
-        return f"{status.st_size}-{status.st_mtime_ns}-{status.st_ino}-{status.st_mode:o}"
-
-    def test_finds_a_file_that_was_touched(self) -> None:
-        os.utime(self.file, ns=(0, 1_700_000_000_000_000_001))
-        self.noticed("d/file", self.plain(self.file))
-        os.utime(self.file, ns=(0, 1_700_000_000_000_000_000))
-        self.noticed("d/file", self.plain(self.file))
-
-    def test_finds_one_that_grew_while_its_time_stayed(self) -> None:
-        with open(self.file, "ab") as file:
-            file.write(b"6")
-        os.utime(self.file, ns=(0, 1_700_000_000_000_000_000))
-        self.noticed("d/file", self.plain(self.file))
-
-    def test_finds_one_that_was_replaced_by_its_like(self) -> None:
-        with open(self.file + "2", "wb") as file:
-            file.write(b"54321")
-        os.utime(self.file + "2", ns=(0, 1_700_000_000_000_000_000))
-        os.chmod(self.file + "2", os.stat(self.file).st_mode)
-        os.rename(self.file + "2", self.file)
-        self.noticed("d/file", self.plain(self.file))
-
-    def test_finds_another_mode(self) -> None:
-        os.chmod(self.file, 0o600)
-        self.noticed("d/file", self.plain(self.file))
-
-    def test_finds_one_that_goes_and_comes_back(self) -> None:
-        os.rename(self.file, self.file + "2")
-        self.noticed("d/file", "-")
-        os.rename(self.file + "2", self.file)
-        self.noticed("d/file", self.plain(self.file))
-
-    def test_finds_one_of_two_that_went_together(self) -> None:
-        os.unlink(self.file)
-        os.utime(os.path.join(self.top, "d/beside"), ns=(0, 1))
-        self.assertEqual(self.one.talk("6 look", "7 look"), ["6 ok 2", "7 ok 0"])
-
-    def test_finds_a_folder_or_a_link_in_place_of_a_file(self) -> None:
-        os.unlink(self.file)
-        os.mkdir(self.file)
-        self.noticed("d/file", "folder")
-        os.rmdir(self.file)
-        os.symlink("beside", self.file)
-        self.noticed("d/file", self.stamp_of_link(b"beside", self.plain(self.top + "/d/beside")))
-        os.unlink(self.file)
-        self.write("d/file", "again")
-        self.noticed("d/file", self.plain(self.file))
-
-    def test_finds_what_appears(self) -> None:
-        self.write("d/absent")
-        self.noticed("d/absent", self.plain(self.absent))
-        os.unlink(self.absent)
-        self.noticed("d/absent", "-")
-        os.mkdir(self.absent)
-        self.noticed("d/absent", "folder")
-        self.write("a b")
-        self.noticed("a%20b", self.plain(os.path.join(self.top, "a b")))
-
-    def test_finds_a_link_that_leads_nowhere_and_then_somewhere(self) -> None:
-        os.symlink("leads", self.absent)
-        self.noticed("d/absent", self.stamp_of_link(b"leads", ""))
-        self.write("d/leads", "x")
-        leads = os.path.join(self.top, "d/leads")
-        self.noticed("d/absent", self.stamp_of_link(b"leads", self.plain(leads)))
-        os.utime(leads, ns=(0, 1))
-        self.noticed("d/absent", self.stamp_of_link(b"leads", self.plain(leads)))
-
-    def test_finds_what_is_in_a_folder_that_appears_as_a_link(self) -> None:
-        self.write("elsewhere/absent")
-        os.symlink("elsewhere", os.path.join(self.top, "none"))
-        self.noticed("none/absent", self.plain(os.path.join(self.top, "elsewhere/absent")))
-        os.unlink(os.path.join(self.top, "none"))
-        self.noticed("none/absent", "-")
-
-    def test_finds_another_file_where_the_folder_is_another_one(self) -> None:
-        os.rename(os.path.join(self.top, "d"), os.path.join(self.top, "old"))
-        self.write("d/file", "12345")
-        os.utime(self.file, ns=(0, 1_700_000_000_000_000_000))
-        self.assertEqual(self.one.talk("6 look", "7 look"), ["6 ok 2", "7 ok 0"])
-        self.assertEqual(
-            self.one.talk("8 state d/beside", "9 state d/file"),
-            ["8 idle lock - file -", f"9 idle lock - file {self.plain(self.file)}"],
-        )
-
-    def test_tells_again_what_a_client_said_otherwise(self) -> None:
-        for said in ("folder", "5-1700000000000000000-1-100644", "05-1-1-100644", "x-x-x-x"):
-            self.assertEqual(self.one.talk(f"6 file d/file {said}"), ["6 ok"])
-            self.noticed("d/file", self.plain(self.file))
-        self.assertEqual(self.one.talk("6 gone d/file"), ["6 ok"])
-        self.noticed("d/file", self.plain(self.file))
-
-    def stamp_of_link(self, text: bytes, end: str) -> str:
-        return "link-" + hashlib.sha256(text + b"\0" + end.encode()).hexdigest()[:40]
-
-
 class AfterARestart(ServedTree):
     def test_the_log_says_what_is_known(self) -> None:
         self.serve(idle=0.1)
@@ -387,19 +261,3 @@ class AfterARestart(ServedTree):
         self.assertEqual(
             [line.split()[2] for line in self.log()[-4:]], ["changed", "gone", "dep", "half"]
         )
-
-
-class Many(ServedTree):
-    def test_names_are_looked_at_in_little_time(self) -> None:
-        names = [f"d{number // 100}/f{number}" for number in range(2000)]
-        for name in names:
-            self.write(name)
-        self.serve(idle=5)
-        client = self.client()
-        self.assertEqual(client.talk("1 look " + " ".join(names)), ["1 ok 2000"])
-        before = time.perf_counter()
-        self.assertEqual(client.talk("2 look"), ["2 ok 0"])
-        self.assertLess(time.perf_counter() - before, 1)
-        for name in names[::7]:
-            os.utime(Path(self.top, name), (1, 1))
-        self.assertEqual(client.talk("3 look"), [f"3 ok {len(names[::7])}"])

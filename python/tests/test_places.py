@@ -10,7 +10,10 @@ from pathlib import Path
 
 import beside
 from redodb import places
-from redodb.places import Places, find_top, private_folder
+from redodb.errors import OtherTree, UntrustedError
+from redodb.names import ALWAYS
+from redodb.places import Places, check_inside, find_top, name_inside
+from redodb.private import open_folder
 
 
 def load_tests(
@@ -28,17 +31,26 @@ class Tops(unittest.TestCase):
         os.makedirs(self.top + "/a/b/c")
 
     def test_are_the_nearest_folder_with_redo(self) -> None:
-        os.mkdir(self.top + "/.redo")
-        self.assertEqual(find_top(os.fsencode(self.top + "/a/b/c")), os.fsencode(self.top))
         os.mkdir(self.top + "/a/b/.redo")
-        self.assertEqual(find_top(os.fsencode(self.top + "/a/b/c")), os.fsencode(self.top + "/a/b"))
-        self.assertEqual(find_top(os.fsencode(self.top + "/a/b")), os.fsencode(self.top + "/a/b"))
+        top = os.fsencode(self.top + "/a/b")
+        self.assertEqual(find_top(os.fsencode(self.top + "/a/b/c")), top)
+        self.assertEqual(find_top(top), top)
+        self.assertIsNone(find_top(os.fsencode(self.top + "/a")))
+        os.mkdir(self.top + "/.redo")
         self.assertEqual(find_top(os.fsencode(self.top + "/a")), os.fsencode(self.top))
+        with self.assertRaisesRegex(OtherTree, "/a/b/.redo lies in the tree of .*/.redo"):
+            find_top(os.fsencode(self.top + "/a/b/c"))
 
     def test_are_resolved(self) -> None:
         os.mkdir(self.top + "/a/.redo")
         os.symlink("a", self.top + "/link")
         self.assertEqual(find_top(os.fsencode(self.top + "/link/b")), os.fsencode(self.top + "/a"))
+
+    def test_are_no_links(self) -> None:
+        os.mkdir(self.top + "/.redo")
+        os.symlink("../.redo", self.top + "/a/.redo")
+        with self.assertRaisesRegex(UntrustedError, "/a/.redo is a link"):
+            find_top(os.fsencode(self.top + "/a/b"))
 
     def test_are_no_files(self) -> None:
         Path(self.top, "a/b/.redo").write_text("")
@@ -52,9 +64,21 @@ class Tops(unittest.TestCase):
         Places(os.fsencode(self.top)).make()
         Places(os.fsencode(self.top)).make()
         self.assertEqual(os.stat(self.top + "/.redo/server").st_mode & 0o777, 0o700)
-        os.mkdir(self.top + "/run", 0o755)
-        private_folder(os.fsencode(self.top + "/run"))
-        self.assertEqual(os.stat(self.top + "/run").st_mode & 0o777, 0o700)
+        os.mkdir(self.top + "/.redo/run", 0o755)
+        os.close(open_folder(os.fsencode(self.top + "/.redo/run"), 0o700))
+        self.assertEqual(os.stat(self.top + "/.redo/run").st_mode & 0o777, 0o700)
+
+    def test_have_names_but_for_those_of_trees_within(self) -> None:
+        os.mkdir(self.top + "/a/b/.redo")
+        top, seen = os.fsencode(self.top), set[bytes]()
+        for name in (b"x", b"a/x", b"a/b", b"../x"):
+            self.assertEqual(name_inside(top + b"/" + name, top, seen), name)
+        check_inside(ALWAYS, top, seen)
+        self.assertEqual(seen, {b"a"})
+        for _ in range(2):
+            for path in (b"/a/b/x", b"/a/b/c/x"):
+                with self.assertRaises(OtherTree):
+                    name_inside(top + path, top, seen)
 
 
 class Program(unittest.TestCase):

@@ -61,7 +61,7 @@ class RecordDepfiles(TreeTest):
         self.run_tool("gcc", "-MMD", "-c", "one.c", "-o", "out/one.o")
         self.run_tool("gcc", "-MMD", "-c", "part/two.c", "-o", "out/two.o")
 
-    def test_each_touched_file(self) -> None:
+    def test_each_edited_or_touched_file(self) -> None:
         lines = self.recorded("depfiles")
         self.assertEqual(self.out_of_date(lines), set())
         for name, wanted in (
@@ -70,9 +70,14 @@ class RecordDepfiles(TreeTest):
             ("b c.h", {"out/one.o"}),
             ("h/a.h", {"out/one.o", "out/two.o"}),
         ):
-            with self.subTest(name), self.touched(name):
-                self.assertEqual(self.out_of_date(lines), wanted)
-                self.assertEqual(self.out_of_date(self.recorded("depfiles")), wanted)
+            with self.subTest(name):
+                with self.edited(name):
+                    self.assertEqual(self.out_of_date(lines), wanted)
+                    self.assertEqual(self.out_of_date(self.recorded("depfiles")), wanted)
+                with self.touched(name):
+                    self.assertEqual(self.out_of_date(self.recorded("depfiles")), wanted)
+                    # once recorded, contents count
+                    self.assertEqual(self.out_of_date(lines), set())
 
     def test_one_file_has_one_name(self) -> None:
         names = {

@@ -99,15 +99,17 @@ class RecordNinja(AgreeTest):
             for name in shlex.split(names)
         }
 
-    def test_each_touched_source(self) -> None:
+    def test_each_edited_source(self) -> None:
         self.built()
         lines = self.recorded("ninja")
         self.assertEqual(self.assert_agrees(lines), set())
         found = {}
         for name in FILES:
             if not name.endswith(".ninja"):
-                with self.touched(name):
+                with self.edited(name):
                     found[name] = self.assert_agrees(lines)
+                with self.touched(name):  # once recorded, contents count
+                    self.assertEqual(self.out_of_date(lines) - self.phony, set())
         self.assertEqual(found["util.h"], {"main.o", "part/util.o", "app"})
         self.assertEqual(found["pair.txt"], {"left.txt", "right.txt"})
         self.assertEqual(found["a b.h"], {"a b.o", "app"})
@@ -123,9 +125,10 @@ class RecordNinja(AgreeTest):
         self.built()
         with self.touched("util.h"):
             lines = self.recorded("ninja")
+        self.assertEqual(lines[0], "1 file util.h before => ok")
         self.assertLess(
             lines.index(next(line for line in lines if " ifchange main.o " in line)),
-            next(at for at, line in enumerate(lines) if line.startswith("1 file util.h 16-")),
+            next(at for at, line in enumerate(lines) if line.startswith("1 file util.h b2-")),
         )
 
     def test_output_that_was_generated_again_and_is_the_same(self) -> None:
@@ -214,7 +217,7 @@ class RecordNinja(AgreeTest):
         self.built()
         self.assertTrue((self.top / "kept/here/.ninja_deps").exists())
         lines = self.recorded("ninja")
-        with self.touched("a b.h"):
+        with self.edited("a b.h"):
             self.assertEqual(self.assert_agrees(lines), {"a b.o", "app"})
 
     def test_dyndep_file(self) -> None:
@@ -227,7 +230,7 @@ class RecordNinja(AgreeTest):
         self.assertEqual(self.assert_agrees(lines), set())
         both = {"out.txt", "more.txt"}
         # ninja names explicit outputs alone
-        with self.touched("found.txt"):
+        with self.edited("found.txt"):
             self.assertEqual(self.wanted(), {"out.txt"})
             self.assertEqual(self.out_of_date(lines), both)
         os.unlink(self.top / "more.txt")

@@ -69,14 +69,27 @@ class RecordForRedo(TreeTest):
         self.assertEqual(self.redo("redo-ifchange", "app"), ([], []))
         self.assertEqual(self.redo("redo-targets")[0], ["app", "one.o", "sub/two words.o"])
 
+    def test_what_is_touched_has_not_changed(self) -> None:
+        for name in FILES:
+            os.utime(self.top / name)
+        self.assertEqual(self.redo("redo-ood"), ([], []))
+        self.assertEqual(self.redo("redo-ifchange", "app"), ([], []))
+
     def test_what_changes_is_built(self) -> None:
-        os.utime(self.top / "sub/two words.c")
+        self.write("sub/two words.c", FILES["sub/two words.c"] + "\n")
         self.assertEqual(self.redo("redo-ood")[0], ["app", "sub/two words.o"])
         self.assertEqual(sorted(self.redo("redo-ifchange", "app")[1]), ["app", "sub/two words.o"])
         self.assertEqual(self.redo("redo-ood"), ([], []))
 
+    def test_what_was_edited_since_stays_as_it_is(self) -> None:
+        self.write("one.o", "by hand\n")
+        self.write("sub/two words.c", FILES["sub/two words.c"] + "\n")
+        self.assertEqual(self.redo("redo-targets", "--edited")[0], ["one.o"])
+        self.assertEqual(self.redo("redo-ifchange", "one.o"), ([], []))
+        self.assertEqual((self.top / "one.o").read_text(), "by hand\n")
+
     def test_header_that_ninja_noted(self) -> None:
-        os.utime(self.top / "one.h")
+        self.write("one.h", FILES["one.h"] + "\n")
         self.assertEqual(self.redo("redo-ood")[0], ["app", "one.o", "sub/two words.o"])
         self.assertEqual(
             sorted(self.redo("redo-ifchange", "app")[1]), ["app", "one.o", "sub/two words.o"]

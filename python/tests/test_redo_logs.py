@@ -6,14 +6,14 @@ import unittest
 import beside  # noqa: F401
 from redodb.redo.builds import USER, Asker, Build
 from redodb.redo.display import Display
-from redodb.redo.logs import Lines, Log, log_path, stamp_at_end
+from redodb.redo.logs import Lines, Log, is_kept, log_path, note
+from redodb.redo.outputs import Outputs
 from redodb.redo.printing import Terminal, has_colours, shown
 from redodb.redo.rules import Rule
-from redodb.redo.scripts import Outputs
 from redodb.redo.tokens import Slot, Tokens
 
 RULE = Rule(b"", b"", b"", b"")
-OUTPUTS = Outputs(b"", b"")
+OUTPUTS = Outputs(b"", b"", b"")
 
 
 class Stored(unittest.TestCase):
@@ -21,6 +21,7 @@ class Stored(unittest.TestCase):
         folder = tempfile.TemporaryDirectory()
         self.addCleanup(folder.cleanup)
         self.top = os.fsencode(folder.name)
+        os.makedirs(self.top + b"/.redo/logs")
 
     def test_logs_have_text_and_marks(self) -> None:
         log = Log(self.top, b"a", "1")
@@ -29,27 +30,39 @@ class Stored(unittest.TestCase):
         log.say(b"text")
         log.end(3, None)
         with open(log_path(self.top, b"a"), "rb") as stored:
-            self.assertEqual(
-                stored.read(), b"\x1etarget a 1\npart\n\x1eredo b\ntext\n\x1eend 3 -\n"
+            self.assertRegex(
+                stored.read(),
+                rb"\A\x1etarget a 1 ([0-9a-f]{16})\n"
+                rb"part\n\x1e\1 redo b\ntext\n\x1e\1 end 3 -\n\Z",
             )
 
     def test_logs_begin_anew(self) -> None:
         for stamp in ("a-rather-long-stamp", "1"):
             Log(self.top, b"a", None).end(0, stamp)
-        self.assertEqual(os.path.getsize(log_path(self.top, b"a")), len(b".target a -\n.end 0 1\n"))
+        self.assertEqual(
+            os.path.getsize(log_path(self.top, b"a")), len(b".target a - \n. end 0 1\n") + 2 * 16
+        )
 
-    def test_the_stamp_at_the_end(self) -> None:
-        self.assertIsNone(stamp_at_end(self.top, b"a"))
-        log = Log(self.top, b"a", "0")
-        self.assertIsNone(stamp_at_end(self.top, b"a"))
-        os.write(log.file, b"x" * 5000)
-        log.end(1, "9")
-        self.assertEqual(stamp_at_end(self.top, b"a"), "9")
-        Log(self.top, b"a", None).end(1, None)
-        self.assertEqual(stamp_at_end(self.top, b"a"), "-")
+    def test_of_a_former_version_has_marks_without_a_key(self) -> None:
+        Log(self.top, b"a", None).end(0, None)
+        with open(log_path(self.top, b"a"), "wb") as log:
+            log.write(b"\x1etarget a -\ntext\n\x1eredo b\n\x1eend 1 5\n")
+        lines = Lines(log_path(self.top, b"a"))
+        self.addCleanup(lines.close)
+        self.assertEqual((lines.mark, lines.next(True)), (b"\x1e", b"text"))
+
+    def test_is_kept_if_it_has_more_than_that_a_build_began(self) -> None:
+        path = log_path(self.top, b"a")
+        self.assertFalse(is_kept(path))
+        note(self.top, b"a", "5")
+        with open(path, "rb") as log:
+            self.assertEqual(log.read(), b"\x1etarget a 5\n")
+        self.assertFalse(is_kept(path))
+        Log(self.top, b"a", "5").end(0, None)
+        self.assertTrue(is_kept(path))
 
     def test_lines_that_are_too_long_are_parted(self) -> None:
-        path = self.top + b"/log"
+        path = log_path(self.top, b"a")
         with open(path, "wb") as log:
             log.write(b"x" * 3_000_000 + b"\ny\n")
         lines = Lines(path)
@@ -61,7 +74,7 @@ class Stored(unittest.TestCase):
         self.assertLess(max(map(len, got)), 2_000_000)
 
     def test_lines_of_a_log_that_grows(self) -> None:
-        path = self.top + b"/log"
+        path = log_path(self.top, b"a")
         with open(path, "wb", buffering=0) as log:
             lines = Lines(path)
             self.addCleanup(lines.close)

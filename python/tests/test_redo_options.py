@@ -30,9 +30,10 @@ class Reading(unittest.TestCase):
                 "--no-log",
                 "--no-color",
                 "--no-status",
+                "--overwrite",
             ]
         )
-        self.assertEqual(got, Options(["a"], None, True, True, "-evx", False, False, False))
+        self.assertEqual(got, Options(["a"], None, True, True, "-evx", False, False, False, True))
 
     def test_ends_at_two_hyphens(self) -> None:
         self.assertEqual(read(["-k", "--", "-j", "--", "x"]).targets, ["-j", "--", "x"])

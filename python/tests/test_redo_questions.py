@@ -27,3 +27,10 @@ class Paths(unittest.TestCase):
                 wanted = [os.path.relpath(path_of(name, top), here) for name in NAMES + OUTSIDE]
                 with self.subTest(inside=inside, top=top):
                     self.assertEqual(relative_paths(NAMES + OUTSIDE, top), wanted)
+
+    def test_names_of_no_path_stay(self) -> None:
+        bad = [b"%00", b"%2", b"%41", b"/x", b"/../x"]
+        for inside in (b"", b"d", b"d/e"):
+            os.chdir(os.path.join(self.top, inside))
+            with self.subTest(inside=inside):
+                self.assertEqual(relative_paths(bad, self.top), bad)

@@ -25,6 +25,10 @@ class Lines(unittest.TestCase):
         self.assertEqual(cause(b"a", b"changed //always a b").line(), b"a <- b always")
         self.assertEqual(cause(b"a", b"always b a b").line(), b"a <- b always")
 
+    def test_tell_that_an_edited_target_changed(self) -> None:
+        got = cause(b"a", b"changed //edited/d/x%20y a b")
+        self.assertEqual(got.line(), b"a <- b <- d/x y changed")
+
     def test_tell_reasons_of_the_last_target(self) -> None:
         for reason in (b"failed", b"edited", b"building"):
             self.assertEqual(cause(b"a", reason + b" b a b").line(), b"a <- b " + reason)

@@ -1,15 +1,18 @@
 """The server: its place, sessions, process groups, and how it is called."""
+import contextlib
 import os
 import signal
 import socket
 import subprocess
 import sys
+import time
 import unittest
 from pathlib import Path
 
 import beside  # noqa: F401
+from redodb import requests
 from redodb.places import package_folder
-from served import PATIENCE, ServedTree, eventually
+from served import PATIENCE, Raw, ServedTree, eventually
 
 
 class Place(ServedTree):
@@ -64,11 +67,11 @@ class Place(ServedTree):
 
 
 class Sessions(ServedTree):
-    def test_are_64_and_more_wait_their_turn(self) -> None:
+    def test_are_63_and_more_wait_their_turn(self) -> None:
         self.serve(idle=5)
-        clients = [self.raw() for _ in range(64)]
+        clients = [self.raw() for _ in range(63)]
         self.assertEqual(
-            [client.line() for client in clients], [f"session {n}" for n in range(1, 65)]
+            [client.line() for client in clients], [f"session {n}" for n in range(1, 64)]
         )
         first, second, third = self.raw(), self.raw(), self.raw()
         first.send("1 lock early")
@@ -140,6 +143,122 @@ class Sessions(ServedTree):
         self.assertEqual(self.client().talk("1 state a"), ["1 failed lock - file -"])
 
 
+class Questions(ServedTree):
+    """Clients that only ask take no session."""
+
+    def asker(self) -> Raw:
+        """Return a new connection without a session."""
+        raw = self.raw()
+        raw.send("0 question")
+        line = raw.line()
+        self.assertEqual(raw.line() if line != "session 0" else line, "session 0")
+        return raw
+
+    def test_are_answered_while_all_sessions_are_taken(self) -> None:
+        self.write("a")
+        self.serve(idle=5)
+        clients = [self.client() for _ in range(63)]
+        self.assertEqual(clients[0].talk("1 lock b", "2 look a"), ["1 granted 1", "2 ok 1"])
+        waiting = self.raw()
+        self.assertTrue(waiting.is_silent())
+        asked = self.asker().talk(
+            *("1 look", "2 state b", "3 why b", "4 deps b", "5 made b", "6 ood", "7 targets"),
+            *("8 sources", "9 file //always 5", "10 session"),
+        )
+        self.assertEqual(asked[1], "2 idle lock 1 file -")
+        self.assertEqual([asked[0], asked[5], asked[8]], ["1 ok 0", "6 ood", "9 ok"])
+        self.assertEqual(asked[9], "10 busy")
+        self.assertTrue(waiting.is_silent())
+
+    def test_need_no_session_and_what_needs_one_is_refused(self) -> None:
+        self.serve(idle=5)
+        asker = self.asker()
+        for request in (
+            *("lock a", "unlock a", "start a", "ifchange a b", "ifcreate a b", "always a"),
+            *("stamp a 00", "done a 1", "failed a", "wait a -", "forget a -", "group 99999999"),
+            *("ungroup 99999999", "end", "file a 1", "gone a", "file //alway 1", "", "bogus"),
+        ):
+            with self.subTest(request=request):
+                self.assertEqual(asker.talk(f"1 {request}"), ["1 fault no-session"])
+        self.assertEqual(self.client().talk("1 state a"), ["1 idle lock - file -"])
+
+    def test_may_be_followed_by_a_session(self) -> None:
+        self.serve(idle=5)
+        asker, client = self.asker(), self.client()
+        self.assertEqual(
+            asker.talk("1 lock a", "2 session", "3 lock a", "4 session", "5 turn", "6 state a"),
+            [
+                *("1 fault no-session", "2 session 2", "3 granted 1", "4 session 2"),
+                *("5 session 2", "6 idle lock 2 file -"),
+            ],
+        )
+        self.assertEqual(
+            asker.talk("7 session x", "8 turn x"), ["7 fault wrong-words", "8 fault wrong-words"]
+        )
+        client.send("1 wait a -")
+        self.assertTrue(client.is_silent())
+        asker.close()
+        self.assertEqual(client.line(), "1 granted 2")
+
+    def test_may_be_followed_by_a_wait_for_a_session(self) -> None:
+        self.serve(idle=5)
+        clients = [self.client() for _ in range(63)]
+        first, second, third = self.asker(), self.asker(), self.asker()
+        for asker in (first, second, third):
+            asker.send("1 session", "2 turn", "3 lock a", "4 end")
+            self.assertEqual(asker.line(), "1 busy")
+        self.assertTrue(first.is_silent())
+        second.close()
+        clients[5].close()
+        self.assertEqual(first.lines(3), ["2 session 6", "3 granted 1", "4 ok"])
+        self.assertTrue(third.is_silent())
+        first.close()
+        self.assertEqual(third.lines(3), ["2 session 6", "3 granted 2", "4 ok"])
+
+    def test_give_back_a_session_that_was_given_before_they_spoke(self) -> None:
+        self.serve(idle=5)
+        late = self.client()
+        clients = [self.client() for _ in range(62)]
+        waiting = self.raw()
+        self.assertTrue(waiting.is_silent())
+        late.send("0 question", "1 lock a", "2 state a")
+        self.assertEqual(
+            late.lines(3), ["session 0", "1 fault no-session", "2 idle lock - file -"]
+        )
+        self.assertEqual(waiting.line(), "session 1")
+        self.assertEqual(clients[0].talk("0 question")[0].split()[0], "session")
+
+    def test_are_a_first_line_alone(self) -> None:
+        self.serve(idle=5)
+        client = self.client()
+        self.assertEqual(client.talk("1 lock a", "0 question")[0], "1 granted 1")
+        self.assertEqual(client.talk("2 state a"), ["2 idle lock 1 file -"])
+
+
+class Idlers(ServedTree):
+    """Clients that say nothing, or half of it, hold nobody up."""
+
+    def test_hold_nobody_up(self) -> None:
+        self.serve(idle=5)
+        silent, half, longer, halved = (self.raw() for _ in range(4))
+        half.socket.sendall(b"1 lock")
+        longer.socket.sendall(b"0 question")
+        halved.socket.sendall(b"1 lock x\n2 start")
+        gone = self.raw()
+        gone.socket.sendall(b"0 ques")
+        gone.close()
+        client = self.client()
+        self.assertEqual(
+            client.talk("1 lock a", "2 look", "3 ood"), ["1 granted 1", "2 ok 0", "3 ood"]
+        )
+        halved.close()
+        client.send("4 wait x -")
+        self.assertEqual(client.line(), "4 granted 2")
+        half.socket.sendall(b" b\n")
+        self.assertEqual(half.lines(2), ["session 2", "1 granted 1"])
+        self.assertFalse(silent.is_silent())
+
+
 class Groups(ServedTree):
     def setUp(self) -> None:
         super().setUp()
@@ -177,6 +296,73 @@ class Groups(ServedTree):
         one.close()
         self.assertEqual(two.line(), "1 granted 2")
         self.assertIsNone(self.sleeper.poll())
+
+    def headless(self, environment: dict[str, str]) -> int:
+        """Return a group whose leader is gone."""
+        words = ["sh", "-c", "sleep 100 & exit"]
+        with subprocess.Popen(words, start_new_session=True, env=environment) as shell:
+            pass
+        self.addCleanup(self.end_group, shell.pid)
+        return shell.pid
+
+    def end_group(self, group: int) -> None:
+        with contextlib.suppress(ProcessLookupError):
+            os.killpg(group, signal.SIGKILL)
+
+    def lives(self, group: int) -> bool:
+        """Say whether a process of a group runs, a moment from now: it takes a while to die."""
+        time.sleep(0.2)
+        states = set()
+        for path in Path("/proc").glob("[0-9]*/stat"):
+            with contextlib.suppress(OSError):
+                fields = path.read_text().rpartition(") ")[2].split()
+                if int(fields[2]) == group:
+                    states.add(fields[0])
+        return bool(states - {"Z", "X"})
+
+    def told(self, *words: str) -> None:
+        """Have a client tell of a group, and end when it is answered."""
+        one, two = self.client(), self.client()
+        self.assertEqual(
+            one.talk("1 lock a", "2 group " + " ".join(words)), ["1 granted 1", "2 ok"]
+        )
+        two.send("1 wait a -")
+        one.close()
+        self.assertEqual(two.line(), "1 granted 2")
+
+    def test_are_told_with_what_tells_their_leader_from_others(self) -> None:
+        self.told(*requests.group(self.sleeper.pid).lines[0].decode().split(" ")[1:])
+        self.assertEqual(self.sleeper.wait(PATIENCE), -9)
+
+    def test_whose_number_has_another_process_live_on(self) -> None:
+        _, number, began, namespace, run = requests.group(self.sleeper.pid).lines[0].split(b" ")
+        self.told(number.decode(), f"{int(began) - 1}", namespace.decode(), run.decode())
+        self.assertTrue(self.lives(self.sleeper.pid))
+
+    def test_of_another_namespace_live_on(self) -> None:
+        _, number, began, namespace, run = requests.group(self.sleeper.pid).lines[0].split(b" ")
+        self.told(number.decode(), began.decode(), f"{int(namespace) + 1}", run.decode())
+        self.assertTrue(self.lives(self.sleeper.pid))
+
+    def test_of_a_run_end_by_their_environment(self) -> None:
+        environment = {**os.environ, "REDO_SOCKET": "/a run"}
+        with subprocess.Popen(["sleep", "100"], start_new_session=True, env=environment) as sleeper:
+            self.told(*requests.group(sleeper.pid, b"/a run").lines[0].decode().split(" ")[1:])
+            self.assertEqual(sleeper.wait(PATIENCE), -9)
+
+    def test_of_another_run_live_on(self) -> None:
+        self.told(*requests.group(self.sleeper.pid, b"/a run").lines[0].decode().split(" ")[1:])
+        self.assertTrue(self.lives(self.sleeper.pid))
+
+    def test_whose_leader_is_gone_end_if_they_are_of_the_run(self) -> None:
+        group = self.headless({**os.environ, "REDO_SOCKET": "/a run"})
+        self.told(*requests.group(group, b"/a run").lines[0].decode().split(" ")[1:])
+        self.assertTrue(eventually(lambda: not self.lives(group)))
+
+    def test_whose_leader_is_gone_live_on_if_they_are_of_another_run(self) -> None:
+        group = self.headless({**os.environ, "REDO_SOCKET": "/another run"})
+        self.told(*requests.group(group, b"/a run").lines[0].decode().split(" ")[1:])
+        self.assertTrue(self.lives(group))
 
     def test_that_would_be_the_servers_own_or_all_are_refused(self) -> None:
         server = os.getpgid(self.servers[0].pid)

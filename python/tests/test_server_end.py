@@ -56,7 +56,7 @@ class End(ServedTree):
 
     def test_of_redodb_live_is_told_to_all_clients(self) -> None:
         server = self.serve(idle=60)
-        clients = [self.client() for _ in range(64)] + [self.raw(), self.raw()]
+        clients = [self.client() for _ in range(63)] + [self.raw(), self.raw()]
         children = Path(f"/proc/{server.pid}/task/{server.pid}/children").read_text().split()
         self.assertEqual(len(children), 1)
         os.kill(int(children[0]), signal.SIGKILL)
@@ -83,7 +83,10 @@ class End(ServedTree):
             log.write_text(f"{head}{damage}\n1 unlock a => ok\n")
             before = log.read_bytes()
             server = self.serve(idle=60)
-            self.assertRegex(self.raw().line(), r"\A0 failed redodb-live: .*/log: line 3 differs\Z")
+            self.assertRegex(
+                self.raw().line(),
+                r"\A0 failed redodb-live: .*/log: line 3 differs; .*: .* --log \S+/log --salvage </",
+            )
             self.assertEqual(server.wait(PATIENCE), 1)
             self.assertEqual(log.read_bytes(), before)
 
@@ -91,8 +94,9 @@ class End(ServedTree):
         self.places.make()
         os.mkdir(self.places.log)
         server = self.serve(idle=60)
-        self.assertRegex(self.raw().line(), r"\A0 failed redodb-live: .*/log: cannot open\Z")
-        self.assertEqual(server.wait(PATIENCE), 1)
+        self.assertEqual(server.wait(PATIENCE), 2)
+        assert server.stderr is not None
+        self.assertRegex(server.stderr.read(), rb"\Aredodb serve: .*/log is a folder: [^\n]*\n\Z")
 
     def test_by_a_full_disk_is_told_and_what_was_answered_is_kept(self) -> None:
         full = self.script("trap '' XFSZ\nulimit -f 1\nexec PROGRAM \"$@\"\n")

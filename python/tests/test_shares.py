@@ -6,11 +6,14 @@ import unittest
 import unittest.mock
 
 import beside  # noqa: F401
+from redodb.server.contents import Clock, Contents
 from redodb.server.expected import Expected
 from redodb.server.shares import found_in, shares_of
-from redodb.stamps import stamp_of
+from redodb.stamps import plain_key, stamp_of
+from served import eventually
 
 COUNT = 60
+CALLED = "redodb.server.expected.shares_of"
 PROCESSORS = "redodb.server.shares.os.sched_getaffinity"
 LEAST_IN_SHARE = "redodb.server.shares._LEAST_IN_SHARE"
 
@@ -91,20 +94,37 @@ class Sharing(unittest.TestCase):
         fewer = unittest.mock.patch(LEAST_IN_SHARE, COUNT // 3)
         self.addCleanup(fewer.stop)
         fewer.start()
-        self.expected = Expected()
+        self.clock = Clock(b"probe")
+        self.expected = Expected(Contents(self.clock, b"boot"))
         self.paths = [b"f%d \xff" % at for at in range(COUNT // 2)]
-        for path in self.paths:
+        for path in (b"probe", *self.paths):
             with open(path, "wb"):
                 pass
-            self.put(path)
-            self.put(path + b".do")
+        self.put_all(self.paths)
+        self.put_all([path + b".do" for path in self.paths])
+        self.let_time_pass()
         with unittest.mock.patch(PROCESSORS, lambda _: range(3)):
             self.assertEqual(shares_of(COUNT), 3)
             self.assertEqual(self.expected.suspects(), [])
+            with unittest.mock.patch(CALLED, side_effect=shares_of) as called:
+                self.assertEqual(self.expected.suspects(), [])
+        called.assert_called_once_with(COUNT)
 
-    def put(self, path: bytes) -> None:
-        stamp = stamp_of(path)
-        self.expected.put(self.name(path), None if stamp is None else stamp.encode())
+    def let_time_pass(self) -> None:
+        """Wait until a look can tell what changes from now on from what changed before."""
+        status = os.lstat(self.paths[-1])
+
+        def is_over() -> bool:
+            self.clock.look()
+            return self.clock.is_over(plain_key(status))
+
+        self.assertTrue(eventually(is_over))
+
+    def put_all(self, paths: list[bytes]) -> None:
+        """Expect each path to be as it is now."""
+        for path in paths:
+            stamp = stamp_of(path)
+            self.expected.put(self.name(path), None if stamp is None else stamp.encode())
 
     @staticmethod
     def name(path: bytes) -> bytes:
@@ -119,7 +139,8 @@ class Sharing(unittest.TestCase):
     def test_finds_what_changed_vanished_and_appeared_in_each_share(self) -> None:
         changed, gone = self.paths[::7], self.paths[1::7]
         for path in changed:
-            os.utime(path, ns=(0, 1))
+            with open(path, "wb") as file:
+                file.write(b"changed")
         self.assert_suspects(changed)
         for path in gone:
             os.unlink(path)
@@ -128,16 +149,27 @@ class Sharing(unittest.TestCase):
         for path in appeared:
             os.symlink("nowhere", path)
         self.assert_suspects([*changed, *gone, *appeared])
-        for path in (*changed, *gone, *appeared):
-            self.put(path)
-        self.assert_suspects(appeared)  # links are looked at again
+        self.put_all([*changed, *gone, *appeared])
+        self.assert_suspects([])
+
+    def test_finds_what_was_touched_until_it_was_read(self) -> None:
+        touched = self.paths[::5]
+        for path in touched:
+            os.utime(path, ns=(0, 1))
+        self.assert_suspects(touched)
+        self.put_all(touched)
+        self.assert_suspects([])
 
     def test_finds_all_where_all_changed(self) -> None:
         for path in self.paths:
-            os.chmod(path, 0o600)
+            os.chmod(path, 0o700)
         self.assert_suspects(self.paths)
 
     def test_finds_the_same_without_a_child(self) -> None:
         os.unlink(self.paths[-1])
         with unittest.mock.patch("redodb.server.shares.os.fork", side_effect=BlockingIOError):
             self.assert_suspects(self.paths[-1:])
+
+
+if __name__ == "__main__":
+    unittest.main()

@@ -9,7 +9,7 @@ from pathlib import Path
 import beside  # noqa: F401
 import redodb
 from redodb import Client, reach
-from redodb.errors import ServerError
+from redodb.errors import ServerError, UntrustedError
 from redodb.places import package_folder
 from redodb.replies import Busy, Granted, State
 from served import PATIENCE, ServedTree, eventually
@@ -63,7 +63,7 @@ class Start(ServedTree):
 
     def test_in_a_folder_that_is_a_file_says_why(self) -> None:
         Path(self.top, ".redo").write_text("")
-        with self.assertRaises(OSError):
+        with self.assertRaisesRegex(UntrustedError, r"/\.redo is no folder"):
             Client(self.top)
 
     def test_works_where_the_path_is_longer_than_that_of_a_socket_may_be(self) -> None:
@@ -91,7 +91,7 @@ class Start(ServedTree):
                 self.assertEqual(one.state("a").state, State.IDLE)
 
     def test_is_not_for_ever_where_all_sessions_are_taken(self) -> None:
-        clients = [Client(self.top, idle=0.05) for _ in range(64)]
+        clients = [Client(self.top, idle=0.05) for _ in range(63)]
         with self.assertRaises(TimeoutError):
             Client(self.top, timeout=0.2)
         for one in clients:

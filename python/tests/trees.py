@@ -72,14 +72,22 @@ class TreeTest(unittest.TestCase):
         os.utime(path, ns=(time, time))
 
     @contextlib.contextmanager
-    def touched(self, name: str) -> Iterator[None]:
+    def touched(self, name: str, added: str = "") -> Iterator[None]:
         """A file is newer than all others inside the block, and as before after it."""
         path = self.top / name
-        before = path.stat()
+        before, text = path.stat(), path.read_text() if path.is_file() else ""
         newest = max(file.stat().st_mtime_ns for file in self.top.rglob("*")) + 1_000_000_000
+        if added:
+            path.write_text(text + added)
         os.utime(path, ns=(newest, newest))
         yield
+        if added:
+            path.write_text(text)
         os.utime(path, ns=(before.st_atime_ns, before.st_mtime_ns))
+
+    def edited(self, name: str) -> contextlib.AbstractContextManager[None]:
+        """A file is newer than all others, and has a line more, inside the block."""
+        return self.touched(name, "\n")
 
     def recorded(self, *words: str) -> list[str]:
         """Return the lines of the history of `redodb record` of the tree, without the header."""

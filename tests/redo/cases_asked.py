@@ -139,6 +139,18 @@ def case_why_other_reasons(tree: Tree) -> None:
     tree.check.same("edited", why(tree, "g"), "g edited\n")
 
 
+def case_why_gone(tree: Tree) -> None:
+    """redo-why calls a target gone that was built and has no file, also at the end of a chain."""
+    program_of_two(tree)
+    tree.path("util.o").unlink()
+    tree.check.same("both", why(tree, "app", "util.o"), "app <- util.o gone\nutil.o gone\n")
+    wanted = {"target": "app", "reason": "gone", "chain": ["app", "util.o"]}
+    tree.check.same("object", json.loads(why(tree, "--json", "app")), wanted)
+    tree.ifchange("app")
+    tree.write("util.o", "by hand\n")
+    tree.check.same("edited", why(tree, "app"), "app <- util.o edited\n")
+
+
 def case_why_building(tree: Tree) -> None:
     """While a target is built, that is the reason."""
     tree.files(x__do=": >began\nwhile ! [ -e go ]; do sleep 0.01; done\n")

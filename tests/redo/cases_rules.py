@@ -112,3 +112,13 @@ def case_standard_input(tree: Tree) -> None:
     tree.files(x__do='echo "<$(cat)>"\n')
     tree.redo("x")
     tree.check.same("x", tree.read("x"), "<>\n")
+
+
+def case_folder_without_a_rule(tree: Tree) -> None:
+    """To redo a folder that no rule makes is no error, and is told of."""
+    tree.path("d").mkdir()
+    for name in ("d", ".", "d/"):
+        run = tree.redo(name)
+        tree.check.has(name, run.err, "is a folder, and there is no rule to make it")
+    tree.files(x__do="redo d\n", y__do="redo-ifchange d\n")
+    tree.check.same("in scripts", tree.redo("x", "y").lines, ["redo  x", "redo  y"])

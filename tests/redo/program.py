@@ -1,8 +1,8 @@
 #!/usr/bin/env -S python3 -B
 """A real program, built by .do files: 20 C files and 10 headers, at -j 1 and at -j 8.
 
-Every source is touched in turn: what `redo` builds again is what `ninja -n` says of an equal
-build.ninja. Every header appears in a folder that the compiler looks in first, and goes again: what
+Every source is edited in turn: what `redo` builds again is what `ninja -n` says of an equal
+build.ninja, in which it is touched. To touch it is no edit for `redo`. Every header appears in a folder that the compiler looks in first, and goes again: what
 is built again is what `gcc -M` says. Each time the objects are the same bytes as those of a build
 from nothing by gcc alone.
 
@@ -191,15 +191,18 @@ class Trial:
             )
             self.same("nothing to do by ninja", self.wanted(), set())
 
-    def touch_each(self) -> None:
-        """Every source is touched in turn."""
+    def edit_each(self) -> None:
+        """Every source is edited in turn, so that the objects stay the same."""
         assert self.ninja is not None
         for name in [*self.redo.made.sources, *self.redo.made.headers]:
             with self.ninja.touched(name):
                 wanted = self.wanted()
             os.utime(self.redo.folder / name)
-            self.same(f"{name} is touched", self.built(), wanted)
-            self.same_bytes(f"{name} is touched", {})
+            self.same(f"{name} is touched", self.built(), set())
+            with open(self.redo.folder / name, "a", encoding="utf-8") as source:
+                source.write("/* edited */\n")
+            self.same(f"{name} is edited", self.built(), wanted)
+            self.same_bytes(f"{name} is edited", {})
 
     def let_headers_appear(self) -> None:
         """Every header appears where it is found first, and goes again."""
@@ -227,9 +230,9 @@ def try_jobs(check: Checks, jobs: int, work: Path, live: str, compiler: Compiler
     trial.first()
     trial.let_headers_appear()
     if ninja is None:
-        print(f"skipped: -j {jobs}: touched sources: they want ninja")
+        print(f"skipped: -j {jobs}: edited sources: they want ninja")
         return 1
-    trial.touch_each()
+    trial.edit_each()
     return 0
 
 

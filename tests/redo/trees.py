@@ -1,7 +1,9 @@
 """Small trees: they are written, programs are run in them, and what came out is checked."""
 import contextlib
+import fcntl
 import os
 import pty
+import re
 import select
 import shutil
 import signal
@@ -125,9 +127,10 @@ class Tree:
 
     def same_words(self, target: str, first: str, second: str, folder: str) -> None:
         """Checks the arguments and the folder that a script wrote, with `|` in between."""
-        third = first.rpartition("/")[2] + ".redo.tmp"
+        third = first.rpartition("/")[2] + ".redo.N.tmp"
         wanted = f"{first}|{second}|{third}|{self.path(folder).resolve()}\n"
-        self.check.same(f"{target}: arguments and folder", self.read(target), wanted)
+        got = re.sub(r"\.redo\.\d+\.tmp", ".redo.N.tmp", self.read(target))
+        self.check.same(f"{target}: arguments and folder", got, wanted)
 
     def left_over(self) -> list[str]:
         """Returns the files that builds should have removed."""
@@ -235,6 +238,27 @@ def program() -> str | None:
     mine = TOP / "redodb-live"
     talk = subprocess.run([mine], stdin=subprocess.DEVNULL, capture_output=True, check=False)
     return str(mine) if talk.returncode == 0 else None
+
+
+def end_server(tree: Tree, top: str = ".") -> None:
+    """Has the server of a tree end, which has nothing to do, and waits for its end."""
+    server = tree.path(f"{top}/.redo/server")
+    with contextlib.suppress(OSError, ValueError):
+        if (server / "socket").exists():
+            os.kill(int((server / "lock").read_text()), signal.SIGTERM)
+    tree.until("the server ends", lambda: _is_free(server / "lock"))
+
+
+def _is_free(lock: Path) -> bool:
+    """Returns whether no process holds a lock."""
+    try:
+        with open(lock, "rb") as file:
+            fcntl.flock(file, fcntl.LOCK_EX | fcntl.LOCK_NB)
+    except BlockingIOError:
+        return False
+    except FileNotFoundError:
+        return True
+    return True
 
 
 def sleepers(tree: Tree, with_server: bool) -> dict[int, list[bytes]]:

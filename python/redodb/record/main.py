@@ -4,6 +4,7 @@ import os
 import sys
 
 from ..errors import ServerError
+from ..places import Places
 from .depfiles import read_depfiles
 from .events import Story
 from .graph import Graph, RecordError
@@ -70,9 +71,18 @@ def _record(kind: str, top: bytes, log: bytes | None, words: list[str]) -> None:
     os.close(os.open(log, os.O_CREAT | os.O_EXCL | os.O_WRONLY, 0o666))
     try:
         answered(commands, log)
-    except (RecordError, ServerError):
+        _mark_whole(Places(os.path.realpath(top)), log)
+    except (RecordError, ServerError, OSError):
         os.unlink(log)
         raise
+
+
+def _mark_whole(places: Places, log: bytes) -> None:
+    """Mark redo's log of a tree as whole: else what is edited from now on would be built again."""
+    if os.path.realpath(log) == places.log:
+        from ..server.lasting import Marks
+
+        Marks(places).end()
 
 
 def main(arguments: list[str]) -> int:

@@ -3,10 +3,11 @@ import asyncio
 import os
 import socket
 
-from redodb.errors import RedodbError, RefusedError
+from redodb.errors import RedodbError, RefusedError, UntrustedError
 from redodb import requests
-from redodb.names import ALWAYS
-from redodb.replies import Refusal, read_stale
+from redodb.names import ALWAYS, edited_name, links_on
+from redodb.private import check_peer
+from redodb.replies import Refusal
 from redodb.redo.builds import Asker, Build, Outcome
 from redodb.redo.context import Context
 from redodb.redo.ensuring import Ensurer
@@ -53,10 +54,22 @@ class Answerer:
                 self._loop.remove_reader(self._listener.fileno())
                 self._loop.call_later(BREATH, self.listen)
                 return
+            if not self._is_trusted(connection):
+                connection.close()
+                continue
             connection.setblocking(False)
             task = self._loop.create_task(self._serve(connection))
             self._tasks.add(task)
             task.add_done_callback(self._tasks.discard)
+
+    def _is_trusted(self, connection: socket.socket) -> bool:
+        """Returns whether who came may ask: the caller, root, or the owner of the tree."""
+        places = self._context.places
+        try:
+            check_peer(connection, places.run, places.top)
+        except UntrustedError:
+            return False
+        return True
 
     async def _serve(self, connection: socket.socket) -> None:
         """Answers one program."""
@@ -110,9 +123,8 @@ class Answerer:
             await self._stamp(build, arguments[0])
             return True
         targets = read(words).targets if program == "redo" else targets_of(words)
-        names = [
-            self._context.name(os.path.join(folder, os.fsencode(target))) for target in targets
-        ]
+        paths = [os.path.join(folder, os.fsencode(target)) for target in targets]
+        names = [self._context.name(path) for path in paths]
         if program == "redo":
             return await self._ensurer.ensure_all(
                 names or [self._all(folder)], self._asker(build), True
@@ -125,7 +137,8 @@ class Answerer:
         if program == "redo-ifcreate":
             return await self._ifcreate(build, names)
         if program == "redo-ifchange":
-            return await self._ifchange(build, names)
+            links = [self._context.name(link) for path in paths for link in links_on(path)]
+            return await self._ifchange(build, list(dict.fromkeys([*links, *names])))
         raise Usage(f"no program {program}" if program not in HELP else "not in a .do file")
 
     def _all(self, folder: bytes) -> bytes:
@@ -139,26 +152,95 @@ class Answerer:
         context = self._context
         if build.name in names:
             raise Failure(f"{os.fsdecode(context.shown(build.name))} needs itself")
-        stale = await self._depend(build, names)
-        if not stale:
-            return True
-        todo = [name for name in stale if context.outcomes.get(name) is not Outcome.BUILT]
-        if not await self._ensurer.ensure_all(todo, self._asker(build)):
-            return False
-        await self._depend(build, stale)  # also on what was built while the answer was on its way
-        return True
+        new = [name for name in names if name not in build.answered]
+        edited, unedited, stale = await self._note(build, names, new)
+        wanted = edited | stale
+        wanted |= await self._stale([name for name in names if name in build.answered])
+        todo = [
+            name
+            for name in names
+            if name in wanted and context.outcomes.get(name) is not Outcome.BUILT
+        ]
+        right = await self._ensurer.ensure_all(todo, self._asker(build))
+        await self._depend_on_edited(build, [name for name in new if name not in unedited])
+        if right:
+            # also on what was built while the answer was on its way
+            built = [name for name in unedited if name in wanted - build.answered]
+            await self._depend(build, built)
+        else:
+            await self._depend_on_rules(build, new)
+        build.answered.update(names)
+        return right
 
-    async def _depend(self, build: Build, names: list[bytes]) -> list[bytes]:
-        """Notes that the build depends on names, as they are now; returns those that are stale."""
+    async def _note(
+        self, build: Build, names: list[bytes], new: list[bytes]
+    ) -> tuple[set[bytes], list[bytes], set[bytes]]:
+        """Looks at names, and notes that the build depends on those new ones that nobody edited.
+
+        Returns which names somebody edited, which were noted, and which of these are stale. If the
+        first target of the tree was edited only now, it is noted, too: that is asked at once.
+        """
+        if self._context.has_edited:
+            edited = await self._look(names)
+            noted = [name for name in new if name not in edited]
+            return edited, noted, await self._depend(build, noted, looks=False)
+        asked = self._look(names), self._depend(build, new, looks=False)
+        edited, stale = await asyncio.gather(*asked)
+        self._context.has_edited = bool(edited)
+        return edited, new, stale
+
+    async def _look(self, names: list[bytes]) -> set[bytes]:
+        """Looks at names, and returns those that somebody edited."""
+        look, edited = requests.look(names), requests.edited(names)
+        answers = await self._context.link.send([*look.lines, *edited.lines])
+        look.result(answers[: len(look.lines)])
+        return set(edited.result(answers[len(look.lines) :]))
+
+    async def _depend(self, build: Build, names: list[bytes], looks: bool = True) -> set[bytes]:
+        """Notes that the build depends on names as they are known; returns which are stale.
+
+        If the script may have read one of them before it was asked for, and it has changed since,
+        the target is to be built once more. That is asked last: it may change until then.
+        """
         link = self._context.link
-        looks, asked = requests.look(names).lines, requests.ifchange(build.name, names).lines
-        answers = await link.send([*looks, *asked])
-        for answer, request in zip(answers, looks):
-            check_done(answer, request)
-        stale: list[bytes] = []
-        for answer, request in zip(answers[len(looks) :], asked):
-            stale += read_stale(answer, request)
-        return stale
+        look = requests.look(names if looks else [])
+        ifchange, late = requests.ifchange(build.name, names), requests.late(build.began, names)
+        answers = await link.send([*look.lines, *ifchange.lines, *late.lines])
+        others = answers[len(look.lines) :]
+        look.result(answers[: len(look.lines)])
+        if late.result(others[len(ifchange.lines) :]):
+            await link.do_all([b"always " + build.name])
+        return set(ifchange.result(others[: len(ifchange.lines)]))
+
+    async def _depend_on_edited(self, build: Build, names: list[bytes]) -> None:
+        """Notes that the build depends on what is in targets that were edited.
+
+        A target that isn't any more was built, or is again as its build left it.
+        """
+        shadows = {edited_name(name): name for name in names}
+        stale = await self._depend(build, list(shadows))
+        await self._depend(build, [shadows[name] for name in stale])
+
+    async def _depend_on_rules(self, build: Build, names: list[bytes]) -> None:
+        """Notes that the build found no rule for those of the names that have none."""
+        absent = self._context.without_rule
+        paths = [path for name in names for path in absent.get(name, [])]
+        missing = [self._context.name(path) for path in paths]
+        looks, asked = requests.look(missing).lines, requests.ifcreate(build.name, missing).lines
+        try:
+            await self._context.link.do_all([*looks, *asked])
+        except RefusedError:  # there is one by now
+            await self._context.link.do_all([b"always " + build.name])
+
+    async def _stale(self, names: list[bytes]) -> set[bytes]:
+        """Returns which names aren't right now. The script was answered for them before."""
+        asked = [question + name for name in names for question in (b"why ", b"state ")]
+        told = await self._context.link.send(asked)
+        return {
+            name
+            for name, why, state in zip(names, told[::2], told[1::2])
+            if why != b"clean" or (state.startswith(b"idle ") and state.endswith(b" -"))
+        }
 
     async def _ifcreate(self, build: Build, names: list[bytes]) -> bool:
         try:
@@ -173,9 +255,16 @@ class Answerer:
         return True
 
     async def _always(self, build: Build) -> None:
-        """Notes that the target depends on the one name whose stamp is another in each run."""
-        await self._context.tell_always()
-        await self._context.link.do_all([b"ifchange %s %s" % (build.name, ALWAYS)])
+        """Notes that the target depends on the one name whose stamp is another in each run.
+
+        If that is the stamp of a run that began later, the target is to be built again in any case.
+        """
+        stamp, link = await self._context.tell_always(), self._context.link
+        ifchange, state = b"ifchange %s %s" % (build.name, ALWAYS), b"state " + ALWAYS
+        answers = await link.send([ifchange, state])
+        check_done(answers[0], ifchange)
+        if not answers[1].endswith(b" " + stamp):
+            await link.do_all([b"always " + build.name])
 
     async def _stamp(self, build: Build, digest: bytes) -> None:
         await self._context.link.do_all([b"stamp %s %s" % (build.name, digest)])

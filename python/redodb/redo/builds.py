@@ -3,8 +3,8 @@ import enum
 from dataclasses import dataclass, field
 
 from redodb.redo.logs import Log
+from redodb.redo.outputs import Outputs
 from redodb.redo.rules import Rule
-from redodb.redo.scripts import Outputs
 from redodb.redo.tokens import Slot
 
 
@@ -13,6 +13,7 @@ class Outcome(enum.Enum):
 
     BUILT = enum.auto()
     RIGHT = enum.auto()
+    LEFT = enum.auto()
     FAILED = enum.auto()
 
 
@@ -20,7 +21,9 @@ class Outcome(enum.Enum):
 class Build:
     """A script that runs for a target, whose file had this stamp before.
 
-    `log` is None if none is kept, and if the build has ended.
+    `log` is None if none is kept, and if the build has ended. The script was answered for the names
+    `answered`, and may have read them: the rows on them stay as they are. `began` is the time of
+    its beginning by the clock of its file system, in nanoseconds.
     """
 
     name: bytes
@@ -31,19 +34,23 @@ class Build:
     depth: int
     stamp: str | None
     log: Log | None = None
+    answered: set[bytes] = field(default_factory=set)
+    began: int = 0
 
 
 @dataclass
 class Asker:
     """Who needs targets: a name, or USER.
 
-    `build` is where all is shown; `slot` is lent to those who build them.
+    `build` is where all is shown; `slot` is lent to those who build them. It is a guess if the
+    name needed them when it was built, and nobody has asked for them yet.
     """
 
     name: bytes
     depth: int
     build: Build | None = None
     slot: Slot | None = None
+    is_guess: bool = False
 
 
 USER = b"-"

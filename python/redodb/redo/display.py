@@ -2,7 +2,7 @@
 from dataclasses import dataclass
 
 from redodb.redo.builds import Asker, Build
-from redodb.redo.logs import MARK, Lines, Log, forget
+from redodb.redo.logs import MARK, Lines, Log, note
 from redodb.redo.printing import Terminal
 
 
@@ -12,6 +12,7 @@ class Entry:
 
     path: bytes
     log: bytes
+    mark: bytes
     ended: bool = False
     was_shown: bool = False
     lines: Lines | None = None
@@ -34,13 +35,13 @@ class Display:
         Those names were built before, for this build; in the stored log they belong to it.
         """
         if not self._keeps_logs:
-            forget(self._top, build.name)
+            note(self._top, build.name, build.stamp)
             self._terminal.begun(path, build.depth)
             return
         build.log = Log(self._top, build.name, build.stamp)
         for name in built_before:
             build.log.child(name)
-        self._entries[build.name] = Entry(path, build.log.path)
+        self._entries[build.name] = Entry(path, build.log.path, build.log.mark)
         if asker.build is not None and asker.build.log is not None:
             asker.build.log.child(build.name)
         else:
@@ -69,9 +70,10 @@ class Display:
         """Shows all that can be shown by now."""
         while True:
             last = not self._stack or self._stack[-1].ended
+            mark = self._stack[-1].mark if self._stack else MARK
             line = self._next(last)
             if line is not None:
-                self._show(line)
+                self._show(line, mark)
             elif self._stack and last:
                 entry = self._stack.pop()
                 assert entry.lines is not None
@@ -86,9 +88,9 @@ class Display:
             return lines.next(last)
         return self._at_top.pop(0) if self._at_top else None
 
-    def _show(self, line: bytes) -> None:
-        if line.startswith(MARK):
-            word, _, name = line[1:].partition(b" ")
+    def _show(self, line: bytes, mark: bytes) -> None:
+        if line.startswith(mark):
+            word, _, name = line.removeprefix(mark).partition(b" ")
             if word == b"redo":
                 self._descend(name)
         else:
@@ -101,7 +103,7 @@ class Display:
         entry.was_shown = True
         self._terminal.begun(entry.path, len(self._stack))
         try:
-            entry.lines = Lines(entry.log)
+            entry.lines = Lines(entry.log, entry.mark)
         except OSError:
             return
         self._stack.append(entry)

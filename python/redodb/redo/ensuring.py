@@ -1,9 +1,11 @@
 """Has targets built that are out of date, each at most once in a run."""
 import asyncio
+import os
 import random
 from dataclasses import dataclass
 from typing import Iterable
 
+from redodb.errors import RedodbError
 from redodb.replies import (
     Granted,
     NameState,
@@ -11,7 +13,6 @@ from redodb.replies import (
     State,
     Why,
     read_deps,
-    read_made,
     read_state,
     read_wait,
     read_why,
@@ -19,19 +20,19 @@ from redodb.replies import (
 from redodb.redo.builds import Asker, Outcome
 from redodb.redo.building import Builder
 from redodb.redo.context import Context
+from redodb.redo.edited import warning
 from redodb.redo.judging import Todo, judge
-from redodb.redo.logs import stamp_at_end
-from redodb.redo.rules import search
 from redodb.redo.tokens import Slot
+from redodb.stamps import FOLDER
 
 
 @dataclass
 class Found:
-    """What is known of a name whose lock is held; `made` is the stamp that its last `done` gave."""
+    """What is known of a name whose lock is held; `is_edited` if no build left its file."""
 
     state: NameState
     why: Why | None
-    made: str | None
+    is_edited: bool
 
 
 @dataclass
@@ -49,10 +50,13 @@ class Batch:
     over: bool = False
 
     def release(self, slot: Slot) -> None:
-        """Gives a token back. If all have ended, the asker is the first to get one again."""
+        """Gives a token back for good.
+
+        If all have ended, the asker is the first to get one again.
+        """
         if self.over and self.running == 0 and self.asker.slot is not None:
             self.asker.slot.end_loan()
-        slot.release()
+        slot.retire()
 
 
 class Ensurer:
@@ -61,6 +65,7 @@ class Ensurer:
     def __init__(self, context: Context) -> None:
         self._context = context
         self._builder = Builder(context)
+        self._grants: dict[bytes, int] = {}
 
     async def ensure_all(self, names: Iterable[bytes], asker: Asker, forced: bool = False) -> bool:
         """Returns whether all names are right in the end.
@@ -133,7 +138,7 @@ class Ensurer:
         """Returns how it ended with a name before in this run."""
         outcome = self._context.outcomes[name]
         if outcome is Outcome.FAILED:
-            self._context.say(asker, self._context.shown(name) + b" failed before")
+            self._context.failed_before(asker, name)
         return outcome
 
     async def _locked(self, name: bytes, asker: Asker, slot: Slot) -> Found | None:
@@ -145,45 +150,52 @@ class Ensurer:
         link = self._context.link
         request = b"wait %s %s" % (name, asker.name)
         waited = link.send([request])
+        answered: list[asyncio.Future[list[bytes]]] = []
+        for one in (waited, link.send([b"made " + name])):
+            one.add_done_callback(answered.append)
         found = await self._found(name)
-        was_free = waited.done()
+        was_free = answered[0] is waited  # so what was found is from after the grant
         if not was_free:
             slot.release()
         reply = read_wait((await waited)[0], request)
         if isinstance(reply, Ring):
             names = [self._context.shown(one) for one in reply.names]
-            self._context.say(asker, b"these need each other: " + b" -> ".join(names))
+            if not asker.is_guess:
+                self._context.say(asker, b"these need each other: " + b" -> ".join(names))
             return None
         assert isinstance(reply, Granted)
+        self._grants[name] = reply.number
         return found if was_free else await self._found(name)
 
     async def _found(self, name: bytes) -> Found:
-        asked = [question + name for question in (b"look ", b"why ", b"state ", b"made ")]
-        _, why, state, made = await self._context.link.send(asked)
-        return Found(
-            read_state(state, asked[2]), read_why(why, asked[1]), read_made(made, asked[3])
-        )
+        """Returns what is known now of a name whose lock is held, after a look at its file."""
+        asked = [question + name for question in (b"look ", b"why ", b"state ", b"edited ")]
+        _, why, state, edited = await self._context.link.send(asked)
+        is_edited = edited != b"edited"
+        self._context.has_edited |= is_edited
+        return Found(read_state(state, asked[2]), read_why(why, asked[1]), is_edited)
 
     async def _by_its_state(
         self, name: bytes, asker: Asker, slot: Slot, forced: bool, found: Found
     ) -> Outcome:
-        todo = self._judge(name, forced, found)
+        context = self._context
+        todo = judge(found.state, found.why, forced, found.is_edited)
         built: list[bytes] = []
         if todo is Todo.NEEDS:
             built = await self._ensure_needs(name, asker, slot)
             found = await self._found(name)
-            todo = self._judge(name, forced, found)
-        if todo is Todo.BUILD and forced and await self._was_left(name, found):
-            todo = Todo.LEAVE
-        stamp = found.state.stamp
-        shown = self._context.shown(name)
-        if todo is Todo.SOURCE and forced:
-            self._context.say(asker, shown + b" is there, and no build made it: it stays as it is")
-        if todo in (Todo.SOURCE, Todo.NOTHING):
+            todo = judge(found.state, found.why, forced, found.is_edited)
+        overwrites = forced and asker.build is None and context.options.overwrite
+        if todo is Todo.NOTHING:
             return Outcome.RIGHT
-        if todo is Todo.LEAVE and stamp is not None:
-            self._context.say(asker, shown + b" was changed by hand: it stays as it is")
-            return await self._builder.leave(name, stamp)
+        if todo is Todo.SOURCE and not overwrites:
+            if forced:
+                shown = context.shown(name)
+                context.say(asker, shown + b" is there, and no build made it: it stays as it is")
+            return Outcome.RIGHT
+        if todo is Todo.LEAVE and not overwrites:
+            context.say(asker, warning(context, name))
+            return Outcome.LEFT
         return await self._build(name, asker, slot, found.state, built)
 
     async def _build(
@@ -191,34 +203,28 @@ class Ensurer:
     ) -> Outcome:
         """Builds a target.
 
-        A file without a rule is taken as it is; a folder without one is a source.
+        A target without a rule stays as it is until there is one; a folder without one is a source.
         """
         context = self._context
-        found = search(context.path(name))
+        try:
+            found = context.search(name)
+        except RedodbError as cause:
+            context.complain(asker, name, os.fsencode(str(cause)))
+            return Outcome.FAILED
         if found.rule is not None:
-            return await self._builder.build(name, found, asker, slot, state.stamp, built)
+            grant = self._grants[name]
+            return await self._builder.build(name, grant, found, asker, slot, state, built)
         if state.stamp is None:
-            context.say(asker, b"there is no rule to make " + context.shown(name))
+            context.complain(asker, name, b"there is no rule to make " + context.shown(name))
+            context.without_rule[name] = found.missing
             return Outcome.FAILED
         if state.state is State.IDLE:
+            if asker.build is None:
+                what = b" is a folder" if state.stamp == FOLDER else b" is there"
+                text = context.shown(name) + what + b", and there is no rule to make it"
+                context.say(asker, text)
             return Outcome.RIGHT
-        return await self._builder.leave(name, state.stamp)
-
-    def _judge(self, name: bytes, forced: bool, found: Found) -> Todo:
-        failed = found.state.state is State.FAILED
-        left = stamp_at_end(self._context.places.top, name) if failed else found.made or "-"
-        return judge(found.state, found.why, forced, left)
-
-    async def _was_left(self, name: bytes, found: Found) -> bool:
-        """Returns whether the file of a target was taken as it is, and is right.
-
-        Then it has no row, not even on a .do file.
-        """
-        if found.state.state is not State.BUILT or found.state.stamp is None or found.why:
-            return False
-        request = b"deps " + name
-        deps = read_deps((await self._context.link.send([request]))[0], request)
-        return not deps.changed and not deps.created
+        return await self._builder.leave(name, state.stamp, found.missing)
 
     async def _ensure_needs(self, name: bytes, asker: Asker, slot: Slot) -> list[bytes]:
         """Has that built which a target needs and is out of date; returns what was built.
@@ -235,6 +241,6 @@ class Ensurer:
             for need, answer in zip(deps.changed, answers)
             if answer != b"clean" and context.outcomes.get(need) is None
         ]
-        makeable = [need for need in needs if search(context.path(need)).rule is not None]
-        await self.ensure_all(makeable, Asker(name, asker.depth + 1, asker.build, slot))
+        makeable = [need for need in needs if context.has_rule(need)]
+        await self.ensure_all(makeable, Asker(name, asker.depth + 1, asker.build, slot, True))
         return [need for need in makeable if need in context.outcomes]

@@ -12,20 +12,19 @@ class Todo(enum.Enum):
     SOURCE = "it is a file that no build made"
     BUILD = "its script is to be run"
     NEEDS = "what it needs is out of date, and comes first"
-    LEAVE = "its file isn't what its build left: it stays as it is"
+    LEAVE = "somebody edited its file: it stays as it is"
 
 
-def judge(state: NameState, why: Why | None, forced: bool, stamp_left: str | None) -> Todo:
+def judge(state: NameState, why: Why | None, forced: bool, is_edited: bool) -> Todo:
     """Returns what is to be done.
 
-    `stamp_left` is what the file was when the latest build ended, `-` if there was none; None
-    if that isn't known, which is only if it failed. Of several reasons to be out of date,
-    `why` may be any: so it doesn't say whether the file is what the build left.
+    Of several reasons to be out of date, `why` may be any: so it doesn't say whether the file
+    was edited.
     """
     is_file = state.stamp is not None and state.stamp != FOLDER
     if state.state is State.IDLE:
         return Todo.SOURCE if is_file else Todo.BUILD
-    if is_file and stamp_left not in (None, state.stamp):
+    if is_edited:
         return Todo.LEAVE
     if state.state is State.FAILED:
         return Todo.BUILD

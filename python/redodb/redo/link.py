@@ -1,6 +1,8 @@
 """The session of a run: requests are sent ahead, and each gets its answer."""
 import asyncio
-from typing import Iterable
+import time
+from dataclasses import dataclass
+from typing import Iterable, Sequence
 
 from redodb.errors import RedodbError
 from redodb.replies import read_ok
@@ -15,15 +17,42 @@ def check_done(answer: bytes, request: bytes) -> None:
         read_ok(answer, request)
 
 
+@dataclass
+class LockWait:
+    """A request `wait` that isn't answered yet."""
+
+    target: bytes
+    since: float
+
+
 class Link(Wire):
     """One session of the server.
 
-    `lost` ends with the text of its error, once the session can't go on.
+    `lost` ends with the text of its error, once the session can't go on. `lock_waits` has the
+    requests that may take as long as another session likes, by their numbers.
     """
 
     def __init__(self) -> None:
         super().__init__()
         self.lost: asyncio.Future[str] = asyncio.get_running_loop().create_future()
+        self.lock_waits: dict[int, LockWait] = {}
+
+    @property
+    def session(self) -> int:
+        """The number of the session."""
+        return self.greeted.result() or 0
+
+    def send(self, requests: Sequence[bytes]) -> asyncio.Future[list[bytes]]:
+        future = super().send(requests)
+        if len(requests) == 1 and requests[0].startswith(b"wait "):
+            number = self._number
+            self.lock_waits[number] = LockWait(requests[0].split(b" ")[1], time.monotonic())
+            future.add_done_callback(lambda _: self.lock_waits.pop(number, None))
+        return future
+
+    def oldest(self) -> int:
+        """Returns the number of the oldest request that the server has to answer; 0 if none is."""
+        return next((one for one in self._waiting if one not in self.lock_waits), 0)
 
     async def do_all(self, asked: Iterable[bytes]) -> None:
         """Sends requests in one go. RefusedError or FaultError if one wasn't done."""

@@ -1,15 +1,20 @@
 """Logs of builds: what a script wrote to standard error, and marks for other builds in between.
 
-The log of a target is a file of `.redo/logs`, and holds its latest build. A line that begins with
-MARK is a mark: `target NAME STAMP` at the beginning, `redo NAME` where the log of another build is
-to be shown, and `end STATUS STAMP` at the end. Each STAMP is that of the target's file, or `-`.
+The log of a target is a file of `.redo/logs`, and holds its latest build. Its first line is MARK
+and `target NAME STAMP KEY`. A line that begins with MARK, the KEY, which no script's output can
+know, and a space is a mark: `redo NAME` where the log of another build is to be shown, and
+`end STATUS STAMP` at the end. Each STAMP is that of the target's file, or `-`. In a log of a former
+version, whose first line has no KEY, each line that begins with MARK is a mark.
 """
 import os
-from typing import Iterator
+
+from redodb import private
 
 MARK = b"\x1e"
 BLOCK = 65536
 LONGEST_LINE = 1 << 20
+ENDS = 512
+NO_MARK = b"\n"
 
 
 def log_path(top: bytes, name: bytes) -> bytes:
@@ -19,12 +24,29 @@ def log_path(top: bytes, name: bytes) -> bytes:
     return os.path.join(top, b".redo/logs", hashlib.sha256(name).hexdigest()[:40].encode())
 
 
-def forget(top: bytes, name: bytes) -> None:
-    """Removes the log of a name, if there is one: it is that of a build before the latest."""
+def note(top: bytes, name: bytes, stamp: str | None) -> None:
+    """Leaves in the place of a log that a build was begun: a first line without a KEY, alone.
+
+    So a target can be told from a source if the database was lost. Raises OSError.
+    """
+    flags = os.O_WRONLY | os.O_CREAT | os.O_TRUNC
+    with open(private.open_file(log_path(top, name), flags, 0o666, 0o755), "wb") as log:
+        log.write(_first_line(name, stamp) + b"\n")
+
+
+def is_kept(path: bytes) -> bool:
+    """Says whether there is a log at a path, and more in it than `note` leaves."""
     try:
-        os.unlink(log_path(top, name))
+        file = private.open_file(path, os.O_RDONLY)
     except OSError:
-        pass
+        return False
+    with open(file, "rb", buffering=0) as log:
+        first = ends_of(log.fileno())[0]
+        return len(first.split(b" ")) > 3 or os.fstat(log.fileno()).st_size > len(first) + 1
+
+
+def _first_line(name: bytes, stamp: str | None) -> bytes:
+    return MARK + b"target %s %s" % (name, (stamp or "-").encode())
 
 
 class Log:
@@ -34,16 +56,17 @@ class Log:
     """
 
     def __init__(self, top: bytes, name: bytes, stamp: str | None) -> None:
-        """Begins the log anew. Raises OSError if it can't."""
+        """Begins the log anew. Raises OSError and UntrustedError if it can't."""
         self.path = log_path(top, name)
-        os.makedirs(os.path.dirname(self.path), exist_ok=True)
-        flags = os.O_RDWR | os.O_CREAT | os.O_TRUNC | os.O_APPEND | os.O_CLOEXEC
-        self.file = os.open(self.path, flags, 0o666)
-        self._write(MARK + b"target %s %s\n" % (name, (stamp or "-").encode()))
+        flags = os.O_RDWR | os.O_CREAT | os.O_TRUNC | os.O_APPEND
+        self.file = private.open_file(self.path, flags, 0o666, 0o755)
+        key = os.urandom(8).hex().encode()
+        self.mark = MARK + key + b" "
+        self._write(_first_line(name, stamp) + b" %s\n" % key)
 
     def child(self, name: bytes) -> None:
         """Notes that the log of another build belongs here."""
-        self._line(MARK + b"redo " + name + b"\n")
+        self._line(self.mark + b"redo " + name + b"\n")
 
     def say(self, text: bytes) -> None:
         """Writes a line of text."""
@@ -51,7 +74,7 @@ class Log:
 
     def end(self, status: int, stamp: str | None) -> None:
         """Writes how the build ended, and closes the log."""
-        self._line(MARK + b"end %d %s\n" % (status, (stamp or "-").encode()))
+        self._line(self.mark + b"end %d %s\n" % (status, (stamp or "-").encode()))
         os.close(self.file)
         self.file = -1
 
@@ -69,12 +92,39 @@ class Log:
             pass
 
 
-class Lines:
-    """Reads the lines of a log while it grows. What is longer than LONGEST_LINE is parted."""
+def beginning_of_marks(first: bytes, last: bytes) -> bytes:
+    """Returns what marks of a log begin with, by its first and last line.
 
-    def __init__(self, path: bytes) -> None:
+    A script that empties its log leaves no first line; then the last one has the key.
+    """
+    words = first.split(b" ")
+    if words[0] == MARK + b"target":
+        return MARK + words[3] + b" " if len(words) == 4 else MARK
+    words = last.split(b" ")
+    is_end = len(words) == 4 and words[0].startswith(MARK) and words[1] == b"end"
+    return words[0] + b" " if is_end else NO_MARK
+
+
+def ends_of(file: int) -> tuple[bytes, bytes]:
+    """Returns the first and the last line of a log. Longer ones than marks can be are cut."""
+    first = os.pread(file, ENDS, 0).partition(b"\n")[0]
+    tail = os.pread(file, ENDS, max(0, os.fstat(file).st_size - ENDS))
+    return first, b"".join(tail.split(b"\n")[-2:-1])
+
+
+class Lines:
+    """Reads the lines of a log while it grows. What is longer than LONGEST_LINE is parted.
+
+    Lines that begin with `mark` are marks.
+    """
+
+    def __init__(self, path: bytes, mark: bytes = b"") -> None:
         """Opens a log. Raises OSError if there is none."""
-        self._file = os.open(path, os.O_RDONLY | os.O_CLOEXEC)
+        self._file = private.open_file(path, os.O_RDONLY)
+        first, last = ends_of(self._file)
+        self.mark = mark or beginning_of_marks(first, last)
+        if first.startswith(MARK + b"target "):
+            os.lseek(self._file, len(first) + 1, os.SEEK_SET)
         self._rest = b""
         self._whole: list[bytes] = []
 
@@ -101,28 +151,3 @@ class Lines:
     def close(self) -> None:
         """Closes the log."""
         os.close(self._file)
-
-
-def stored(top: bytes, name: bytes) -> Iterator[bytes]:
-    """Yields the lines of a stored log without their LF. Raises OSError if there is none."""
-    lines = Lines(log_path(top, name))
-    try:
-        while (line := lines.next(True)) is not None:
-            yield line
-    finally:
-        lines.close()
-
-
-def stamp_at_end(top: bytes, name: bytes) -> str | None:
-    """Returns the stamp of a target's file when its latest build ended.
-
-    It is `-` if there was no file, and None if no such build is known.
-    """
-    try:
-        with open(log_path(top, name), "rb") as log:
-            log.seek(max(0, os.fstat(log.fileno()).st_size - 512))
-            last = log.read().split(b"\n")[-2:-1]
-    except OSError:
-        return None
-    words = last[0].split(b" ") if last else []
-    return words[2].decode() if len(words) == 3 and words[0] == MARK + b"end" else None

@@ -17,6 +17,7 @@ where it is out of date.
     --shuffle          builds targets in random order where the order is free
     -x, --xtrace       has sh print each command (sh -ex)
     -v, --verbose      has sh print each line that it reads (sh -ev)
+    --overwrite        builds each TARGET also if somebody edited it, or made it
     --no-log           lets scripts write to standard error, and keeps no log
     --no-color         prints without colours
     --no-status        shows no line of progress
@@ -41,17 +42,24 @@ In a .do file: notes that its target has to be built again in each run.
 In a .do file: where the bytes of standard input are those of the former
 build, what depends on the target isn't out of date by this build.
 """,
-    "redo-ood": """usage: redo-ood
+    "redo-ood": """usage: redo-ood [-0]
 
 Prints the targets that are there and out of date, one a line.
+
+    -0                 ends each by a NUL in place of a line feed
 """,
-    "redo-targets": """usage: redo-targets
+    "redo-targets": """usage: redo-targets [--edited] [-0]
 
 Prints the targets that are there, one a line.
+
+    --edited           prints those that somebody edited, and redo leaves alone
+    -0                 ends each by a NUL in place of a line feed
 """,
-    "redo-sources": """usage: redo-sources
+    "redo-sources": """usage: redo-sources [-0]
 
 Prints the files that targets depend on and that are no targets, one a line.
+
+    -0                 ends each by a NUL in place of a line feed
 """,
     "redo-whichdo": """usage: redo-whichdo TARGET
 
@@ -98,6 +106,7 @@ class Options:
         log: bool = True,
         color: bool = True,
         status: bool = True,
+        overwrite: bool = False,
     ) -> None:
         self.targets = targets
         self.jobs = jobs
@@ -107,6 +116,7 @@ class Options:
         self.log = log
         self.color = color
         self.status = status
+        self.overwrite = overwrite
 
     def __eq__(self, other: object) -> bool:
         return isinstance(other, Options) and vars(self) == vars(other)
@@ -121,6 +131,7 @@ LONG = {
     "--no-log": "no-log",
     "--no-color": "no-color",
     "--no-status": "no-status",
+    "--overwrite": "overwrite",
 }
 SHORT = "jkxv"
 
@@ -186,6 +197,7 @@ def read(arguments: list[str]) -> Options:
         "no-log" not in given,
         "no-color" not in given,
         "no-status" not in given,
+        "overwrite" in given,
     )
 
 

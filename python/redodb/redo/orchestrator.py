@@ -4,20 +4,26 @@ import contextlib
 import os
 import signal
 import socket
-from dataclasses import dataclass
+from dataclasses import dataclass, replace
 
+from redodb import private
 from redodb.errors import RedodbError, ServerError
 from redodb.lines import Lines
-from redodb.places import Places, private_folder
+from redodb.places import Places
 from redodb.redo.asking import Answerer
 from redodb.redo.builds import USER, Asker
 from redodb.redo.context import Context
 from redodb.redo.display import Display
+from redodb.redo.edited import warn_of_edited
 from redodb.redo.ensuring import Ensurer
 from redodb.redo.link import Link
 from redodb.redo.options import Options
+from redodb.redo.outputs import remove
+from redodb.redo.patience import Patience, take_session
 from redodb.redo.printing import Terminal, has_colours
-from redodb.redo.scripts import Processes, remove
+from redodb.redo.processes import Processes
+from redodb.redo.quick import look_and_ask
+from redodb.redo.runs import Journal, clear
 from redodb.redo.tokens import Jobserver, NoJobserver, Tokens, joined, served, without_jobs
 
 TICK = 0.1
@@ -35,7 +41,8 @@ class Call:
     folder: bytes
     programs: bytes
     places: Places
-    always_is_told: bool
+    always: bytes | None
+    has_edited: bool
 
 
 class Orchestrator:
@@ -55,25 +62,30 @@ class Orchestrator:
         jobserver, makeflags = self._jobs()
         link, session = Link(), lines.session
         await link.take(*lines.detach(), session)
-        context = self._context(link, Tokens(jobserver), makeflags)
-        own_socket = context.environment[b"REDO_SOCKET"]
+        said = clear(self._call.places)
+        journal = Journal(self._call.places)
+        context = self._context(link, Tokens(jobserver), makeflags, journal)
+        for text in said:
+            context.display.say(None, text)
         try:
-            return await self._with_socket(context, own_socket)
+            return await self._with_socket(context, journal.socket)
         finally:
             context.tokens.close()
             context.display.pump()
             self._terminal.progress(b"")
-            with contextlib.suppress(OSError):
-                os.unlink(own_socket)
+            journal.close()
 
-    def _context(self, link: Link, tokens: Tokens, makeflags: str | None) -> Context:
+    def _context(
+        self, link: Link, tokens: Tokens, makeflags: str | None, journal: Journal
+    ) -> Context:
         call = self._call
-        own_socket = os.path.join(call.places.run, b"%d" % os.getpid())
         environment = {
-            key: value for key, value in os.environb.items() if not key.startswith(b"REDO_")
+            key: value
+            for key, value in os.environb.items()
+            if not key.startswith(b"REDO_") or key == b"REDO_PATIENCE"
         }
         environment |= {
-            b"REDO_SOCKET": own_socket,
+            b"REDO_SOCKET": journal.socket,
             b"REDO_TOP": call.places.top,
             b"PATH": call.programs + b":" + environment.get(b"PATH", os.defpath.encode()),
         }
@@ -88,8 +100,10 @@ class Orchestrator:
             link,
             tokens,
             self._processes,
+            journal,
             display,
-            call.always_is_told,
+            call.always,
+            call.has_edited,
         )
 
     def _jobs(self) -> tuple[Jobserver | None, str | None]:
@@ -107,7 +121,7 @@ class Orchestrator:
 
     async def _with_socket(self, context: Context, own_socket: bytes) -> int:
         ensurer = Ensurer(context)
-        answerer = Answerer(context, ensurer, listening(own_socket))
+        answerer = Answerer(context, ensurer, listening(own_socket, context.places.top))
         answerer.listen()
         over = asyncio.Event()
         work = asyncio.create_task(self._work(context, ensurer))
@@ -140,13 +154,19 @@ class Orchestrator:
 
     async def _work(self, context: Context, ensurer: Ensurer) -> bool:
         right = await ensurer.ensure_all(self._call.wanted, Asker(USER, 0), self._call.forced)
+        await warn_of_edited(context, self._call.wanted)
         while context.builds:  # of programs that a script left in the background
             await asyncio.sleep(TICK)
         return right
 
     async def _tick(self, context: Context) -> None:
+        def say(text: bytes) -> None:
+            self._terminal.message(b"redo: " + text)
+
+        patience = Patience(context.link, context.places.top, context.shown, say)
         while True:
             await asyncio.sleep(TICK)
+            patience.check()
             context.display.pump()
             self._terminal.progress(context.counts.text())
 
@@ -171,33 +191,25 @@ class Orchestrator:
             await asyncio.wait_for(context.link.send([b"end"]), GRACE)
 
 
-def listening(path: bytes) -> socket.socket:
+def listening(path: bytes, top: bytes) -> socket.socket:
     """Returns a socket that listens at a path, in a folder that is its owner's alone.
 
-    Raises OSError.
+    Raises UntrustedError and OSError.
     """
-    folder, name = os.path.split(path)
-    private_folder(folder)
-    remove_old(folder)
+    folder = private.open_folder(os.path.dirname(path), 0o700)
+    name = os.path.basename(path)
     here = socket.socket(socket.AF_UNIX, socket.SOCK_STREAM)
-    os.chdir(folder)  # the name of a socket has at most some hundred bytes
-    with contextlib.suppress(FileNotFoundError):
-        os.unlink(name)
     before = os.umask(0o177)
     try:
+        private.remove(name, folder)
+        os.fchdir(folder)  # the name of a socket has at most some hundred bytes
         here.bind(name)
+        private.give_socket(name, folder, top)
     finally:
         os.umask(before)
+        os.close(folder)
     here.listen(512)
     return here
-
-
-def remove_old(folder: bytes) -> None:
-    """Removes the sockets of runs that were killed."""
-    for name in os.listdir(folder):
-        if name.isdigit() and not os.path.exists(b"/proc/" + name):
-            with contextlib.suppress(OSError):
-                os.unlink(os.path.join(folder, name))
 
 
 def run(call: Call, lines: Lines) -> int:
@@ -205,6 +217,8 @@ def run(call: Call, lines: Lines) -> int:
 
     A run that was stopped dies by the signal.
     """
+    if take_session(lines, call.places.top):  # the look before is an old one
+        call = replace(call, always=look_and_ask(lines, [])[0])
     options = call.options
     terminal = Terminal(2, options.color and has_colours(2, os.environ), options.status)
     loop = asyncio.new_event_loop()

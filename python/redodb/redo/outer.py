@@ -63,7 +63,7 @@ def dispatch(program: str, arguments: list[str], programs: bytes) -> int:
         raise Usage("it is for .do files")
     from redodb.redo import questions
 
-    return questions.PROGRAMS[program](targets_of(arguments))
+    return questions.PROGRAMS[program](arguments)
 
 
 def complain(text: str) -> None:

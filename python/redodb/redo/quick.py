@@ -4,7 +4,7 @@ import os
 from redodb import names, reach
 from redodb.errors import ServerError
 from redodb.lines import Lines
-from redodb.places import Places, find_top
+from redodb.places import Places, find_top, name_inside
 from redodb.redo.options import Options
 from redodb.stamps import FOLDER
 
@@ -19,12 +19,29 @@ def top_for_building() -> bytes:
 
 
 def connect(top: bytes) -> Lines:
-    """Returns a connection to the server of a tree. Raises ServerError."""
+    """Returns a connection to the server of a tree, which asks without a session.
+
+    If an answer takes long, a line says so. Raises ServerError.
+    """
+
+    def tell() -> None:
+        from redodb.redo import patience
+
+        patience.tell_of_server(top)
+
     try:
-        return reach.connect(top)
+        return reach.connect(top, only_asks=True, patience=(patient_seconds(), tell))
     except OSError as cause:
         text = f"the server of {os.fsdecode(top)} can't be reached: {cause.strerror}"
         raise ServerError(text) from cause
+
+
+def patient_seconds() -> float:
+    """Returns after how many seconds without an answer a program says what it waits for."""
+    try:
+        return min(max(0.0, float(os.environ.get("REDO_PATIENCE", ""))), 1e6)
+    except ValueError:
+        return 30.0
 
 
 def start(options: Options, forced: bool, programs: bytes) -> int:
@@ -32,15 +49,17 @@ def start(options: Options, forced: bool, programs: bytes) -> int:
     top = top_for_building()
     folder = os.getcwdb()
     targets = options.targets or (["all"] if forced else [])
-    wanted = [names.name_of(os.fsencode(target), top) for target in targets]
+    seen: set[bytes] = set()
+    wanted = [name_inside(os.fsencode(target), top, seen) for target in targets]
     lines = connect(top)
     asked = [] if forced else questions(wanted)
-    always_is_told, answers = look_and_ask(lines, asked)
-    if not forced and nothing_to_do(answers, len(wanted)):
+    always, (edited, *answers) = look_and_ask(lines, [b"edited", *asked])
+    has_edited = edited != b"edited"
+    if not forced and not has_edited and nothing_to_do(answers, len(wanted)):
         return 0
     from redodb.redo.orchestrator import Call, run
 
-    call = Call(options, wanted, forced, folder, programs, Places(top), always_is_told)
+    call = Call(options, wanted, forced, folder, programs, Places(top), always, has_edited)
     return run(call, lines)
 
 
@@ -65,18 +84,18 @@ def is_right(why: bytes, state: bytes) -> bool:
     return why == b"clean" and (state.startswith(b"built ") or is_source)
 
 
-def look_and_ask(lines: Lines, asked: list[bytes]) -> tuple[bool, list[bytes]]:
+def look_and_ask(lines: Lines, asked: list[bytes]) -> tuple[bytes | None, list[bytes]]:
     """Has the server look at all files that it knows, and returns the answers to requests then.
 
     If there are targets that are built in each run, they are out of date from now on, and the
-    first of the two is True.
+    first of the two is the stamp of ALWAYS that is this run's.
     """
     _, state, *answers = lines.ask_all([b"look", b"state " + names.ALWAYS, *asked])
-    is_used = not state.endswith(b" -")
-    if is_used:
-        told = b"file %s %s" % (names.ALWAYS, run_stamp())
-        _, *answers = lines.ask_all([told, *asked])
-    return is_used, answers
+    if state.endswith(b" -"):
+        return None, answers
+    stamp = run_stamp()
+    _, *answers = lines.ask_all([b"file %s %s" % (names.ALWAYS, stamp), *asked])
+    return stamp, answers
 
 
 def run_stamp() -> bytes:

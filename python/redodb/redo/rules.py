@@ -1,6 +1,10 @@
 """The .do file of a target: where it is looked for, and which arguments its script gets."""
 import os
+from stat import S_ISDIR, S_ISLNK, S_ISREG
 from typing import Iterator, NamedTuple
+
+from redodb import private
+from redodb.errors import RuleError
 
 
 class Rule(NamedTuple):
@@ -30,30 +34,58 @@ def extensions(name: bytes) -> Iterator[tuple[bytes, bytes]]:
         yield b".".join(words[:count]), b"." + extension if extension else b""
 
 
-def candidates(target: bytes) -> Iterator[Rule]:
-    """Yields the rules of an absolute path in the order in which they win, up to those of `/`.
+def candidates(target: bytes, top: bytes) -> Iterator[Rule]:
+    """Yields the rules of an absolute path in the order in which they win, up to those of the top.
 
     `T.do` is looked for in the folder of T alone; then default files, with the longest extension
-    first, in that folder and in each one above it.
+    first, in that folder and in each one above it. Outside of the tree there are none.
     """
     folder, name = os.path.split(target)
+    if folder != top and not folder.startswith(os.path.join(top, b"")):
+        return
     yield Rule(os.path.join(folder, name + b".do"), folder, name, name)
     below = b""
     while True:
         for stem, extension in extensions(name):
             do_file = os.path.join(folder, b"default" + extension + b".do")
             yield Rule(do_file, folder, os.path.join(below, name), os.path.join(below, stem))
-        above, last = os.path.split(folder)
-        if above == folder:
+        if folder == top:
             return
-        folder, below = above, os.path.join(last, below) if below else last
+        folder, last = os.path.split(folder)
+        below = os.path.join(last, below) if below else last
 
 
-def search(target: bytes) -> Search:
-    """Returns the rule of an absolute path, and the .do files before it that aren't there."""
+def search(target: bytes, top: bytes) -> Search:
+    """Returns the rule of an absolute path, and the .do files before it that aren't there.
+
+    Raises RuleError and UntrustedError as `is_there`.
+    """
     missing: list[bytes] = []
-    for rule in candidates(target):
-        if os.path.isfile(rule.do_file):
+    for rule in candidates(target, top):
+        if is_there(rule.do_file, top):
             return Search(rule, missing)
         missing.append(rule.do_file)
     return Search(None, missing)
+
+
+def is_there(do_file: bytes, top: bytes) -> bool:
+    """Returns whether there is this .do file.
+
+    Raises RuleError if what is there is no file, and UntrustedError if it is somebody else's.
+    """
+    try:
+        status = os.lstat(do_file)
+    except OSError:
+        return False
+    private.check_owner(do_file, status, top)
+    if S_ISLNK(status.st_mode):
+        try:
+            status = os.stat(do_file)
+        except OSError:
+            text = f"{private.shown(do_file)} is a link that leads to no file"
+            raise RuleError(text) from None
+        private.check_owner(do_file, status, top)
+    if not S_ISREG(status.st_mode):
+        what = "a folder" if S_ISDIR(status.st_mode) else "no regular file"
+        raise RuleError(f"{private.shown(do_file)} is {what}")
+    return True

@@ -4,7 +4,7 @@ import os
 from redodb import names
 from redodb.errors import RedodbError
 from redodb.places import find_top
-from redodb.redo.logs import MARK, Lines, log_path
+from redodb.redo.logs import Lines, is_kept, log_path
 from redodb.redo.options import Usage, targets_of
 from redodb.redo.printing import Terminal, has_colours
 
@@ -41,7 +41,7 @@ class Shower:
     def show_target(self, target: bytes) -> int:
         """Shows the log of a target; returns 1 if there is none."""
         name = names.name_of(target, self._top)
-        if not os.path.exists(log_path(self._top, name)):
+        if not is_kept(log_path(self._top, name)):
             raise RedodbError(f"{os.fsdecode(target)} has no log")
         self._show(name)
         return 0
@@ -50,20 +50,21 @@ class Shower:
         stack: list[Lines] = []
         self._descend(first, stack)
         while stack:
+            mark = stack[-1].mark
             line = stack[-1].next(True)
             if line is None:
                 stack.pop().close()
-            elif not line.startswith(MARK):
+            elif not line.startswith(mark):
                 self._terminal.text(line)
-            elif line[1:].startswith(b"redo "):
+            elif line.startswith(mark + b"redo "):
                 if self._recurses:
-                    self._descend(line[6:], stack)
+                    self._descend(line.removeprefix(mark + b"redo "), stack)
 
     def _descend(self, name: bytes, stack: list[Lines]) -> None:
         if name in self._shown:
             return
         self._shown.add(name)
-        path = os.path.relpath(names.path_of(name, self._top), self._here)
+        path = names.relative_path(name, self._top, self._here)
         self._terminal.begun(path, len(stack))
         try:
             stack.append(Lines(log_path(self._top, name)))

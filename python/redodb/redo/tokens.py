@@ -168,6 +168,7 @@ class Slot:
         self._depth = depth
         self._token: bytes | None = None
         self._loans = 0
+        self._is_retired = False
         self._back: asyncio.Future[bytes] | None = None
 
     def queue(self) -> asyncio.Future[bytes]:
@@ -175,8 +176,19 @@ class Slot:
         return self._tokens.wait(self._depth)
 
     def keep(self, token: bytes) -> None:
-        """Keeps a token that the future of `queue` got."""
-        self._token = token
+        """Keeps a token that the future of `queue` got.
+
+        If who holds the slot has ended, or waits again, the token is handed on.
+        """
+        if self._is_retired or self._loans:
+            self._tokens.give(token)
+        else:
+            self._token = token
+
+    def retire(self) -> None:
+        """Gives the token back for good: who held the slot has ended."""
+        self._is_retired = True
+        self.release()
 
     async def hold(self) -> None:
         """Returns once the slot holds a token."""

@@ -1,6 +1,6 @@
 """redo-why: a shortest chain from a target to what is out of date."""
 import os
-from dataclasses import dataclass
+from dataclasses import dataclass, replace
 
 from redodb import names
 from redodb.places import find_top
@@ -10,6 +10,11 @@ from redodb.redo.questions import print_paths
 from redodb.redo.quick import connect, look_and_ask, questions
 from redodb.replies import NameState, Reason, State, read_state, read_why
 
+TYPE_CHECKING = False
+if TYPE_CHECKING:
+    from collections.abc import Callable
+
+GONE = "gone"
 CLEAN = (UP_TO_DATE, NO_TARGET, SOURCE) = ("up to date", "no target yet", "a source")
 
 
@@ -40,7 +45,7 @@ def cause_of(name: bytes, why_answer: bytes, state_answer: bytes, top: bytes, he
     """Returns the cause in the answers to `why` and `state`."""
 
     def path(one: bytes) -> bytes:
-        return os.path.relpath(names.path_of(one, top), here)
+        return names.relative_path(one.removeprefix(names.EDITED), top, here)
 
     why = read_why(why_answer, b"why " + name)
     state = read_state(state_answer, b"state " + name)
@@ -52,6 +57,15 @@ def cause_of(name: bytes, why_answer: bytes, state_answer: bytes, top: bytes, he
     if why.reason in (Reason.CHANGED, Reason.APPEARED):
         chain.append(path(why.name))
     return Cause(why.reason.value, chain)
+
+
+def gone_or(cause: Cause, why_answer: bytes, ask: "Callable[[bytes], bytes]") -> Cause:
+    """Returns a cause by which a target is edited as that it is gone, if it has no file."""
+    if cause.word == Reason.EDITED.value:
+        request = b"state " + why_answer.rpartition(b" ")[2]
+        if read_state(ask(request), request).stamp is None:
+            return replace(cause, word=GONE)
+    return cause
 
 
 def word_of_clean(state: NameState) -> str:
@@ -74,6 +88,7 @@ def redo_why(arguments: list[str]) -> int:
     lines = connect(top)
     answers = look_and_ask(lines, questions(wanted))[1][len(wanted) :]
     here = os.path.realpath(b".")
-    causes = [cause_of(*told, top, here) for told in zip(wanted, answers[::2], answers[1::2])]
+    told = zip(wanted, answers[::2], answers[1::2])
+    causes = [gone_or(cause_of(*one, top, here), one[1], lines.ask) for one in told]
     print_paths([cause.json() if as_json else cause.line() for cause in causes])
     return 0

@@ -5,6 +5,7 @@ import os
 import signal
 import sys
 
+from ..errors import RedodbError
 from ..places import Places, find_program, find_top
 from .loop import ENDING
 from .taking import Taken, take
@@ -69,7 +70,11 @@ def main(words: list[str]) -> int:
     except Usage:
         print(USAGE, file=sys.stderr)
         return 2
-    top = options.top or find_top()
+    try:
+        top = options.top or find_top()
+    except RedodbError as error:
+        print(f"redodb serve: {error}", file=sys.stderr)
+        return 2
     program = find_program()
     if top is None or not os.path.isdir(top):
         print("redodb serve: no folder with .redo here or above", file=sys.stderr)
@@ -83,7 +88,7 @@ def main(words: list[str]) -> int:
         if taken is None or options.detach and not _detached():
             return 0
         os.chdir(top)
-    except OSError as error:
+    except (OSError, RedodbError) as error:
         print(f"redodb serve: {error}", file=sys.stderr)
         return 2
     return _serve(taken, program, options.idle)
@@ -98,9 +103,11 @@ def _detached() -> bool:
 
 
 def _serve(taken: Taken, program: bytes, idle: float) -> int:
+    from .lasting import Marks
     from .program import Program
 
     taken.sign()
+    marks = Marks(taken.places)
     early = []
     try:
         early.append(Program(program, taken.places.log))  # it reads its log meanwhile
@@ -112,7 +119,7 @@ def _serve(taken: Taken, program: bytes, idle: float) -> int:
     def start() -> Program:
         return early.pop() if early else Program(program, taken.places.log)
 
-    failure = Hub(taken, start, idle).run()
+    failure = Hub(taken, marks, start, idle).run()
     taken.leave()
     if failure:
         print(f"redodb serve: {failure}", file=sys.stderr)

@@ -4,7 +4,7 @@ from __future__ import annotations
 from collections.abc import Callable
 
 from ..errors import BadName
-from ..names import is_name
+from ..names import ALWAYS, is_name
 from .groups import Groups
 from .look import Look
 from .stream import Owner, Stream
@@ -14,8 +14,16 @@ TYPE_CHECKING = False
 if TYPE_CHECKING:
     from .hub import Hub
 
+_Ask = Callable[[int, bytes, Callable[[bytes, bytes], None], bytes], None]
+
+_QUESTIONS = (b"why", b"state", b"deps", b"ood", b"targets", b"sources")
+_TELLS_ALWAYS = b"file %b " % ALWAYS
+
 LONGEST_LINE = 1 << 20
 """So many bytes of a line are kept; a longer one is answered as too long."""
+
+ONLY_ASKS = b"0 question\n"
+"""The first line of a client that wants no session."""
 
 MOST_AHEAD = 512
 """So many lines are worked on before their answers are waited for, which bounds what is kept."""
@@ -25,18 +33,22 @@ class Connection(Owner):
     """The lines of one client, ID REQUEST, and the answers to them, ID ANSWER.
 
     Most requests go on to redodb-live as they are; those that `own` names are the server's.
-    Requests are worked on once the client has a session. Answers are gathered, and leave by
-    `flush`.
+    Requests are worked on once the client has a session, or has none and may ask: `asks_in` is
+    the session of redodb-live that they go to, and 0 until then. Answers are gathered, and
+    leave by `flush`.
     """
 
     def __init__(self, hub: Hub, file: int) -> None:
         self.session = 0
-        self.groups = Groups()
+        self.asks_in = 0
+        self.groups = Groups(file)
         self._hub = hub
         self._live = hub.live
         self._is_open = True
         self._stream = Stream(hub.loop, file, file, self)
         self._rest = b""
+        self._is_new = True
+        self._turn = b""
         self._skipping = False
         self._answers: list[bytes] = []
         self._waits: list[Wait] = []
@@ -46,16 +58,39 @@ class Connection(Owner):
             b"wait": self._wait,
             b"forget": self._forget,
             b"made": self._made,
+            b"edited": self._edited,
+            b"late": self._late,
             b"look": self._look,
             b"group": self._group,
             b"ungroup": self._ungroup,
             b"end": self._end,
+            b"session": self._session,
+            b"turn": self._wait_turn,
+        }
+        self._own_questions = {
+            word: self._own[word]
+            for word in (b"look", b"made", b"edited", b"late", b"session", b"turn")
         }
 
+    def read_first(self) -> None:
+        """Read what a client sent before it was let in, which may be that it only asks."""
+        self._stream.receive()
+
     def welcome(self, session: int) -> None:
-        """Give the client its session."""
-        self.session = session
-        self._say(b"session %d" % session)
+        """Give the client its session: by the greeting, or by the answer to its `turn`."""
+        self.session = self.asks_in = session
+        if self._turn:
+            self._answer_in_turn(self._turn, b"session %d" % session)
+        else:
+            self._say(b"session %d" % session)
+        self._work()
+        self.regulate()
+
+    def let_ask(self, session: int) -> None:
+        """Let the client ask in a session that isn't its own."""
+        self.session = 0
+        self.asks_in = session
+        self._say(b"session 0")
         self._work()
         self.regulate()
 
@@ -83,7 +118,7 @@ class Connection(Owner):
 
     def regulate(self) -> None:
         """Read from the client, unless it doesn't take its answers, or redodb-live its lines."""
-        has_no_turn = not self.session and len(self._rest) > LONGEST_LINE
+        has_no_turn = not self.asks_in and len(self._rest) > LONGEST_LINE
         full = self._stuffed or self._held or self._hub.stuffed or has_no_turn
         self._stream.read(not full)
 
@@ -95,8 +130,13 @@ class Connection(Owner):
             data = data[end:]
             self._skipping = False
         self._rest += data
+        if self._is_new and b"\n" in self._rest:
+            self._is_new = False
+            if self._rest.startswith(ONLY_ASKS):
+                self._rest = self._rest[len(ONLY_ASKS) :]
+                self._hub.only_asks(self)
         self._work()
-        if not self.session:
+        if not self.asks_in:
             self.regulate()
 
     def lost(self) -> None:
@@ -120,11 +160,15 @@ class Connection(Owner):
 
     def _work(self) -> None:
         """Work on the whole lines that have come, as far as none has to wait for answers."""
-        if not self.session or self._held or self._stuffed:
+        if not self.asks_in or self._held or self._stuffed:
             return
         lines = self._rest.split(b"\n")
         self._rest = lines.pop()
-        own, ask, answer, session = self._own, self._live.ask, self.answer, self.session
+        own = self._own
+        ask: _Ask = self._live.ask
+        if not self.session:
+            own, ask = self._own_questions, self._ask_question
+        answer, session = self.answer, self.asks_in
         for position, line in enumerate(lines):
             number, _, request = line.partition(b" ")
             if not number.isdigit():
@@ -136,8 +180,9 @@ class Connection(Owner):
                 own[word](number, words)
             if position % MOST_AHEAD == MOST_AHEAD - 1:
                 self._hold(lambda: None)
-            if self._held:
+            if self._held or self.asks_in != session:
                 self._rest = b"\n".join([*lines[position + 1 :], self._rest])
+                self._work()
                 return
         if len(self._rest) > LONGEST_LINE:
             self._rest = self._rest[:LONGEST_LINE]
@@ -156,6 +201,15 @@ class Connection(Owner):
         self._held = True
         self.regulate()
         self._live.afterwards(release)
+
+    def _ask_question(
+        self, session: int, request: bytes, answer: Callable[[bytes, bytes], None], number: bytes
+    ) -> None:
+        """Ask for a client without a session, if the request needs none."""
+        if request.partition(b" ")[0] in _QUESTIONS or request.startswith(_TELLS_ALWAYS):
+            self._live.ask(session, request, answer, number)
+        else:
+            self._answer_in_turn(number, b"fault no-session")
 
     def _answer_in_turn(self, number: bytes, answer: bytes) -> None:
         """Answer after all that was asked before."""
@@ -197,6 +251,28 @@ class Connection(Owner):
         made = self._hub.known.made
         self._live.afterwards(lambda: self.answer(number, b"made " + made.get(words[0], b"-")))
 
+    def _edited(self, number: bytes, words: list[bytes]) -> None:
+        """Answer which targets, of these or of all, have a file that no build of them left."""
+        edited = self._hub.known.edited
+
+        def told() -> None:
+            names = [name for name in words if name in edited] if words else sorted(edited)
+            self.answer(number, b" ".join([b"edited", *names]))
+
+        self._live.afterwards(told)
+
+    def _late(self, number: bytes, words: list[bytes]) -> None:
+        """Answer which of these names are no targets, and changed at a time or after it."""
+        if len(words) < 2 or not words[0].isdigit():
+            self._answer_in_turn(number, b"fault wrong-words")
+            return
+        known = self._hub.known
+
+        def told() -> None:
+            self.answer(number, b" ".join([b"late", *known.late(words[1:], int(words[0]))]))
+
+        self._live.afterwards(told)
+
     def _look(self, number: bytes, words: list[bytes]) -> None:
         """Look when all stamps are known; at all files when it is known too what is building."""
         if words and self._live.knows_stamps():
@@ -213,7 +289,7 @@ class Connection(Owner):
             Look(self, number, commands).ask(self._live)
 
     def _group(self, number: bytes, words: list[bytes]) -> None:
-        good = len(words) == 1 and self.groups.add(words[0])
+        good = self.groups.add(words)
         self._answer_in_turn(number, b"ok" if good else b"fault bad-group")
 
     def _ungroup(self, number: bytes, words: list[bytes]) -> None:
@@ -225,3 +301,22 @@ class Connection(Owner):
             self._answer_in_turn(number, b"fault wrong-words")
         else:
             self._live.ask(self.session, b"end", self.answer, number, is_end=True)
+
+    def _session(self, number: bytes, words: list[bytes]) -> None:
+        """Give the client a session, if one is free."""
+        if words:
+            self._answer_in_turn(number, b"fault wrong-words")
+            return
+        self.session = self.session or self._hub.free_session()
+        self.asks_in = self.session or self.asks_in
+        told = b"session %d" % self.session if self.session else b"busy"
+        self._answer_in_turn(number, told)
+
+    def _wait_turn(self, number: bytes, words: list[bytes]) -> None:
+        """Give the client a session as soon as it can have one. Meanwhile it isn't served."""
+        if words or self.session:
+            self._session(number, words)
+            return
+        self.asks_in = 0
+        self._turn = number
+        self._hub.wait_turn(self)

@@ -6,32 +6,27 @@ from collections.abc import Callable
 from functools import partial
 from itertools import compress, islice
 from operator import attrgetter, ne
-from stat import S_ISREG
 
 from ..errors import BadName
-from ..names import ALWAYS, escape, unescape
+from ..names import escape, is_internal, unescape
+from ..stamps import PLAIN_NUMBERS, Key
+from .contents import Contents
 from .shares import found_in, shares_of
 
-PlainStatus = tuple[int, int, int, int]
-"""The size of a file in bytes, its mtime in nanoseconds, its inode, and its mode."""
-
-_STAMP = b"%d-%d-%d-%o"
-_status: Callable[[os.stat_result], PlainStatus] = attrgetter(
-    "st_size", "st_mtime_ns", "st_ino", "st_mode"
-)
+_key: Callable[[os.stat_result], Key] = attrgetter(*PLAIN_NUMBERS)
 
 
 class Expected:
     """The paths of names, by what is to be there: a plain file, nothing, or what has a stamp.
 
-    A look is one lstat for each plain file, whose status is compared as numbers, and one faccessat
-    for each path where nothing is to be. If these are very many, processes share them. The
-    status of a file is kept while its stamp is the one that is expected, which it was found to
-    have.
+    A look is one lstat for each plain file, whose key is compared as numbers, and one faccessat
+    for each path where nothing is to be. If these are very many, processes share them. The key of
+    a file is kept while its stamp is the one that is expected, which it was found to have.
     """
 
-    def __init__(self) -> None:
-        self._plain: dict[bytes, PlainStatus] = {}
+    def __init__(self, contents: Contents) -> None:
+        self._contents = contents
+        self._plain: dict[bytes, Key] = {}
         self._absent: dict[bytes, None] = {}
         self._stamps: dict[bytes, bytes] = {}
         self._is_there = _way_to_see()
@@ -54,7 +49,7 @@ class Expected:
             self._drop(path)
 
     def suspects(self) -> list[bytes]:
-        """Return the names whose files aren't as expected, and those that need another look."""
+        """Return the names whose files aren't as expected, or may not be."""
         shares = shares_of(len(self._plain) + len(self._absent))
         found = found_in(shares, self._changed)
         return [escape(path) for path in (*self._unlike(), *found)]
@@ -67,23 +62,25 @@ class Expected:
         paths = list(islice(plain, *part))
         statuses = islice(plain.values(), *part)
         try:
-            changed = list(compress(paths, map(ne, map(_status, map(os.lstat, paths)), statuses)))
+            changed = list(compress(paths, map(ne, map(_key, map(os.lstat, paths)), statuses)))
         except OSError:
             changed = [path for path in paths if _seen(path) != plain[path]]
         appeared = islice(absent, *_part_of(len(absent), share, shares))
         return [*changed, *filter(self._is_there, appeared)]
 
     def _unlike(self) -> list[bytes]:
-        """Return the paths that have another stamp, or no plain file. Keep the status of others."""
-        unlike = {}
+        """Return the paths that have another stamp. Keep the keys of plain files that don't."""
+        unlike, kept = [], {}
         for path, stamp in self._stamps.items():
-            status = _seen(path)
-            if status is not None and S_ISREG(status[3]) and _STAMP % status == stamp:
-                self._plain[path] = status
+            found, key = self._contents.look(path)
+            if found == stamp and key is not None and len(key) == len(PLAIN_NUMBERS):
+                self._plain[path] = key
             else:
-                unlike[path] = stamp
-        self._stamps = unlike
-        return list(unlike)
+                kept[path] = stamp
+                if found != stamp:
+                    unlike.append(path)
+        self._stamps = kept
+        return unlike
 
     def _drop(self, path: bytes) -> None:
         self._plain.pop(path, None)
@@ -93,7 +90,7 @@ class Expected:
 
 def _path_of(name: bytes) -> bytes | None:
     """Return the path of a name, or None if no path has it."""
-    if name == ALWAYS:
+    if is_internal(name):
         return None
     try:
         return unescape(name) if b"%" in name else name
@@ -106,9 +103,9 @@ def _part_of(count: int, share: int, shares: int) -> tuple[int, int]:
     return count * share // shares, count * (share + 1) // shares
 
 
-def _seen(path: bytes) -> PlainStatus | None:
+def _seen(path: bytes) -> Key | None:
     try:
-        return _status(os.lstat(path))
+        return _key(os.lstat(path))
     except OSError:
         return None
 

@@ -2,21 +2,32 @@
 from __future__ import annotations
 
 import heapq
+import os
 from collections import deque
 from collections.abc import Callable
 
+from ..errors import UntrustedError
+from ..places import find_program
 from .connection import Connection
+from .contents import Clock, Contents
 from .known import Known, Words
+from .lasting import Marks, boot
 from .live import Live
 from .loop import ENDING, READABLE, Loop
 from .program import Program
+from .recovering import commands
 from .taking import Taken
 from .waits import Wait, Waits
 
-SESSIONS = 64
+RUNS = 63
+"""So many clients have a session at a time."""
+
+QUESTIONS = 64
+"""The session in which all clients without one ask."""
 
 _FIRST_CLIENT = 10.0
 _IN_USE = "in use"
+_DIFFERS = " differs"
 _TRIES = 100
 _PAUSE = 0.05
 _BREATH = 1.0
@@ -26,13 +37,17 @@ _MOST_AT_ONCE = 100
 class Hub:
     """One redodb-live, which start starts, and all clients.
 
-    A client that comes gets the lowest session that is free, or waits its turn. If redodb-live
-    ends, each client learns why; if there is none, the next one is. The server ends `idle`
-    seconds after its last client, or some seconds after its start if none comes.
+    A client that comes gets the lowest session that is free, or waits its turn. One that only asks
+    takes none, and waits for nobody. If redodb-live ends, each client learns why; if there is
+    none, the next one is. The server ends `idle` seconds after its last client, or some
+    seconds after its start if none comes.
     """
 
-    def __init__(self, taken: Taken, start: Callable[[], Program], idle: float) -> None:
-        self.known = Known()
+    def __init__(
+        self, taken: Taken, marks: Marks, start: Callable[[], Program], idle: float
+    ) -> None:
+        clock = Clock(taken.places.server + b"/lock")
+        self.known = Known(Contents(clock, boot()))
         self.loop = Loop(self.flush)
         self.waits = Waits(self._lock, self._unlock)
         self.learners: dict[bytes, Callable[[Words, bytes], None]] = {
@@ -43,6 +58,8 @@ class Hub:
         self.touched: list[Connection] = []
         self.stuffed = False
         self._taken = taken
+        self._marks = marks
+        self._stamps = taken.places.home + b"/stamps"
         self._start = start
         self._idle = idle
         self._ready = False
@@ -50,9 +67,10 @@ class Hub:
         self._failure = ""
         self._told = False
         self._tries = 0
-        self._free = list(range(1, SESSIONS + 1))
+        self._free = list(range(1, RUNS + 1))
         self._connections: dict[Connection, None] = {}
         self._queue: deque[Connection] = deque()
+        self._asking: dict[Connection, None] = {}
         self._timer = self.loop.later(max(idle, _FIRST_CLIENT), self.close)
 
     def run(self) -> str:
@@ -63,7 +81,10 @@ class Hub:
         self._listen(True)
         self._start_live()
         self.known.read_log(self._taken.places.log)
+        self.known.contents.load(self._stamps)
         self.loop.run()
+        if self._ready and not self._failure:
+            self._end_in_order()
         return self._failure
 
     def close(self) -> None:
@@ -82,8 +103,28 @@ class Hub:
     def live_ready(self) -> None:
         """Take it that redodb-live has read its log, and closed there what was left open."""
         self.known.read_log(self._taken.places.log)
+        for command in commands(self.known, self._marks.log, self._taken.places.home + b"/logs"):
+            self.live.ask(QUESTIONS, command, _nothing, b"")
+        self.live.afterwards(self._begin)
+
+    def _begin(self) -> None:
+        """Let clients begin, now that the database is as the files are."""
+        try:
+            self._marks.begin()
+        except (OSError, UntrustedError) as error:
+            self.live.fail(f"{error}")
+            return
         self._ready = True
+        self._let_ask()
         self._welcome()
+
+    def _end_in_order(self) -> None:
+        """Leave for the next server what this one knows. If that can't be, it finds out anew."""
+        self.known.contents.store(self._stamps, self.known.stamps)
+        try:
+            self._marks.end()
+        except (OSError, UntrustedError):
+            pass
 
     def live_ended(self, message: str) -> None:
         """Take it that redodb-live has ended, and what it said.
@@ -97,10 +138,10 @@ class Hub:
             self._tries += 1
             self.loop.later(_PAUSE, self._start_live)
         elif not self._failure:
-            self._failure = message
+            self._failure = _with_way_out(message, self._taken.places.log)
             self._told = bool(self._connections)
             for connection in list(self._connections):
-                connection.fail(message)
+                connection.fail(self._failure)
             if not self._connections:
                 self._end_later()
 
@@ -115,6 +156,7 @@ class Hub:
             connection.fail(self._failure)
         else:
             self._queue.append(connection)
+            connection.read_first()
             self._welcome()
 
     def left(self, connection: Connection) -> None:
@@ -123,10 +165,28 @@ class Hub:
         if connection.session:
             number = b"%d" % connection.session
             self.live.ask(connection.session, b"end", self._session_ended, number, is_end=True)
-        elif connection in self._queue:
-            self._queue.remove(connection)
+        self._forget(connection)
         if not self._connections:
             self._end_later()
+
+    def only_asks(self, connection: Connection) -> None:
+        """Let a client ask without a session. One that it has was not used yet, and is free."""
+        if connection.session:
+            heapq.heappush(self._free, connection.session)
+        self._forget(connection)
+        self._asking[connection] = None
+        if self._ready:
+            self._let_ask()
+            self._welcome()
+
+    def free_session(self) -> int:
+        """Return a session for a client that asked without one, or 0 if none is free."""
+        return heapq.heappop(self._free) if self._free else 0
+
+    def wait_turn(self, connection: Connection) -> None:
+        """Give a client that asked without a session one in its turn."""
+        self._queue.append(connection)
+        self._welcome()
 
     def regulate(self, stuffed: bool) -> None:
         """While redodb-live doesn't take its lines, no client is read from."""
@@ -159,7 +219,10 @@ class Hub:
                 self._listen(False)
                 self.loop.later(_BREATH, lambda: self._listen(not self._closing))
                 return
-            self.joined(Connection(self, connected.detach()))
+            if self._taken.lets_in(connected):
+                self.joined(Connection(self, connected.detach()))
+            else:
+                connected.close()
 
     def _start_live(self) -> None:
         try:
@@ -171,6 +234,18 @@ class Hub:
         """End in a while, if no client comes; at once if one was told of a failure."""
         self.loop.drop(self._timer)
         self._timer = self.loop.later(0.0 if self._told else self._idle, self.close)
+
+    def _forget(self, connection: Connection) -> None:
+        """Take a client out of those who wait."""
+        self._asking.pop(connection, None)
+        if connection in self._queue:
+            self._queue.remove(connection)
+
+    def _let_ask(self) -> None:
+        """Let those ask who take no session."""
+        asking, self._asking = self._asking, {}
+        for connection in asking:
+            connection.let_ask(QUESTIONS)
 
     def _welcome(self) -> None:
         """Give free sessions to those who wait for one."""
@@ -200,3 +275,15 @@ class Hub:
 
 def _nothing(number: bytes, reply: bytes) -> None:
     """Take an answer that nobody waits for."""
+
+
+def _with_way_out(message: str, log: bytes) -> str:
+    """Add to what redodb-live said of a damaged log how to go on."""
+    if not message.endswith(_DIFFERS):
+        return message
+    import shlex
+
+    program = find_program() or b"redodb-live"
+    words = [os.fsdecode(word) for word in (program, b"--log", log, b"--salvage")]
+    command = shlex.join(words).replace("\n", "?")
+    return f"{message}; to cut it before that line, after a copy of it all: {command} </dev/null"

@@ -1,17 +1,33 @@
 """What the database knows of the files, learnt from its own lines."""
 from __future__ import annotations
 
+import os
 from collections.abc import Callable, Iterable
 from functools import partial
+from stat import S_ISREG
 
 from ..errors import BadName
-from ..names import ALWAYS, unescape
-from ..stamps import stamp_of
+from ..names import EDITED, LEFT, is_internal, unescape
+from ..stamps import FOLDER
+from .contents import Contents
 from .expected import Expected
 
 Words = list[bytes]
 Learner = Callable[[Words, bytes], None]
 _Reader = Callable[[Words, bytes], Iterable[bytes]]
+
+_NO_FILE = b"-"
+_FOLDER = FOLDER.encode()
+_HEADER = b"redodb-log 1\n"
+
+
+def _open_log(path: bytes, flags: int) -> int:
+    """Open a regular file that begins as a log does. Raises OSError if it is another."""
+    file = os.open(path, flags | os.O_NOFOLLOW | os.O_NONBLOCK)
+    if S_ISREG(os.fstat(file).st_mode) and os.pread(file, len(_HEADER), 0) == _HEADER:
+        return file
+    os.close(file)
+    raise OSError("no log")
 
 
 class Known:
@@ -24,11 +40,15 @@ class Known:
     what is expected of them after it.
     """
 
-    def __init__(self) -> None:
+    def __init__(self, contents: Contents) -> None:
         self.stamps: dict[bytes, bytes | None] = {}
         self.made: dict[bytes, bytes] = {}
         self.building: set[bytes] = set()
-        self._expected = Expected()
+        self.failed: set[bytes] = set()
+        self.edited: set[bytes] = set()
+        self.contents = contents
+        self._shadows: set[bytes] = set()
+        self._expected = Expected(contents)
         self._readers: dict[bytes, _Reader] = {
             b"file": self._file,
             b"gone": self._gone,
@@ -53,7 +73,7 @@ class Known:
         """
         moved: dict[bytes, None] = {}
         try:
-            with open(path, "rb") as log:
+            with open(path, "rb", opener=_open_log) as log:
                 log.seek(self._log_read)
                 for line in log:
                     if line[-1:] == b"\n":
@@ -63,10 +83,35 @@ class Known:
                         if reader is not None:
                             for name in reader(words, b"ok"):
                                 moved[name] = None
-        except (FileNotFoundError, IsADirectoryError, PermissionError, IndexError):
+        except (OSError, IndexError):
             pass  # there is none yet, or it is none, which redodb-live reports
         for name in moved:
             self._expect(name)
+
+    def is_target(self, name: bytes) -> bool:
+        """Say whether a build of a name was ever begun."""
+        return name in self.made or name in self.building or name in self.failed
+
+    def late(self, names: Iterable[bytes], since: int) -> list[bytes]:
+        """Return those of names that are no targets, and whose files changed at this time or later.
+
+        The time is a ctime in nanoseconds.
+        """
+        return [
+            name
+            for name in names
+            if not is_internal(name) and not self.is_target(name) and _changed(name) >= since
+        ]
+
+    def is_unlike(self, target: bytes) -> bool:
+        """Say whether a target's file is neither what its last build left, nor known already."""
+        if target in self.building or target in self.failed:
+            return False
+        try:
+            stamp = self.contents.stamp(unescape(target))
+        except BadName:
+            return False
+        return stamp not in (None, self.made[target], self.stamps.get(target))
 
     def differing(self, names: Iterable[bytes] | None = None) -> list[bytes]:
         """Look at files, and return the commands that report to the database how they differ from
@@ -76,25 +121,47 @@ class Known:
         of the tree. Raises BadName if one of the names given is none, and skips known ones that
         no path has.
         """
-        if names is None:
-            names = self._expected.suspects()
+        self.contents.clock.look()
+        asked = self._expected.suspects() if names is None else names
         commands = []
-        for name in dict.fromkeys(names):
-            if name != ALWAYS:
-                command = self._compared(name)
-                if command is not None:
-                    commands.append(command)
+        for name in dict.fromkeys([*asked, *self._shadows]):
+            command = self._compared(name)
+            if command is not None:
+                commands.append(command)
+            elif names is None:
+                self._expect(name)
         return commands
 
     def _compared(self, name: bytes) -> bytes | None:
         """Return the command that reports a file to the database, or None if it knows. Raises
         BadName."""
-        stamp = stamp_of(unescape(name))
-        before = self.stamps.get(name)
-        if stamp is None:
-            return None if before is None else b"gone " + name
-        after = stamp.encode()
-        return None if after == before else b"file %b %b" % (name, after)
+        if not is_internal(name):
+            after = self.contents.stamp(unescape(name))
+        elif name.startswith(EDITED):
+            after = self._shadow(name.removeprefix(EDITED))
+        else:
+            return None
+        if after == self.stamps.get(name):
+            return None
+        return b"gone " + name if after is None else b"file %b %b" % (name, after)
+
+    def _shadow(self, target: bytes) -> bytes | None:
+        """Return the stamp of a target's file, if somebody edited it."""
+        stamp = self.contents.stamp(unescape(target))
+        return stamp if self._is_edited(target, stamp) else None
+
+    def _is_edited(self, target: bytes, stamp: bytes | None) -> bool:
+        """Say whether a target's file, which has this stamp, is none that its builds left.
+
+        Of a build that was broken off it isn't known what it left.
+        """
+        if stamp is None or stamp == _FOLDER or target in self.building:
+            return False
+        made = self.made.get(target)
+        if target in self.failed:
+            left = self.stamps.get(LEFT + target)
+            return left is not None and stamp not in (left, made)
+        return made is not None and stamp != made
 
     def _learn(self, reader: _Reader, words: Words, reply: bytes) -> None:
         for name in reader(words, reply):
@@ -107,10 +174,24 @@ class Known:
 
     def _expect(self, name: bytes) -> None:
         """Expect the file of a name to be what is known of it, unless it is building."""
-        if name in self.building:
+        if is_internal(name):
+            if name.startswith(LEFT):
+                self._note_edited(name.removeprefix(LEFT))
+            elif name.startswith(EDITED):
+                self._shadows.add(name)
+        elif name in self.building:
             self._expected.drop(name)
+            self.edited.discard(name)
         else:
             self._expected.put(name, self.stamps.get(name))
+            if name in self.made or name in self.failed:
+                self._note_edited(name)
+
+    def _note_edited(self, target: bytes) -> None:
+        if self._is_edited(target, self.stamps.get(target)):
+            self.edited.add(target)
+        else:
+            self.edited.discard(target)
 
     def _file(self, words: Words, reply: bytes) -> Iterable[bytes]:
         if reply != b"ok":
@@ -140,12 +221,28 @@ class Known:
         if reply != b"ok":
             return ()
         self.made[words[2]] = words[3]
-        self.stamps[words[2]] = None if words[3] == b"-" else words[3]
+        self.stamps[words[2]] = None if words[3] == _NO_FILE else words[3]
         self.building.discard(words[2])
+        self.failed.discard(words[2])
         return (words[2],)
 
     def _failed(self, words: Words, reply: bytes) -> Iterable[bytes]:
         if reply != b"ok":
             return ()
         self.building.discard(words[2])
+        self.failed.add(words[2])
         return (words[2],)
+
+
+def _changed(name: bytes) -> int:
+    """Return the ctime of a name's file in nanoseconds, of what a link leads to if that is later;
+    -1 if there is none."""
+    try:
+        path = unescape(name)
+        own = os.lstat(path).st_ctime_ns
+    except (OSError, BadName):
+        return -1
+    try:
+        return max(own, os.stat(path).st_ctime_ns)
+    except OSError:
+        return own

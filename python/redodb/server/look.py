@@ -22,9 +22,9 @@ class Look:
         if not self._commands:
             live.afterwards(lambda: self._connection.answer(self._number, b"ok 0"))
         for command in self._commands[:-1]:
-            live.ask(self._connection.session, command, self._one, b"")
+            live.ask(self._connection.asks_in, command, self._one, b"")
         for command in self._commands[-1:]:
-            live.ask(self._connection.session, command, self._last, b"")
+            live.ask(self._connection.asks_in, command, self._last, b"")
 
     def _one(self, number: bytes, reply: bytes) -> None:
         if reply != b"ok":

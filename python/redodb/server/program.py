@@ -9,6 +9,11 @@ _LINGER = 5.0
 _PAUSE = 0.005
 
 
+def _sync() -> list[bytes]:
+    """Return the word for a log that is on the disk before each answer, if that is asked for."""
+    return [b"--sync"] if os.environb.get(b"REDO_SYNC", b"0") not in (b"", b"0") else []
+
+
 class Program:
     """A redodb-live, and the pipes to its standard input and from its standard output."""
 
@@ -22,7 +27,7 @@ class Program:
         try:
             self._process = os.posix_spawn(
                 program,
-                [program, b"--log", log],
+                [program, b"--log", log, *_sync()],
                 os.environ,
                 file_actions=[(os.POSIX_SPAWN_DUP2, file, at) for at, file in enumerate(its)],
                 setsid=True,

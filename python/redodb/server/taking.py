@@ -1,10 +1,13 @@
 """Which process is the server of a tree."""
 from __future__ import annotations
 
+import contextlib
 import fcntl
 import os
 import socket
 
+from .. import private
+from ..errors import UntrustedError
 from ..places import Places
 
 
@@ -13,9 +16,10 @@ class Taken:
 
     BACKLOG = 1024
 
-    def __init__(self, places: Places, lock: int, listener: socket.socket) -> None:
+    def __init__(self, places: Places, folder: int, lock: int, listener: socket.socket) -> None:
         self.places = places
         self.listener = listener
+        self._folder = folder
         self._lock = lock
 
     def sign(self) -> None:
@@ -25,14 +29,20 @@ class Taken:
 
     def hide(self) -> None:
         """Take the socket out of its folder, so that nobody comes any more."""
+        private.remove("socket", self._folder)
+
+    def lets_in(self, connection: socket.socket) -> bool:
+        """Say whether who connected is the user of this process, root, or the tree's owner."""
         try:
-            os.unlink(self.places.socket)
-        except FileNotFoundError:
-            pass
+            private.check_peer(connection, self.places.socket, self.places.top)
+        except UntrustedError:
+            return False
+        return True
 
     def leave(self) -> None:
         """Let another process be the server."""
         self.listener.close()
+        os.close(self._folder)
         os.close(self._lock)
 
 
@@ -41,40 +51,49 @@ def take(places: Places) -> Taken | None:
 
     Who holds the flock of .redo/server/lock is the server; the kernel releases it when the
     process ends. So a socket that is found with the lock is that of a dead server, and is replaced.
+    Raises UntrustedError, and OSError.
     """
     places.make()
-    lock = os.open(places.lock, os.O_RDWR | os.O_CREAT | os.O_CLOEXEC, 0o600)
+    with contextlib.ExitStack() as opened:
+        lock = private.open_file(places.lock, os.O_RDWR | os.O_CREAT)
+        opened.callback(os.close, lock)
+        try:
+            fcntl.flock(lock, fcntl.LOCK_EX | fcntl.LOCK_NB)
+        except BlockingIOError:
+            return None
+        _check_log(places)
+        folder = private.open_folder(places.server)
+        opened.callback(os.close, folder)
+        taken = Taken(places, folder, lock, _listen(folder, places.top))
+        opened.pop_all()
+    return taken
+
+
+def _check_log(places: Places) -> None:
+    """Check the log, which redodb-live opens by its name. What root would make is made before."""
+    makes = os.O_CREAT if private.gives_away(places.top) else 0
     try:
-        fcntl.flock(lock, fcntl.LOCK_EX | fcntl.LOCK_NB)
-        return Taken(places, lock, _listen(places))
-    except BlockingIOError:
-        os.close(lock)
-        return None
-    except BaseException:
-        os.close(lock)
-        raise
+        os.close(private.open_file(places.log, os.O_RDONLY | makes, 0o666))
+    except FileNotFoundError:
+        pass
 
 
-def _listen(places: Places) -> socket.socket:
+def _listen(folder: int, top: bytes) -> socket.socket:
     """Listen on the socket of the tree, which takes its place when clients can come.
 
     It is bound by the descriptor of its folder, since the path of a socket may not be long.
     """
     listener = socket.socket(socket.AF_UNIX, socket.SOCK_STREAM)
-    folder = os.open(places.server, os.O_PATH | os.O_DIRECTORY | os.O_CLOEXEC)
     before = os.umask(0o177)
     try:
-        try:
-            os.unlink("new", dir_fd=folder)
-        except FileNotFoundError:
-            pass
+        private.remove("new", folder)
         listener.bind(f"/proc/self/fd/{folder}/new")
         listener.listen(Taken.BACKLOG)
+        private.give_socket("new", folder, top)
         os.rename("new", "socket", src_dir_fd=folder, dst_dir_fd=folder)
     except BaseException:
         listener.close()
         raise
     finally:
         os.umask(before)
-        os.close(folder)
     return listener

@@ -1,0 +1,76 @@
+"""Very many programs at once on one tree."""
+import contextlib
+import os
+import signal
+import subprocess
+import time
+
+from trees import Tree
+
+MANY = 70
+AT_ONCE = 63
+ENOUGH = 90.0
+OTHERS = "redo: 63 others build in {}; waiting for one to end"
+
+# begins, waits until very many have begun, asks questions, and has something built
+ASKING = """: >"begun.$2"
+until [ -e go ] || ! [ -e "begun.$2" ]; do sleep 0.2; done
+redo-why src >&2
+redo-ood >&2
+redo-ifchange src
+env -u REDO_SOCKET redo-ifchange right
+cat src
+"""
+
+
+def case_many_whose_scripts_ask(tree: Tree) -> None:
+    """More `redo` than the server has sessions, each of whose scripts asks, end well.
+
+    Those that wait for a session say so.
+    """
+    tree.files(default__out__do=ASKING, right__do="redo-ifchange src\ncat src\n", src="text\n")
+    tree.ifchange("right")
+    tree.more["REDO_PATIENCE"] = "1"
+    line = OTHERS.format(tree.folder.resolve())
+    runs = [
+        tree.start("sh", "-c", f"exec redo {number}.out 2>err.{number}", process_group=0)
+        for number in range(MANY)
+    ]
+    try:
+        tree.until("63 have begun", lambda: len(list(tree.folder.glob("begun.*"))) == AT_ONCE)
+        tree.until("7 wait", lambda: said(tree, line) == MANY - AT_ONCE)
+        tree.write("go", "")
+        statuses = statuses_of(runs)
+    finally:
+        end_all(runs)
+    tree.check.same("statuses", statuses, [0] * MANY)
+    built = [tree.read(f"{number}.out") for number in range(MANY)]
+    tree.check.same("targets", built, ["text\n"] * MANY)
+    tree.check.same("said once", said(tree, line), MANY - AT_ONCE)
+
+
+def said(tree: Tree, line: str) -> int:
+    """Returns how often the programs said a line."""
+    return sum(tree.read(f"err.{number}").split("\n").count(line) for number in range(MANY))
+
+
+def statuses_of(runs: list["subprocess.Popen[bytes]"]) -> list[int | None]:
+    """Returns the statuses of programs, None for one that hasn't ended in time."""
+    end = time.monotonic() + ENOUGH
+    statuses: list[int | None] = []
+    for run in runs:
+        try:
+            run.communicate(timeout=max(0.1, end - time.monotonic()))
+        except subprocess.TimeoutExpired:
+            pass
+        statuses.append(run.returncode)
+    return statuses
+
+
+def end_all(runs: list["subprocess.Popen[bytes]"]) -> None:
+    """Ends programs that still run, with what they started."""
+    for run in runs:
+        if run.poll() is None:
+            with contextlib.suppress(ProcessLookupError):
+                os.killpg(run.pid, signal.SIGKILL)
+            run.communicate()

@@ -1,0 +1,228 @@
+"""What changes while a run judges or a script runs: nothing of it is lost, and nobody hangs."""
+import os
+import socket
+import subprocess
+import sys
+import time
+
+from trees import TOP, Ended, Tree, ended, needs
+
+
+class Builder:
+    """Another redo, as the server sees it: it builds x without a script."""
+
+    def __init__(self, tree: Tree) -> None:
+        self._tree = tree
+        self._socket = socket.socket(socket.AF_UNIX)
+        folder = os.open(tree.path(".redo/server"), os.O_PATH)
+        self._socket.connect(f"/proc/self/fd/{folder}/socket")
+        os.close(folder)
+        self._lines = self._socket.makefile("rw")
+        self._lines.readline()
+        self._number = 0
+
+    def ask(self, *requests: str) -> None:
+        """Sends requests, and waits for the answer to each."""
+        for request in requests:
+            self._number += 1
+            self._lines.write(f"{self._number} {request}\n")
+        self._lines.flush()
+        for _ in requests:
+            self._lines.readline()
+
+    def close(self) -> None:
+        """Ends the session."""
+        self._lines.close()
+        self._socket.close()
+
+
+def stamp(tree: Tree, name: str) -> str:
+    """The stamp of a file, as the Python package has it."""
+    reads = "import os, sys; from redodb.stamps import stamp_of"
+    code = f"{reads}; print(stamp_of(os.fsencode(sys.argv[1])))"
+    words = [sys.executable, "-c", code, str(tree.path(name))]
+    environment = {**os.environ, "PYTHONPATH": str(TOP / "python")}
+    run = subprocess.run(words, env=environment, capture_output=True, text=True, check=True)
+    return run.stdout.strip()
+
+
+def slowly(tree: Tree, *words: str, until: str = " wait ") -> "subprocess.Popen[bytes]":
+    """Starts a program that reads each answer half a second late, and waits until it has made a
+    request: that for a lock, if no other is named."""
+    needs("strace")
+    trace = ["-e", "trace=recvfrom,write,sendto", "-e", "inject=recvfrom:delay_enter=500000"]
+    program = str(TOP / "bin" / words[0])
+    run = tree.start("strace", "-qq", "-s", "400", "-o", "trace", *trace, program, *words[1:])
+    tree.until(f"it has asked{until}", lambda: until in tree.read("trace"))
+    return run
+
+
+def case_changed_between_two_requests(tree: Tree) -> None:
+    """A file that changes after it was found not to have changed is not taken as it was read."""
+    tree.files(x__do="cat y\nredo-ifchange y\n", y="AAAA\n")
+    run = slowly(tree, "redo", "x", until=" late ")
+    time.sleep(0.2)
+    tree.write("y", "BBBB\n")
+    tree.check.same("status", ended(run).status, 0)
+    tree.ifchange("x")
+    tree.check.same("x", tree.read("x"), "BBBB\n")
+
+
+def case_judged_after_the_lock(tree: Tree) -> None:
+    """What a run knows of a target is from after its lock was granted: nothing is frozen."""
+    tree.files(x__do="redo-ifchange src\ncat src\n", src="1\n")
+    tree.redo("x")
+    tree.write("src", "22\n")
+    other = Builder(tree)
+    other.ask("look", "lock x", "start x", "look x.do src", "ifchange x x.do src")
+    run = slowly(tree, "redo-ifchange", "x")
+    time.sleep(0.05)
+    tree.write("new", "22\n")
+    os.rename(tree.path("new"), tree.path("x"))
+    other.ask(f"done x {stamp(tree, 'x')}", "unlock x")
+    second = ended(run)
+    other.close()
+    tree.check.same("status and words", (second.status, second.err), (0, ""))
+    tree.write("src", "333\n")
+    tree.ifchange("x")
+    tree.check.same("x", tree.read("x"), "333\n")
+
+
+def case_built_while_it_asks(tree: Tree) -> None:
+    """A run that is slow to read doesn't build again what another one built meanwhile."""
+    tree.files(t__do=f"echo ran >>ran\n{PAUSE}echo t\n")
+    first = while_it_runs(tree, "redo", "t")
+    second = slowly(tree, "redo-ifchange", "t")
+    tree.check.same("first", goes_on(tree, first).status, 0)
+    tree.check.same("second", ended(second).status, 0)
+    tree.check.same("ran", tree.count("ran"), 1)
+
+
+def while_it_runs(tree: Tree, *words: str) -> "subprocess.Popen[bytes]":
+    """Starts a program, and returns once a script of it has written the file `ready`."""
+    for name in ("ready", "go"):
+        tree.path(name).unlink(missing_ok=True)
+    run = tree.start(*words)
+    tree.until("the script runs", tree.path("ready").exists)
+    return run
+
+
+def goes_on(tree: Tree, run: "subprocess.Popen[bytes]") -> Ended:
+    """Lets the script go on, and waits for the program's end."""
+    tree.write("go", "")
+    return ended(run)
+
+
+PAUSE = ": >ready\nwhile [ ! -e go ]; do sleep 0.02; done\n"
+
+
+def case_asked_twice(tree: Tree) -> None:
+    """A source that is edited between the two requests of a script for it isn't lost."""
+    tree.files(x__do=f"redo-ifchange y\ncat y >$3\n{PAUSE}redo-ifchange y z\n", y="old\n", z="")
+    run = while_it_runs(tree, "redo-ifchange", "x")
+    tree.write("y", "newer\n")
+    tree.check.same("status", goes_on(tree, run).status, 0)
+    tree.check.same("why", tree.run("redo-why", "x").out, "x <- y changed\n")
+    tree.ifchange("x")
+    tree.check.same("x", tree.read("x"), "newer\n")
+    tree.check.same("then nothing", tree.ifchange("x").built, [])
+
+
+def case_failed_and_then_there(tree: Tree) -> None:
+    """A name that can't be made at first, and is there when the script asks again, isn't lost."""
+    script = f"if redo-ifchange y; then cat y; else echo without; fi >$3\n{PAUSE}redo-ifchange y\n"
+    tree.files(x__do=script)
+    run = while_it_runs(tree, "redo-ifchange", "x")
+    tree.write("y", "with\n")
+    tree.check.same("status", goes_on(tree, run).status, 0)
+    tree.ifchange("x")
+    tree.check.same("x", tree.read("x"), "with\n")
+
+
+def case_rule_appears(tree: Tree) -> None:
+    """A script that goes on without a name is run again once there is a rule for it."""
+    tree.files(x__do="if redo-ifchange y; then cat y; else echo without; fi\n")
+    tree.ifchange("x")
+    tree.check.same("without", (tree.read("x"), tree.ifchange("x").built), ("without\n", []))
+    tree.files(y__do="echo with\n")
+    tree.check.same("why", tree.run("redo-why", "x").out, "x <- y.do appeared\n")
+    tree.ifchange("x")
+    tree.check.same("with", tree.read("x"), "with\n")
+
+
+def case_default_rule_appears(tree: Tree) -> None:
+    """That holds for a rule by which any name is made, too."""
+    tree.files(x__do="if redo-ifchange y.a; then cat y.a; else echo without; fi\n")
+    tree.ifchange("x")
+    tree.write("default.a.do", "echo with\n")
+    tree.ifchange("x")
+    tree.check.same("with", tree.read("x"), "with\n")
+
+
+def case_read_before_it_was_asked_for(tree: Tree) -> None:
+    """A header that is edited while the compiler runs, and named only afterwards, isn't lost."""
+    tree.files(x__do=f"cat y >$3\n{PAUSE}redo-ifchange y\n", y="old\n")
+    run = while_it_runs(tree, "redo-ifchange", "x")
+    tree.write("y", "newer\n")
+    tree.check.same("status", goes_on(tree, run).status, 0)
+    tree.write("go", "")
+    tree.ifchange("x")
+    tree.check.same("x", tree.read("x"), "newer\n")
+    tree.check.same("then nothing", tree.ifchange("x").built, [])
+
+
+def case_always_after_another_run_began(tree: Tree) -> None:
+    """A target that was declared always after another run began is built again by that one."""
+    tree.files(
+        x__do=f"cat world >$3\n{PAUSE}redo-always\n",
+        slow__do="redo-always\n: >slow.ready\nwhile [ ! -e slow.go ]; do sleep 0.02; done\n",
+        world="old\n",
+        go="",
+    )
+    tree.write("slow.go", "")
+    tree.redo("x", "slow")
+    for name in ("slow.ready", "slow.go"):
+        tree.path(name).unlink()
+    first = while_it_runs(tree, "redo", "x")
+    tree.write("world", "newer\n")
+    second = tree.start("redo-ifchange", "slow", "x")
+    tree.until("the second run is at work", tree.path("slow.ready").exists)
+    goes_on(tree, first)
+    tree.write("slow.go", "")
+    tree.check.same("second", ended(second).status, 0)
+    tree.check.same("x", tree.read("x"), "newer\n")
+
+
+def case_asks_and_ends(tree: Tree) -> None:
+    """A script that ends while a redo-ifchange of its own waits takes no job with it."""
+    tree.files(
+        all__do="redo-ifchange p\nredo-ifchange q\n",
+        p__do="redo-ifchange t >/dev/null 2>&1 &\nsleep 0.3\necho p >$3\n",
+        t__do="sleep 0.6\necho t >$3\n",
+        q__do="echo q >$3\n",
+    )
+    for jobs in ("-j1", "-j2"):
+        tree.redo(jobs, "all")
+        tree.check.same(f"{jobs}: q", tree.read("q"), "q\n")
+
+
+def case_asks_while_another_request_waits(tree: Tree) -> None:
+    """A script asks again while its job's token is on its way back from another request."""
+    tree.files(
+        a__do="sleep 1.0\necho a >$3\n",
+        b__do="sleep 2.0\necho b >$3\n",
+        c__do="echo c >$3\n",
+        p__do="redo-ifchange a & sleep 1.2\nredo-ifchange c\nwait\necho p >$3\n",
+        q__do="redo-ifchange b\necho q >$3\n",
+    )
+    other = tree.start("redo", "a")
+    time.sleep(0.3)
+    tree.redo("p", "q")
+    tree.check.same("the other run", ended(other).status, 0)
+
+
+def case_order_of_a_request(tree: Tree) -> None:
+    """Names are built in the order in which a script asks for them."""
+    tree.files(default__t__do="echo $2 >>order\n", x__do="redo-ifchange c.t a.t b.t\n")
+    tree.redo("x")
+    tree.check.same("order", tree.read("order"), "c\na\nb\n")
