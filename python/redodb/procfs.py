@@ -1,7 +1,7 @@
 """What the kernel says of processes, in /proc."""
 import os
-from collections.abc import Iterator
-from functools import cache
+
+from .light import Iterator
 
 UNKNOWN = b"-"
 
@@ -40,7 +40,6 @@ def namespace_of(number: int) -> bytes:
         return UNKNOWN
 
 
-@cache
 def own_namespace() -> bytes:
     """Return the number of this process's PID namespace, or UNKNOWN if /proc is of another."""
     try:

@@ -76,39 +76,51 @@ def started(places: Places, idle: float, give_up: float) -> Lines:
 
 def _start(places: Places, idle: float) -> None:
     """Start a server in the background, and return when it listens, or found another one there."""
-    import subprocess
-
     from . import private
 
-    errors = private.open_file(places.errors, os.O_WRONLY | os.O_CREAT | os.O_APPEND)
+    errors = _behind(private.open_file(places.errors, os.O_WRONLY | os.O_CREAT | os.O_APPEND))
     try:
         before = os.fstat(errors).st_size
-        command = [
-            sys.executable or "python3",
-            "-ESs",
-            "-m",
-            "redodb.server",
-            "--detach",
-            "--idle",
-            str(idle),
-            "--top",
-            os.fsdecode(places.top),
-        ]
-        program = find_program() or b""
-        status = subprocess.run(
-            command,
-            cwd=package_folder(),
-            start_new_session=True,
-            check=False,
-            stdin=subprocess.DEVNULL,
-            stdout=subprocess.DEVNULL,
-            stderr=errors,
-            env={**os.environ, "REDODB_LIVE": os.fsdecode(program)},
-        ).returncode
+        status = _ended(_program(places, idle), errors)
     finally:
         os.close(errors)
     if status:
         raise ServerError("the server can't be started" + _last_error(places, before))
+
+
+def _program(places: Places, idle: float) -> list[bytes]:
+    """Return the words that start a server. It is run as a file, so that nothing is imported from
+    the working folder."""
+    python = os.fsencode(sys.executable) or b"python3"
+    program = os.path.join(package_folder(), b"redodb/server/__main__.py")
+    return [python, b"-IS", program, b"--detach", b"--idle", b"%r" % idle, b"--top", places.top]
+
+
+def _ended(words: list[bytes], errors: int) -> int:
+    """Run a program in a session of its own, with the environment of this one, and return its
+    status. The module subprocess would take longer to import than the program takes."""
+    silent = _behind(os.open(os.devnull, os.O_RDWR))
+    try:
+        process = os.posix_spawnp(
+            words[0],
+            words,
+            {**os.environb, b"REDODB_LIVE": find_program() or b""},
+            file_actions=[
+                (os.POSIX_SPAWN_DUP2, file, at) for at, file in enumerate((silent, silent, errors))
+            ],
+            setsid=True,
+        )
+    finally:
+        os.close(silent)
+    return os.waitstatus_to_exitcode(os.waitpid(process, 0)[1])
+
+
+def _behind(file: int) -> int:
+    """Return another descriptor for a file, which is none of the three standard ones."""
+    try:
+        return fcntl.fcntl(file, fcntl.F_DUPFD_CLOEXEC, 3)
+    finally:
+        os.close(file)
 
 
 def _last_error(places: Places, before: int) -> str:

@@ -1,5 +1,6 @@
 """Several scripts at once, and GNU make's jobserver both ways."""
 import os
+import select
 
 from trees import Tree, needs
 
@@ -89,6 +90,18 @@ def case_open_files(tree: Tree) -> None:
     tree.files(default__n__do='[ "$2" = 0 ] || redo-ifchange "$(($2 - 1)).n"\nulimit -n\n')
     tree.run("sh", "-c", "ulimit -S -n 64; redo 60.n")
     tree.check.same("limit", tree.read("60.n"), "64\n")
+
+
+def case_files_of_the_asker(tree: Tree) -> None:
+    """A server keeps no file of the `redo` that started it: a pipe ends while the server is there."""
+    tree.files(x__do="echo x\n")
+    reading, writing = os.pipe()
+    tree.redo("x", pass_fds=(writing,))
+    os.close(writing)
+    ends = select.select([reading], [], [], 1.0)[0] and os.read(reading, 1) == b""
+    tree.check.true("the server is there", tree.path(".redo/server/socket").exists())
+    tree.check.true("the pipe ends", ends)
+    os.close(reading)
 
 
 def case_shuffle(tree: Tree) -> None:

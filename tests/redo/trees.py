@@ -15,7 +15,7 @@ from typing import Any, Callable, Iterator, Mapping
 
 TOP = Path(__file__).resolve().parent.parent.parent
 SECONDS = 180.0
-SERVER = {b"redodb.server", b"--log"}
+SERVER = {b"--detach", b"--log"}
 
 
 class Skipped(Exception):

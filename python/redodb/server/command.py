@@ -2,10 +2,10 @@
 from __future__ import annotations
 
 import os
-import signal
 import sys
 
 from ..errors import RedodbError
+from ..light import signal
 from ..places import Places, find_program, find_top
 from .loop import ENDING
 from .taking import Taken, take

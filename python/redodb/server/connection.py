@@ -1,9 +1,9 @@
 """One client of the server."""
 from __future__ import annotations
 
-from collections.abc import Callable
 
 from ..errors import BadName
+from ..light import Callable
 from ..names import ALWAYS, is_name
 from .groups import Groups
 from .look import Look

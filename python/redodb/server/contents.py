@@ -3,11 +3,11 @@ from __future__ import annotations
 
 import os
 import time
-from collections.abc import Container
 
 from .. import private
 from ..errors import UntrustedError
-from ..names import escape
+from ..light import Container
+from ..names import escape, unescape
 from ..stamps import PLAIN_NUMBERS, Key, digest_of, key_of, look_at
 
 _HEADER = b"redodb-stamps 1 "
@@ -15,6 +15,7 @@ _GRANULE = 2_000_000_000
 """No file system that we know of has coarser times, in nanoseconds."""
 
 _TEXT = b"-".join([b"%d"] * len(PLAIN_NUMBERS))
+_NOTHING = b"", b""
 _CHANGED = PLAIN_NUMBERS.index("st_ctime_ns")
 _DEVICE = PLAIN_NUMBERS.index("st_dev")
 
@@ -65,7 +66,7 @@ class Contents:
         self.clock = clock
         self._boot = boot
         self._read: dict[bytes, tuple[Key, bytes]] = {}
-        self._stored: dict[bytes, bytes] = {}
+        self._stored: dict[bytes, tuple[bytes, bytes]] = {}
         self._is_news = False
 
     def stamp(self, path: bytes) -> bytes | None:
@@ -84,6 +85,17 @@ class Contents:
                 return kept[1], key
         return self._look_anew(path)
 
+    def has_stored(self, path: bytes, key: Key, stamp: bytes) -> bool:
+        """Say whether a plain file was stored under this key with this stamp, and take that."""
+        if self._stored.get(path) != (_TEXT % key, stamp):
+            return False
+        self._read[path] = key, stamp
+        return True
+
+    def drop_stored(self) -> None:
+        """Forget what was stored and isn't taken: files of which nothing is known."""
+        self._stored = {}
+
     def load(self, file: bytes) -> None:
         """Take what was stored in a file. A file that isn't whole has nothing."""
         self._stored = _entries(_content(file), self._boot)
@@ -92,12 +104,9 @@ class Contents:
         """Store in a file, if there is news, what is known of these names. Ignores a full disk."""
         if not self._is_news:
             return
-        texts = {
-            escape(path): b"%b %b" % (_text_of(key), stamp)
-            for path, (key, stamp) in self._read.items()
-        }
-        entries = self._stored | texts
-        lines = [b"%b %b\n" % (entry, name) for name, entry in entries.items() if name in names]
+        read = {path: (_text_of(key), stamp) for path, (key, stamp) in self._read.items()}
+        entries = [(escape(path), entry) for path, entry in (self._stored | read).items()]
+        lines = [b"%b %b %b\n" % (*entry, name) for name, entry in entries if name in names]
         body = _HEADER + self._boot + b"\n" + b"".join(lines)
         try:
             _replace(file, body + b"end %b\n" % _digest(body))
@@ -116,8 +125,7 @@ class Contents:
 
     def _taken(self, path: bytes, key: Key) -> tuple[Key, bytes] | None:
         """Return what was stored of a path, if it was stored under this key."""
-        stored = self._stored.pop(escape(path), b"") if self._stored else b""
-        text, _, stamp = stored.partition(b" ")
+        text, stamp = self._stored.pop(path, _NOTHING)
         if text != _text_of(key):
             return None
         kept = self._read[path] = key, stamp
@@ -139,15 +147,16 @@ def _content(file: bytes) -> bytes:
         return b""
 
 
-def _entries(content: bytes, boot: bytes) -> dict[bytes, bytes]:
-    """Return the entries of a stored text: the key and the stamp of each name, as they stand."""
+def _entries(content: bytes, boot: bytes) -> dict[bytes, tuple[bytes, bytes]]:
+    """Return the entries of a stored text: the key and the stamp of each path, as they stand."""
     body, _, last = content[:-1].rpartition(b"\n")
     body += b"\n"
     header, _, lines = body.partition(b"\n")
     if header != _HEADER + boot or last != b"end " + _digest(body):
         return {}
-    parted = (line.rpartition(b" ") for line in lines.split(b"\n"))
-    return {name: entry for entry, _, name in parted}
+    words = lines.split()
+    paths = [unescape(name) if b"%" in name else name for name in words[2::3]]
+    return dict(zip(paths, zip(words[::3], words[1::3]), strict=True))
 
 
 def _replace(file: bytes, content: bytes) -> None:

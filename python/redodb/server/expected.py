@@ -2,12 +2,11 @@
 from __future__ import annotations
 
 import os
-from collections.abc import Callable
-from functools import partial
 from itertools import compress, islice
-from operator import attrgetter, ne
+from _operator import attrgetter, ne
 
 from ..errors import BadName
+from ..light import Callable
 from ..names import escape, is_internal, unescape
 from ..stamps import PLAIN_NUMBERS, Key
 from .contents import Contents
@@ -71,8 +70,13 @@ class Expected:
     def _unlike(self) -> list[bytes]:
         """Return the paths that have another stamp. Keep the keys of plain files that don't."""
         unlike, kept = [], {}
+        has_stored, look = self._contents.has_stored, self._contents.look
         for path, stamp in self._stamps.items():
-            found, key = self._contents.look(path)
+            key = _seen(path)
+            if key is not None and has_stored(path, key, stamp):
+                self._plain[path] = key
+                continue
+            found, key = look(path)
             if found == stamp and key is not None and len(key) == len(PLAIN_NUMBERS):
                 self._plain[path] = key
             else:
@@ -80,6 +84,7 @@ class Expected:
                 if found != stamp:
                     unlike.append(path)
         self._stamps = kept
+        self._contents.drop_stored()
         return unlike
 
     def _drop(self, path: bytes) -> None:
@@ -116,7 +121,10 @@ def _way_to_see() -> Callable[[bytes], bool]:
     faccessat makes no result that has to be built, but not each system has its flag.
     """
     if os.access in os.supports_follow_symlinks:
-        way = partial(os.access, mode=os.F_OK, follow_symlinks=False)
+
+        def way(path: bytes) -> bool:
+            return os.access(path, os.F_OK, follow_symlinks=False)
+
         if way(b"."):
             return way
     return os.path.lexists

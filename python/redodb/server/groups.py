@@ -2,10 +2,9 @@
 from __future__ import annotations
 
 import os
-import signal
-import socket
-import struct
+import sys
 
+from ..light import signal, socket
 from ..procfs import UNKNOWN, leader, namespace_of, own_namespace, process, processes_with
 
 SOCKET = b"REDO_SOCKET="
@@ -82,12 +81,16 @@ class Groups:
 
     def _namespace(self) -> bytes:
         """Return the PID namespace of the client."""
+        if self._file < 0:
+            return UNKNOWN
+        client = socket.socket(fileno=self._file)
         try:
-            with socket.socket(fileno=os.dup(self._file)) as client:
-                told = client.getsockopt(socket.SOL_SOCKET, socket.SO_PEERCRED, 12)
+            told = client.getsockopt(socket.SOL_SOCKET, socket.SO_PEERCRED, 12)
         except OSError:
             return UNKNOWN
-        number = struct.unpack("3i", told)[0]
+        finally:
+            client.detach()
+        number = int.from_bytes(told[:4], sys.byteorder)
         return namespace_of(number) if number else UNKNOWN
 
 

@@ -1,12 +1,10 @@
 """The server: its clients, the sessions that they have, and its end."""
 from __future__ import annotations
 
-import heapq
 import os
-from collections import deque
-from collections.abc import Callable
 
 from ..errors import UntrustedError
+from ..light import Callable, accepted, deque
 from ..places import find_program
 from .connection import Connection
 from .contents import Clock, Contents
@@ -67,7 +65,7 @@ class Hub:
         self._failure = ""
         self._told = False
         self._tries = 0
-        self._free = list(range(1, RUNS + 1))
+        self._free = set(range(1, RUNS + 1))
         self._connections: dict[Connection, None] = {}
         self._queue: deque[Connection] = deque()
         self._asking: dict[Connection, None] = {}
@@ -172,7 +170,7 @@ class Hub:
     def only_asks(self, connection: Connection) -> None:
         """Let a client ask without a session. One that it has was not used yet, and is free."""
         if connection.session:
-            heapq.heappush(self._free, connection.session)
+            self._free.add(connection.session)
         self._forget(connection)
         self._asking[connection] = None
         if self._ready:
@@ -180,8 +178,12 @@ class Hub:
             self._welcome()
 
     def free_session(self) -> int:
-        """Return a session for a client that asked without one, or 0 if none is free."""
-        return heapq.heappop(self._free) if self._free else 0
+        """Return the lowest session that is free, which is taken now, or 0 if there is none."""
+        if not self._free:
+            return 0
+        number = min(self._free)
+        self._free.remove(number)
+        return number
 
     def wait_turn(self, connection: Connection) -> None:
         """Give a client that asked without a session one in its turn."""
@@ -212,7 +214,7 @@ class Hub:
         """Let all clients in that are waiting. If there is no file for one, try again soon."""
         for _ in range(_MOST_AT_ONCE):
             try:
-                connected, _ = self._taken.listener.accept()
+                connected = accepted(self._taken.listener)
             except (BlockingIOError, ConnectionAbortedError):
                 return
             except OSError:
@@ -220,9 +222,9 @@ class Hub:
                 self.loop.later(_BREATH, lambda: self._listen(not self._closing))
                 return
             if self._taken.lets_in(connected):
-                self.joined(Connection(self, connected.detach()))
+                self.joined(Connection(self, connected))
             else:
-                connected.close()
+                os.close(connected)
 
     def _start_live(self) -> None:
         try:
@@ -250,11 +252,11 @@ class Hub:
     def _welcome(self) -> None:
         """Give free sessions to those who wait for one."""
         while self._ready and self._queue and self._free:
-            self._queue.popleft().welcome(heapq.heappop(self._free))
+            self._queue.popleft().welcome(self.free_session())
 
     def _session_ended(self, number: bytes, reply: bytes) -> None:
         if reply == b"ok":
-            heapq.heappush(self._free, int(number))
+            self._free.add(int(number))
             self._welcome()
         else:
             self.live.fail(f"session {int(number)} can't be ended: {reply.decode()}")

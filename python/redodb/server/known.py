@@ -2,11 +2,10 @@
 from __future__ import annotations
 
 import os
-from collections.abc import Callable, Iterable
-from functools import partial
 from stat import S_ISREG
 
 from ..errors import BadName
+from ..light import Callable, Iterable
 from ..names import EDITED, LEFT, is_internal, unescape
 from ..stamps import FOLDER
 from .contents import Contents
@@ -14,11 +13,13 @@ from .expected import Expected
 
 Words = list[bytes]
 Learner = Callable[[Words, bytes], None]
-_Reader = Callable[[Words, bytes], Iterable[bytes]]
+_Reader = Callable[[Words], None]
 
 _NO_FILE = b"-"
 _FOLDER = FOLDER.encode()
 _HEADER = b"redodb-log 1\n"
+_SPEAKING = frozenset((b"lock", b"ifchange", b"ifcreate"))
+"""The words of the commands that make names known, and change nothing else here."""
 
 
 def _open_log(path: bytes, flags: int) -> int:
@@ -36,8 +37,7 @@ class Known:
 
     A line is SESSION COMMAND => REPLY. The lines of the log, and those that pass through the server
     after it, are learnt in their order, by the function that `learners` has for the word of the
-    command. Each is a reader, which returns the names of which something else is known now, and
-    what is expected of them after it.
+    command: by a reader, what is known of its name, and after that what is expected of it.
     """
 
     def __init__(self, contents: Contents) -> None:
@@ -52,17 +52,14 @@ class Known:
         self._readers: dict[bytes, _Reader] = {
             b"file": self._file,
             b"gone": self._gone,
-            b"lock": self._spoken_of,
             b"start": self._start,
-            b"ifchange": self._spoken_of,
-            b"ifcreate": self._spoken_of,
             b"done": self._done,
             b"failed": self._failed,
         }
         self.learners: dict[bytes, Learner] = {
-            word: partial(self._learn, reader) for word, reader in self._readers.items()
+            word: self._learner(reader) for word, reader in self._readers.items()
         }
-        for word in (b"lock", b"ifchange", b"ifcreate"):
+        for word in _SPEAKING:
             self.learners[word] = self._learn_names
         self._log_read = 0
 
@@ -76,15 +73,20 @@ class Known:
             with open(path, "rb", opener=_open_log) as log:
                 log.seek(self._log_read)
                 for line in log:
-                    if line[-1:] == b"\n":
-                        self._log_read += len(line)
-                        words = line.partition(b" => ")[0].split(b" ")
-                        reader = self._readers.get(words[1])
-                        if reader is not None:
-                            for name in reader(words, b"ok"):
-                                moved[name] = None
+                    if line[-1:] != b"\n":
+                        break
+                    self._log_read += len(line)
+                    words = line.split()  # the last two are ` => ok`
+                    reader = self._readers.get(words[1])
+                    if reader is not None:
+                        reader(words)
+                        moved[words[2]] = None
+                    elif words[1] in _SPEAKING:
+                        for name in words[2:-2]:
+                            moved[name] = None
         except (OSError, IndexError):
             pass  # there is none yet, or it is none, which redodb-live reports
+        self._new(moved)
         for name in moved:
             self._expect(name)
 
@@ -163,14 +165,25 @@ class Known:
             return left is not None and stamp not in (left, made)
         return made is not None and stamp != made
 
-    def _learn(self, reader: _Reader, words: Words, reply: bytes) -> None:
-        for name in reader(words, reply):
-            self._expect(name)
+    def _learner(self, reader: _Reader) -> Learner:
+        def learn(words: Words, reply: bytes) -> None:
+            if reply == b"ok":
+                reader(words)
+                self._expect(words[2])
+
+        return learn
 
     def _learn_names(self, words: Words, reply: bytes) -> None:
         """Learn what most lines tell, which is nothing."""
         if not self.stamps.keys() >= set(words[2:]):
-            self._learn(self._spoken_of, words, reply)
+            for name in self._new(words[2:]):
+                self._expect(name)
+
+    def _new(self, names: Iterable[bytes]) -> list[bytes]:
+        """Return those of names that were not known, as they are now, without a file."""
+        new = [name for name in dict.fromkeys(names) if name not in self.stamps]
+        self.stamps.update(dict.fromkeys(new))
+        return new
 
     def _expect(self, name: bytes) -> None:
         """Expect the file of a name to be what is known of it, unless it is building."""
@@ -193,45 +206,24 @@ class Known:
         else:
             self.edited.discard(target)
 
-    def _file(self, words: Words, reply: bytes) -> Iterable[bytes]:
-        if reply != b"ok":
-            return ()
+    def _file(self, words: Words) -> None:
         self.stamps[words[2]] = words[3]
-        return (words[2],)
 
-    def _gone(self, words: Words, reply: bytes) -> Iterable[bytes]:
-        if reply != b"ok":
-            return ()
+    def _gone(self, words: Words) -> None:
         self.stamps[words[2]] = None
-        return (words[2],)
 
-    def _spoken_of(self, words: Words, reply: bytes) -> Iterable[bytes]:
-        new = set(words[2:]).difference(self.stamps)
-        for name in new:
-            self.stamps[name] = None
-        return new
-
-    def _start(self, words: Words, reply: bytes) -> Iterable[bytes]:
-        if reply != b"ok":
-            return ()
+    def _start(self, words: Words) -> None:
         self.building.add(words[2])
-        return (words[2],)
 
-    def _done(self, words: Words, reply: bytes) -> Iterable[bytes]:
-        if reply != b"ok":
-            return ()
+    def _done(self, words: Words) -> None:
         self.made[words[2]] = words[3]
         self.stamps[words[2]] = None if words[3] == _NO_FILE else words[3]
         self.building.discard(words[2])
         self.failed.discard(words[2])
-        return (words[2],)
 
-    def _failed(self, words: Words, reply: bytes) -> Iterable[bytes]:
-        if reply != b"ok":
-            return ()
+    def _failed(self, words: Words) -> None:
         self.building.discard(words[2])
         self.failed.add(words[2])
-        return (words[2],)
 
 
 def _changed(name: bytes) -> int:

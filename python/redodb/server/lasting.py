@@ -2,7 +2,6 @@
 end of the log, and kept the files that were built after it."""
 from __future__ import annotations
 
-import enum
 import os
 
 from .. import private
@@ -12,12 +11,21 @@ from ..places import Places
 _BOOT = "/proc/sys/kernel/random/boot_id"
 
 
-class Log(enum.Enum):
-    """What is known of the log when a server starts."""
+class Log:
+    """What is known of the log when a server starts: one of these three. The module enum takes
+    long to import."""
 
-    WHOLE = "nothing of it was lost"
-    CUT = "the machine stopped while a server ran: its end may be lost"
-    OTHER = "it isn't the one that the last server left"
+    WHOLE: "Log"
+    CUT: "Log"
+    OTHER: "Log"
+
+    def __init__(self, meaning: str) -> None:
+        self.meaning = meaning
+
+
+Log.WHOLE = Log("nothing of it was lost")
+Log.CUT = Log("the machine stopped while a server ran: its end may be lost")
+Log.OTHER = Log("it isn't the one that the last server left")
 
 
 def boot() -> bytes:

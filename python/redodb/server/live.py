@@ -1,9 +1,8 @@
 """The conversation with redodb-live."""
 from __future__ import annotations
 
-from collections import deque
-from collections.abc import Callable
 
+from ..light import Callable, deque
 from .known import Words
 from .program import Program
 from .stream import Owner, Stream

@@ -7,9 +7,10 @@ from __future__ import annotations
 
 import os
 import select
-import signal
 import time
-from collections.abc import Callable
+
+from ..light import Callable, signal
+
 
 READABLE = select.EPOLLIN
 WRITABLE = select.EPOLLOUT

@@ -2,8 +2,10 @@
 from __future__ import annotations
 
 import os
-import signal
 import time
+
+from ..light import signal
+
 
 _LINGER = 5.0
 _PAUSE = 0.005

@@ -2,10 +2,10 @@
 from __future__ import annotations
 
 import os
-from collections.abc import Iterable
 
 from .. import private
 from ..errors import BadName, UntrustedError
+from ..light import Iterable
 from ..names import LEFT, is_internal, unescape
 from .known import Known
 from .lasting import Log

@@ -2,9 +2,9 @@
 from __future__ import annotations
 
 import os
-import signal
-from collections.abc import Callable
-from functools import partial
+
+from ..light import Callable, signal
+
 
 Search = Callable[[int, int], list[bytes]]
 """Search(share, shares) returns what it finds in a share: texts without NUL, and none is empty."""
@@ -38,7 +38,7 @@ class _Child:
     """A process that searches a share, and writes what it finds to a pipe."""
 
     def __init__(self, search: Search, share: int, shares: int) -> None:
-        self._search: Callable[[], list[bytes]] = partial(search, share, shares)
+        self._search: Callable[[], list[bytes]] = lambda: search(share, shares)
         self._process = 0
         try:
             self._reading, writing = os.pipe()

@@ -1,13 +1,12 @@
 """Which process is the server of a tree."""
 from __future__ import annotations
 
-import contextlib
 import fcntl
 import os
-import socket
 
 from .. import private
 from ..errors import UntrustedError
+from ..light import socket
 from ..places import Places
 
 
@@ -31,12 +30,15 @@ class Taken:
         """Take the socket out of its folder, so that nobody comes any more."""
         private.remove("socket", self._folder)
 
-    def lets_in(self, connection: socket.socket) -> bool:
+    def lets_in(self, connected: int) -> bool:
         """Say whether who connected is the user of this process, root, or the tree's owner."""
+        connection = socket.socket(fileno=connected)
         try:
             private.check_peer(connection, self.places.socket, self.places.top)
         except UntrustedError:
             return False
+        finally:
+            connection.detach()
         return True
 
     def leave(self) -> None:
@@ -54,19 +56,28 @@ def take(places: Places) -> Taken | None:
     Raises UntrustedError, and OSError.
     """
     places.make()
-    with contextlib.ExitStack() as opened:
-        lock = private.open_file(places.lock, os.O_RDWR | os.O_CREAT)
-        opened.callback(os.close, lock)
-        try:
-            fcntl.flock(lock, fcntl.LOCK_EX | fcntl.LOCK_NB)
-        except BlockingIOError:
+    opened = [private.open_file(places.lock, os.O_RDWR | os.O_CREAT)]
+    try:
+        if not _lock(opened[0]):
             return None
         _check_log(places)
-        folder = private.open_folder(places.server)
-        opened.callback(os.close, folder)
+        opened.append(private.open_folder(places.server))
+        lock, folder = opened
         taken = Taken(places, folder, lock, _listen(folder, places.top))
-        opened.pop_all()
-    return taken
+        opened.clear()
+        return taken
+    finally:
+        for file in opened:
+            os.close(file)
+
+
+def _lock(file: int) -> bool:
+    """Say whether nobody else has the lock, which this process has now."""
+    try:
+        fcntl.flock(file, fcntl.LOCK_EX | fcntl.LOCK_NB)
+    except BlockingIOError:
+        return False
+    return True
 
 
 def _check_log(places: Places) -> None:

@@ -1,8 +1,8 @@
 """Who waits for which lock, and which names need which others."""
 from __future__ import annotations
 
-from collections import deque
-from collections.abc import Callable
+from ..light import Callable, deque
+
 
 TOP_LEVEL = b"-"
 
