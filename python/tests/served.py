@@ -91,7 +91,7 @@ class ServedTree(unittest.TestCase):
         cls.program = program_or_skip()
 
     def setUp(self) -> None:
-        folder = tempfile.TemporaryDirectory()
+        folder = tempfile.TemporaryDirectory(ignore_cleanup_errors=True)
         self.addCleanup(folder.cleanup)
         self.top = os.path.realpath(folder.name)
         self.use_top(self.top)

@@ -73,7 +73,7 @@ def run_examples(module: object) -> tuple[int, int]:
     for test in doctest.DocTestFinder(exclude_empty=True).find(module):
         if not test.examples:
             continue
-        with tempfile.TemporaryDirectory() as top:
+        with tempfile.TemporaryDirectory(ignore_cleanup_errors=True) as top:
             with Client(top, idle=0.05, timeout=PATIENCE) as one:
                 test.globs.update(top=top, client=one)
                 said = io.StringIO()

@@ -47,7 +47,7 @@ class TreeTest(unittest.TestCase):
     """A test in a temporary folder of its own, which goes with it."""
 
     def setUp(self) -> None:
-        room = tempfile.TemporaryDirectory()
+        room = tempfile.TemporaryDirectory(ignore_cleanup_errors=True)
         self.addCleanup(room.cleanup)
         self.top = Path(room.name).resolve()
 

@@ -242,7 +242,7 @@ def main() -> int:
     options = parser.parse_args()
     check, skipped = Checks(), 0
     live = database()
-    with tempfile.TemporaryDirectory() as work:
+    with tempfile.TemporaryDirectory(ignore_cleanup_errors=True) as work:
         compiler = Compiler(Path(work))
         for jobs in (options.jobs,) if options.jobs else JOBS:
             if live is None or shutil.which("gcc") is None:
