@@ -1,4 +1,4 @@
--- An exchange on the first row that was not seen, a look at it, and an exchange on a row that was.
+-- An exchange on the first row that was not seen, and a load of it before that.
 use Rattle.std.proofs.Common.{◌≡◌, ◌≢◌, ℕ, ◌+◌, ◌<◌, eqb, List, [], ◌∷◌, ◌++◌, length, get_or, set, Bool, Some, refl, sym, ap, ◌∙◌, subst, arith, length-set, get_or-set_same, get_or-set_other}
 use Rattle.std.specs.Prelude.{MatchOption}
 use Rattle.std.proofs.lemmas.List.{length_push, get_or_push, get_or_append_left, get_or_past, append-nil}
@@ -19,9 +19,9 @@ use Rattle.redo_journal.specs.Plans.{PlanOf}
 use Rattle.redo_board.specs.Rows.{naming_of, rows_of}
 use Rattle.redo_board.specs.Core.{Line, Core, row, rows_then, place_at, holds_at, way_at, done, replay, word, Begins, claim_of}
 use Rattle.redo_board.specs.Views.{ViewOf, view}
-use Rattle.redo_board.specs.Rule.{Fits, Orderly}
+use Rattle.redo_board.specs.Rule.{HasPart, Fits, Orderly}
 use Rattle.redo_board.specs.Plays.{own, own_way, next}
-use Rattle.redo_board.specs.Inside.Plays.{made, SaysRow, row_line, Goes, Lost, Won, tried, passed, missed}
+use Rattle.redo_board.specs.Inside.Plays.{made, SaysRow, row_line, Goes, Lost, Peeked, Won, tried, peeked, lost}
 use Rattle.redo_board.proofs.Bounds.{records_replayed}
 use Rattle.redo_board.proofs.Orders.{by_text_is_naming}
 use Rattle.redo_board.proofs.Ways as ways
@@ -173,28 +173,33 @@ module _ (p : PlanOf) (s : St) (o : Orderly p s) (id t : ℕ) (j : List Line) (s
       let f = o.fits id (lone p t j seen also) me in
       record { own = f.own; seen = further p s o seen near f.seen some-there; also = f.also }
 
-  -- it is seen, and the history stays the same, whatever an empty row would say
-  passed-by : (Z : ViewOf → Type 0)
-      → (w : ViewOf) × (a : Act (Unit {0})) × Valid s.homes c a
-      × Orderly p (stepped s (length seen + 1) found id c w a)
-      × ((found ≡ 0 → Z w) × (found ≢ 0 → Lost (lone p t j seen also) found w)
-      × (carried_after c a ≡ c))
-  passed-by Z = (
-    v₁,
-    keeps,
-    tt,
-    kept p s o id (length seen + 1) (lone p t j seen also) v₁ me (λ u h has. (h, has))
-        (λ u h has. (h, has)) fits₁,
-    (
-      (λ e. absurd (some-there e)),
-      (λ _.
-          record {
-            now = refl;
-            told = record { log = o.log; plan = o.plan; legal = o.legal; fits = fits₁ };
-          }),
-      refl,
-    ),
-  )
+  lost-here : Lost (lone p t j seen also) found v₁
+  lost-here = record {
+    now = refl;
+    told = record { log = o.log; plan = o.plan; legal = o.legal; fits = fits₁ };
+  }
+
+  abbrev v₂ : ViewOf
+  v₂ = view p ((t, j) ∷ []) seen (seen ++ found ∷ [])
+
+  fits₂ : Fits p o.log v₂
+  fits₂ =
+      let f = o.fits id (lone p t j seen also) me in
+      record { own = f.own; seen = f.seen; also = further p s o seen near f.seen some-there }
+
+  peeked-here : Peeked (lone p t j seen also) found v₂
+  peeked-here = record {
+    now = refl;
+    told = record { log = o.log; plan = o.plan; legal = o.legal; fits = fits₂ };
+  }
+
+  -- the history stays the same, whatever of the row is known
+  stays : (w : ViewOf) → w.parts ≡ (t, j) ∷ [] → Fits p o.log w
+      → Orderly p (stepped s (length seen + 1) found id c w keeps)
+  stays w same fits =
+      kept p s o id (length seen + 1) (lone p t j seen also) w me
+      (λ u h has. (h, subst (λ x. HasPart x u h) same has))
+      (λ u h has. (h, subst (λ x. HasPart x u h) (sym same) has)) fits
 
 pub tries : (p : PlanOf) (slots id t r : ℕ) (j : List Line) (seen also : List ℕ)
     (c : List (ℕ × Unit {0})) (n : Numbered ℕ)
@@ -224,27 +229,40 @@ tries p slots id t r j seen also c n is-session is-next at near in-row reply say
       tt,
       won p s o id t j seen also me is-session n is-next within zero-there in-row reply says,
       (
+        refl,
         (λ _. tells p s o id t j seen also me is-session n is-next within zero-there in-row reply
             says),
         (λ ne. absurd (ne zero-there)),
         refl,
       ),
     ))
-    (λ some-there. passed-by p s o id t j seen also c me within some-there
-    (Won (lone p t j seen also))))
+    (λ some-there. (
+      v₁ p s o id t j seen also c me within some-there,
+      keeps,
+      tt,
+      stays p s o id t j seen also c me within some-there
+          (v₁ p s o id t j seen also c me within some-there) refl
+          (fits₁ p s o id t j seen also c me within some-there),
+      (
+        refl,
+        (λ e. absurd (some-there e)),
+        (λ _. lost-here p s o id t j seen also c me within some-there),
+        refl,
+      ),
+    )))
   where
     within : length seen < rows_of p
     within = omega arith
 
--- a look at the row
-pub passes : (p : PlanOf) (slots id t r : ℕ) (j : List Line) (seen also : List ℕ)
+-- a load of the row before the exchange
+pub peeks : (p : PlanOf) (slots id t r : ℕ) (j : List Line) (seen also : List ℕ)
     (c : List (ℕ × Unit {0})) → r ≡ length seen → r < rows_of p
     → Allows (Orderly p) slots id (lone p t j seen also, c) (r + 1) (λ m. m)
-    (passed (step slots (r + 1) 0 0 none) (lone p t j seen also, c))
-passes p slots id t r j seen also c at near =
+    (peeked (step slots (r + 1) 0 0 none) (lone p t j seen also, c))
+peeks p slots id t r j seen also c at near =
     subst
     (λ x. Allows (Orderly p) slots id (lone p t j seen also, c) (x + 1) (λ m. m)
-    (passed (step slots (x + 1) 0 0 none) (lone p t j seen also, c)))
+    (peeked (step slots (x + 1) 0 0 none) (lone p t j seen also, c)))
     (sym at) (λ s o wide me _.
     let m : ℕ = get_or s.words (length seen + 1) 0 in
     dite (ℕ_discrete m 0)
@@ -254,33 +272,56 @@ passes p slots id t r j seen also c at near =
       tt,
       kept p s o id (length seen + 1) (lone p t j seen also) (lone p t j seen also) me
           (λ u h has. (h, has)) (λ u h has. (h, has)) (o.fits id (lone p t j seen also) me),
-      ((λ _. refl), (λ ne. absurd (ne zero-there)), refl),
+      (refl, (λ _. refl), (λ ne. absurd (ne zero-there)), refl),
     ))
-    (λ some-there. passed-by p s o id t j seen also c me within some-there
-    (λ w. w ≡ lone p t j seen also)))
+    (λ some-there. (
+      v₂ p s o id t j seen also c me within some-there,
+      keeps,
+      tt,
+      stays p s o id t j seen also c me within some-there
+          (v₂ p s o id t j seen also c me within some-there) refl
+          (fits₂ p s o id t j seen also c me within some-there),
+      (
+        refl,
+        (λ e. absurd (some-there e)),
+        (λ _. peeked-here p s o id t j seen also c me within some-there),
+        refl,
+      ),
+    )))
   where
     within : length seen < rows_of p
     within = omega arith
 
--- an exchange on a row that was seen
-pub misses : (p : PlanOf) (slots id r w : ℕ) (v : ViewOf) (c : List (ℕ × Unit {0}))
-    → r < length v.seen → r < rows_of p
-    → Allows (Orderly p) slots id (v, c) (r + 1) (λ m. either (eqb m 0) w m)
-    (missed (step slots (r + 1) 0 w none) (v, c))
-misses p slots id r w v c saw near =
-    λ s o wide me _.
-    let m : ℕ = get_or s.words (r + 1) 0 in
-    let f = o.fits id v me in
-    let there : m ≢ 0 = filled p s o v.seen f.seen r saw near in
+-- the exchange after a load that found the row filled
+pub loses : (p : PlanOf) (slots id t r w : ℕ) (j : List Line) (seen also : List ℕ)
+    (c : List (ℕ × Unit {0})) → r ≡ length seen → r < rows_of p → length seen < length also
+    → Allows (Orderly p) slots id (lone p t j seen also, c) (r + 1)
+    (λ m. either (eqb m 0) w m)
+    (lost (step slots (r + 1) 0 w none) (lone p t j seen also, c))
+loses p slots id t r w j seen also c at near shown =
+    subst
+    (λ x. Allows (Orderly p) slots id (lone p t j seen also, c) (x + 1)
+    (λ m. either (eqb m 0) w m)
+    (lost (step slots (x + 1) 0 w none) (lone p t j seen also, c)))
+    (sym at) (λ s o wide me _.
+    let m : ℕ = get_or s.words (length seen + 1) 0 in
+    let f = o.fits id (lone p t j seen also) me in
+    let there : m ≢ 0 = filled p s o also f.also (length seen) shown within in
     exchanged m 0 w
     (λ (x : ℕ). (u : ViewOf) × (a : Act (Unit {0})) × Valid s.homes c a
-    × Orderly p (stepped s (r + 1) x id c u a)
-    × missed (step slots (r + 1) 0 w none) (v, c) m (u, carried_after c a))
+    × Orderly p (stepped s (length seen + 1) x id c u a)
+    × lost (step slots (length seen + 1) 0 w none) (lone p t j seen also, c) m
+    (u, carried_after c a))
     (λ zero-there. absurd (there zero-there))
     (λ some-there. (
-      v,
+      v₁ p s o id t j seen also c me within some-there,
       keeps,
       tt,
-      kept p s o id (r + 1) v v me (λ u h has. (h, has)) (λ u h has. (h, has)) f,
-      (some-there, refl, refl),
-    ))
+      stays p s o id t j seen also c me within some-there
+          (v₁ p s o id t j seen also c me within some-there) refl
+          (fits₁ p s o id t j seen also c me within some-there),
+      (refl, some-there, lost-here p s o id t j seen also c me within some-there, refl),
+    )))
+  where
+    within : length seen < rows_of p
+    within = omega arith

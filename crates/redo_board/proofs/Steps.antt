@@ -12,8 +12,8 @@ use Rattle.redo_board.specs.Core.{Line, word, row, claim, free}
 use Rattle.redo_board.specs.Views.{ViewOf, view}
 use Rattle.redo_board.specs.Rule.{Orderly, Told}
 use Rattle.redo_board.specs.Plays.{own, own_way, next}
-use Rattle.redo_board.specs.Inside.Plays.{SaysRow, row_line, Goes, Lone, Lost, Won, tried, passed, missed, claimed, freed}
-use Rattle.redo_board.proofs.Rows.{misses, passes, tries}
+use Rattle.redo_board.specs.Inside.Plays.{SaysRow, row_line, Goes, Lone, Lost, Peeked, Won, tried, peeked, lost, claimed, freed}
+use Rattle.redo_board.proofs.Rows.{loses, peeks, tries}
 use Rattle.redo_board.proofs.Claims.{locks, frees}
 
 -- the view of a worker of the session t, whose lines are j
@@ -43,15 +43,27 @@ module _ (p q : PlanOf) (slots id t : ℕ) (j : List Line) (m : ViewOf) (c : Slo
       subst F (λ i. (sym key i, (sym is i, sym word-is i)))
       (tries p slots id t r j m.seen m.also c n is-session is-next at near in-row reply says)
 
-  pub passes_as : (r : ℕ) → r ≡ length m.seen → r < rows_of p
+  pub peeks_as : (r : ℕ) → r ≡ length m.seen → r < rows_of p
       → Allows (Orderly q) slots id (m, c) (r + 1) (λ n. n)
-      (passed (step slots (r + 1) 0 0 none) (m, c))
-  passes_as r at near =
+      (peeked (step slots (r + 1) 0 0 none) (m, c))
+  peeks_as r at near =
       let F : PlanOf × ViewOf
       → Type 0 = λ x.
       Allows (Orderly x.0) slots id (x.1, c) (r + 1) (λ n. n)
-      (passed (step slots (r + 1) 0 0 none) (x.1, c)) in
-      subst F (λ i. (sym key i, sym is i)) (passes p slots id t r j m.seen m.also c at near)
+      (peeked (step slots (r + 1) 0 0 none) (x.1, c)) in
+      subst F (λ i. (sym key i, sym is i)) (peeks p slots id t r j m.seen m.also c at near)
+
+  -- after a load that found the row filled
+  pub loses_as : (r w : ℕ) → r ≡ length m.seen → r < rows_of p → length m.seen < length m.also
+      → Allows (Orderly q) slots id (m, c) (r + 1) (λ n. either (eqb n 0) w n)
+      (lost (step slots (r + 1) 0 w none) (m, c))
+  loses_as r w at near shown =
+      let F : PlanOf × ViewOf
+      → Type 0 = λ x.
+      Allows (Orderly x.0) slots id (x.1, c) (r + 1) (λ n. either (eqb n 0) w n)
+      (lost (step slots (r + 1) 0 w none) (x.1, c)) in
+      subst F (λ i. (sym key i, sym is i))
+      (loses p slots id t r w j m.seen m.also c at near shown)
 
   pub locks_as : (i u : ℕ) → i ≡ rows_of p + 1 + u → u < length p.names
       → own_way j n.command ≡ claim u
@@ -76,17 +88,6 @@ module _ (p q : PlanOf) (slots id t : ℕ) (j : List Line) (m : ViewOf) (c : Slo
       (freed (step slots x.1.1 1 0 none) (x.1.0, c)) in
       subst F (λ k. (sym key k, (sym is k, sym at k)))
       (frees p slots id t u j m.seen m.also c n is-session is-next low to-free)
-
--- on a row that was seen
-pub misses_as : (p q : PlanOf) (slots id r w : ℕ) (m : ViewOf) (c : Slots) → q ≡ p
-    → r < length m.seen → r < rows_of p
-    → Allows (Orderly q) slots id (m, c) (r + 1) (λ n. either (eqb n 0) w n)
-    (missed (step slots (r + 1) 0 w none) (m, c))
-misses_as p q slots id r w m c key saw near =
-    subst
-    (λ x. Allows (Orderly x) slots id (m, c) (r + 1) (λ n. either (eqb n 0) w n)
-    (missed (step slots (r + 1) 0 w none) (m, c)))
-    (sym key) (misses p slots id r w m c saw near)
 
 -- the invariant of a worker's view: its lines, and that a legal history fits it
 pub record Keeps (p : PlanOf) (t : ℕ) (j : List Line) (seen : List ℕ) (w : ViewOf) : Type 0 where
@@ -118,17 +119,35 @@ goes_keeps p t j j' l seen m w is g j-is =
 -- after a row was lost
 pub lost_keeps : (p : PlanOf) (t n : ℕ) (j : List Line) (m w : ViewOf) → IsWorker p t j m
     → Lost m n w → Keeps p t j (m.seen ++ n ∷ []) w
-lost_keeps p t n j m w is lost =
-    let seen : w.seen ≡ m.seen ++ n ∷ [] = ap (λ (v : ViewOf). v.seen) lost.now in
+lost_keeps p t n j m w is after =
+    let seen : w.seen ≡ m.seen ++ n ∷ [] = ap (λ (v : ViewOf). v.seen) after.now in
     record {
-      is =
-          lost.now
-          ∙
-          (λ i. view (is i).plan (is i).parts (sym seen i)
-          (ap (λ (v : ViewOf). v.also) (sym lost.now) i));
+      is = after.now ∙ (λ i. view (is i).plan (is i).parts (sym seen i) w.also);
       saw = seen;
-      told = lost.told;
+      told = after.told;
     }
+
+-- after a load that found a row filled
+pub peeked_keeps : (p : PlanOf) (t n : ℕ) (j : List Line) (m w : ViewOf) → IsWorker p t j m
+    → Peeked m n w → Keeps p t j m.seen w
+peeked_keeps p t n j m w is after =
+    let seen : w.seen ≡ m.seen = ap (λ (v : ViewOf). v.seen) after.now in
+    let also : w.also ≡ m.seen ++ n ∷ [] = ap (λ (v : ViewOf). v.also) after.now in
+    record {
+      is = after.now ∙ (λ i. view (is i).plan (is i).parts (sym seen i) (sym also i));
+      saw = seen;
+      told = after.told;
+    }
+
+-- a row that is lost after the load is lost
+pub lost_after : (m u w : ViewOf) (n found : ℕ) → Peeked m n u → Lost u found w → Lost m found w
+lost_after m u w n found peek after = record {
+  now =
+      after.now
+      ∙
+      (λ i. view (peek.now i).plan (peek.now i).parts ((peek.now i).seen ++ found ∷ []) w.also);
+  told = after.told;
+}
 
 -- the row's play, over the worker's own session
 pub won_goes : (p : PlanOf) (t : ℕ) (j : List Line) (m w : ViewOf) (n : Numbered ℕ)

@@ -76,11 +76,13 @@ pub record Closes (p : PlanOf) (s : Seat) (n : ℕ) : Type 0 where
   pub joint : IsJointOrder (naming_of p) (lines_in (parts_of s)) lines
   pub rows : rows_in lines ≡ n
 
--- one legal joint order of the lines that the seat has, whose words these are
+-- one legal joint order of the lines that the seat has, whose words these are: that of the seats,
+-- those of the rows, and those of the claims
 pub record AreLastWords (p : PlanOf) (parts : List Part) (words : List ℕ) : Type 0 where
   pub lines : List Line
   pub history : IsHistoryOf p lines
   pub joint : IsJointOrder (naming_of p) (lines_in parts) lines
+  pub seats : slice_index words 0 ≡ 0
   pub rows : (r : ℕ) → r < rows_of p → slice_index words (r + 1) ≡ slice_index (words_of p lines) r
   pub claims : (t : ℕ) → t < length p.names
       → slice_index words (rows_of p + 1 + t) ≡ claim_word_of (naming_of p) lines t

@@ -8,7 +8,7 @@ abbrev pub Part : Type 0
 Part = ℕ × List Line
 
 -- the plan, the lines of each session that the seat has, the row words that it saw, and those that
--- the other seat of a join saw
+-- it was shown besides: by the other seat of a join until the look, or by a load until the exchange
 pub record ViewOf : Type 0 where
   pub plan : PlanOf
   pub parts : List Part

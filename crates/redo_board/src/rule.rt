@@ -1,4 +1,6 @@
-// The rule of the board's table, and its steps.
+// The rule of the board's table, and its nine kinds of step: a row won, a row lost; a claim granted, a claim busy; a
+// release; the first seat; a split, a meet, and a look. A load of a row before the exchange there is none of its own: by
+// it a row isn't passed.
 use crate::view::View;
 use atomic_table::{Join, Play, Split, TableRule};
 use redo_journal::Plan;
@@ -15,6 +17,7 @@ impl TableRule<(), View, Plan> for Running {
     ghost first = { first_view };
 }
 
+/// A row won, or lost.
 pub struct Try;
 
 impl Play<(), View> for Try {
@@ -23,20 +26,22 @@ impl Play<(), View> for Try {
     ghost then = { tried };
 }
 
-pub struct Pass;
+/// A load of the row where the next exchange is.
+pub struct Peek;
 
-impl Play<(), View> for Pass {
-    ghost use Rattle.redo_board.specs.Inside.Plays.{passed};
+impl Play<(), View> for Peek {
+    ghost use Rattle.redo_board.specs.Inside.Plays.{peeked};
 
-    ghost then = { passed };
+    ghost then = { peeked };
 }
 
-pub struct Miss;
+/// A row lost, which a load showed filled.
+pub struct Lose;
 
-impl Play<(), View> for Miss {
-    ghost use Rattle.redo_board.specs.Inside.Plays.{missed};
+impl Play<(), View> for Lose {
+    ghost use Rattle.redo_board.specs.Inside.Plays.{lost};
 
-    ghost then = { missed };
+    ghost then = { lost };
 }
 
 pub struct Claim;

@@ -67,8 +67,13 @@ pub record Goes (v : ViewOf) (s : ℕ) (j : List Line) (l : Line) (seen : List �
 abbrev pub Lone : ViewOf → ℕ → List Line → Type 0
 Lone v s j = v.parts ≡ (s, j) ∷ []
 
+-- both row kinds step on the first row that was not seen, and on no other
+abbrev pub AtFirstUnseen : Step (Unit {0}) → ViewOf → Type 0
+AtFirstUnseen st v = st.word ≡ length v.seen + 1
+
+-- the row's word is seen
 pub record Lost (v : ViewOf) (found : ℕ) (w : ViewOf) : Type 0 where
-  pub now : w ≡ view v.plan v.parts (v.seen ++ found ∷ []) v.also
+  pub now : w ≡ view v.plan v.parts (v.seen ++ found ∷ []) w.also
   pub told : Told w
 
 -- the reply is the database's after the rows that were seen
@@ -85,16 +90,23 @@ Won v w =
     → Goes v s j (row_line v s n reply)
     (v.seen ++ word v.plan s n.number n.command (own j n.command) ∷ []) w
 
+-- the row is won or lost
 abbrev pub tried : PlayOf
-tried st m r n = (r ≡ 0 → Won m.0 n.0) × (r ≢ 0 → Lost m.0 r n.0) × (n.1 ≡ m.1)
+tried st m r n =
+    AtFirstUnseen st m.0 × (r ≡ 0 → Won m.0 n.0) × (r ≢ 0 → Lost m.0 r n.0) × (n.1 ≡ m.1)
 
--- what a look at the first unseen row shows: its word, if it is filled
-abbrev pub passed : PlayOf
-passed st m r n = (r ≡ 0 → n.0 ≡ m.0) × (r ≢ 0 → Lost m.0 r n.0) × (n.1 ≡ m.1)
+-- a load before the exchange shows the word of a filled row, which is not seen by that
+pub record Peeked (v : ViewOf) (found : ℕ) (w : ViewOf) : Type 0 where
+  pub now : w ≡ view v.plan v.parts v.seen (v.seen ++ found ∷ [])
+  pub told : Told w
 
--- what an exchange on a seen row shows: it is lost, and nothing is new
-abbrev pub missed : PlayOf
-missed st m r n = (r ≢ 0) × (n.0 ≡ m.0) × (n.1 ≡ m.1)
+abbrev pub peeked : PlayOf
+peeked st m r n =
+    AtFirstUnseen st m.0 × (r ≡ 0 → n.0 ≡ m.0) × (r ≢ 0 → Peeked m.0 r n.0) × (n.1 ≡ m.1)
+
+-- the row, which a load showed filled, is lost
+abbrev pub lost : PlayOf
+lost st m r n = AtFirstUnseen st m.0 × (r ≢ 0) × Lost m.0 r n.0 × (n.1 ≡ m.1)
 
 -- what a step on a claim word that found r shows
 abbrev pub Claims : (ℕ → Numbered ℕ → ℕ → ℕ → Line) → ℕ → ViewOf → ℕ → ViewOf → Type 0

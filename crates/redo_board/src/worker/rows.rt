@@ -19,7 +19,7 @@ ghost use Rattle.redo_board.specs.Outcomes.{Made, Waits};
 
 use crate::board::Board;
 use crate::gate::Gate;
-use crate::rule::{Miss, Pass, Try};
+use crate::rule::{Lose, Peek, Try};
 use crate::worker::Worker;
 use crate::worker::ways::holds_its_target;
 use crate::worker::words::{line_step, noted, word_of};
@@ -142,7 +142,7 @@ impl<'a> Worker<'a> {
         reply
     }
 
-    /// Looks at the first unseen row. If it is filled, tries the exchange there, which is lost, without making a list.
+    /// Loads the first unseen row. If it is filled, makes the exchange there, which is lost, before any list is made.
     /// Returns whether it was filled.
     fn pass_row<G: Gate>(
         &mut self,
@@ -165,7 +165,7 @@ impl<'a> Worker<'a> {
         ensures same { IsFalse result → self.new ≡ self.old }
     {
         let row = self.tries as usize + 1;
-        let word = board.table.shared.load::<Pass>(&mut self.seat, row);
+        let word = board.table.shared.load::<Peek>(&mut self.seat, row);
         if word == 0 {
             return false;
         }
@@ -176,12 +176,12 @@ impl<'a> Worker<'a> {
             command,
             holds_its_target(&self.own, command),
         );
-        board
+        let filled = board
             .table
             .shared
-            .compare_exchange::<Miss>(&mut self.seat, row, 0, own);
+            .compare_exchange::<Lose>(&mut self.seat, row, 0, own);
         self.tries += 1;
-        self.pending = Some(word);
+        self.pending = Some(filled);
         true
     }
 

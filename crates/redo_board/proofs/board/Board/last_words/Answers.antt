@@ -23,6 +23,7 @@ returns-clause-words c =
       history = history-of p o.log o.plan o.legal;
       joint =
           joint-of p o.log v o.plan o.legal (o.fits c.args.seat.seat.id v f.1.1) c.requires.all;
+      seats = ap (λ l. get_or l 0 0) (sym f.2) ∙ o.seat;
       rows = λ r h. ap (λ l. get_or l (r + 1) 0) (sym f.2) ∙ row-at p f.0 o r h;
       claims =
           λ t h.

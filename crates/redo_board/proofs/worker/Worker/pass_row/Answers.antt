@@ -1,4 +1,4 @@
-use Rattle.std.proofs.Common.{◌≡◌, ℕ, ◌+◌, ◌∷◌, [], ◌++◌, length, Some, refl, sym, ap, ◌∙◌, subst, arith}
+use Rattle.std.proofs.Common.{◌≡◌, ℕ, ◌+◌, [], length, Some, refl, sym, ap, ◌∙◌, subst, arith}
 use Rattle.std.proofs.lemmas.List.{length_push, append-nil}
 use Rattle.redo_model.specs.Journals.{Numbered}
 use Rattle.redo_terms.specs.Meaning.{command_of}
@@ -8,11 +8,11 @@ use Rattle.redo_board.specs.Shown.{journal_of, seen_by}
 use Rattle.redo_board.specs.Kept.{WorksAt, view_of}
 use Rattle.redo_board.specs.Outcomes.{Waits}
 use Rattle.redo_board.specs.declared.worker.Worker.{Worker}
-use Rattle.redo_board.proofs.Steps.{misses_as, passes_as}
+use Rattle.redo_board.proofs.Steps.{loses_as, peeks_as, peeked_keeps, lost_after}
 use Rattle.redo_board.proofs.NextSteps.{few_words, own_below, row_next}
 use Rattle.redo_board.proofs.Works.{works_lost, waits_lost}
 use Rattle.redo_board.proofs.worker.Worker.pass_row.Goals as goal
-use Rattle.redo_board.proofs.worker.Worker.pass_row.Goals.{After-compare_exchange, Then-word-eq0}
+use Rattle.redo_board.proofs.worker.Worker.pass_row.Goals.{After-compare_exchange-filled, Then-word-eq0}
 
 pub load-word-requires : goal.load-word-requires
 load-word-requires g c =
@@ -26,12 +26,12 @@ load-word-requires g c =
     let near = row_next p w n k.works is-next c.requires.way in (
       k.table,
       (let x = b.words in omega arith),
-      passes_as p c.args.board.now.table.shared.key c.args.board.now.table.shared.table_id.slots
+      peeks_as p c.args.board.now.table.shared.key c.args.board.now.table.shared.table_id.slots
           w.seat.id w.session (journal_of p w) (view_of w) w.seat.me.1 b.key k.works.view
           k.works.session n is-next w.tries k.works.tries near,
     )
 
--- a look at an empty row changes nothing
+-- a load of an empty row changes nothing
 unchanged : (g : _) (c : Then-word-eq0 g)
     → record c.args.self.now { seat = c.load-word.new.seat } ≡ c.args.self.now
 unchanged g c =
@@ -41,7 +41,7 @@ unchanged g c =
       seat = record {
         table_id = e.0 i;
         id = e.1 i;
-        me = (e.2.0 zero i, e.2.2 i);
+        me = (e.2.1 zero i, e.2.3 i);
         marker = c.args.self.now.seat.marker;
       };
     }
@@ -65,28 +65,31 @@ holds_its_target-requires g c =
     record { number = c.args.next.now.number; command = command_of c.args.command.now } in
     own_below c.args.plan.now c.args.self.now n c.requires.belongs.1.works c.requires.command.next
 
-pub compare_exchange-requires : goal.compare_exchange-requires
-compare_exchange-requires g c =
+pub compare_exchange-filled-requires : goal.compare_exchange-filled-requires
+compare_exchange-filled-requires g c =
     let p = c.args.plan.now in
     let w = c.args.self.now in
     let b = c.requires.belongs.0 in
     let k = c.requires.belongs.1 in
     let e = c.load-word.ensures in
-    let found : ℕ = c.load-word.result in
     let n : Numbered ℕ =
     record { number = c.args.next.now.number; command = command_of c.args.command.now } in
-    let near = row_next p w n k.works c.requires.command.next c.requires.way in
+    let is-next = c.requires.command.next in
+    let near = row_next p w n k.works is-next c.requires.way in
     let v : ViewOf = c.load-word.new.seat.me.0 in
-    let seen : v.seen ≡ seen_by w ++ found ∷ [] =
-    ap (λ (x : ViewOf). x.seen) (e.2.1 c.if-word-eq0.false).now in
-    let saw = ap length seen in
+    let found : ℕ = c.load-word.result in
+    let peek = e.2.2 c.if-word-eq0.false in
+    let keeps = peeked_keeps p w.session found (journal_of p w) (view_of w) v k.works.view peek in
+    let shown = ap (λ (x : ViewOf). length x.also) peek.now in
     let long = length_push (seen_by w) found in
+    let saw = ap length keeps.saw in
     let tries = k.works.tries in (
       e.0 ∙ k.table,
       (let x = b.words in omega arith),
-      misses_as p c.args.board.now.table.shared.key c.args.board.now.table.shared.table_id.slots
-          c.load-word.new.seat.id w.tries c.word_of-own.result v c.load-word.new.seat.me.1 b.key
-          (omega arith) near,
+      loses_as p c.args.board.now.table.shared.key c.args.board.now.table.shared.table_id.slots
+          c.load-word.new.seat.id w.session (journal_of p w) v c.load-word.new.seat.me.1 b.key
+          keeps.is k.works.session n is-next w.tries c.word_of-own.result (omega arith) near
+          (omega arith),
     )
 
 pub overflow_add-self : goal.overflow_add-self
@@ -100,27 +103,32 @@ overflow_add-self g c =
     let b = c.requires.belongs.0.rows in
     omega arith
 
--- the exchange left the view as after the look
-lost : (g : _) (c : After-compare_exchange g)
-    → Lost (view_of c.args.self.now) c.load-word.result c.compare_exchange.new.seat.me.0
+-- the exchange lost the row
+lost : (g : _) (c : After-compare_exchange-filled g)
+    → Lost (view_of c.args.self.now) c.compare_exchange-filled.result
+    c.compare_exchange-filled.new.seat.me.0
 lost g c =
-    subst (Lost (view_of c.args.self.now) c.load-word.result)
-    (sym c.compare_exchange.ensures.2.1)
-    (c.load-word.ensures.2.1 c.if-word-eq0.false)
+    lost_after (view_of c.args.self.now) c.load-word.new.seat.me.0
+    c.compare_exchange-filled.new.seat.me.0 c.load-word.result c.compare_exchange-filled.result
+    (c.load-word.ensures.2.2 c.if-word-eq0.false) c.compare_exchange-filled.ensures.2.2
 
 pub returns-clause-works : goal.returns-clause-works
 returns-clause-works g c =
     let w = c.args.self.now in
     let e = c.load-word.ensures in
-    let x = c.compare_exchange.ensures in
-    let found : ℕ = c.load-word.result in
+    let x = c.compare_exchange-filled.ensures in
+    let found : ℕ = c.compare_exchange-filled.result in
     let n : Numbered ℕ =
     record { number = c.args.next.now.number; command = command_of c.args.command.now } in
     let w' : Worker =
-    record w { seat = c.compare_exchange.new.seat; pending = Some found; tries = w.tries + 1 } in
+    record w {
+      seat = c.compare_exchange-filled.new.seat;
+      pending = Some found;
+      tries = w.tries + 1;
+    } in
     works_lost c.args.plan.now c.args.board.now w w' found c.requires.belongs.1
-    (lost g (goal.at.returns-clause-works g c).After-compare_exchange) refl refl refl
-    (x.2.2 ∙ e.2.2) n c.requires.command.next c.requires.way (x.0 ∙ e.0) refl refl refl
+    (lost g (goal.at.returns-clause-works g c).After-compare_exchange-filled) refl refl refl
+    (x.2.3 ∙ e.2.3) n c.requires.command.next c.requires.way (x.0 ∙ e.0) refl refl refl
     c.requires.none
 
 pub returns-clause-row : goal.returns-clause-row
@@ -134,13 +142,17 @@ pub returns-clause-waits : goal.returns-clause-waits
 returns-clause-waits g c =
     let w = c.args.self.now in
     let e = c.load-word.ensures in
-    let x = c.compare_exchange.ensures in
-    let found : ℕ = c.load-word.result in
+    let x = c.compare_exchange-filled.ensures in
+    let found : ℕ = c.compare_exchange-filled.result in
     let w' : Worker =
-    record w { seat = c.compare_exchange.new.seat; pending = Some found; tries = w.tries + 1 } in
+    record w {
+      seat = c.compare_exchange-filled.new.seat;
+      pending = Some found;
+      tries = w.tries + 1;
+    } in
     waits_lost c.args.plan.now c.args.board.now w w' found c.requires.belongs.1
-    (lost g (goal.at.returns-clause-waits g c).After-compare_exchange) refl refl refl
-    (x.2.2 ∙ e.2.2)
+    (lost g (goal.at.returns-clause-waits g c).After-compare_exchange-filled) refl refl refl
+    (x.2.3 ∙ e.2.3)
 
 pub returns-clause-tries : goal.returns-clause-tries
 returns-clause-tries g c = λ filled. refl

@@ -122,7 +122,7 @@ returns-then-found-ne0-clause-works c =
       pending = Some found;
       tries = w.tries + 1;
     } in
-    works_lost p c.args.board.now w w' found k (e.2.1 c.if-found-ne0.true) refl refl refl e.2.2 n
+    works_lost p c.args.board.now w w' found k (e.2.2 c.if-found-ne0.true) refl refl refl e.2.3 n
     c.requires.command.next c.requires.way e.0 refl refl refl c.requires.none
 
 pub returns-then-found-ne0-clause-result : goal.returns-then-found-ne0-clause-result
@@ -142,7 +142,7 @@ returns-then-found-ne0-clause-result c =
       pending = Some found;
       tries = w.tries + 1;
     } in
-    waits_lost p c.args.board.now w w' found k (e.2.1 c.if-found-ne0.true) refl refl refl e.2.2
+    waits_lost p c.args.board.now w w' found k (e.2.2 c.if-found-ne0.true) refl refl refl e.2.3
 
 -- the reply left the worker as it was
 enters_same : (v w : Worker) (replica : ReplicaOf) (x : Command ℕ) (entry : Entry) (new : Worker)
@@ -194,7 +194,7 @@ done c =
     let goes : Goes (view_of w) w.session (journal_of p w) (row_line (view_of w) w.session n reply)
     seen (view_of w') =
     won_goes p w.session (journal_of p w) (view_of w) (view_of w') n reply k.works.view
-    (e.2.0 c.if-found-ne0.false) is-next said in
+    (e.2.1 c.if-found-ne0.false) is-next said in
     let won : Lags p c.change.new.self None seen =
     lags_won p w.replica c.change.new.self (seen_by w)
     (c.change.ensures.count ∙ ap count_of replica)
@@ -215,7 +215,7 @@ done c =
     _ cap.items
     (is_entry p w n reply (Row (length (seen_by w))) _ c.args.next.now.closing c.requires.command
     refl c.noted.ensures refl (ap Row k.works.tries))
-    (cap.notes p.names) refl e.0 e.2.2
+    (cap.notes p.names) refl e.0 e.2.3
     (let m = cap.capacity in omega arith) tried (ap (λ m. m + 1) k.works.tries)
     (subst (λ o. Lags p c.change.new.self o seen) (sym c.requires.none) won)
     (word p w.session c.args.next.now.number x h ∷ [], refl))
