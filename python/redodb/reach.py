@@ -91,7 +91,7 @@ def _start(places: Places, idle: float) -> None:
 def _program(places: Places, idle: float) -> list[bytes]:
     """Return the words that start a server. It is run as a file, so that nothing is imported from
     the working folder."""
-    python = os.fsencode(sys.executable) or b"python3"
+    python = os.fsencode(sys.executable or "python3")
     program = os.path.join(package_folder(), b"redodb/server/__main__.py")
     return [python, b"-IS", program, b"--detach", b"--idle", b"%r" % idle, b"--top", places.top]
 

@@ -10,6 +10,16 @@ NOBODY = 65534
 COPY = 'echo ran >>ran\nredo-ifchange -- "$2.in"\ncat -- "$2.in"\n'
 
 
+def case_word_that_is_a_file(tree: Tree) -> None:
+    """A file whose name is a word of the log is no name that the next server takes from there."""
+    tree.files(x__do="echo x\n")
+    tree.write("=>", "a file\n")
+    tree.redo("x")
+    end_server(tree)
+    tree.check.same("ood", tree.run("redo-ood").out, "")
+    tree.check.true("the database has no such name", "%3D" not in tree.read(".redo/log"))
+
+
 def case_names_with_spaces(tree: Tree) -> None:
     """Names may have spaces, tabs, quotes and newlines."""
     built_again(tree, "a name", "tab\tand\nnewline", "quote'\"s", "$dollar`\\back")

@@ -76,15 +76,15 @@ class Known:
                     if line[-1:] != b"\n":
                         break
                     self._log_read += len(line)
-                    words = line.split()  # the last two are ` => ok`
+                    words = line.split()
                     reader = self._readers.get(words[1])
                     if reader is not None:
                         reader(words)
                         moved[words[2]] = None
                     elif words[1] in _SPEAKING:
-                        for name in words[2:-2]:
+                        for name in words[2 : words.index(b"=>")]:
                             moved[name] = None
-        except (OSError, IndexError):
+        except (OSError, IndexError, ValueError):
             pass  # there is none yet, or it is none, which redodb-live reports
         self._new(moved)
         for name in moved:
