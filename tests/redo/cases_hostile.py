@@ -1,10 +1,11 @@
 """Names, folders, disks and clocks that make trouble: an error, or the right build."""
 import os
 import re
+import signal
 import subprocess
 from typing import Any, Callable
 
-from trees import Skipped, Tree, end_server, needs
+from trees import Skipped, Tree, end_server, needs, sleepers
 
 NOBODY = 65534
 COPY = 'echo ran >>ran\nredo-ifchange -- "$2.in"\ncat -- "$2.in"\n'
@@ -317,6 +318,20 @@ def case_removed_state(tree: Tree) -> None:
     tree.path("x").unlink()
     tree.redo("x")
     tree.check.same("ran", tree.count("ran"), 2)
+
+
+def case_state_made_anew(tree: Tree) -> None:
+    """A server whose .redo was removed leaves no mark of its end in the one that was made since."""
+    tree.files(x__do="echo x\n", y__do="echo y\n")
+    tree.redo("x")
+    lock = tree.path(".redo/server/lock")
+    first = int(lock.read_text())
+    subprocess.run(["rm", "-r", tree.path(".redo")], check=True)
+    tree.redo("y")
+    os.kill(first, signal.SIGTERM)
+    tree.until("the first server ends", lambda: first not in sleepers(tree, True))
+    tree.check.true("another server is there", int(lock.read_text()) in sleepers(tree, True))
+    tree.check.true("no mark", not tree.path(".redo/clean").exists())
 
 
 def case_moved_tree(tree: Tree) -> None:

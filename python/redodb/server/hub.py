@@ -118,6 +118,8 @@ class Hub:
 
     def _end_in_order(self) -> None:
         """Leave for the next server what this one knows. If that can't be, it finds out anew."""
+        if not self._taken.stands():
+            return
         self.known.contents.store(self._stamps, self.known.stamps)
         try:
             self._marks.end()

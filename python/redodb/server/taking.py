@@ -41,6 +41,14 @@ class Taken:
             connection.detach()
         return True
 
+    def stands(self) -> bool:
+        """Say whether the lock is in its place still: else .redo was removed."""
+        try:
+            there = os.lstat(self.places.lock)
+        except OSError:
+            return False
+        return os.path.samestat(there, os.fstat(self._lock))
+
     def leave(self) -> None:
         """Let another process be the server."""
         self.listener.close()
