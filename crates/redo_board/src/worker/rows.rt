@@ -30,6 +30,21 @@ use redo_replica::Replica;
 use redo_terms::{Command, Reply};
 use std::alloc::{AllocError, Global};
 
+/// An exchange of this kind on the worker's first unseen row, which the gate is told of. It gives
+/// the word that was there.
+macro_rules! exchange {
+    ($kind:ty, $worker:ident, $board:ident, $gate:ident, $number:expr, $own:ident) => {{
+        $gate.ready($worker.session, $number, $worker.tries);
+        let row = $worker.tries as usize + 1;
+        let found = $board
+            .table
+            .shared
+            .compare_exchange::<$kind>(&mut $worker.seat, row, 0, $own);
+        $worker.tries += 1;
+        found
+    }};
+}
+
 /// Applies the command that a row word names.
 fn apply_word<'a>(replica: &mut Replica<'a>, plan: &Plan, word: u64)
     requires word { IsPlan plan.now × IsWord plan.now word }
@@ -169,28 +184,19 @@ impl<'a> Worker<'a> {
         if word == 0 {
             return false;
         }
-        gate.ready(self.session, next.number, self.tries);
-        let own = word_of(
-            self.session,
-            next,
-            command,
-            holds_its_target(&self.own, command),
-        );
-        let filled = board
-            .table
-            .shared
-            .compare_exchange::<Lose>(&mut self.seat, row, 0, own);
-        self.tries += 1;
-        self.pending = Some(filled);
+        let holds = holds_its_target(&self.own, command);
+        let own = word_of(self.session, next, command, holds);
+        self.pending = Some(exchange!(Lose, self, board, gate, next.number, own));
         true
     }
 
     /// One exchange, on the first unseen row. What follows a win allocates nothing.
-    fn try_row(
+    fn try_row<G: Gate>(
         &mut self,
         alloc: Global,
         board: &Board,
         plan: &Plan,
+        gate: &G,
         next: &Next,
         step: &Step,
         command: &Command,
@@ -213,11 +219,7 @@ impl<'a> Worker<'a> {
         let holds = holds_its_target(&self.own, command);
         let word = word_of(self.session, next, command, holds);
         let row = self.tries;
-        let found = board
-            .table
-            .shared
-            .compare_exchange::<Try>(&mut self.seat, row as usize + 1, 0, word);
-        self.tries += 1;
+        let found = exchange!(Try, self, board, gate, next.number, word);
         if found != 0 {
             self.pending = Some(found);
             return false;
@@ -260,8 +262,7 @@ impl<'a> Worker<'a> {
             }
             let step = self.step_next(plan, next, command);
             let list = self.list_first(alloc, &step, command)?;
-            gate.ready(self.session, next.number, self.tries);
-            if self.try_row(alloc, board, plan, next, &step, command, list) {
+            if self.try_row(alloc, board, plan, gate, next, &step, command, list) {
                 return Ok(());
             }
         }

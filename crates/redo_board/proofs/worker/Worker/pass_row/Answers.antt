@@ -12,7 +12,7 @@ use Rattle.redo_board.proofs.Steps.{loses_as, peeks_as, peeked_keeps, lost_after
 use Rattle.redo_board.proofs.NextSteps.{few_words, own_below, row_next}
 use Rattle.redo_board.proofs.Works.{works_lost, waits_lost}
 use Rattle.redo_board.proofs.worker.Worker.pass_row.Goals as goal
-use Rattle.redo_board.proofs.worker.Worker.pass_row.Goals.{After-compare_exchange-filled, Then-word-eq0}
+use Rattle.redo_board.proofs.worker.Worker.pass_row.Goals.{After-compare_exchange-found, Then-word-eq0}
 
 pub load-word-requires : goal.load-word-requires
 load-word-requires g c =
@@ -59,14 +59,14 @@ returns-then-word-eq0-clause-waits g c =
     subst (Waits c.args.plan.now w) (sym (unchanged g c))
     (record { same = refl; next = refl; begins = ([], sym (append-nil (seen_by w))) })
 
-pub holds_its_target-requires : goal.holds_its_target-requires
-holds_its_target-requires g c =
+pub holds_its_target-holds-requires : goal.holds_its_target-holds-requires
+holds_its_target-holds-requires g c =
     let n : Numbered ℕ =
     record { number = c.args.next.now.number; command = command_of c.args.command.now } in
     own_below c.args.plan.now c.args.self.now n c.requires.belongs.1.works c.requires.command.next
 
-pub compare_exchange-filled-requires : goal.compare_exchange-filled-requires
-compare_exchange-filled-requires g c =
+pub compare_exchange-found-requires : goal.compare_exchange-found-requires
+compare_exchange-found-requires g c =
     let p = c.args.plan.now in
     let w = c.args.self.now in
     let b = c.requires.belongs.0 in
@@ -104,30 +104,30 @@ overflow_add-self g c =
     omega arith
 
 -- the exchange lost the row
-lost : (g : _) (c : After-compare_exchange-filled g)
-    → Lost (view_of c.args.self.now) c.compare_exchange-filled.result
-    c.compare_exchange-filled.new.seat.me.0
+lost : (g : _) (c : After-compare_exchange-found g)
+    → Lost (view_of c.args.self.now) c.compare_exchange-found.result
+    c.compare_exchange-found.new.seat.me.0
 lost g c =
     lost_after (view_of c.args.self.now) c.load-word.new.seat.me.0
-    c.compare_exchange-filled.new.seat.me.0 c.load-word.result c.compare_exchange-filled.result
-    (c.load-word.ensures.2.2 c.if-word-eq0.false) c.compare_exchange-filled.ensures.2.2
+    c.compare_exchange-found.new.seat.me.0 c.load-word.result c.compare_exchange-found.result
+    (c.load-word.ensures.2.2 c.if-word-eq0.false) c.compare_exchange-found.ensures.2.2
 
 pub returns-clause-works : goal.returns-clause-works
 returns-clause-works g c =
     let w = c.args.self.now in
     let e = c.load-word.ensures in
-    let x = c.compare_exchange-filled.ensures in
-    let found : ℕ = c.compare_exchange-filled.result in
+    let x = c.compare_exchange-found.ensures in
+    let found : ℕ = c.compare_exchange-found.result in
     let n : Numbered ℕ =
     record { number = c.args.next.now.number; command = command_of c.args.command.now } in
     let w' : Worker =
     record w {
-      seat = c.compare_exchange-filled.new.seat;
+      seat = c.compare_exchange-found.new.seat;
       pending = Some found;
       tries = w.tries + 1;
     } in
     works_lost c.args.plan.now c.args.board.now w w' found c.requires.belongs.1
-    (lost g (goal.at.returns-clause-works g c).After-compare_exchange-filled) refl refl refl
+    (lost g (goal.at.returns-clause-works g c).After-compare_exchange-found) refl refl refl
     (x.2.3 ∙ e.2.3) n c.requires.command.next c.requires.way (x.0 ∙ e.0) refl refl refl
     c.requires.none
 
@@ -142,16 +142,16 @@ pub returns-clause-waits : goal.returns-clause-waits
 returns-clause-waits g c =
     let w = c.args.self.now in
     let e = c.load-word.ensures in
-    let x = c.compare_exchange-filled.ensures in
-    let found : ℕ = c.compare_exchange-filled.result in
+    let x = c.compare_exchange-found.ensures in
+    let found : ℕ = c.compare_exchange-found.result in
     let w' : Worker =
     record w {
-      seat = c.compare_exchange-filled.new.seat;
+      seat = c.compare_exchange-found.new.seat;
       pending = Some found;
       tries = w.tries + 1;
     } in
     waits_lost c.args.plan.now c.args.board.now w w' found c.requires.belongs.1
-    (lost g (goal.at.returns-clause-waits g c).After-compare_exchange-filled) refl refl refl
+    (lost g (goal.at.returns-clause-waits g c).After-compare_exchange-found) refl refl refl
     (x.2.3 ∙ e.2.3)
 
 pub returns-clause-tries : goal.returns-clause-tries

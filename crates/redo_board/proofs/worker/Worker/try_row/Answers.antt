@@ -37,7 +37,7 @@ lags_now : (p : PlanOf) (w : Worker) → Works p w → w.pending ≡ None
 lags_now p w k e = subst (λ o. Lags p w.replica o (seen_by w)) e k.lags
 
 pub compare_exchange-found-requires : goal.compare_exchange-found-requires
-compare_exchange-found-requires c =
+compare_exchange-found-requires g c =
     let p = c.args.plan.now in
     let w = c.args.self.now in
     let b = c.requires.belongs.0 in
@@ -66,7 +66,7 @@ compare_exchange-found-requires c =
     )
 
 pub overflow_add-self : goal.overflow_add-self
-overflow_add-self c =
+overflow_add-self g c =
     let p = c.args.plan.now in
     let n : Numbered ℕ =
     record { number = c.args.next.now.number; command = command_of c.args.command.now } in
@@ -77,34 +77,34 @@ overflow_add-self c =
     omega arith
 
 pub returns-then-found-ne0-clause-row : goal.returns-then-found-ne0-clause-row
-returns-then-found-ne0-clause-row c =
+returns-then-found-ne0-clause-row g c =
     let n : Numbered ℕ =
     record { number = c.args.next.now.number; command = command_of c.args.command.now } in
     row_next c.args.plan.now c.args.self.now n c.requires.belongs.1.works c.requires.command.next
     c.requires.way
 
 pub returns-clause-row : goal.returns-clause-row
-returns-clause-row c =
+returns-clause-row g c =
     let n : Numbered ℕ =
     record { number = c.args.next.now.number; command = command_of c.args.command.now } in
     row_next c.args.plan.now c.args.self.now n c.requires.belongs.1.works c.requires.command.next
     c.requires.way
 
 pub change-requires-clause-step : goal.change-requires-clause-step
-change-requires-clause-step c =
+change-requires-clause-step g c =
     let is = c.requires.step in
     subst (λ (w : Worker). IsStepBelow w.replica.graph.tables (count_of w.replica) c.args.step.now)
     (sym c.reply_to-reply.ensures.same) (command_of c.args.command.now, is.means, is.numbers)
 
 pub change-requires-clause-applied : goal.change-requires-clause-applied
-change-requires-clause-applied c =
+change-requires-clause-applied g c =
     let w = c.args.self.now in
     let k = c.requires.belongs.1.works in
     subst (λ (v : Worker). v.replica.applied + 1 < 2 ^ 32) (sym c.reply_to-reply.ensures.same)
     (lags_few c.args.plan.now (view_of w) w.replica w.pending k.told k.lags)
 
 pub returns-then-found-ne0-clause-works : goal.returns-then-found-ne0-clause-works
-returns-then-found-ne0-clause-works c =
+returns-then-found-ne0-clause-works g c =
     let p = c.args.plan.now in
     let w = c.args.self.now in
     let k = c.requires.belongs.1 in
@@ -126,7 +126,7 @@ returns-then-found-ne0-clause-works c =
     c.requires.command.next c.requires.way e.0 refl refl refl c.requires.none
 
 pub returns-then-found-ne0-clause-result : goal.returns-then-found-ne0-clause-result
-returns-then-found-ne0-clause-result c =
+returns-then-found-ne0-clause-result g c =
     let p = c.args.plan.now in
     let w = c.args.self.now in
     let k = c.requires.belongs.1 in
@@ -152,10 +152,10 @@ enters_same v w replica x entry new =
     subst (λ (u : Worker). Enters (record u { replica = replica }) x entry new)
 
 -- the worker after its entry
-done : (c : After-enter)
+done : (g : _) (c : After-enter g)
     → WorksAt c.args.plan.now c.args.board.now c.enter.new.self
     × Made c.args.plan.now c.args.self.now c.enter.new.self
-done c =
+done g c =
     let p = c.args.plan.now in
     let w = c.args.self.now in
     let k = c.requires.belongs.1 in
@@ -221,19 +221,19 @@ done c =
     (word p w.session c.args.next.now.number x h ∷ [], refl))
 
 pub returns-clause-works : goal.returns-clause-works
-returns-clause-works c = (done (goal.at.returns-clause-works c).After-enter).0
+returns-clause-works g c = (done g (goal.at.returns-clause-works g c).After-enter).0
 
 pub returns-clause-result : goal.returns-clause-result
-returns-clause-result c = (done (goal.at.returns-clause-result c).After-enter).1
+returns-clause-result g c = (done g (goal.at.returns-clause-result g c).After-enter).1
 
 pub holds_its_target-holds-requires : goal.holds_its_target-holds-requires
-holds_its_target-holds-requires c =
+holds_its_target-holds-requires g c =
     let n : Numbered ℕ =
     record { number = c.args.next.now.number; command = command_of c.args.command.now } in
     own_below c.args.plan.now c.args.self.now n c.requires.belongs.1.works c.requires.command.next
 
 pub enter-requires-clause-names : goal.enter-requires-clause-names
-enter-requires-clause-names c =
+enter-requires-clause-names g c =
     let n : Numbered ℕ =
     record { number = c.args.next.now.number; command = command_of c.args.command.now } in
     subst (λ (w : Worker). IsBelow (length w.own) (command_of c.args.command.now))
@@ -242,7 +242,7 @@ enter-requires-clause-names c =
     c.requires.command.next)
 
 pub enter-requires-clause-room : goal.enter-requires-clause-room
-enter-requires-clause-room c =
+enter-requires-clause-room g c =
     let n : Numbered ℕ =
     record { number = c.args.next.now.number; command = command_of c.args.command.now } in
     subst (λ (w : Worker). vec_len w.entries < vec_capacity w.entries)
@@ -251,6 +251,6 @@ enter-requires-clause-room c =
     c.requires.command.next)
 
 pub noted-requires : goal.noted-requires
-noted-requires c =
+noted-requires g c =
     closing_lets_go c.args.plan.now c.args.self.now c.args.next.now.number c.args.next.now.closing
     (command_of c.args.command.now) c.requires.command c.requires.way
