@@ -55,6 +55,8 @@ module _ (before : List (Line Text)) (first now : Moment) (led : LeadsTo before 
       → IsCutShort before broken.sent broken.kept
       first.left now.left first.log now.log first.out now.out
   cut_short_of broken = record {
+    legal = (steps_lead before first.known broken.known (broken.sent ++ broken.kept) led
+        broken.steps).legal;
     are_rounds = steps_are_rounds before first.known broken.known (broken.sent ++ broken.kept) led
         broken.steps;
     more = broken.more;

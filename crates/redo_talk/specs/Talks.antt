@@ -20,9 +20,11 @@ pub record IsConversation (before : List (Line Text)) (rounds : List Round) (tor
   pub said : Appends out out_after (said_in rounds)
 
 -- after the history the rounds of `sent` were read, logged and answered; of those of `kept`, read
--- after them, a prefix was logged and, if that was all of it, a prefix of the answers was written
+-- after them, a prefix was logged and, if that was all of it, a prefix of the answers was written;
+-- the history goes on by the lines of all of them, and is legal
 pub record IsCutShort (before : List (Line Text)) (sent kept : List Round)
     (input input_after log log_after out out_after : Option Text) : Type 0 where
+  pub legal : Legal texts (before ++ lines_in (sent ++ kept))
   pub are_rounds : AreRounds before (sent ++ kept)
   pub more : Text
   pub heard : Consumes input input_after (heard_in (sent ++ kept) ++ more)
