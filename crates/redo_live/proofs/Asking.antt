@@ -24,7 +24,7 @@ use Rattle.redo_model.proofs.WhyByName.{why_below, tells_why_by_name, deps_by_na
 use Rattle.redo_ood.specs.Meaning.{why_of}
 use Rattle.redo_ood.specs.declared.why.Why.{Why}
 use Rattle.redo_terms.specs.Meaning.{by_text}
-use Rattle.redo_live.specs.Answers.{state_words}
+use Rattle.redo_live.specs.Answers.{Standing}
 use Rattle.redo_live.specs.Inside.Asked.{why_at}
 use Rattle.redo_live.specs.Inside.Ordered.{AreSortedAgain}
 use Rattle.redo_live.specs.Inside.Within.{IsStateWithin}
@@ -123,7 +123,7 @@ module _ (names : List Text) (are : AreNames names) (st : State ℕ)
         → (state : TargetState) (holder : Option ℕ) (file : Option Text)
         → state ≡ target_state st.records n → holder ≡ st.locks.holder n
         → file ≡ (st.records.cell n).file
-        → state_words state holder file ≡ state_words (target_state here.records name)
+        → Standing state holder file ≡ Standing (target_state here.records name)
         (here.locks.holder name) (here.records.cell name).file
     told_state n name below named state holder file is_state is_holder is_file =
         let cell : here.records.cell name ≡ st.records.cell n =
@@ -131,10 +131,6 @@ module _ (names : List Text) (are : AreNames names) (st : State ℕ)
         let held : here.locks.holder name ≡ st.locks.holder n =
         ap here.locks.holder (sym named)
         ∙ value_at_name (renaming names are) None st.locks.holder n below in
-        ap (λ (x : TargetState). state_words x holder file)
-        (is_state ∙ sym (ap (λ (c : Cell). c.state) cell))
-        ∙ ap (λ (x : Option ℕ). state_words (target_state here.records name) x file)
-        (is_holder ∙ sym held)
-        ∙ ap (λ (x : Option Text).
-        state_words (target_state here.records name) (here.locks.holder name) x)
-        (is_file ∙ sym (ap (λ (c : Cell). c.file) cell))
+        let same_state = is_state ∙ sym (ap (λ (c : Cell). c.state) cell) in
+        let same_file = is_file ∙ sym (ap (λ (c : Cell). c.file) cell) in
+        λ i. Standing (same_state i) ((is_holder ∙ sym held) i) (same_file i)

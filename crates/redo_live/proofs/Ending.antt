@@ -46,7 +46,7 @@ use Rattle.redo_live.proofs.Reordered.{ascending_once, listed_again}
 pub number_is_strict : (n : ℕ) → nat_cmp n n ≢ Less
 number_is_strict n e = let f = tied_itself nat_cmp_total n in cc
 
-text_is_strict : (names : List Text) (n : ℕ) → (by_text names).order n n ≢ Less
+pub text_is_strict : (names : List Text) (n : ℕ) → (by_text names).order n n ≢ Less
 text_is_strict names n e = let f = tied_itself nat_list_cmp_total (text_at names n) in cc
 
 numbered_by : (f : ℕ → Option ℕ) (s : ℕ) (o : Option ℕ) → value_at None f o ≡ Some s

@@ -11,3 +11,4 @@ pub mod Lines
 pub mod Closing
 pub mod Ending
 pub mod OneAnswer
+pub mod Forms

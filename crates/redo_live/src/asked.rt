@@ -1,5 +1,5 @@
 //! The answers about a name: words, each with the space before it.
-ghost use Rattle.std.specs.Prelude.{◌≡◌, ◌+◌, ◌++◌, Some, length, map, decimal, option_map, OnOk, IfSome};
+ghost use Rattle.std.specs.Prelude.{◌≡◌, ◌+◌, ◌<◌, ◌++◌, Some, length, map, decimal, option_map, true, OnOk, IfSome};
 ghost use Rattle.std.specs.List.{flat_map};
 ghost use Rattle.redo_model.specs.Names.{text_at};
 ghost use Rattle.redo_model.specs.Inside.Deps.{AreDepsBelow};
@@ -9,9 +9,11 @@ ghost use Rattle.redo_model.specs.Renaming.{AllBelow};
 ghost use Rattle.redo_ood.specs.Meaning.{reason_of, why_of};
 ghost use Rattle.redo_records.specs.Meaning.{target_state_of};
 ghost use Rattle.redo_store.specs.Meaning.{deps_of};
+ghost use Rattle.redo_terms.specs.Stamp.{is_stamp};
 ghost use Rattle.redo_text.specs.Texts.{after_space};
 ghost use Rattle.redo_text.specs.Inquiries.{inquiry_word};
-ghost use Rattle.redo_live.specs.Answers.{counted, deps_words, flag_word, holder_word, reason_name, reason_word, stage_words, state_words, why_words};
+ghost use Rattle.redo_live.specs.Answers.{Standing, counted, deps_words, flag_word, holder_word, reason_name, reason_word, stage_words, state_words, why_words};
+ghost use Rattle.redo_live.specs.Inside.AnswerForms.{HasAnswerForm, HasStateForm};
 ghost use Rattle.redo_live.specs.Inside.Asked.{deps_at, why_at};
 
 use redo_history::put_number;
@@ -144,8 +146,9 @@ fn put_session(out: &mut Vec<u8>, session: u8) -> Result<(), AllocError>
 }
 
 fn put_stage(out: &mut Vec<u8>, state: State) -> Result<(), AllocError>
-    ensures { OnOk result (out.new.items
+    ensures words { OnOk result (out.new.items
         ≡ out.old.items ++ flat_map after_space (stage_words (target_state_of state))) }
+    ensures form { HasStateForm (target_state_of state) }
 {
     match state {
         State::Idle => put_word(out, b"idle"),
@@ -159,11 +162,22 @@ fn put_stage(out: &mut Vec<u8>, state: State) -> Result<(), AllocError>
 }
 
 fn put_holder(out: &mut Vec<u8>, holder: Option<u8>) -> Result<(), AllocError>
-    ensures { OnOk result (out.new.items ≡ out.old.items ++ after_space (holder_word holder)) }
+    ensures word { OnOk result (out.new.items
+        ≡ out.old.items ++ after_space (holder_word holder)) }
+    ensures form { IfSome holder (λ session. session < 256) }
 {
     match holder {
         None => put_word(out, b"-"),
         Some(session) => put_session(out, session),
+    }
+}
+
+/// The stamp of a file is one.
+fn is_stamped(file: &Option<FileStamp>)
+    ensures { IfSome file.now (λ stamp. is_stamp stamp ≡ true) }
+{
+    if let Some(stamp) = file {
+        let _ = stamp.bytes();
     }
 }
 
@@ -174,9 +188,11 @@ pub(crate) fn put_state(
     holder: Option<u8>,
     file: Option<FileStamp>,
 ) -> Result<(), AllocError>
-    ensures { OnOk result (out.new.items ≡ out.old.items
+    ensures words { OnOk result (out.new.items ≡ out.old.items
         ++ flat_map after_space (state_words (target_state_of state) holder file)) }
+    ensures form { OnOk result (HasAnswerForm (Standing (target_state_of state) holder file)) }
 {
+    is_stamped(&file);
     put_stage(out, state)?;
     put_word(out, b"lock")?;
     put_holder(out, holder)?;

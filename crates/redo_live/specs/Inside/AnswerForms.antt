@@ -1,12 +1,13 @@
 -- What is required of an answer so that its line determines it.
-use Rattle.std.specs.Prelude.{◌≡◌, ◌<◌, ◌≤◌, true, List, length, IfSome, ⊤}
+use Rattle.std.specs.Prelude.{◌≡◌, ℕ, ◌<◌, ◌≤◌, true, List, length, IfSome, ⊤}
 use Rattle.redo_names.specs.Names.{is_name, AreAllNames}
 use Rattle.redo_model.specs.Names.{Text}
-use Rattle.redo_model.specs.State.{TargetState, Idle, Building, Built, Failed}
+use Rattle.redo_model.specs.State.{State, TargetState, Idle, Building, Built, Failed}
 use Rattle.redo_model.specs.Why as whys
 use Rattle.redo_model.specs.Why.{Reason}
 use Rattle.redo_terms.specs.Stamp.{is_stamp}
-use Rattle.redo_live.specs.Answers.{Answer, Cause, Rows, Standing}
+use Rattle.redo_text.specs.declared.inquiries.Inquiry.{Inquiry}
+use Rattle.redo_live.specs.Answers.{Answer, AnswersInquiry, Cause, Rows, Standing}
 
 abbrev pub HasReasonForm : Reason Text → Type 0
 HasReasonForm whys.Building = ⊤
@@ -25,7 +26,7 @@ AreCountedNames names = AreAllNames names × (length names ≤ 4294967295)
 
 abbrev pub HasStateForm : TargetState → Type 0
 HasStateForm Idle = ⊤
-HasStateForm (Building session) = session < 64
+HasStateForm (Building session) = session < 256
 HasStateForm Built = ⊤
 HasStateForm Failed = ⊤
 
@@ -33,4 +34,11 @@ abbrev pub HasAnswerForm : Answer → Type 0
 HasAnswerForm (Cause found) = IfSome found HasWhyForm
 HasAnswerForm (Rows deps) = AreCountedNames deps.change × AreCountedNames deps.created
 HasAnswerForm (Standing state holder file) = HasStateForm state
-    × IfSome holder (λ session. session < 64) × IfSome file (λ stamp. is_stamp stamp ≡ true)
+    × IfSome holder (λ session. session < 256) × IfSome file (λ stamp. is_stamp stamp ≡ true)
+
+-- the line is a true answer to the session's question, and determines the answer
+pub record AnswersInForm (st : State Text) (session : ℕ) (inquiry : Inquiry) (name line : Text)
+    : Type 0
+  where
+    pub is : AnswersInquiry st session inquiry name line
+    pub form : HasAnswerForm is.answer

@@ -14,7 +14,8 @@ ghost use Rattle.redo_store.specs.Meaning.{deps_of};
 ghost use Rattle.redo_store.specs.Tables.{tables_count};
 ghost use Rattle.redo_text.specs.Texts.{after_space};
 ghost use Rattle.redo_text.specs.Inquiries.{inquiry_word};
-ghost use Rattle.redo_live.specs.Answers.{Answer, AnswersInquiry, IsAnswer, answer_words, inquiry_of, state_words};
+ghost use Rattle.redo_live.specs.Answers.{Answer, IsAnswer, Rows, Standing, answer_words, inquiry_of, state_words};
+ghost use Rattle.redo_live.specs.Inside.AnswerForms.{AnswersInForm, HasAnswerForm, HasWhyForm};
 ghost use Rattle.redo_live.specs.Inside.Asked.{deps_at, why_at};
 ghost use Rattle.redo_live.specs.Inside.LiveState.{IsNumberOf, state_in};
 
@@ -40,7 +41,7 @@ impl Live {
     ) -> Result<(), AllocError>
         ensures kept { self.new ≡ self.old }
         ensures told { OnOk result ((line : Text)
-            × AnswersInquiry (state_in self.old) session inquiry name.now line
+            × AnswersInForm (state_in self.old) session inquiry name.now line
             × (said.new.items ≡ said.old.items ++ line)) }
         ensures untold { OnErr result (said.new.items ≡ said.old.items) }
     {
@@ -62,7 +63,7 @@ impl Live {
     ) -> Result<Vec<u8>, AllocError>
         ensures kept { self.new ≡ self.old }
         ensures answers { IfOk result (λ line.
-            AnswersInquiry (state_in self.old) session inquiry name.now line.items) }
+            AnswersInForm (state_in self.old) session inquiry name.now line.items) }
     {
         line.clear();
         put_number(&mut line, session as usize + 1)?;
@@ -100,7 +101,7 @@ impl Live {
         ensures kept { self.new ≡ self.old }
         ensures answer { OnOk result ((answer : Answer) × (inquiry_of answer ≡ inquiry)
             × IsAnswer (state_in self.old) name.now answer
-            × (line.new.items
+            × HasAnswerForm answer × (line.new.items
             ≡ line.old.items ++ flat_map after_space (answer_words name.now answer))) }
     {
         match inquiry {
@@ -123,6 +124,8 @@ impl Live {
             (option_map (why_at self.old.names) found)) }
         ensures below { IfOk result
             (λ found. IfSome found (λ why. IsWhyBelow (length self.old.names) (why_of why))) }
+        ensures form { IfOk result
+            (λ found. IfSome (option_map (why_at self.old.names) found) HasWhyForm) }
     {
         match self.known_number(name) {
             Some(t) => self.redo.why(alloc, t),
@@ -139,6 +142,8 @@ impl Live {
             (text_at self.now.names t) (deps_at self.now.names deps)) }
         ensures below { IfOk result
             (λ deps. AreDepsBelow (length self.now.names) (deps_of deps)) }
+        ensures form { IfOk result
+            (λ deps. HasAnswerForm (Rows (deps_at self.now.names deps))) }
     {
         let mut deps = self.redo.deps(alloc, t)?;
         sort(&self.names, &mut deps.change);
@@ -152,6 +157,8 @@ impl Live {
             (deps_at self.now.names deps)) }
         ensures below { IfOk result
             (λ deps. AreDepsBelow (length self.now.names) (deps_of deps)) }
+        ensures form { IfOk result
+            (λ deps. HasAnswerForm (Rows (deps_at self.now.names deps))) }
     {
         match self.known_number(name) {
             Some(t) => self.sorted_deps(alloc, t),
@@ -165,8 +172,12 @@ impl Live {
 
     /// Writes the words of the state of a name.
     fn put_state(&self, name: &[u8], line: &mut Vec<u8>) -> Result<(), AllocError>
-        ensures { OnOk result (line.new.items ≡ line.old.items ++ flat_map after_space
+        ensures words { OnOk result (line.new.items ≡ line.old.items ++ flat_map after_space
             (state_words (target_state (state_in self.now).records name.now)
+            ((state_in self.now).locks.holder name.now)
+            ((state_in self.now).records.cell name.now).file)) }
+        ensures form { OnOk result (HasAnswerForm
+            (Standing (target_state (state_in self.now).records name.now)
             ((state_in self.now).locks.holder name.now)
             ((state_in self.now).records.cell name.now).file)) }
     {

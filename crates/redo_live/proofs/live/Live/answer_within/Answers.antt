@@ -1,12 +1,11 @@
-use Rattle.std.proofs.Common.{◌≡◌, ◌∙◌, ℕ, ◌<◌, List, length, take, ap, sym, subst, arith}
+use Rattle.std.proofs.Common.{◌≡◌, ◌∙◌, ℕ, ◌<◌, List, length, take, ap, subst, arith}
 use Rattle.std.proofs.Math.Seq.{take-append_seam}
 use Rattle.redo_names.specs.Inside.Names.{Extends}
 use Rattle.redo_model.specs.Names.{Text}
-use Rattle.redo_model.specs.State.{State}
 use Rattle.redo_model.specs.Inside.Renaming.{named_state, numbering}
 use Rattle.redo_store.specs.Tables.{state_of, calls_of}
 use Rattle.redo_text.proofs.FaultOrCommand.{no_fault_in_a_line}
-use Rattle.redo_live.specs.Inside.Kept.{IsKept, KeepsLive, live_of}
+use Rattle.redo_live.specs.Inside.Kept.{IsKept, live_of}
 use Rattle.redo_live.specs.Inside.LiveState.{LiveState, IsAsKnown, IsSameDatabase, calls_in}
 use Rattle.redo_live.specs.declared.live.Live.TheInside.{Inside}
 use Rattle.redo_live.proofs.live.Live.answer_within.Goals as goal

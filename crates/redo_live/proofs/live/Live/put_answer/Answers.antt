@@ -1,4 +1,5 @@
 use Rattle.std.proofs.Common.{◌≡◌, ◌∙◌, ◌++◌, OnOk, option_map, refl, sym, subst}
+use Rattle.std.specs.Prelude.{Result, Ok, Err}
 use Rattle.std.specs.List.{flat_map}
 use Rattle.std.proofs.lemmas.Result.{on_ok_weaker}
 use Rattle.redo_model.specs.State.{target_state}
@@ -7,6 +8,11 @@ use Rattle.redo_live.specs.Answers.{Cause, Rows, Standing, deps_words, why_words
 use Rattle.redo_live.specs.Inside.Asked.{deps_at, why_at}
 use Rattle.redo_live.specs.Inside.LiveState.{LiveState, state_in}
 use Rattle.redo_live.proofs.live.Live.put_answer.Goals as goal
+
+on_ok_both : {T E : Type 0} (r : Result T E) {P Q Z : Type 0} → (P → Q → Z) → OnOk r P → OnOk r Q
+    → OnOk r Z
+on_ok_both (Ok x) f p q = f p q
+on_ok_both (Err e) f p q = tt
 
 pub returns-in_ok-found-in-Why-clause-answer : goal.returns-in_ok-found-in-Why-clause-answer
 returns-in_ok-found-in-Why-clause-answer c =
@@ -22,6 +28,7 @@ returns-in_ok-found-in-Why-clause-answer c =
       Cause (option_map (why_at live.names) found),
       sym c.in-Why.is,
       c.in_ok-found-in-Why.ensures.why,
+      c.in_ok-found-in-Why.ensures.form,
       e,
     )) told
 
@@ -38,6 +45,7 @@ returns-in_ok-deps-in-Deps-clause-answer c =
       Rows (deps_at live.names deps),
       sym c.in-Deps.is,
       c.in_ok-deps-in-Deps.ensures.deps,
+      c.in_ok-deps-in-Deps.ensures.form,
       e,
     )) told
 
@@ -45,9 +53,10 @@ pub returns-in-State-clause-answer : goal.returns-in-State-clause-answer
 returns-in-State-clause-answer c =
     let st = state_in c.args.self.now in
     let name = c.args.name.now in
-    on_ok_weaker c.put_state.result (λ e. (
+    on_ok_both c.put_state.result (λ e form. (
       Standing (target_state st.records name) (st.locks.holder name) (st.records.cell name).file,
       sym c.in-State.is,
       (refl, refl, refl),
+      form,
       e,
-    )) c.put_state.ensures
+    )) c.put_state.ensures.words c.put_state.ensures.form

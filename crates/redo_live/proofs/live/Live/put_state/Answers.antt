@@ -1,18 +1,24 @@
-use Rattle.std.proofs.Common.{◌≡◌, ◌++◌, List, length, ap, subst}
+use Rattle.std.proofs.Common.{◌≡◌, ◌++◌, length, ap, subst}
 use Rattle.std.specs.List.{flat_map}
-use Rattle.std.proofs.lemmas.Result.{IfOk-equal}
+use Rattle.std.proofs.lemmas.Result.{IfOk-equal, on_ok_weaker}
 use Rattle.redo_records.specs.Meaning.{target_state_of}
-use Rattle.redo_model.specs.Names.{Text}
 use Rattle.redo_model.specs.State.{target_state}
 use Rattle.redo_store.specs.Tables.{state_of, tables_records, locks_of}
 use Rattle.redo_text.specs.Texts.{after_space}
-use Rattle.redo_live.specs.Inside.LiveState.{LiveState}
+use Rattle.redo_live.specs.Answers.{Answer, Standing, answer_words}
+use Rattle.redo_live.specs.Inside.AnswerForms.{HasAnswerForm}
+use Rattle.redo_live.specs.Inside.LiveState.{LiveState, state_in}
 use Rattle.redo_live.specs.Inside.Within.{IsStateWithin}
 use Rattle.redo_live.proofs.Asking.{told_state}
 use Rattle.redo_live.proofs.live.Live.put_state.Goals as goal
 
-pub returns-in-Some : goal.returns-in-Some
-returns-in-Some c =
+-- what is printed is what is true of the name
+told : (c : goal.After-put_state) → Standing (target_state_of c.state.result) c.holder.result
+    c.file.result
+    ≡ Standing (target_state (state_in c.args.self.now).records c.args.name.now)
+    ((state_in c.args.self.now).locks.holder c.args.name.now)
+    ((state_in c.args.self.now).records.cell c.args.name.now).file
+told c =
     let live : LiveState = c.args.self.now in
     let known = c.in-Some.ensures.known in
     let n = c.in-Some.n in
@@ -25,8 +31,16 @@ returns-in-Some c =
     c.self.view_is c.holder.ensures in
     let is_file = subst (λ (l : LiveState). c.file.result ≡ ((tables_records l.tables).cell n).file)
     c.self.view_is c.file.ensures in
-    IfOk-equal c.put_state.result _ _ _ c.put_state.ensures
-    (ap (λ (words : List Text). c.args.line.now.items ++ flat_map after_space words)
-    (told_state live.names c.in-Some.ensures.names (state_of live.tables) within n
+    told_state live.names c.in-Some.ensures.names (state_of live.tables) within n
     c.args.name.now known.among_names known.named state c.holder.result c.file.result is_state
-    is_holder is_file))
+    is_holder is_file
+
+pub returns-in-Some-clause-words : goal.returns-in-Some-clause-words
+returns-in-Some-clause-words c =
+    IfOk-equal c.put_state.result _ _ _ c.put_state.ensures.words
+    (ap (λ (answer : Answer).
+    c.args.line.now.items ++ flat_map after_space (answer_words c.args.name.now answer)) (told c))
+
+pub returns-in-Some-clause-form : goal.returns-in-Some-clause-form
+returns-in-Some-clause-form c =
+    on_ok_weaker c.put_state.result (subst HasAnswerForm (told c)) c.put_state.ensures.form

@@ -8,6 +8,7 @@ use Rattle.redo_live.specs.Inside.LiveState.{LiveState}
 use Rattle.redo_live.specs.Inside.Ordered.{AreSortedAgain}
 use Rattle.redo_live.specs.Inside.Within.{IsStateWithin}
 use Rattle.redo_live.proofs.Asking.{deps_below, sorted_deps, told_deps}
+use Rattle.redo_live.proofs.Forms.{deps_form}
 use Rattle.redo_live.proofs.live.Live.sorted_deps.Goals as goal
 
 -- the rows over numbers, in the order of the texts
@@ -53,6 +54,17 @@ returns-clause-below c =
     let within = subst (λ (l : LiveState). IsStateWithin (length l.names) (state_of l.tables))
     c.self.view_is c.self.invariant.state.within in
     deps_below live.names c.requires.names (state_of live.tables) within c.args.t (record {
+      change = c.sort.new.numbers.items;
+      created = c.sort-2.new.numbers.items;
+      always = c.in_ok-deps.deps.always;
+    }) (by_texts c)
+
+pub returns-clause-form : goal.returns-clause-form
+returns-clause-form c =
+    let live : LiveState = c.args.self.now in
+    let within = subst (λ (l : LiveState). IsStateWithin (length l.names) (state_of l.tables))
+    c.self.view_is c.self.invariant.state.within in
+    deps_form live.names c.requires.names (state_of live.tables) within c.args.t (record {
       change = c.sort.new.numbers.items;
       created = c.sort-2.new.numbers.items;
       always = c.in_ok-deps.deps.always;

@@ -7,6 +7,7 @@ use Rattle.redo_store.specs.Tables.{state_of, tables_records}
 use Rattle.redo_live.specs.Inside.LiveState.{LiveState, state_in}
 use Rattle.redo_live.specs.Inside.Within.{IsStateWithin}
 use Rattle.redo_live.proofs.Asking.{told_why, told_why_below}
+use Rattle.redo_live.proofs.Forms.{why_form}
 use Rattle.redo_live.proofs.live.Live.why.Goals as goal
 
 pub returns-in-Some-clause-why : goal.returns-in-Some-clause-why
@@ -31,6 +32,12 @@ returns-in-Some-clause-below c =
     c.self.view_is c.why.ensures.why in
     IfOk-weaker c.why.result _ _ (told_why_below live.names c.in-Some.ensures.names
     (state_of live.tables) within c.in-Some.t) tells
+
+pub returns-in-Some-clause-form : goal.returns-in-Some-clause-form
+returns-in-Some-clause-form c =
+    let live : LiveState = c.args.self.now in
+    IfOk-weaker c.why.result _ _ (why_form live.names c.in-Some.ensures.names)
+    (returns-in-Some-clause-below c)
 
 pub returns-in-None-clause-why : goal.returns-in-None-clause-why
 returns-in-None-clause-why c =
