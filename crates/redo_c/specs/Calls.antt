@@ -8,33 +8,37 @@ use Rattle.redo_log.specs.declared.restoring.Restored.{Restored}
 use Rattle.redo_talk.specs.Rounds.{Round}
 use Rattle.redo_talk.specs.Logs.{logged_of}
 use Rattle.redo_talk.specs.Inside.Hearing.{known_of}
-use Rattle.redo_talk.specs.Inside.Replies.{LogsPrefix, WouldTell}
-use Rattle.redo_talk.specs.Inside.Steps.{Known, IsStep}
+use Rattle.redo_talk.specs.Inside.Replies.{IsReplied, LogsPrefix, WouldTell}
+use Rattle.redo_talk.specs.Inside.Steps.{Known}
+use Rattle.redo_talk.specs.declared.replying.Replied.{Replied}
+use Rattle.redo_talk.specs.declared.replying.Replied.TheVariants.{Done, Fault}
 use Rattle.redo_c.specs.declared.answering.Told.{Told}
 use Rattle.redo_c.specs.declared.calls.Counts.{Counts}
 use Rattle.redo_c.specs.declared.contents.Contents.{Contents}
 use Rattle.redo_c.specs.declared.contents.Contents.TheVariants.{Closed, Open}
 
--- the line was read; its answer is at the beginning of the buffer, and a prefix of that is to be
--- logged
-pub record TellsInto (old new : Known) (heard room room_after : Text) (told : Told) : Type 0 where
-  pub round : Round
-  pub heard_is : round.heard ≡ heard
-  pub step : IsStep old new round
-  pub size_is : told.size ≡ length round.said
-  pub room_is : room_after ≡ round.said ++ drop told.size room
-  pub logged_is : told.logged ≡ length (logged_of old.state round.lines)
-  pub prefix : LogsPrefix old.state round
+-- the line was read, and its round is one of those of `replied`; its answer is at the beginning of
+-- the buffer, and a prefix of that is to be logged
+pub record TellsInto (replied : Replied) (old new : Known) (heard room room_after : Text)
+    (told : Told) : Type 0
+  where
+    pub round : Round
+    pub heard_is : round.heard ≡ heard
+    pub step : IsReplied replied old new round
+    pub size_is : told.size ≡ length round.said
+    pub room_is : room_after ≡ round.said ++ drop told.size room
+    pub logged_is : told.logged ≡ length (logged_of old.state round.lines)
+    pub prefix : LogsPrefix old.state round
 
--- by the status: the line was answered; or the buffer is too small, or memory ran out, and then
--- nothing was done
+-- by the status: the line was done; it was answered by its fault; or the buffer is too small, or
+-- memory ran out, and then nothing was done
 abbrev pub Answers : ℕ → LiveState → LiveState → Text → Text → Text → Told → Type 0
 Answers status old new heard room room_after told =
-    (((status ≡ 0) ⊎ (status ≡ 1))
-    × TellsInto (known_of old) (known_of new) heard room room_after told)
+    ((status ≡ 0) × TellsInto Done (known_of old) (known_of new) heard room room_after told)
+    ⊎ (((status ≡ 1) × TellsInto Fault (known_of old) (known_of new) heard room room_after told)
     ⊎ (IsAsKnown old new × (room_after ≡ room)
     × (((status ≡ 2) × (length room < told.size) × WouldTell (known_of old) heard told.size)
-    ⊎ ((status ≡ 3) × (told.size ≡ 0) × (told.logged ≡ 0))))
+    ⊎ ((status ≡ 3) × (told.size ≡ 0) × (told.logged ≡ 0)))))
 
 -- a database is open there, and answers; or none is
 abbrev pub AnswersAt : ℕ → Contents → Contents → Text → Text → Text → Told → Type 0

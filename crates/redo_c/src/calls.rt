@@ -1,9 +1,11 @@
 //! What the library exports. Callers see to what a call needs in addition to its clauses: that pointers and lengths are
 //! those of memory that nobody else uses meanwhile.
 ghost use Rattle.std.specs.Prelude.{◌≡◌, [], IfOk};
+ghost use Rattle.std.specs.Mem.{type_size};
 ghost use Rattle.redo_model.specs.State.{empty};
 ghost use Rattle.redo_live.specs.Inside.LiveState.{state_in};
 ghost use Rattle.redo_c.specs.Calls.{AnswersAt, Opens, Restores};
+ghost use Rattle.redo_c.specs.contracts.contents.Contents.{the_row};
 ghost use Rattle.redo_c.specs.declared.contents.Contents.TheVariants.{Closed};
 
 use crate::answering::{Told, answer};
@@ -17,7 +19,9 @@ use std::mem::size_of;
 
 /// How many bytes of memory the caller gives a handle.
 #[unsafe(no_mangle)]
-pub extern "C" fn redo_c_room() -> usize {
+pub extern "C" fn redo_c_room() -> usize
+    ensures { result ≡ type_size the_row }
+{
     size_of::<Contents>()
 }
 

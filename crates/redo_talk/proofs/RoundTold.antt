@@ -22,11 +22,18 @@ use Rattle.redo_live.specs.declared.fault.Withheld.{Withheld}
 use Rattle.redo_live.specs.declared.fault.Withheld.TheVariants.{Unanswered, TooLong}
 use Rattle.redo_talk.specs.Rounds.{Round, Asks, HasNoSession, IsFaultWord, end_word, end_text_of, fault_text_of}
 use Rattle.redo_talk.specs.Inside.Sending.{IsRefusedFor, refusal_word_of}
-use Rattle.redo_talk.specs.Inside.Steps.{IsStep}
+use Rattle.redo_talk.specs.declared.replying.Replied.TheVariants as replies
+use Rattle.redo_talk.specs.Inside.Steps.{Known, Refusing, IsStep}
 use Rattle.redo_talk.specs.Inside.Hearing.{known_of}
-use Rattle.redo_talk.specs.Inside.Replies.{TellsRound, WouldTell, IsPutOffFor, IsUndoneFor, IsUnheededFor, IsUnsaidFor, IsUntoldFor}
+use Rattle.redo_talk.specs.Inside.Replies.{IsReplied, TellsRound, WouldTell, IsPutOffFor, IsUndoneFor, IsUnheededFor, IsUnsaidFor, IsUntoldFor}
 use Rattle.redo_talk.proofs.LoggedPrefixes.{logs_prefix}
 use Rattle.redo_talk.proofs.Steps.{answering_step, ending_step, telling_step, held_are_known}
+
+pub done_is_step : (old new : Known) (round : Round) → IsReplied replies.Done old new round
+    → IsStep old new round
+done_is_step old new round (inl is) = inl is
+done_is_step old new round (inr (inl is)) = inr (inl is)
+done_is_step old new round (inr (inr is)) = inr (inr (inl is))
 
 -- why a command is refused
 pub command_cause : (live : LiveState) (text : Text) (why : Why)
@@ -40,39 +47,39 @@ command_cause live text (Fault fault) none cause =
 module _ (old : LiveState) (heard : Text) (session : ℕ) where
   pub answered_round : (new : LiveState) (text said said' logged logged' : Text)
       → AnswersText old new session text said said' logged logged' → Asks heard session text
-      → TellsRound (known_of old) (known_of new) heard said said' logged logged'
+      → TellsRound replies.Done (known_of old) (known_of new) heard said said' logged logged'
   answered_round new text said said' logged logged' is asks =
       let (round, is_heard, step, says, logs) =
       answering_step old new heard session text said said' logged logged' asks is in
       record {
         round = round;
         heard_is = is_heard;
-        step = step;
+        step = inl step;
         says = says;
         logs = logs;
-        prefix = logs_prefix (known_of old) (known_of new) round step;
+        prefix = logs_prefix (known_of old) (known_of new) round (inl step);
       }
 
   pub ended_round : (new : LiveState) (said said' logged logged' : Text)
       → EndsSession old new session said said' logged logged' → Asks heard session end_word
-      → TellsRound (known_of old) (known_of new) heard said said' logged logged'
+      → TellsRound replies.Done (known_of old) (known_of new) heard said said' logged logged'
   ended_round new said said' logged logged' is asks =
       let (round, is_heard, step, says, logs) =
       ending_step old new heard session said said' logged logged' asks is in
       record {
         round = round;
         heard_is = is_heard;
-        step = step;
+        step = inr (inl step);
         says = says;
         logs = logs;
-        prefix = logs_prefix (known_of old) (known_of new) round step;
+        prefix = logs_prefix (known_of old) (known_of new) round (inr (inl step));
       }
 
   pub told_round : (new : LiveState) → IsAsKnown old new
       → (text : Text) (inquiry : Inquiry) (name line said said' logged : Text)
       → Asks heard session text → text ≡ inquiry_text_of inquiry name → inquiry_fault text ≡ None
       → AnswersInquiry (state_in old) session inquiry name line → said' ≡ said ++ line
-      → TellsRound (known_of old) (known_of new) heard said said' logged logged
+      → TellsRound replies.Done (known_of old) (known_of new) heard said said' logged logged
   told_round new same text inquiry name line said said' logged asks is fits tells e =
       let (round, is_heard, step, says, logs) =
       telling_step old new heard session text inquiry name line said said' logged asks is fits
@@ -80,10 +87,10 @@ module _ (old : LiveState) (heard : Text) (session : ℕ) where
       record {
         round = round;
         heard_is = is_heard;
-        step = step;
+        step = inr (inr step);
         says = says;
         logs = logs;
-        prefix = logs_prefix (known_of old) (known_of new) round step;
+        prefix = logs_prefix (known_of old) (known_of new) round (inr (inr (inl step)));
       }
 
   -- and what the answer would be
@@ -176,17 +183,17 @@ module _ (old new : LiveState) (same : IsAsKnown old new) (heard line : Text)
     abbrev refused : Round
     refused = record { heard = heard; lines = []; said = line }
 
-    refusing : IsStep (known_of old) (known_of new) refused
-    refusing = inr (inr (inr (record {
+    refusing : Refusing (known_of old) (known_of new) refused
+    refusing = record {
       same_names = same.names;
       same_state = same.state;
       none = refl;
       cause = cause;
-    })))
+    }
 
     pub refused_round : (said said' logged logged' : Text) → said' ≡ said ++ line
         → logged' ≡ logged
-        → TellsRound (known_of old) (known_of new) heard said said' logged logged'
+        → TellsRound replies.Fault (known_of old) (known_of new) heard said said' logged logged'
     refused_round said said' logged logged' says logs = record {
       round = refused;
       heard_is = refl;
@@ -201,7 +208,7 @@ module _ (old new : LiveState) (same : IsAsKnown old new) (heard line : Text)
       round = refused;
       next = known_of new;
       heard_is = refl;
-      step = refusing;
+      step = inr (inr (inr refusing));
       size_is = e;
     }
 

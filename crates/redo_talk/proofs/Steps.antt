@@ -1,5 +1,5 @@
 -- An answer of the database is a step of a conversation.
-use Rattle.std.proofs.Common.{◌≡◌, ℕ, Bool, true, false, cond, List, [], ◌∷◌, ◌++◌, Option, Some, None, refl, sym, ap, ◌∙◌, subst, append-nil, inl, inr}
+use Rattle.std.proofs.Common.{◌≡◌, ℕ, Bool, true, false, cond, List, [], ◌∷◌, ◌++◌, Option, Some, None, refl, sym, ap, ◌∙◌, subst, append-nil}
 use Rattle.std.specs.Prelude.{bytes_eq, if◌then◌else◌}
 use Rattle.std.specs.List.{flat_map, position}
 use Rattle.std.proofs.lemmas.List.Folds.{list_any_at}
@@ -26,7 +26,7 @@ use Rattle.redo_live.specs.Inside.Told.{AnswersText, EndsSession}
 use Rattle.redo_live.specs.Lines.{lines_text_of}
 use Rattle.redo_talk.specs.Rounds.{Round, Asks, end_word, end_text_of}
 use Rattle.redo_talk.specs.Logs.{logged_of}
-use Rattle.redo_talk.specs.Inside.Steps.{IsStep}
+use Rattle.redo_talk.specs.Inside.Steps.{Answering, Ending, Telling}
 use Rattle.redo_talk.specs.Inside.Hearing.{known_of}
 
 -- what one line logs
@@ -88,7 +88,7 @@ module _ (old new : LiveState) (heard : Text) (session : ℕ) where
   -- a command that was answered
   pub answering_step : (text said said' logged logged' : Text) → Asks heard session text
       → AnswersText old new session text said said' logged logged'
-      → (round : Round) × (round.heard ≡ heard) × IsStep (known_of old) (known_of new) round
+      → (round : Round) × (round.heard ≡ heard) × Answering (known_of old) (known_of new) round
       × (said' ≡ said ++ round.said)
       × (logged' ≡ logged ++ logged_of (state_in old) round.lines)
   answering_step text said said' logged logged' asks is =
@@ -96,7 +96,7 @@ module _ (old new : LiveState) (heard : Text) (session : ℕ) where
       let same = is.is.session_is in (
         record { heard = heard; lines = line ∷ []; said = line_text_of line },
         refl,
-        inl (record {
+        record {
           line = line;
           text = text;
           asks = subst (λ s. Asks heard s text) (sym same) asks;
@@ -110,7 +110,7 @@ module _ (old new : LiveState) (heard : Text) (session : ℕ) where
               ∙ ap (λ s. after texts (state_in old) s line.command) (sym same);
           lines_are = refl;
           said_is = refl;
-        }),
+        },
         is.told.says,
         is.told.logs ∙ ap (λ t. logged ++ t) (one_logged (state_in old) line),
       )
@@ -118,7 +118,7 @@ module _ (old new : LiveState) (heard : Text) (session : ℕ) where
   -- a session that ended
   pub ending_step : (said said' logged logged' : Text) → Asks heard session end_word
       → EndsSession old new session said said' logged logged'
-      → (round : Round) × (round.heard ≡ heard) × IsStep (known_of old) (known_of new) round
+      → (round : Round) × (round.heard ≡ heard) × Ending (known_of old) (known_of new) round
       × (said' ≡ said ++ round.said)
       × (logged' ≡ logged ++ logged_of (state_in old) round.lines)
   ending_step said said' logged logged' asks is =
@@ -133,7 +133,7 @@ module _ (old new : LiveState) (heard : Text) (session : ℕ) where
           said = flat_map line_text_of lines ++ end_text_of session;
         },
         refl,
-        inr (inl (record {
+        record {
           session = session;
           asks = asks;
           held = targets;
@@ -143,7 +143,7 @@ module _ (old new : LiveState) (heard : Text) (session : ℕ) where
           state_is = is.is.left;
           lines_are = is.is.lines_are;
           said_is = refl;
-        })),
+        },
         is.says,
         is.logs ∙ ap (λ ls. logged ++ lines_text_of ls) (sym all),
       )
@@ -153,13 +153,13 @@ module _ (old new : LiveState) (heard : Text) (session : ℕ) where
       → Asks heard session text → text ≡ inquiry_text_of inquiry name → inquiry_fault text ≡ None
       → AnswersInquiry (state_in old) session inquiry name line → IsAsKnown old new
       → said' ≡ said ++ line
-      → (round : Round) × (round.heard ≡ heard) × IsStep (known_of old) (known_of new) round
+      → (round : Round) × (round.heard ≡ heard) × Telling (known_of old) (known_of new) round
       × (said' ≡ said ++ round.said)
       × (logged ≡ logged ++ logged_of (state_in old) round.lines)
   telling_step text inquiry name line said said' logged asks is fits tells same e = (
     record { heard = heard; lines = []; said = line },
     refl,
-    inr (inr (inl (record {
+    record {
       session = session;
       inquiry = inquiry;
       name = name;
@@ -169,7 +169,7 @@ module _ (old new : LiveState) (heard : Text) (session : ℕ) where
       same_names = same.names;
       same_state = same.state;
       none = refl;
-    }))),
+    },
     e,
     sym (append-nil logged),
   )

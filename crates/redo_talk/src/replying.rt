@@ -1,5 +1,5 @@
 //! The answer to one line, in this many bytes at most.
-ghost use Rattle.std.specs.Prelude.{◌≡◌, ◌≤◌, ◌+◌, ◌++◌, length, decimal, IfErr, OnOk, OnErr};
+ghost use Rattle.std.specs.Prelude.{◌≡◌, ◌≤◌, ◌+◌, ◌++◌, length, decimal, IfOk, IfErr, OnOk, OnErr};
 ghost use Rattle.redo_model.specs.Names.{Text};
 ghost use Rattle.redo_live.specs.Answers.{AnswersInquiry};
 ghost use Rattle.redo_live.specs.Inside.LiveState.{IsAsKnown, state_in};
@@ -65,7 +65,7 @@ fn heed_within(
     logged: &mut Vec<u8>,
 ) -> Result<(), Withheld>
     ensures told { OnOk result ((heard : Text) → Asks heard session text.now
-        → TellsRound (known_of live.old) (known_of live.new) heard
+        → TellsRound Replied.Done (known_of live.old) (known_of live.new) heard
         said.old.items said.new.items logged.old.items logged.new.items) }
     ensures fits { OnOk result
         (length said.new.items ≤ length said.old.items + most) }
@@ -92,7 +92,7 @@ pub(crate) fn respond_within(
     logged: &mut Vec<u8>,
 ) -> Result<(), Withheld>
     ensures told { OnOk result ((heard : Text) → Asks heard session text.now
-        → TellsRound (known_of live.old) (known_of live.new) heard
+        → TellsRound Replied.Done (known_of live.old) (known_of live.new) heard
         said.old.items said.new.items logged.old.items logged.new.items) }
     ensures fits { OnOk result
         (length said.new.items ≤ length said.old.items + most) }
@@ -114,6 +114,7 @@ fn tell_refusal(fault: Refusal, most: usize, said: &mut Vec<u8>) -> Result<Repli
         ≡ said.old.items ++ fault_text_of (decimal fault.number) fault.word.now) }
     ensures fits { OnOk result
         (length said.new.items ≤ length said.old.items + most) }
+    ensures fault { IfOk result (λ replied. replied ≡ Replied.Fault) }
     ensures cause { IfErr result
         (IsUnsaidFor (fault_text_of (decimal fault.number) fault.word.now) most) }
     ensures untold { OnErr result (said.new.items ≡ said.old.items) }
@@ -137,7 +138,8 @@ pub fn reply(
     said: &mut Vec<u8>,
     logged: &mut Vec<u8>,
 ) -> Result<Replied, Withheld>
-    ensures told { OnOk result (TellsRound (known_of live.old) (known_of live.new) line.now
+    ensures told { IfOk result (λ replied. TellsRound replied
+        (known_of live.old) (known_of live.new) line.now
         said.old.items said.new.items logged.old.items logged.new.items) }
     ensures fits { OnOk result
         (length said.new.items ≤ length said.old.items + most) }

@@ -1,5 +1,5 @@
 -- The answer to one line in this many bytes.
-use Rattle.std.specs.Prelude.{◌≡◌, ℕ, ◌<◌, ◌++◌, length}
+use Rattle.std.specs.Prelude.{◌≡◌, ◌⊎◌, ℕ, ◌<◌, ◌++◌, length}
 use Rattle.redo_model.specs.Names.{Text}
 use Rattle.redo_model.specs.State.{State}
 use Rattle.redo_text.specs.declared.inquiries.Inquiry.{Inquiry}
@@ -8,22 +8,31 @@ use Rattle.redo_live.specs.Inside.LiveState.{LiveState}
 use Rattle.redo_live.specs.declared.fault.Unanswered.TheVariants.{Memory}
 use Rattle.redo_live.specs.declared.fault.Withheld.{Withheld}
 use Rattle.redo_live.specs.declared.fault.Withheld.TheVariants.{Unanswered, TooLong}
+use Rattle.redo_talk.specs.declared.replying.Replied.{Replied}
+use Rattle.redo_talk.specs.declared.replying.Replied.TheVariants.{Done, Fault}
 use Rattle.redo_talk.specs.Rounds.{Round, Asks, IsFaultWord}
 use Rattle.redo_talk.specs.Logs.{logged_of}
 use Rattle.redo_talk.specs.Inside.Hearing.{known_of}
 use Rattle.redo_talk.specs.Inside.Sending.{IsRefusedFor, refusal_word_of}
-use Rattle.redo_talk.specs.Inside.Steps.{Known, IsStep}
+use Rattle.redo_talk.specs.Inside.Steps.{Known, Answering, Ending, Telling, Refusing, IsStep}
 
 -- what the round logs is a prefix of its answer
 abbrev pub LogsPrefix : State Text → Round → Type 0
 LogsPrefix st round = (rest : Text) × (round.said ≡ logged_of st round.lines ++ rest)
 
--- the line was read, and its round appended to `said` and `logged`
-pub record TellsRound (old new : Known) (heard said said_after logged logged_after : Text) : Type 0
+-- a command, an end or a question was answered; or the line has a fault, which is the answer
+abbrev pub IsReplied : Replied → Known → Known → Round → Type 0
+IsReplied Done old new round =
+    Answering old new round ⊎ (Ending old new round ⊎ Telling old new round)
+IsReplied Fault old new round = Refusing old new round
+
+-- the line was read, its round is one of those of `replied`, and was appended to `said` and `logged`
+pub record TellsRound (replied : Replied) (old new : Known)
+    (heard said said_after logged logged_after : Text) : Type 0
   where
     pub round : Round
     pub heard_is : round.heard ≡ heard
-    pub step : IsStep old new round
+    pub step : IsReplied replied old new round
     pub says : said_after ≡ said ++ round.said
     pub logs : logged_after ≡ logged ++ logged_of old.state round.lines
     pub prefix : LogsPrefix old.state round

@@ -1,6 +1,8 @@
 use Rattle.std.proofs.Common.{ℕ, refl, sym, ap, ◌∙◌, subst, inl, inr, decimal, arith}
 use Rattle.std.proofs.lemmas.Fmt.{decimal_digit}
 use Rattle.redo_talk.specs.Rounds.{IsFaultWord, fault_text_of}
+use Rattle.redo_talk.specs.Inside.Hearing.{known_of}
+use Rattle.redo_talk.proofs.RoundTold.{done_is_step}
 use Rattle.redo_talk.proofs.hearing.answer.Goals as goal
 
 pub returns-in_default-clause-refused : goal.returns-in_default-clause-refused
@@ -19,7 +21,9 @@ returns-in_default-clause-refused c =
 pub returns-in-Ok-clause-step : goal.returns-in-Ok-clause-step
 returns-in-Ok-clause-step c =
     let told = c.in-Ok.ensures.told c.args.line.now c.in-Some.ensures in
-    (told.round, told.heard_is, told.step, told.says, told.logs)
+    let step = done_is_step (known_of c.args.live.now) (known_of c.respond_within.new.live)
+    told.round told.step in
+    (told.round, told.heard_is, step, told.says, told.logs)
 
 pub returns-in-Err-Unanswered-clause-refused : goal.returns-in-Err-Unanswered-clause-refused
 returns-in-Err-Unanswered-clause-refused c =

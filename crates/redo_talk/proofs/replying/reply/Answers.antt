@@ -2,7 +2,8 @@ use Rattle.std.proofs.Common.{ℕ, ◌++◌, refl, sym, ap, ◌∙◌, subst, in
 use Rattle.std.proofs.lemmas.Fmt.{decimal_digit}
 use Rattle.redo_model.specs.Names.{Text}
 use Rattle.redo_talk.specs.Rounds.{IsFaultWord, fault_text_of}
-use Rattle.redo_talk.proofs.Outcomes.{ok_then, if_err_then}
+use Rattle.redo_talk.specs.declared.replying.Replied.TheVariants.{Fault}
+use Rattle.redo_talk.proofs.Outcomes.{ok_is_then, if_err_then}
 use Rattle.redo_talk.proofs.RoundTold.{refused_round, refusal_put_off}
 use Rattle.redo_talk.proofs.replying.reply.Goals as goal
 
@@ -10,7 +11,8 @@ pub returns-in_default-clause-told : goal.returns-in_default-clause-told
 returns-in_default-clause-told c =
     let live = c.args.live.now in
     let zero = ap decimal c.no_session.ensures.number ∙ decimal_digit 0 (omega arith) in
-    ok_then c.tell_refusal.result _ _ c.tell_refusal.ensures.told (λ says.
+    ok_is_then c.tell_refusal.result Fault _ _ c.tell_refusal.ensures.told
+    c.tell_refusal.ensures.fault (λ says.
     refused_round live live (record { state = refl; names = refl; calls = refl }) c.args.line.now
     (fault_text_of (decimal c.no_session.result.number) c.no_session.result.word.now)
     (inl (c.in_default.ensures, λ i. fault_text_of (zero i) (c.no_session.ensures.word i)))
@@ -34,8 +36,9 @@ returns-in-Err-Unanswered-clause-told c =
     let line = fault_text_of (decimal c.of.result.number) word in
     let failed = c.in-Err-Unanswered.ensures in
     let cause = rw c.in-Err-Unanswered.field-0-is at failed.cause in
-    ok_then c.tell_refusal-in-Err-Unanswered.result _ _
-    c.tell_refusal-in-Err-Unanswered.ensures.told (λ says.
+    ok_is_then c.tell_refusal-in-Err-Unanswered.result Fault _ _
+    c.tell_refusal-in-Err-Unanswered.ensures.told
+    c.tell_refusal-in-Err-Unanswered.ensures.fault (λ says.
     refused_round live c.respond_within.new.live failed.known c.args.line.now line
     (inr (
       c.in-Some.session,
