@@ -89,11 +89,15 @@ def _start(places: Places, idle: float) -> None:
 
 
 def _program(places: Places, idle: float) -> list[bytes]:
-    """Return the words that start a server. It is run as a file, so that nothing is imported from
-    the working folder."""
+    """Return the words that start a server: the program that $REDO_SERVER names, else that of this
+    package. It is run as a file, so that nothing is imported from the working folder."""
+    words = [b"--detach", b"--idle", b"%r" % idle, b"--top", places.top]
+    chosen = os.environb.get(b"REDO_SERVER")
+    if chosen:
+        return [os.path.abspath(chosen), *words]
     python = os.fsencode(sys.executable or "python3")
     program = os.path.join(package_folder(), b"redodb/server/__main__.py")
-    return [python, b"-IS", program, b"--detach", b"--idle", b"%r" % idle, b"--top", places.top]
+    return [python, b"-IS", program, *words]
 
 
 def _ended(words: list[bytes], errors: int) -> int:

@@ -29,6 +29,19 @@ def program_or_skip() -> str:
     return os.fsdecode(program)
 
 
+def server_words() -> list[str]:
+    """The words that start a server in the foreground: $REDO_SERVER, else the one beside it."""
+    chosen = os.environ.get("REDO_SERVER")
+    if chosen:
+        return [os.path.abspath(chosen)]
+    return [sys.executable, "-ESs", "-m", "redodb.server"]
+
+
+def server_name() -> str:
+    """What that server calls itself."""
+    return "redo-server" if os.environ.get("REDO_SERVER") else "redodb serve"
+
+
 def eventually(holds: Callable[[], bool]) -> bool:
     """Say whether something holds in time."""
     end = time.monotonic() + PATIENCE
@@ -105,16 +118,7 @@ class ServedTree(unittest.TestCase):
 
     def serve(self, idle: float = 0.1, program: str = "") -> subprocess.Popen[bytes]:
         """Start a server, and return it when it listens."""
-        command = [
-            sys.executable,
-            "-ESs",
-            "-m",
-            "redodb.server",
-            "--top",
-            self.top,
-            "--idle",
-            str(idle),
-        ]
+        command = [*server_words(), "--top", self.top, "--idle", str(idle)]
         server = subprocess.Popen(
             command,
             cwd=package_folder(),

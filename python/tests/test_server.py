@@ -12,7 +12,7 @@ from pathlib import Path
 import beside  # noqa: F401
 from redodb import requests
 from redodb.places import package_folder
-from served import PATIENCE, Raw, ServedTree, eventually
+from served import PATIENCE, Raw, ServedTree, eventually, server_name, server_words
 
 
 class Place(ServedTree):
@@ -222,9 +222,7 @@ class Questions(ServedTree):
         waiting = self.raw()
         self.assertTrue(waiting.is_silent())
         late.send("0 question", "1 lock a", "2 state a")
-        self.assertEqual(
-            late.lines(3), ["session 0", "1 fault no-session", "2 idle lock - file -"]
-        )
+        self.assertEqual(late.lines(3), ["session 0", "1 fault no-session", "2 idle lock - file -"])
         self.assertEqual(waiting.line(), "session 1")
         self.assertEqual(clients[0].talk("0 question")[0].split()[0], "session")
 
@@ -374,7 +372,7 @@ class Groups(ServedTree):
 class Call(unittest.TestCase):
     def call(self, *words: str) -> subprocess.CompletedProcess[str]:
         return subprocess.run(
-            [sys.executable, "-ESs", "-m", "redodb.server", *words],
+            [*server_words(), *words],
             cwd=package_folder(),
             capture_output=True,
             text=True,
@@ -385,8 +383,9 @@ class Call(unittest.TestCase):
     def test_for_help_and_version_is_answered(self) -> None:
         helped = self.call("--help")
         self.assertEqual((helped.returncode, helped.stderr), (0, ""))
-        self.assertRegex(helped.stdout, r"\Ausage: redodb serve \[--top DIR\] \[--idle SECONDS\]")
-        self.assertRegex(self.call("--version").stdout, r"\Aredodb serve [0-9.]+\n\Z")
+        usage = rf"\Ausage: {server_name()} \[--top DIR\] \[--idle SECONDS\]"
+        self.assertRegex(helped.stdout, usage)
+        self.assertRegex(self.call("--version").stdout, rf"\A{server_name()} [0-9.]+\n\Z")
 
     def test_that_is_not_understood_is_status_2(self) -> None:
         for words in (

@@ -6,7 +6,7 @@ import time
 from pathlib import Path
 
 import beside  # noqa: F401
-from served import PATIENCE, ServedTree
+from served import PATIENCE, ServedTree, eventually, server_name
 
 
 class End(ServedTree):
@@ -66,6 +66,19 @@ class End(ServedTree):
         self.serve(idle=5)
         self.assertEqual(self.client().talk("1 lock a"), ["1 granted 1"])
 
+    def test_of_redodb_live_while_nobody_is_there_is_told_to_nobody(self) -> None:
+        server = self.serve(idle=60)
+        one = self.client()
+        self.assertEqual(one.talk("1 lock a"), ["1 granted 1"])
+        one.close()
+        wanted = "1 unlock a => ok"
+        self.assertTrue(eventually(lambda: self.log()[-1:] == [wanted]))
+        children = Path(f"/proc/{server.pid}/task/{server.pid}/children").read_text().split()
+        os.kill(int(children[0]), signal.SIGKILL)
+        self.assertEqual(server.wait(PATIENCE), 1)
+        self.serve(idle=5)
+        self.assertEqual(self.client().talk("1 lock a"), ["1 granted 2"])
+
     def test_by_a_damaged_log_is_told_and_the_log_stays(self) -> None:
         self.places.make()
         log = Path(os.fsdecode(self.places.log))
@@ -96,7 +109,8 @@ class End(ServedTree):
         server = self.serve(idle=60)
         self.assertEqual(server.wait(PATIENCE), 2)
         assert server.stderr is not None
-        self.assertRegex(server.stderr.read(), rb"\Aredodb serve: .*/log is a folder: [^\n]*\n\Z")
+        wanted = rf"\A{server_name()}: .*/log is a folder: [^\n]*\n\Z"
+        self.assertRegex(server.stderr.read().decode(), wanted)
 
     def test_by_a_full_disk_is_told_and_what_was_answered_is_kept(self) -> None:
         full = self.script("trap '' XFSZ\nulimit -f 1\nexec PROGRAM \"$@\"\n")

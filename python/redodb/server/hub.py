@@ -36,8 +36,8 @@ class Hub:
     """One redodb-live, which start starts, and all clients.
 
     A client that comes gets the lowest session that is free, or waits its turn. One that only asks
-    takes none, and waits for nobody. If redodb-live ends, each client learns why; if there is
-    none, the next one is. The server ends `idle` seconds after its last client, or some
+    takes none, and waits for nobody. If redodb-live ends, each client learns why; if there was
+    none yet, the first one does. The server ends `idle` seconds after its last client, or some
     seconds after its start if none comes.
     """
 
@@ -139,7 +139,7 @@ class Hub:
             self.loop.later(_PAUSE, self._start_live)
         elif not self._failure:
             self._failure = _with_way_out(message, self._taken.places.log)
-            self._told = bool(self._connections)
+            self._told = self._ready or bool(self._connections)
             for connection in list(self._connections):
                 connection.fail(self._failure)
             if not self._connections:

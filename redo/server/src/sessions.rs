@@ -1,0 +1,121 @@
+//! The sessions of the database, and the line of those who wait for one.
+
+use std::collections::{BTreeSet, VecDeque};
+use std::fmt;
+
+/// So many clients have a session at a time.
+const RUNS: u32 = 63;
+
+/// A session of the database, by its number.
+#[derive(Clone, Copy, Debug, PartialEq, Eq, PartialOrd, Ord, Hash)]
+pub struct Session(u32);
+
+impl Session {
+    /// The one in which all clients without one ask.
+    pub const QUESTIONS: Session = Session(RUNS + 1);
+
+    /// Its number, from 1 on.
+    pub fn number(self) -> u32 {
+        self.0
+    }
+}
+
+impl fmt::Display for Session {
+    fn fmt(&self, formatter: &mut fmt::Formatter<'_>) -> fmt::Result {
+        self.0.fmt(formatter)
+    }
+}
+
+/// The sessions that are free, and the clients `C` that wait for one, first come, first served.
+#[derive(Debug)]
+pub struct Sessions<C> {
+    free: BTreeSet<Session>,
+    line: VecDeque<C>,
+}
+
+impl<C: PartialEq> Sessions<C> {
+    pub fn new() -> Sessions<C> {
+        Sessions {
+            free: (1..=RUNS).map(Session).collect(),
+            line: VecDeque::new(),
+        }
+    }
+
+    /// Takes the lowest session that is free.
+    pub fn take(&mut self) -> Option<Session> {
+        let lowest = *self.free.iter().next()?;
+        self.free.remove(&lowest);
+        Some(lowest)
+    }
+
+    /// Takes a session, if one is free and nobody waits for it.
+    pub fn take_at_once(&mut self) -> Option<Session> {
+        if self.line.is_empty() {
+            self.take()
+        } else {
+            None
+        }
+    }
+
+    /// Takes a session back, which holds nothing.
+    pub fn give_back(&mut self, session: Session) {
+        self.free.insert(session);
+    }
+
+    /// Has a client wait behind those who wait already.
+    pub fn wait(&mut self, client: C) {
+        self.line.push_back(client);
+    }
+
+    /// Takes a client out of the line.
+    pub fn forget(&mut self, client: &C) {
+        self.line.retain(|other| other != client);
+    }
+
+    /// Takes the next client of the line, with its session, if one is free.
+    pub fn take_next(&mut self) -> Option<(C, Session)> {
+        if self.line.is_empty() {
+            return None;
+        }
+        let session = self.take()?;
+        self.line.pop_front().map(|client| (client, session))
+    }
+}
+
+impl<C: PartialEq> Default for Sessions<C> {
+    fn default() -> Self {
+        Sessions::new()
+    }
+}
+
+#[cfg(test)]
+mod tests {
+    use super::*;
+
+    #[test]
+    fn sixty_three_are_given_and_then_none() {
+        let mut sessions = Sessions::<u8>::new();
+        let given: Vec<String> = std::iter::from_fn(|| sessions.take())
+            .map(|session| session.to_string())
+            .collect();
+        let wanted: Vec<String> = (1..64).map(|number| number.to_string()).collect();
+        assert_eq!(given, wanted);
+        assert_eq!(Session::QUESTIONS.to_string(), "64");
+    }
+
+    #[test]
+    fn those_who_wait_are_served_in_their_order_by_the_lowest() {
+        let mut sessions = Sessions::new();
+        let all: Vec<Session> = std::iter::from_fn(|| sessions.take()).collect();
+        sessions.wait("first");
+        sessions.wait("gone");
+        sessions.wait("second");
+        assert_eq!(sessions.take_next(), None);
+        sessions.forget(&"gone");
+        sessions.give_back(all[40]);
+        sessions.give_back(all[7]);
+        assert_eq!(sessions.take_next(), Some(("first", all[7])));
+        assert_eq!(sessions.take_next(), Some(("second", all[40])));
+        assert_eq!(sessions.take_next(), None);
+    }
+}

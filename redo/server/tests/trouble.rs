@@ -1,0 +1,282 @@
+//! What goes wrong: programs that don't speak as they should, other clients, a database that ends.
+
+mod common;
+
+use std::io::{Read, Write};
+use std::net::Shutdown;
+use std::os::unix::net::UnixStream;
+use std::time::Duration;
+
+use common::link::{send, Link};
+use common::run::{stamp_of, Playing, Ran};
+use common::Tree;
+use redo_wire::{FrameBuffer, Program, ToProgram, ToServer, OPENING, VERSION};
+
+fn tree() -> Tree {
+    let tree = Tree::new();
+    tree.write("default.do", "ifchange src\ncat src");
+    tree.write("src", "1");
+    tree
+}
+
+/// Whether a server still builds.
+fn builds(tree: &Tree) -> bool {
+    tree.redo(&["t"]).right == Some(true)
+}
+
+/// Sends bytes, and returns the messages until the end of the connection.
+fn answer(tree: &Tree, bytes: &[u8]) -> Vec<ToProgram> {
+    let mut socket = UnixStream::connect(tree.at(".redo/server/socket")).unwrap();
+    socket
+        .set_read_timeout(Some(Duration::from_secs(20)))
+        .unwrap();
+    let _ = socket.write_all(bytes); // a server that has read enough may close it
+    let mut told = Vec::new();
+    let _ = socket.read_to_end(&mut told); // it is reset if not all was read
+    let text = told.strip_prefix(b"session 1\n").unwrap_or(&told);
+    let mut frames = FrameBuffer::default();
+    frames.push(text);
+    std::iter::from_fn(|| frames.next_body().unwrap())
+        .map(|body| ToProgram::decode(&body).unwrap())
+        .collect()
+}
+
+fn is_refused(messages: &[ToProgram], text: &str) -> bool {
+    match messages {
+        [ToProgram::Error(line), ToProgram::End { status: 2 }] => {
+            String::from_utf8_lossy(line).contains(text)
+        }
+        _ => false,
+    }
+}
+
+fn frame(body: &[u8]) -> Vec<u8> {
+    let length = u32::try_from(body.len()).unwrap();
+    [&[OPENING], &length.to_le_bytes()[..], body].concat()
+}
+
+#[test]
+fn what_is_no_message_ends_that_connection_alone() {
+    let tree = tree();
+    let run = Playing::new(&tree);
+    let version = [&[1], &(VERSION + 1).to_le_bytes()[..]].concat();
+    for (bytes, text) in [
+        (frame(b"\xff"), "no kind of message: 255"),
+        (frame(b""), "ends too early"),
+        (frame(b"\x02"), "a message out of place"),
+        (frame(&version), "version"),
+        (vec![OPENING, 255, 255, 255, 255], "over 4194304"),
+    ] {
+        let messages = answer(&tree, &bytes);
+        assert!(is_refused(&messages, text), "{messages:?}");
+    }
+    assert_eq!(
+        run.run(tree.call(Program::Redo, &["t"], None)).right,
+        Some(true)
+    );
+}
+
+#[test]
+fn a_second_call_and_an_end_of_no_script_are_refused() {
+    let tree = tree();
+    let call = tree.call(Program::Redo, &["t"], None);
+    for second in [
+        ToServer::Call(Box::new(call.clone())),
+        ToServer::Ended {
+            task: 77,
+            ok: false,
+            stamp: None,
+        },
+    ] {
+        let mut link = tree.link();
+        link.call(call.clone());
+        assert!(matches!(link.message(), Some(ToProgram::Run(_))));
+        send(&mut link.socket, &second);
+        let told: Vec<ToProgram> = std::iter::from_fn(|| link.message()).collect();
+        assert!(
+            matches!(told.last(), Some(ToProgram::End { status: 2 })),
+            "{told:?}"
+        );
+        assert!(builds(&tree));
+    }
+}
+
+#[test]
+fn a_call_that_is_cut_off_is_forgotten() {
+    let tree = tree();
+    let mut whole = vec![OPENING];
+    let call = tree.call(Program::Redo, &["t"], None);
+    ToServer::Call(Box::new(call)).encode(&mut whole).unwrap();
+    for length in 0..whole.len() {
+        let mut socket = UnixStream::connect(tree.at(".redo/server/socket")).unwrap();
+        socket.write_all(&whole[..length]).unwrap();
+    }
+    assert!(builds(&tree));
+}
+
+#[test]
+fn drawn_bytes_do_no_harm() {
+    let tree = tree();
+    let mut state = 1_u64;
+    let mut draw = || {
+        state = state
+            .wrapping_mul(6364136223846793005)
+            .wrapping_add(1442695040888963407);
+        (state >> 33) as u8
+    };
+    for _ in 0..300 {
+        let body: Vec<u8> = (0..draw()).map(|_| draw()).collect();
+        let kind = [1 + draw() % 4];
+        let messages = answer(&tree, &frame(&[&kind[..], &body].concat()));
+        assert!(
+            is_refused(&messages, "redo: the server was sent"),
+            "{messages:?}"
+        );
+    }
+    assert!(builds(&tree));
+}
+
+#[test]
+fn a_task_that_is_not_there_is_told_so() {
+    let tree = tree();
+    let mut link = tree.link();
+    link.call(tree.call(Program::IfChange, &["t"], Some(5)));
+    let line = b"redo-ifchange: its .do file has ended".to_vec();
+    assert_eq!(link.message(), Some(ToProgram::Error(line)));
+    assert_eq!(link.message(), Some(ToProgram::End { status: 1 }));
+}
+
+#[test]
+fn names_that_cannot_be_are_told() {
+    let tree = tree();
+    tree.write("inner/.redo/x", "");
+    for (word, text) in [
+        ("", "empty"),
+        ("inner/x", "inner"),
+        (&"x".repeat(300), "255"),
+    ] {
+        let ran = tree.ifchange(&[word]);
+        assert_eq!(ran.right, Some(false), "{word}");
+        assert!(ran.said[0].starts_with("redo-ifchange: "), "{:?}", ran.said);
+        assert!(ran.said[0].contains(text), "{:?}", ran.said);
+    }
+}
+
+#[test]
+fn a_lock_of_another_client_stops_a_run() {
+    let tree = tree();
+    let mut other = UnixStream::connect(tree.at(".redo/server/socket")).unwrap();
+    other.write_all(b"1 lock t\n").unwrap();
+    let mut told = [0; 64];
+    let mut count = 0;
+    while !told[..count].ends_with(b"granted 1\n") {
+        count += other.read(&mut told[count..]).unwrap();
+    }
+    let mut link = tree.link();
+    link.call(tree.call(Program::IfChange, &["t"], None));
+    let mut said = Vec::new();
+    loop {
+        match link.message() {
+            Some(ToProgram::Say(one)) => said.push(one.what.line(|path| path.to_vec())),
+            Some(ToProgram::Stop) => break,
+            Some(_) => {}
+            None => panic!("{said:?}"),
+        }
+    }
+    assert_eq!(
+        said,
+        [b"the database has a fault: lock t => busy 1".to_vec()]
+    );
+    drop(link);
+    other.shutdown(Shutdown::Both).unwrap();
+    drop(other);
+    let right = (0..100).find(|_| builds(&tree));
+    assert!(right.is_some());
+}
+
+#[test]
+fn a_database_that_ends_stops_all() {
+    let tree = tree();
+    tree.write("t.do", "wait go");
+    let mut link = tree.link();
+    link.call(tree.call(Program::Redo, &["t"], None));
+    assert!(matches!(link.message(), Some(ToProgram::Run(_))));
+    tree.kill_database();
+    assert!(matches!(link.message(), Some(ToProgram::Error(_))));
+    assert_eq!(link.message(), Some(ToProgram::Stop));
+    drop(link);
+}
+
+#[test]
+fn a_program_that_goes_lets_the_script_go_on() {
+    let tree = tree();
+    tree.write("slow.do", "wait go\necho slow");
+    let mut run = tree.link();
+    run.call(tree.call(Program::Redo, &["t"], None));
+    let task = task_of(run.message());
+    let mut asking = tree.link();
+    asking.call(tree.call(Program::IfChange, &["slow"], Some(task)));
+    let slow = task_of(run.message());
+    drop(asking);
+    tree.write("slow", "slow");
+    let stamp = Some(stamp_of(&tree.at("slow")));
+    send(
+        &mut run.socket,
+        &ToServer::Ended {
+            task: slow,
+            ok: true,
+            stamp,
+        },
+    );
+    send(
+        &mut run.socket,
+        &ToServer::Ended {
+            task,
+            ok: true,
+            stamp: None,
+        },
+    );
+    let answer = std::iter::from_fn(|| run.message())
+        .find(|message| matches!(message, ToProgram::Answer { .. }));
+    assert_eq!(answer, Some(ToProgram::Answer { right: true }));
+}
+
+#[test]
+fn what_a_run_would_do_is_told() {
+    let tree = tree();
+    assert_eq!(
+        tree.ask(Program::Redo, &["-n", "t"]),
+        ("redo  t\n".to_owned(), 0)
+    );
+    assert_eq!(tree.redo(&["t"]).scripts, ["t"]);
+    assert_eq!(tree.ask(Program::IfChange, &["t"]), (String::new(), 0));
+    tree.write("src", "2");
+    assert_eq!(
+        tree.ask(Program::Redo, &["-n", "t"]),
+        ("redo  t\n".to_owned(), 0)
+    );
+    assert_eq!(tree.read("t"), "1");
+}
+
+#[test]
+fn questions_need_no_session() {
+    let tree = tree();
+    let all: Vec<Link> = (0..63).map(|_| tree.link()).collect();
+    let mut told = Vec::new();
+    for mut link in all {
+        link.call(tree.call(Program::Redo, &["t"], None));
+        told.push(link);
+    }
+    assert_eq!(tree.ask(Program::Targets, &[]).1, 0);
+    drop(told);
+    let ran: Ran = tree.redo(&["t"]);
+    assert_eq!(ran.right, Some(true));
+}
+
+fn task_of(message: Option<ToProgram>) -> u64 {
+    match message {
+        Some(ToProgram::Run(script)) => script.task,
+        Some(ToProgram::Want { .. }) => panic!("a wish for slots"),
+        other => panic!("{other:?}"),
+    }
+}
