@@ -2,7 +2,7 @@
 import os
 import time
 
-from trees import Tree
+from trees import IS_NATIVE, Tree
 
 LINK = "echo ran >>ran.app\nredo-ifchange util.o main.o\ncat util.o main.o\n"
 COMPILE = 'echo ran >>ran.$2\nredo-ifchange "$2.c"\ncat "$2.c"\n'
@@ -39,12 +39,15 @@ def case_redo_builds_in_any_case(tree: Tree) -> None:
 
 
 def case_removed_target(tree: Tree) -> None:
-    """A target whose file is gone is built again."""
+    """A target whose file is gone is built again.
+
+    Its content is the same: with the programs of redo/, that builds nothing else.
+    """
     small_program(tree)
     tree.redo("app")
     tree.path("util.o").unlink()
     tree.ifchange("app")
-    tree.check.same("runs", runs(tree), (2, 2, 1))
+    tree.check.same("runs", runs(tree), (1 if IS_NATIVE else 2, 2, 1))
 
 
 def case_source_without_rule(tree: Tree) -> None:
@@ -293,7 +296,7 @@ def case_many_names(tree: Tree) -> None:
 
 def case_long_chain(tree: Tree) -> None:
     """A chain of a hundred targets is built, and built again from its end."""
-    tree.files(default__n__do='redo-ifchange "$(($2 - 1)).n"\necho "$2"\n')
+    tree.files(default__n__do='redo-ifchange "$(($2 - 1)).n"\ncat "$(($2 - 1)).n"\necho "$2"\n')
     tree.write("0.n", "")
     run = tree.redo("100.n")
     tree.check.same("built", len(run.built), 100)

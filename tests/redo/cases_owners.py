@@ -5,7 +5,7 @@ import subprocess
 from pathlib import Path
 from typing import Any
 
-from trees import Ended, Skipped, Tree, end_server
+from trees import IS_NATIVE, Ended, Skipped, Tree, end_server
 
 MALLORY, ALICE = 4001, 4002
 PYTHON = "/usr/bin/python3"
@@ -286,7 +286,7 @@ def case_another_user_asks(tree: Tree) -> None:
         told(tree, home / "server/socket", "1 ood\\n", "session ")
         for own in sockets:
             told(tree, own, f"{len(asked) - 3}\\n{asked}", "s 0")
-        tree.check.same("sockets of runs", len(sockets), 1)
+        tree.check.same("sockets of runs", len(sockets), 0 if IS_NATIVE else 1)
         tree.path("work/go").touch()
         tree.check.same("the run", run.wait(60), 0)
         run.communicate()

@@ -278,7 +278,8 @@ def case_interpreters(tree: Tree) -> None:
         tree.path("good").unlink(missing_ok=True)
         run = tree.run("redo", "-k", f"{name}.bad", "good")
         tree.check.same(f"{name}: status", run.status, 1)
-        said = [line for line in run.lines if "Traceback" in line or "bad.do" in line]
+        lines = [line for line in run.lines if not line.startswith("redo:   ")]  # not the summary
+        said = [line for line in lines if "Traceback" in line or "bad.do" in line]
         tree.check.same(f"{name}: lines ({run.err})", len(said), 1)
         word = text.split()[0][2:].partition("\0")[0]
         tree.check.has(f"{name}: interpreter", "".join(said), word)
@@ -301,8 +302,8 @@ def case_environment_too_long(tree: Tree) -> None:
     """If the environment is too long for a script, that is one line."""
     tree.files(x__do="echo x\n")
     tree.redo("x")
-    path = tree.environment["PATH"] + ":/"
-    path += "y" * (LONGEST_VARIABLE - 1 - len("PATH=") - len(path))
+    path = ":" + tree.environment["PATH"]
+    path = "/" + "y" * (LONGEST_VARIABLE - 2 - len("PATH=") - len(path)) + path
     run = tree.run("redo", "x", environment={"PATH": path})
     tree.check.same("status", run.status, 1)
     said = [line for line in run.lines if "Traceback" in line or "too long" in line]

@@ -1,7 +1,8 @@
 """What is printed while a run goes on, and the logs that are kept."""
+import os
 import re
 
-from trees import TOP, Tree, on_terminal
+from trees import PROGRAM_FOLDER, Tree, on_terminal
 
 PROGRAMS = (
     "redo",
@@ -152,6 +153,13 @@ def visible(shown: str) -> list[str]:
     return [line for line in lines if line]
 
 
+def called_by_users() -> list[str]:
+    """The programs of the folder, but for those that no user of redo calls."""
+    files = [path for path in PROGRAM_FOLDER.iterdir() if path.is_file()]
+    programs = {path.name for path in files if os.access(path, os.X_OK)}
+    return sorted(programs - {"redo-server", "redo-explorer", "redodb-live-plain"})
+
+
 def case_help_and_version(tree: Tree) -> None:
     """--help and --version of each program are answered at once, and start nothing."""
     for program in PROGRAMS:
@@ -164,9 +172,7 @@ def case_help_and_version(tree: Tree) -> None:
             f"{program} --version", (run.status, run.out), (0, f"{program} (redodb) 0.2.0\n")
         )
     tree.check.same("started", list(tree.folder.iterdir()), [])
-    tree.check.same(
-        "programs", sorted(path.name for path in (TOP / "bin").iterdir()), sorted(PROGRAMS)
-    )
+    tree.check.same("programs", called_by_users(), sorted(PROGRAMS))
 
 
 def case_nobody_reads(tree: Tree) -> None:

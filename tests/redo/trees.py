@@ -14,8 +14,13 @@ from pathlib import Path
 from typing import Any, Callable, Iterator, Mapping
 
 TOP = Path(__file__).resolve().parent.parent.parent
+PROGRAM_FOLDER = Path(os.environ.get("REDO_PROGRAMS") or TOP / "bin").resolve()
+# whether the programs are those of redo/, not those of python/
+IS_NATIVE = bool(os.environ.get("REDO_PROGRAMS"))
 SECONDS = 180.0
-SERVER = {b"--detach", b"--log"}
+SERVER = "REDO_SERVER"
+SERVER_IDLE = "3"
+SERVER_WORDS = {b"--detach", b"--log"}
 
 
 class Skipped(Exception):
@@ -77,7 +82,9 @@ class Ended:
 
 @dataclass
 class Tree:
-    """A folder for one case. The programs of the repository are in front on its PATH."""
+    """A folder for one case. The programs that are tested are in front on its PATH: those of the
+    folder $REDO_PROGRAMS, or else those of the repository.
+    """
 
     folder: Path
     check: Checks
@@ -92,7 +99,11 @@ class Tree:
             for key, value in os.environ.items()
             if not key.startswith(("REDO", "MAKE", "MFLAGS", "NO_COLOR"))
         }
-        path = f"{TOP / 'bin'}:{os.environ.get('PATH', os.defpath)}"
+        if SERVER in os.environ:
+            kept[SERVER] = os.environ[SERVER]
+        if IS_NATIVE:
+            kept["REDO_IDLE"] = SERVER_IDLE
+        path = f"{PROGRAM_FOLDER}:{os.environ.get('PATH', os.defpath)}"
         return kept | {"PATH": path, "REDODB_LIVE": self.live, "TERM": "xterm"} | self.more
 
     def path(self, name: str | bytes = ".") -> Path:
@@ -270,7 +281,7 @@ def sleepers(tree: Tree, with_server: bool) -> dict[int, list[bytes]]:
     for process in Path("/proc").iterdir():
         try:
             words = (process / "cmdline").read_bytes().split(b"\0")
-            if _belongs(process, words, tree) and (with_server or not SERVER & set(words)):
+            if _belongs(process, words, tree) and (with_server or not SERVER_WORDS & set(words)):
                 found[int(process.name)] = words
         except (OSError, ValueError):
             continue
