@@ -53,7 +53,7 @@ complete -c redodb-live -l help -d 'Print a summary'
 complete -c redodb-live -l version -d 'Print the version'
 
 for program in redo redo-ifchange redo-ifcreate redo-log redo-whichdo redo-why redo-always redo-ood redo-sources redo-stamp redo-targets
-    complete -c $program -l help -d 'Print a summary'
+    complete -c $program -s h -l help -d 'Print a summary'
     complete -c $program -l version -d 'Print the version'
 end
 for program in redo-log redo-why
@@ -69,6 +69,7 @@ end
 complete -c redo-targets -l edited -d 'Those that were edited'
 complete -c redo -s j -l jobs -x -d 'Scripts at once'
 complete -c redo -s k -l keep-going -d 'Go on after a failure'
+complete -c redo -s n -l dry-run -d 'Print what would be built'
 complete -c redo -l shuffle -d 'Build in random order'
 complete -c redo -s x -l xtrace -d 'Print commands'
 complete -c redo -s v -l verbose -d 'Print lines of scripts'
@@ -76,7 +77,8 @@ complete -c redo -l overwrite -d 'Build edited targets'
 complete -c redo -l no-log -d 'Keep no log'
 complete -c redo -l no-color -d 'No colours'
 complete -c redo -l no-status -d 'No progress'
-complete -c redo-targets -l edited -d 'Those that somebody edited'
 complete -c redo-why -l json -d 'Print objects'
+complete -c redo-log -s f -l follow -d 'Go on while it is built'
 complete -c redo-log -s n -l no-recurse -d 'The log of the target alone'
+complete -c redo-log -s r -l recursive -d 'Those it asked for, too'
 complete -c redo-log -l no-color -d 'No colours'

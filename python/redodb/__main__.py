@@ -1,4 +1,4 @@
-"""The subcommands of redodb in Python: `redodb serve|record|picture ..`, which runs this file.
+"""The subcommands of redodb in Python: `redodb record|picture ..`, which runs this file.
 
 An older Python has to read it up to the line about its version: there is nothing newer in it.
 """
@@ -18,16 +18,14 @@ if not __package__:
 from redodb import __version__
 
 USAGE = """\
-usage: redodb serve [--top DIR] [--idle SECONDS]
-       redodb record ninja|make|depfiles DIR
+usage: redodb record ninja|make|depfiles DIR
        redodb picture run|graph FILE
        redodb WORD --help
 
-    serve     the server of a tree, which redo starts by itself
     record    what another build tool knows of a tree, as a history
     picture   what a history or a log tells, as a picture
 """
-MODULES = {"serve": ".server.command", "record": ".record.main", "picture": ".picture.main"}
+MODULES = {"record": ".record.main", "picture": ".picture.main"}
 """Each word's module, which has a function main: the arguments after the word, and the status."""
 
 

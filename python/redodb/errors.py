@@ -24,10 +24,6 @@ class UntrustedError(RedodbError):
     """A tree, or a file of it, is somebody else's, or a link where a file belongs."""
 
 
-class RuleError(RedodbError):
-    """What is in the place of a .do file can't be run; the text says why."""
-
-
 class RefusedError(RedodbError):
     """The database refused a command, and everything is as it was before.
 

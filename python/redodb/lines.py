@@ -22,10 +22,9 @@ from .places import Places
 
 TYPE_CHECKING = False
 if TYPE_CHECKING:
-    from collections.abc import Callable, Iterable
+    from collections.abc import Iterable
 
 _MOST_READ = 1 << 16
-_A_MOMENT = 200  # milliseconds
 _LOOKS = 60
 """So often an answer is looked for before the program sleeps. Most come within that."""
 
@@ -36,12 +35,10 @@ class Lines:
 
     deadline is a time of time.monotonic(), or None. After a TimeoutError the connection can be used
     on; answers that come late are kept in `late`, by the number of the request. `number` is the
-    last one. `patience` is a time in seconds, and what is called once if a wait without a deadline
-    takes so long.
+    last one.
     """
 
     def __init__(self, connected: socket) -> None:
-        self.patience: "tuple[float, Callable[[], None]] | None" = None
         self.session = 0
         self.number = 0
         self.late: dict[int, bytes] = {}
@@ -49,34 +46,20 @@ class Lines:
         self._rest = b""
         self._unsent = b""
 
-    def greet(self, deadline: float | None = None, only_asks: bool = False) -> bool:
+    def greet(self, deadline: float | None = None) -> bool:
         """Wait for the session, which may take the time until one is free.
 
-        Who only asks takes none, and waits for none; `take_session` is for later. Return False if
-        the server ended before. Raises ServerError, TimeoutError.
+        Return False if the server ended before. Raises ServerError, TimeoutError.
         """
-        if only_asks:
-            self._unsent = b"0 question\n"
-            self._send()
-        while True:
-            line = self._first_line(deadline)
-            if not line:
-                self.close()
-                return False
-            word, _, number = line.partition(b" ")
-            if word != b"session" or not number.isdigit():
-                self._complain(line)
-            self.session = int(number)
-            if not only_asks or not self.session:
-                return True
-
-    def take_session(self, deadline: float | None = None) -> bool:
-        """Take a session for a connection without one. Return False if none is free."""
-        return self._has_session(self.ask(b"session", deadline))
-
-    def wait_turn(self, deadline: float | None = None) -> None:
-        """Take a session as soon as one is free."""
-        self._has_session(self.ask(b"turn", deadline))
+        line = self._first_line(deadline)
+        if not line:
+            self.close()
+            return False
+        word, _, number = line.partition(b" ")
+        if word != b"session" or not number.isdigit():
+            self._complain(line)
+        self.session = int(number)
+        return True
 
     def ask(self, request: bytes, deadline: float | None = None) -> bytes:
         """Return the answer to a request. Raises ServerError, TimeoutError."""
@@ -119,15 +102,6 @@ class Lines:
         line, _, self._rest = self._rest.partition(b"\n")
         return line
 
-    def _has_session(self, answer: bytes) -> bool:
-        word, _, number = answer.partition(b" ")
-        if word == b"session" and number.isdigit():
-            self.session = int(number)
-            return True
-        if answer != b"busy":
-            self._complain(answer)
-        return False
-
     def _answers(self, wanted: range, data: bytes, deadline: float | None) -> list[bytes]:
         """Return the answers to requests, of which some may be in the data that came."""
         answers: dict[int, bytes] = {}
@@ -162,10 +136,8 @@ class Lines:
         poll = select.poll()
         while True:
             poll.register(self._socket, select.POLLIN | (select.POLLOUT if self._unsent else 0))
-            if deadline is None:
-                events = self._polled(poll)
-            else:
-                events = poll.poll(max(0.0, deadline - time.monotonic()) * 1000)
+            rest = None if deadline is None else max(0.0, deadline - time.monotonic()) * 1000
+            events = poll.poll(rest)
             if not events:
                 raise TimeoutError("no answer from the server in time")
             if events[0][1] & ~select.POLLOUT:
@@ -184,23 +156,9 @@ class Lines:
                     return receive(_MOST_READ, MSG_DONTWAIT)
                 except BlockingIOError:
                     pass
-            if self.patience is not None:
-                poll = select.poll()
-                poll.register(self._socket, select.POLLIN)
-                self._polled(poll)
             return receive(_MOST_READ)
         except ConnectionResetError:
             return b""
-
-    def _polled(self, poll: select.poll) -> list[tuple[int, int]]:
-        """Wait for an event. If that takes long, call; not if this process was stopped itself."""
-        if self.patience is None:
-            return poll.poll()
-        seconds, call = self.patience
-        events = poll.poll(seconds * 1000) or poll.poll(_A_MOMENT)
-        if not events:
-            call()
-        return events or poll.poll()
 
     def _take(self, data: bytes, wanted: range, answers: dict[int, bytes]) -> None:
         lines = (self._rest + data).split(b"\n")

@@ -7,22 +7,12 @@ import os
 
 from .errors import BadName, NameTooLong
 
-ALWAYS = b"//always"
-"""The one name without a file: its stamp changes in each run."""
-
-EDITED = b"//edited/"
-"""With a target's name behind it: the content of a target that somebody edited, as a source."""
-
-LEFT = b"//left/"
-"""With a target's name behind it: the file that the target's last build left when it failed."""
-
 MOST_BYTES = 255
 
 _VISIBLE = bytes(range(33, 127))
 _PLAIN = _VISIBLE.replace(b"%", b"")
 _ESCAPED = {byte: bytes([byte]) if byte in _PLAIN else b"%%%02X" % byte for byte in range(256)}
 _DIGITS = b"0123456789ABCDEF"
-_MOST_LINKS = 40
 
 
 def is_name(name: bytes) -> bool:
@@ -42,39 +32,6 @@ def is_internal(name: bytes) -> bool:
     (True, False)
     """
     return name.startswith(b"//")
-
-
-def edited_name(target: bytes) -> bytes:
-    """Return the name of a target's content, for what is built from it after it was edited.
-
-    It is the target itself if it is too long for another name.
-    """
-    name = EDITED + target
-    return name if len(name) <= MOST_BYTES else target
-
-
-def links_on(path: bytes) -> list[bytes]:
-    """Return the symbolic links that the folders of an absolute path lead through."""
-    folder = os.path.dirname(path)
-    if os.path.realpath(folder) == os.path.normpath(folder):
-        return []
-    found: list[bytes] = []
-    here = b"/"
-    parts = folder.split(b"/")[::-1]
-    while parts and len(found) < _MOST_LINKS:
-        part = parts.pop()
-        one = os.path.normpath(os.path.join(here, part))
-        try:
-            text = os.readlink(one) if part not in (b"", b".", b"..") else None
-        except OSError:
-            text = None
-        if text is None:
-            here = one
-        else:
-            found.append(one)
-            parts += text.split(b"/")[::-1]
-            here = b"/" if text.startswith(b"/") else here
-    return found
 
 
 def name_of(path: bytes, top: bytes) -> bytes:
@@ -114,18 +71,6 @@ def path_of(name: bytes, top: bytes) -> bytes:
     if is_internal(name):
         raise BadName(f"{name.decode()} is the name of no file")
     return os.path.join(top, unescape(name))
-
-
-def relative_path(name: bytes, top: bytes, folder: bytes) -> bytes:
-    """Return the path of a name from a folder; a name that no path has is returned as it is.
-
-    >>> relative_path(b"a%20b", b"/tree", b"/tree/src"), relative_path(b"%00", b"/tree", b"/tree")
-    (b'../a b', b'%00')
-    """
-    try:
-        return os.path.relpath(path_of(name, top), folder)
-    except BadName:
-        return name
 
 
 def escape(path: bytes) -> bytes:

@@ -2,8 +2,6 @@
 import os
 from stat import S_ISDIR, S_ISLNK, S_ISSOCK
 
-from .names import name_of, unescape
-
 HOME = b".redo"
 SHARED = 0o1002
 """The mode of a folder like /tmp: all may make files, and nobody may remove those of others."""
@@ -20,7 +18,7 @@ class Places:
     b'/tree/.redo/server/socket'
     """
 
-    __slots__ = ("top", "home", "log", "server", "socket", "lock", "starting", "errors", "run")
+    __slots__ = ("top", "home", "log", "server", "socket", "lock", "starting", "errors")
 
     def __init__(self, top: bytes) -> None:
         self.top = top
@@ -31,7 +29,6 @@ class Places:
         self.lock = self.server + b"/lock"
         self.starting = self.server + b"/starting"
         self.errors = self.server + b"/errors"
-        self.run = self.home + b"/run"
 
     def make(self) -> None:
         """Make what is missing of .redo and the server's folder, which is the owner's alone.
@@ -92,33 +89,6 @@ def find_top(folder: bytes = b".") -> bytes | None:
         here = above
 
 
-def name_inside(path: bytes, top: bytes, seen: set[bytes]) -> bytes:
-    """Return the name of a path as name_of, if it is in this tree and in no other.
-
-    Folders that were seen aren't looked at; all that are in order are added. Raises OtherTree too.
-    """
-    name = name_of(path, top)
-    check_inside(name, top, seen)
-    return name
-
-
-def check_inside(name: bytes, top: bytes, seen: set[bytes]) -> None:
-    """Raise OtherTree if a folder below the top on the way to a name has .redo, as name_inside."""
-    if b"/" not in name or name.startswith((b"../", b"/")):
-        return  # at the top, outside of it, or no file
-    folder = os.path.dirname(unescape(name))
-    looked_at = []
-    while folder and folder not in seen:
-        inner = os.path.join(top, folder)
-        if os.access(os.path.join(inner, HOME, b"."), os.F_OK):
-            from . import private
-
-            raise private.two_trees(inner, top)
-        looked_at.append(folder)
-        folder = os.path.dirname(folder)
-    seen.update(looked_at)
-
-
 def _home_of(folder: bytes) -> os.stat_result | None:
     """Return what is known of .redo in a folder, or None if that is no folder, and no link."""
     try:
@@ -151,9 +121,27 @@ def find_program() -> bytes | None:
     if chosen:
         return os.path.abspath(chosen)
     home = os.path.dirname(package_folder())
+    return _first_program(b"redodb-live", [home + b"/libexec", home])
+
+
+def find_server() -> bytes | None:
+    """Return the path of redo-server, or None.
+
+    It is $REDO_SERVER, else that of the installation or repository that this package is in, else of
+    PATH.
+    """
+    chosen = os.environb.get(b"REDO_SERVER")
+    if chosen:
+        return os.path.abspath(chosen)
+    home = os.path.dirname(package_folder())
+    return _first_program(b"redo-server", [home + b"/libexec", home + b"/redo/target/release"])
+
+
+def _first_program(name: bytes, folders: list[bytes]) -> bytes | None:
+    """Return the path of a program in the first of these folders, or of those of PATH, with it."""
     path = os.environb.get(b"PATH", os.fsencode(os.defpath)).split(b":")
-    for folder in [home + b"/libexec", home, *filter(os.path.isabs, path)]:
-        program = os.path.join(folder, b"redodb-live")
+    for folder in [*folders, *filter(os.path.isabs, path)]:
+        program = os.path.join(folder, name)
         if os.path.isfile(program) and os.access(program, os.X_OK):
             return program
     return None

@@ -6,7 +6,7 @@ through a link, and belongs to the caller, to root, or to the owner of a tree th
 import os
 import sys
 from _socket import SO_PEERCRED, SOL_SOCKET, socket
-from stat import S_ISDIR, S_ISLNK, S_ISREG, S_ISSOCK
+from stat import S_ISDIR, S_ISLNK, S_ISREG
 
 from .errors import OtherTree, UntrustedError
 from .places import HOME, SHARED
@@ -108,14 +108,14 @@ def open_folder(path: bytes, mode: int | None = None) -> int:
     return folder
 
 
-def open_file(path: bytes, flags: int, mode: int = 0o600, folder_mode: int | None = None) -> int:
+def open_file(path: bytes, flags: int, mode: int = 0o600) -> int:
     """Return a descriptor of a regular file below .redo, as os.open.
 
-    With folder_mode, its folder is made if it is missing. Raises UntrustedError if the file has
-    another name too, or isn't of one who is trusted, and OSError.
+    Raises UntrustedError if the file has another name too, or isn't of one who is trusted, and
+    OSError.
     """
     top, _ = _parted(path)
-    folder = open_folder(os.path.dirname(path), folder_mode)
+    folder = open_folder(os.path.dirname(path))
     try:
         while True:
             try:
@@ -140,13 +140,13 @@ def write_once(path: bytes, text: bytes) -> None:
             with open(file, "wb") as new:
                 new.write(text)
     except OSError:
-        remove(os.path.basename(path), folder)
+        _remove(os.path.basename(path), folder)
         raise
     finally:
         os.close(folder)
 
 
-def remove(name: bytes | str, folder: int) -> None:
+def _remove(name: bytes, folder: int) -> None:
     """Remove a file of an open folder, if it is there. Raises OSError."""
     try:
         os.unlink(name, dir_fd=folder)
@@ -167,17 +167,6 @@ def give_away(file: int, top: bytes) -> None:
             os.chown(f"/proc/self/fd/{file}", owner.st_uid, owner.st_gid)
         except OSError:
             pass  # this root may not, as in a namespace that hasn't got that user
-
-
-def give_socket(name: bytes | str, folder: int, top: bytes) -> None:
-    """Give a socket of an open folder to the owner of the tree, if the caller is root."""
-    if gives_away(top):
-        file = os.open(name, os.O_PATH | os.O_NOFOLLOW | os.O_CLOEXEC, dir_fd=folder)
-        try:
-            if S_ISSOCK(os.fstat(file).st_mode):
-                give_away(file, top)
-        finally:
-            os.close(file)
 
 
 def open_socket(path: bytes) -> int:
@@ -294,7 +283,7 @@ def _give_folder(folder: int, top: bytes) -> None:
 
 def _made(folder: int, path: bytes, flags: int, mode: int, top: bytes) -> int | None:
     """Return a descriptor of a file that is made now, or None if there is one."""
-    new = flags & ~os.O_TRUNC | os.O_CREAT | os.O_EXCL | os.O_CLOEXEC
+    new = flags | os.O_CREAT | os.O_EXCL | os.O_CLOEXEC
     try:
         file = os.open(os.path.basename(path), new, mode, dir_fd=folder)
     except FileExistsError:
@@ -309,7 +298,7 @@ def _opened(folder: int, path: bytes, flags: int, top: bytes) -> int:
     """Return a descriptor of a file that is there."""
     try:
         file = os.open(
-            os.path.basename(path), flags & ~(os.O_CREAT | os.O_TRUNC) | _FILE, dir_fd=folder
+            os.path.basename(path), flags & ~os.O_CREAT | _FILE, dir_fd=folder
         )
     except OSError as cause:
         raise _refusal(path, cause, False) from cause
@@ -319,8 +308,6 @@ def _opened(folder: int, path: bytes, flags: int, top: bytes) -> int:
             raise _complaint(path, False)
         check_owner(path, status, top)
         os.set_blocking(file, True)
-        if flags & os.O_TRUNC and status.st_size:
-            os.ftruncate(file, 0)
     except BaseException:
         os.close(file)
         raise

@@ -4,7 +4,6 @@ import os
 import signal
 import socket
 import subprocess
-import sys
 import tempfile
 import time
 import unittest
@@ -12,7 +11,7 @@ from collections.abc import Callable
 from pathlib import Path
 
 import beside  # noqa: F401
-from redodb.places import Places, find_program, package_folder
+from redodb.places import Places, find_program, find_server, package_folder
 
 PATIENCE = 20.0
 """So many seconds are waited for what has to happen."""
@@ -29,17 +28,12 @@ def program_or_skip() -> str:
     return os.fsdecode(program)
 
 
-def server_words() -> list[str]:
-    """The words that start a server in the foreground: $REDO_SERVER, else the one beside it."""
-    chosen = os.environ.get("REDO_SERVER")
-    if chosen:
-        return [os.path.abspath(chosen)]
-    return [sys.executable, "-ESs", "-m", "redodb.server"]
-
-
-def server_name() -> str:
-    """What that server calls itself."""
-    return "redo-server" if os.environ.get("REDO_SERVER") else "redodb serve"
+def server_or_skip() -> str:
+    """Return the program redo-server. If it isn't built, the tests are skipped."""
+    server = find_server()
+    if server is None:
+        raise unittest.SkipTest("redo-server is not built")
+    return os.fsdecode(server)
 
 
 def eventually(holds: Callable[[], bool]) -> bool:
@@ -98,10 +92,12 @@ class ServedTree(unittest.TestCase):
     """A tree of its own for each test, whose server has ended when the test has."""
 
     program = ""
+    server_program = ""
 
     @classmethod
     def setUpClass(cls) -> None:
         cls.program = program_or_skip()
+        cls.server_program = server_or_skip()
 
     def setUp(self) -> None:
         folder = tempfile.TemporaryDirectory(ignore_cleanup_errors=True)
@@ -118,7 +114,7 @@ class ServedTree(unittest.TestCase):
 
     def serve(self, idle: float = 0.1, program: str = "") -> subprocess.Popen[bytes]:
         """Start a server, and return it when it listens."""
-        command = [*server_words(), "--top", self.top, "--idle", str(idle)]
+        command = [self.server_program, "--top", self.top, "--idle", str(idle)]
         server = subprocess.Popen(
             command,
             cwd=package_folder(),

@@ -11,11 +11,11 @@ from trees import TOP
 FOLDER = TOP / "completion"
 WORDS = {"run", "replay", "serve", "record", "picture"}
 KINDS = {"record": {"ninja", "make", "depfiles"}, "picture": {"run", "graph"}}
-HELPED = [
-    (["redodb", word], [str(TOP / "redodb"), word]) for word in ("serve", "record", "picture")
-]
+HELPED = [(["redodb", word], [str(TOP / "redodb"), word]) for word in ("record", "picture")]
 HELPED += [(["redodb-live"], [str(TOP / "redodb-live")])]
-HELPED += [([program.name], [str(program)]) for program in sorted((TOP / "bin").glob("redo*"))]
+if (TOP / "bin/redo").exists():
+    HELPED += [(["redodb", "serve"], [str(TOP / "redodb"), "serve"])]
+    HELPED += [([program.name], [str(program)]) for program in sorted((TOP / "bin").iterdir())]
 BASH = """
 source "$1"
 shift

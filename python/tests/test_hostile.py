@@ -10,12 +10,11 @@ import unittest
 from pathlib import Path
 
 import beside  # noqa: F401
-from served import Raw, ServedTree, eventually, server_words
+from served import Raw, ServedTree, eventually
 
 LITTLE = 64 << 10
 """So many KiB the server may take, whatever clients send."""
 
-NATIVE = unittest.skipUnless(os.environ.get("REDO_SERVER"), "the Python server can't do it")
 
 RESET = struct.pack("ii", 1, 0)
 
@@ -112,7 +111,6 @@ class Hostile(ServedTree):
         self.assertEqual(waiting[0].line().split()[0], "session")
         self.assertEqual(waiting[0].line(), "1 granted 1")
 
-    @NATIVE
     def test_more_connections_than_files_wait_until_others_end(self) -> None:
         self.end_servers()
         self.servers.clear()
@@ -145,7 +143,6 @@ class Hostile(ServedTree):
         self.assertLess(self.memory(), 300 << 10)
         self.assertEqual(client.talk("1 state a"), ["1 idle lock - file -"])
 
-    @NATIVE
     def test_groups_without_end_are_not_kept(self) -> None:
         client = self.client()
         numbers = range(100_000_000, 100_070_000)
@@ -159,7 +156,6 @@ class Hostile(ServedTree):
         client.close()
         self.assertRegex(self.client().talk("1 lock a")[0], r"\A1 granted 1\Z")
 
-    @NATIVE
     def test_clients_that_end_in_the_middle_leave_nothing(self) -> None:
         before = len(self.files(self.server.pid))
         texts = [b"", b"1", b"1 lock a", b"1 lock a\n", b"1 lock a\n2 start a\n3 wait b a\n4 look"]
@@ -177,7 +173,6 @@ class Hostile(ServedTree):
         self.assertTrue(eventually(lambda: len(self.files(self.server.pid)) <= before))
         self.assertEqual(self.client().talk("1 state b"), ["1 idle lock - file -"])
 
-    @NATIVE
     def test_what_was_sent_before_an_end_is_answered(self) -> None:
         client = self.client()
         client.send(*[f"{number} ood" for number in range(1500)], "1500 lock a")
@@ -192,14 +187,13 @@ class Hostile(ServedTree):
         found = {name for name in self.files(int(children)) if not name.startswith("pipe:")}
         self.assertEqual(found - {"/dev/null"}, {log})
 
-    @NATIVE
     def test_the_server_has_no_file_of_the_asker(self) -> None:
         self.end_servers()
         self.servers.clear()
         reading, writing = os.pipe()
         self.addCleanup(os.close, reading)
         os.set_inheritable(writing, True)
-        command = [*server_words(), "--top", self.top, "--idle", "1", "--detach"]
+        command = [self.server_program, "--top", self.top, "--idle", "1", "--detach"]
         os.waitpid(os.posix_spawn(command[0], command, os.environ), 0)
         os.close(writing)
         self.assertEqual(os.read(reading, 1), b"")

@@ -12,6 +12,7 @@ from trees import TOP, TreeTest, is_proved, program_answers
 
 COPIED = ["install", "redodb", "redodb-live", "bin", "completion", "man", "include", "python/redodb"]
 BUILT = "crates/redo_live_cli/out/redo_live_cli"
+REDO = TOP / "redo/target/release/redo"
 PACKAGES = "lib/redodb/python"
 STAND_IN = '#!/bin/sh\necho "program $*"\n'
 
@@ -65,7 +66,10 @@ class InstallCopy(InstallTest):
         for name in COPIED:
             if (TOP / name).is_dir():
                 shutil.copytree(
-                    TOP / name, self.copy / name, ignore=shutil.ignore_patterns("__pycache__")
+                    TOP / name,
+                    self.copy / name,
+                    symlinks=True,
+                    ignore=shutil.ignore_patterns("__pycache__"),
                 )
             elif (TOP / name).exists():
                 shutil.copy2(TOP / name, self.copy / name)
@@ -74,6 +78,11 @@ class InstallCopy(InstallTest):
         for crate in ("redo_cli", "redo_live_cli"):
             self.write(f"copy/crates/{crate}/out/{crate}", STAND_IN).chmod(0o755)
             self.write(f"copy/crates/{crate}/out/{crate}.sources", "crates.txt")
+        for name in ("redo", "redo-server"):
+            program = self.write(f"copy/redo/target/release/{name}", STAND_IN)
+            if REDO.exists():
+                shutil.copy2(REDO.with_name(name), program)
+            program.chmod(0o755)
         if program_answers():
             shutil.copy2(built_program(), self.copy / BUILT)
             os.utime(self.copy / BUILT)
@@ -86,7 +95,7 @@ class InstallCopy(InstallTest):
 
     def test_programs(self) -> None:
         self.installed()
-        of_redo = [path.name for path in (TOP / "bin").glob("redo*")]
+        of_redo = [path.name for path in (TOP / "bin").iterdir()]
         self.assertEqual(self.programs(), sorted(["redodb", "redodb-live", *of_redo]))
         for name in self.programs():
             self.assertTrue(os.access(self.prefix / "bin" / name, os.X_OK), name)
@@ -100,8 +109,9 @@ class InstallCopy(InstallTest):
         redodb = self.prefix / "bin/redodb"
         self.assertEqual(self.said(redodb, "replay", "a b"), "program replay a b\n")
         self.assertEqual(self.said(redodb), "program \n")
-        for word in ("record", "picture", "serve"):
-            self.assertTrue(self.said(redodb, word, "--help").startswith(f"usage: redodb {word}"))
+        for word, usage in (("record", "redodb record"), ("picture", "redodb picture")):
+            self.assertTrue(self.said(redodb, word, "--help").startswith(f"usage: {usage}"))
+        self.assertTrue(self.said(redodb, "serve", "--help").startswith("usage: redo-server"))
 
     def test_nothing_is_imported_from_the_working_folder(self) -> None:
         self.installed()
@@ -135,9 +145,7 @@ class InstallCopy(InstallTest):
             )
         )
 
-    @unittest.skipUnless(
-        program_answers() and (TOP / "bin/redo").exists(), "wants redodb-live and redo"
-    )
+    @unittest.skipUnless(program_answers() and REDO.exists(), "wants redodb-live and redo")
     def test_redo_builds(self) -> None:
         self.installed()
         shutil.rmtree(self.copy)
@@ -200,10 +208,12 @@ class InstallCopy(InstallTest):
         found = self.said(*program, cwd=self.prefix)
         self.assertEqual(Path(found.strip()), self.prefix / "lib/libredodb.so")
 
-    def assert_not_proved(self, names: str) -> None:
-        line = f"install: {names}: not proved yet: ./prove proves and builds it\n"
-        self.assertEqual(self.install(self.copy, self.prefix), (2, "", line))
+    def assert_refused(self, line: str) -> None:
+        self.assertEqual(self.install(self.copy, self.prefix), (2, "", f"install: {line}\n"))
         self.assertFalse(self.prefix.exists())
+
+    def assert_not_proved(self, names: str) -> None:
+        self.assert_refused(f"{names}: not proved yet: ./prove proves and builds it")
 
     def test_nothing_is_proved(self) -> None:
         shutil.rmtree(self.copy / "crates")
@@ -216,6 +226,15 @@ class InstallCopy(InstallTest):
     def test_one_program_is_missing(self) -> None:
         (self.copy / "crates/redo_live_cli/out/redo_live_cli").unlink()
         self.assert_not_proved("redodb-live")
+
+    def test_redo_is_missing(self) -> None:
+        (self.copy / "redo/target/release/redo-server").unlink()
+        self.assert_refused("redo: not built yet: redo/build builds it")
+
+    def test_source_of_redo_is_newer(self) -> None:
+        self.write("copy/redo/core/src/new.rs", "")
+        self.age("copy/redo/core/src/new.rs", -100)
+        self.assert_refused("redo: not built yet: redo/build builds it")
 
     def test_prefix_is_a_file(self) -> None:
         self.write("prefix", "")
@@ -233,7 +252,8 @@ class InstallCopy(InstallTest):
 
 
 @unittest.skipUnless(
-    is_proved("redo_cli") and is_proved("redo_live_cli"), "wants the proved programs"
+    is_proved("redo_cli") and is_proved("redo_live_cli") and REDO.exists(),
+    "wants the proved programs, and redo",
 )
 class InstallRepository(InstallTest):
     def test_proved_program_runs(self) -> None:

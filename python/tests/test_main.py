@@ -12,7 +12,6 @@ from redodb import __version__
 from redodb.__main__ import MODULES
 from trees import TOP, TreeTest
 
-PROGRAMS = sorted((TOP / "bin").glob("redo*"))
 OLDER = f"""#!{sys.executable} -IS
 import runpy
 import sys
@@ -48,7 +47,7 @@ class Main(unittest.TestCase):
             with self.subTest(words):
                 status, out, errors = module(*words)
                 self.assertEqual((status, out), (2, ""))
-                self.assertTrue(errors.startswith("usage: redodb serve"))
+                self.assertTrue(errors.startswith("usage: redodb record"))
 
     def test_each_word_has_help(self) -> None:
         for word in MODULES:
@@ -107,12 +106,6 @@ class OlderPython(TreeTest):
         self.assertEqual(run.stderr.count("\n"), 1, run.stderr)
         return run.stderr.partition(",")[0]
 
-    def test_programs_of_redo(self) -> None:
-        for program in PROGRAMS:
-            for word in ("--help", "x"):
-                said = self.said(1, self.python, "-IS", program, word)
-                self.assertEqual(said, f"{program.name}: it needs Python 3.11")
-
     def test_words_of_redodb(self) -> None:
         for word in MODULES:
             self.assertEqual(
@@ -125,7 +118,7 @@ class OlderPython(TreeTest):
 
     def test_older_pythons_can_read_the_files(self) -> None:
         main = TOP / "python/redodb/__main__.py"
-        for file, version in ((main, 4), (TOP / "install", 6), *((path, 4) for path in PROGRAMS)):
+        for file, version in ((main, 4), (TOP / "install", 6)):
             with self.subTest(file):
                 ast.parse(file.read_text(), feature_version=(3, version))
 

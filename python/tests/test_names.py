@@ -7,7 +7,7 @@ import unittest
 import beside  # noqa: F401
 from redodb import names
 from redodb.errors import BadName, NameTooLong
-from redodb.names import edited_name, is_internal, is_name, links_on, name_of, path_of
+from redodb.names import is_internal, is_name, name_of, path_of
 
 
 def load_tests(
@@ -113,69 +113,10 @@ class Names(unittest.TestCase):
         self.assertEqual(name_of(b"/a/x", b"/a/b"), b"../x")
 
     def test_of_redo_itself_are_no_paths(self) -> None:
-        for name in (names.ALWAYS, names.EDITED + b"a", names.LEFT + b"a", edited_name(b"a")):
+        for name in (b"//always", b"//edited/a", b"//left/a"):
             self.assertTrue(is_internal(name))
             self.assertTrue(is_name(name))
             with self.assertRaises(BadName):
                 path_of(name, self.top)
         for name in (b"a", b"edited/a", b"../a", b"."):
             self.assertFalse(is_internal(name))
-
-    def test_of_an_edited_target_is_its_own_if_it_would_be_too_long(self) -> None:
-        room = 255 - len(names.EDITED)
-        self.assertEqual(edited_name(b"a" * room), names.EDITED + b"a" * room)
-        self.assertEqual(edited_name(b"a" * (room + 1)), b"a" * (room + 1))
-
-
-class Links(unittest.TestCase):
-    """The symbolic links that the folders of a path lead through."""
-
-    def setUp(self) -> None:
-        folder = tempfile.TemporaryDirectory()
-        self.addCleanup(folder.cleanup)
-        self.top = os.fsencode(os.path.realpath(folder.name))
-        os.makedirs(self.top + b"/v1/inner")
-        os.mkdir(self.top + b"/other")
-        for text, link in (
-            (b"v1", b"current"),
-            (b"current", b"latest"),
-            (b"../v1/./inner", b"other/in"),
-            (self.top + b"/current/inner", b"far"),
-            (b"ring", b"ring"),
-            (b"nowhere", b"lost"),
-            (b"a", b"v1/file_link"),
-        ):
-            os.symlink(text, self.top + b"/" + link)
-
-    def links(self, path: bytes) -> list[bytes]:
-        found = links_on(os.path.join(self.top, path))
-        return [os.path.relpath(link, self.top) for link in found]
-
-    def test_are_none_where_folders_are_folders(self) -> None:
-        for path in (b"a", b"v1/a", b"v1/inner/../a", b"none/a", b"./a", b"..", b"current"):
-            self.assertEqual(self.links(path), [], path)
-
-    def test_are_found_in_their_order(self) -> None:
-        for path, wanted in (
-            (b"current/a", [b"current"]),
-            (b"current/", [b"current"]),
-            (b"latest/inner/a", [b"latest", b"current"]),
-            (b"other/in/a", [b"other/in"]),
-            (b"other/in/../a", [b"other/in"]),
-            (b"far/a", [b"far", b"current"]),
-            (b"lost/a", [b"lost"]),
-            (b"other/../current/a", [b"current"]),
-        ):
-            self.assertEqual(self.links(path), wanted, path)
-
-    def test_of_the_path_itself_are_not_among_them(self) -> None:
-        self.assertEqual(self.links(b"v1/file_link"), [])
-        self.assertEqual(self.links(b"current/file_link"), [b"current"])
-
-    def test_are_no_more_than_forty(self) -> None:
-        os.symlink(b"v1", self.top + b"/0")
-        for number in range(50):
-            os.symlink(b"%d" % number, self.top + b"/%d" % (number + 1))
-        self.assertEqual(self.links(b"3/a"), [b"3", b"2", b"1", b"0"])
-        self.assertEqual(len(self.links(b"50/a")), 40)
-        self.assertEqual(self.links(b"ring/a"), [])  # it leads nowhere

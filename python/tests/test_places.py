@@ -11,8 +11,7 @@ from pathlib import Path
 import beside
 from redodb import places
 from redodb.errors import OtherTree, UntrustedError
-from redodb.names import ALWAYS
-from redodb.places import Places, check_inside, find_top, name_inside
+from redodb.places import Places, find_top
 from redodb.private import open_folder
 
 
@@ -68,21 +67,9 @@ class Tops(unittest.TestCase):
         os.close(open_folder(os.fsencode(self.top + "/.redo/run"), 0o700))
         self.assertEqual(os.stat(self.top + "/.redo/run").st_mode & 0o777, 0o700)
 
-    def test_have_names_but_for_those_of_trees_within(self) -> None:
-        os.mkdir(self.top + "/a/b/.redo")
-        top, seen = os.fsencode(self.top), set[bytes]()
-        for name in (b"x", b"a/x", b"a/b", b"../x"):
-            self.assertEqual(name_inside(top + b"/" + name, top, seen), name)
-        check_inside(ALWAYS, top, seen)
-        self.assertEqual(seen, {b"a"})
-        for _ in range(2):
-            for path in (b"/a/b/x", b"/a/b/c/x"):
-                with self.assertRaises(OtherTree):
-                    name_inside(top + path, top, seen)
 
-
-class Program(unittest.TestCase):
-    """redodb-live, as a package finds it that was put somewhere else."""
+class Programs(unittest.TestCase):
+    """redodb-live and redo-server, as a package finds them that was put somewhere else."""
 
     def setUp(self) -> None:
         folder = tempfile.TemporaryDirectory()
@@ -94,17 +81,15 @@ class Program(unittest.TestCase):
             ignore=shutil.ignore_patterns("__pycache__"),
         )
 
-    def program(self, place: str, mode: int = 0o755) -> Path:
-        path = self.home / place / "redodb-live"
+    def program(self, place: str, mode: int = 0o755, name: str = "redodb-live") -> Path:
+        path = self.home / place / name
         path.parent.mkdir(parents=True, exist_ok=True)
         path.write_text("")
         path.chmod(mode)
         return path
 
-    def found(self, **environment: str) -> str:
-        words = (
-            "from redodb.places import find_program; print((find_program() or b'none').decode())"
-        )
+    def found(self, function: str = "find_program", **environment: str) -> str:
+        words = f"from redodb import places; print((places.{function}() or b'none').decode())"
         return subprocess.run(
             [sys.executable, "-c", words],
             cwd=self.home / "base/python",
@@ -134,3 +119,14 @@ class Program(unittest.TestCase):
         self.program("base")
         self.assertEqual(self.found(REDODB_LIVE="/some/program"), "/some/program")
         self.assertEqual(self.found(REDODB_LIVE="here"), f"{self.home}/base/python/here")
+
+    def test_of_a_server_are_found_in_the_same_way(self) -> None:
+        def found(**environment: str) -> str:
+            return self.found("find_server", PATH=f"{self.home}/bin", **environment)
+
+        self.assertEqual(found(), "none")
+        places = ("bin", "base/redo/target/release", "base/libexec")
+        for place in places:
+            program = self.program(place, name="redo-server")
+            self.assertEqual(found(), str(program))
+        self.assertEqual(found(REDO_SERVER="here"), f"{self.home}/base/python/here")

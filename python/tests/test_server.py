@@ -12,7 +12,7 @@ from pathlib import Path
 import beside  # noqa: F401
 from redodb import requests
 from redodb.places import package_folder
-from served import PATIENCE, Raw, ServedTree, eventually, server_name, server_words
+from served import PATIENCE, Raw, ServedTree, eventually, server_or_skip
 
 
 class Place(ServedTree):
@@ -372,8 +372,7 @@ class Groups(ServedTree):
 class Call(unittest.TestCase):
     def call(self, *words: str) -> subprocess.CompletedProcess[str]:
         return subprocess.run(
-            [*server_words(), *words],
-            cwd=package_folder(),
+            [server_or_skip(), *words],
             capture_output=True,
             text=True,
             timeout=PATIENCE,
@@ -383,9 +382,9 @@ class Call(unittest.TestCase):
     def test_for_help_and_version_is_answered(self) -> None:
         helped = self.call("--help")
         self.assertEqual((helped.returncode, helped.stderr), (0, ""))
-        usage = rf"\Ausage: {server_name()} \[--top DIR\] \[--idle SECONDS\]"
+        usage = r"\Ausage: redo-server \[--top DIR\] \[--idle SECONDS\]"
         self.assertRegex(helped.stdout, usage)
-        self.assertRegex(self.call("--version").stdout, rf"\A{server_name()} [0-9.]+\n\Z")
+        self.assertRegex(self.call("--version").stdout, r"\Aredo-server [0-9.]+\n\Z")
 
     def test_that_is_not_understood_is_status_2(self) -> None:
         for words in (

@@ -6,7 +6,7 @@ import time
 from pathlib import Path
 
 import beside  # noqa: F401
-from served import PATIENCE, ServedTree, eventually, server_name
+from served import PATIENCE, ServedTree, eventually
 
 
 class End(ServedTree):
@@ -109,7 +109,7 @@ class End(ServedTree):
         server = self.serve(idle=60)
         self.assertEqual(server.wait(PATIENCE), 2)
         assert server.stderr is not None
-        wanted = rf"\A{server_name()}: .*/log is a folder: [^\n]*\n\Z"
+        wanted = r"\Aredo-server: .*/log is a folder: [^\n]*\n\Z"
         self.assertRegex(server.stderr.read().decode(), wanted)
 
     def test_by_a_full_disk_is_told_and_what_was_answered_is_kept(self) -> None:

@@ -7,7 +7,7 @@ import unittest.mock
 
 import beside  # noqa: F401
 from digests import digest, link, plain
-from redodb.stamps import PLAIN_NUMBERS, key_of, look_at, plain_key, stamp_of
+from redodb.stamps import stamp_of
 
 
 class InAFolder(unittest.TestCase):
@@ -119,52 +119,15 @@ class Stamps(InAFolder):
         )
         for name in ("open", "read"):
             with unittest.mock.patch(f"redodb.stamps.os.{name}", side_effect=PermissionError):
-                self.assertEqual(look_at(self.file), (digest(told), None))
+                self.assertEqual(stamp_of(self.file), digest(told))
 
     def test_of_a_file_that_goes_meanwhile_is_none(self) -> None:
         with unittest.mock.patch("redodb.stamps.os.open", side_effect=FileNotFoundError):
-            self.assertEqual(look_at(self.file), (None, None))
+            self.assertIsNone(stamp_of(self.file))
 
     def test_is_one_of_the_database(self) -> None:
         os.utime(self.file, ns=(0, -1))
         self.assertRegex(stamp_of(self.file) or "", r"\A[!-~]{1,64}\Z")
-
-
-class Keys(InAFolder):
-    def test_of_a_plain_file_are_its_numbers(self) -> None:
-        status = os.stat(self.file)
-        key = tuple(getattr(status, name) for name in PLAIN_NUMBERS)
-        self.assertEqual(look_at(self.file), (stamp_of(self.file), key))
-        self.assertEqual(key_of(self.file, status), key)
-        self.assertEqual(plain_key(status), key)
-
-    def test_of_a_link_are_its_own_and_those_of_the_file(self) -> None:
-        os.symlink(b"file", self.link)
-        key = plain_key(os.lstat(self.link)) + plain_key(os.stat(self.file))
-        self.assertEqual(look_at(self.link)[1], key)
-        self.assertEqual(key_of(self.link, os.lstat(self.link)), key)
-
-    def test_are_none_for_what_is_not_read(self) -> None:
-        os.mkfifo(self.top + b"/fifo")
-        links = {b"nowhere": b"none", b"ring": b"ring", b"here": b".", b"to_fifo": b"fifo"}
-        for name, text in links.items():
-            os.symlink(text, self.top + b"/" + name)
-        for path in (self.top, *(self.top + b"/" + name for name in (b"fifo", *links))):
-            self.assertIsNone(look_at(path)[1], path)
-            self.assertIsNone(key_of(path, os.lstat(path)), path)
-
-    def test_is_none_for_a_file_that_changes_while_it_is_read(self) -> None:
-        read = os.read
-
-        def growing(file: int, size: int) -> bytes:
-            with open(self.file, "ab") as other:
-                other.write(b"6")
-            return read(file, size) if os.fstat(file).st_size < 8 else b""
-
-        with unittest.mock.patch("redodb.stamps.os.read", growing):
-            stamp, key = look_at(self.file)
-        self.assertRegex(stamp or "", "b2-")
-        self.assertIsNone(key)
 
     def test_of_a_file_that_grows_as_fast_as_it_is_read_come_in_the_end(self) -> None:
         read, calls = os.read, iter(range(100))
@@ -176,9 +139,8 @@ class Keys(InAFolder):
             return read(file, size)
 
         with unittest.mock.patch("redodb.stamps.os.read", growing):
-            stamp, key = look_at(self.file)
+            stamp = stamp_of(self.file)
         self.assertRegex(stamp or "", "b2-")
-        self.assertIsNone(key)
 
 
 if __name__ == "__main__":

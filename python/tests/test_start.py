@@ -1,4 +1,4 @@
-"""The server that a client starts, and what its light path imports."""
+"""The server that a client starts, and what the package exports."""
 import os
 import subprocess
 import sys
@@ -100,21 +100,6 @@ class Start(ServedTree):
 
 
 class Imports(unittest.TestCase):
-    def test_of_the_light_path_are_few(self) -> None:
-        program = (
-            "import sys, redodb.redo.questions; heavy = {'asyncio', 'dataclasses', 'typing', 're', "
-            "'enum', 'socket', 'subprocess', 'importlib', 'warnings', '__future__'}; "
-            "print(sorted(heavy & set(sys.modules)))"
-        )
-        run = subprocess.run(
-            [sys.executable, "-ESsc", program],
-            cwd=package_folder(),
-            capture_output=True,
-            text=True,
-            check=True,
-        )
-        self.assertEqual(run.stdout, "[]\n")
-
     def test_of_the_package_are_what_it_exports(self) -> None:
         self.assertIs(redodb.Client, Client)
         self.assertIs(redodb.errors.ServerError, ServerError)

@@ -2,7 +2,7 @@
 import os
 import time
 
-from trees import IS_NATIVE, Tree
+from trees import Tree
 
 LINK = "echo ran >>ran.app\nredo-ifchange util.o main.o\ncat util.o main.o\n"
 COMPILE = 'echo ran >>ran.$2\nredo-ifchange "$2.c"\ncat "$2.c"\n'
@@ -41,13 +41,13 @@ def case_redo_builds_in_any_case(tree: Tree) -> None:
 def case_removed_target(tree: Tree) -> None:
     """A target whose file is gone is built again.
 
-    Its content is the same: with the programs of redo/, that builds nothing else.
+    Its content is the same: that builds nothing else.
     """
     small_program(tree)
     tree.redo("app")
     tree.path("util.o").unlink()
     tree.ifchange("app")
-    tree.check.same("runs", runs(tree), (1 if IS_NATIVE else 2, 2, 1))
+    tree.check.same("runs", runs(tree), (1, 2, 1))
 
 
 def case_source_without_rule(tree: Tree) -> None:

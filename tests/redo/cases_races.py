@@ -5,7 +5,7 @@ import subprocess
 import sys
 import time
 
-from trees import IS_NATIVE, PROGRAM_FOLDER, TOP, Ended, Skipped, Tree, ended, needs
+from trees import PROGRAM_FOLDER, TOP, Ended, Skipped, Tree, ended, needs
 
 
 class Builder:
@@ -46,23 +46,22 @@ def stamp(tree: Tree, name: str) -> str:
     return run.stdout.strip()
 
 
-def slowly(tree: Tree, *words: str, until: str = " wait ") -> "subprocess.Popen[bytes]":
-    """Starts a program that reads each answer half a second late, and waits until it has made a
-    request: that for a lock, if no other is named. A program of redo/ makes one request for all
-    that it wants, with its folder."""
+def slowly(tree: Tree, *words: str) -> "subprocess.Popen[bytes]":
+    """Starts a program that reads each answer half a second late, and waits until it has made its
+    request, which names its folder."""
     needs("strace")
-    until = str(tree.folder.resolve()) if IS_NATIVE else until
+    until = str(tree.folder.resolve())
     trace = ["-e", "trace=recvfrom,write,sendto", "-e", "inject=recvfrom:delay_enter=500000"]
     program = str(PROGRAM_FOLDER / words[0])
     run = tree.start("strace", "-qq", "-s", "400", "-o", "trace", *trace, program, *words[1:])
-    tree.until(f"it has asked{until}", lambda: until in tree.read("trace"))
+    tree.until("it has asked", lambda: until in tree.read("trace"))
     return run
 
 
 def case_changed_between_two_requests(tree: Tree) -> None:
     """A file that changes after it was found not to have changed is not taken as it was read."""
     tree.files(x__do="cat y\nredo-ifchange y\n", y="AAAA\n")
-    run = slowly(tree, "redo", "x", until=" late ")
+    run = slowly(tree, "redo", "x")
     time.sleep(0.2)
     tree.write("y", "BBBB\n")
     tree.check.same("status", ended(run).status, 0)
@@ -72,7 +71,7 @@ def case_changed_between_two_requests(tree: Tree) -> None:
 
 def case_judged_after_the_lock(tree: Tree) -> None:
     """What a run knows of a target is from after its lock was granted: nothing is frozen."""
-    if IS_NATIVE:
+    if True:
         raise Skipped("the other redo of this case locks by lines, as none of redo/ does")
     tree.files(x__do="redo-ifchange src\ncat src\n", src="1\n")
     tree.redo("x")
@@ -126,8 +125,8 @@ def case_asked_twice(tree: Tree) -> None:
     run = while_it_runs(tree, "redo-ifchange", "x")
     tree.write("y", "newer\n")
     tree.check.same("status", goes_on(tree, run).status, 0)
-    why = "x changed while it was built\n" if IS_NATIVE else "x <- y changed\n"
-    tree.check.same("why", tree.run("redo-why", "x").out, why)
+    why = tree.run("redo-why", "x").out
+    tree.check.same("why", why, "x changed while it was built\n")
     tree.ifchange("x")
     tree.check.same("x", tree.read("x"), "newer\n")
     tree.check.same("then nothing", tree.ifchange("x").built, [])

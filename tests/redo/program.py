@@ -26,7 +26,6 @@ from pathlib import Path
 from program_sources import FLAGS, Program, appearing, object_of, program
 
 TOP = Path(__file__).resolve().parent.parent.parent
-IS_NATIVE = bool(os.environ.get("REDO_PROGRAMS"))
 PROGRAM_FOLDER = Path(os.environ.get("REDO_PROGRAMS") or TOP / "bin").resolve()
 JOBS = (1, 8)
 SECONDS = 600
@@ -49,7 +48,10 @@ class Checks:
 
 
 def database() -> str | None:
-    """redodb-live: $REDODB_LIVE, else that of the repository if it is proved, else None."""
+    """redodb-live: $REDODB_LIVE, else that of the repository if it is proved; None if there is
+    none, or if the programs of redo aren't built."""
+    if not (PROGRAM_FOLDER / "redo").exists():
+        return None
     live = os.environ.get("REDODB_LIVE") or str(TOP / "redodb-live")
     run = subprocess.run([live], stdin=subprocess.DEVNULL, capture_output=True, check=False)
     return live if run.returncode == 0 else None
@@ -203,8 +205,8 @@ class Trial:
             self.same(f"{name} is touched", self.built(), set())
             with open(self.redo.folder / name, "a", encoding="utf-8") as source:
                 source.write("/* edited */\n")
-            same = {"prog"} if IS_NATIVE else set[str]()  # from objects that are the same as before
-            self.same(f"{name} is edited", self.built(), wanted - same)
+            # from objects that are the same as before
+            self.same(f"{name} is edited", self.built(), wanted - {"prog"})
             self.same_bytes(f"{name} is edited", {})
 
     def let_headers_appear(self) -> None:

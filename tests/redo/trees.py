@@ -15,8 +15,6 @@ from typing import Any, Callable, Iterator, Mapping
 
 TOP = Path(__file__).resolve().parent.parent.parent
 PROGRAM_FOLDER = Path(os.environ.get("REDO_PROGRAMS") or TOP / "bin").resolve()
-# whether the programs are those of redo/, not those of python/
-IS_NATIVE = bool(os.environ.get("REDO_PROGRAMS"))
 SECONDS = 180.0
 SERVER = "REDO_SERVER"
 SERVER_IDLE = "3"
@@ -101,10 +99,9 @@ class Tree:
         }
         if SERVER in os.environ:
             kept[SERVER] = os.environ[SERVER]
-        if IS_NATIVE:
-            kept["REDO_IDLE"] = SERVER_IDLE
+        kept |= {"REDO_IDLE": SERVER_IDLE, "REDODB_LIVE": self.live, "TERM": "xterm"}
         path = f"{PROGRAM_FOLDER}:{os.environ.get('PATH', os.defpath)}"
-        return kept | {"PATH": path, "REDODB_LIVE": self.live, "TERM": "xterm"} | self.more
+        return kept | {"PATH": path} | self.more
 
     def path(self, name: str | bytes = ".") -> Path:
         """Returns the path of a name."""
@@ -242,7 +239,10 @@ def needs(program: str) -> None:
 
 
 def program() -> str | None:
-    """The database: $REDODB_LIVE, else ./redodb-live if it is proved, else None."""
+    """The database: $REDODB_LIVE, else ./redodb-live if it is proved; None if there is none, or if
+    the programs of redo aren't built."""
+    if not (PROGRAM_FOLDER / "redo").exists():
+        return None
     chosen = os.environ.get("REDODB_LIVE")
     if chosen:
         return chosen

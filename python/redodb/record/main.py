@@ -10,6 +10,7 @@ from .events import Story
 from .graph import Graph, RecordError
 from .history import answered, write_history
 from .make import read_make
+from .marks import mark_whole
 from .names import Names
 from .ninja import read_ninja
 
@@ -71,18 +72,12 @@ def _record(kind: str, top: bytes, log: bytes | None, words: list[str]) -> None:
     os.close(os.open(log, os.O_CREAT | os.O_EXCL | os.O_WRONLY, 0o666))
     try:
         answered(commands, log)
-        _mark_whole(Places(os.path.realpath(top)), log)
+        places = Places(os.path.realpath(top))
+        if os.path.realpath(log) == places.log:
+            mark_whole(places)  # else what is edited from now on would be built again
     except (RecordError, ServerError, OSError):
         os.unlink(log)
         raise
-
-
-def _mark_whole(places: Places, log: bytes) -> None:
-    """Mark redo's log of a tree as whole: else what is edited from now on would be built again."""
-    if os.path.realpath(log) == places.log:
-        from ..server.lasting import Marks
-
-        Marks(places).end()
 
 
 def main(arguments: list[str]) -> int:

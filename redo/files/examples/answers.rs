@@ -5,11 +5,8 @@
 
 use std::io::{self, BufRead, Write};
 
-use redo_files::clock::Clock;
-use redo_files::contents::Contents;
-use redo_files::expected::Expected;
 use redo_files::links;
-use redo_files::look::{Look, Reader};
+use redo_files::look::Reader;
 use redo_files::names;
 use redo_files::private::Home;
 use redo_files::rules::{self, Rule};
@@ -20,17 +17,9 @@ use redo_files::{FileError, Folder};
 type Texts = Vec<Option<Vec<u8>>>;
 type Answer = Result<Texts, FileError>;
 
-/// A tree whose files are looked at.
-struct Tree {
-    home: Home,
-    contents: Contents,
-    expected: Expected,
-}
-
 struct Answers {
     trust: Trust,
     reader: Reader,
-    tree: Option<Tree>,
 }
 
 impl Answers {
@@ -48,23 +37,6 @@ impl Answers {
             ("search", [target, top]) => self.search(target, top),
             ("make", [top]) => Home::new(top, &self.trust).make().map(|()| Vec::new()),
             ("read", [path, top]) => Home::new(top, &self.trust).read(path).map(one),
-            _ => self.answer_of_tree(word, texts),
-        }
-    }
-
-    fn answer_of_tree(&mut self, word: &str, texts: &[Vec<u8>]) -> Answer {
-        if let ("load", [top, boot]) = (word, texts) {
-            self.tree = Some(self.loaded(top, boot)?);
-            return Ok(Vec::new());
-        }
-        let tree = self.tree.as_mut().expect("a tree was loaded");
-        match (word, texts) {
-            ("look", [path]) => Ok(shown(tree.contents.look(path))),
-            ("reads", []) => Ok(one(tree.contents.reads().to_string().into_bytes())),
-            ("store", wanted) => tree.store(wanted),
-            ("expect", [name]) => tree.expect(name, None),
-            ("expect", [name, stamp]) => tree.expect(name, Some(stamp)),
-            ("suspects", []) => Ok(tree.suspects()),
             _ => panic!("no such question: {word} with {} texts", texts.len()),
         }
     }
@@ -76,7 +48,8 @@ impl Answers {
 
     fn stamp(&mut self, folder: &[u8], path: &[u8]) -> Answer {
         let opened = Folder::open(folder).map_err(|cause| FileError::system(folder, cause))?;
-        Ok(shown(self.reader.look_at(&opened, path)))
+        let stamp = self.reader.look_at(&opened, path).stamp;
+        Ok(vec![stamp.map(|stamp| stamp.to_string().into_bytes())])
     }
 
     fn search(&self, target: &[u8], top: &[u8]) -> Answer {
@@ -86,42 +59,6 @@ impl Answers {
             .into_iter()
             .chain(found.missing.into_iter().map(Some))
             .collect())
-    }
-
-    fn loaded(&self, top: &[u8], boot: &[u8]) -> Result<Tree, FileError> {
-        let folder = Folder::open(top).map_err(|cause| FileError::system(top, cause))?;
-        let home = Home::new(top, &self.trust);
-        let mut contents = Contents::new(folder, Clock::new(b".redo/server/lock"), boot);
-        contents.load(&home, top::places::STAMPS);
-        contents.begin_look();
-        Ok(Tree {
-            home,
-            contents,
-            expected: Expected::new(),
-        })
-    }
-}
-
-impl Tree {
-    fn store(&self, wanted: &[Vec<u8>]) -> Answer {
-        let is_wanted = |name: &[u8]| wanted.iter().any(|one| one == name);
-        self.contents
-            .store(&self.home, top::places::STAMPS, is_wanted)
-            .map(|()| Vec::new())
-    }
-
-    fn expect(&mut self, name: &[u8], stamp: Option<&[u8]>) -> Answer {
-        self.expected.put(name, stamp);
-        Ok(Vec::new())
-    }
-
-    fn suspects(&mut self) -> Texts {
-        self.contents.begin_look();
-        self.expected
-            .suspects(&mut self.contents)
-            .into_iter()
-            .map(Some)
-            .collect()
     }
 }
 
@@ -134,11 +71,6 @@ fn parts(rule: Rule) -> Texts {
         .into_iter()
         .map(Some)
         .collect()
-}
-
-fn shown(look: Look) -> Texts {
-    let stamp = look.stamp.map(|stamp| stamp.to_string().into_bytes());
-    vec![stamp, look.key.map(|key| key.to_string().into_bytes())]
 }
 
 /// Returns what Python calls an error of this kind.
@@ -181,7 +113,6 @@ fn main() -> io::Result<()> {
     let mut answers = Answers {
         trust: Trust::of_process(),
         reader: Reader::new(),
-        tree: None,
     };
     let mut output = io::stdout().lock();
     for line in io::stdin().lock().lines() {

@@ -1,10 +1,20 @@
-"""The .do file of a target: where it is looked for, and which arguments its script gets."""
+"""What redo says of names and rules, in plain Python, for tests that compare redo-files with it.
+
+The other half of the comparison is the Python package: its names, tops and stamps.
+"""
 import os
 from stat import S_ISDIR, S_ISLNK, S_ISREG
 from typing import Iterator, NamedTuple
 
 from redodb import private
-from redodb.errors import RuleError
+from redodb.errors import BadName, RedodbError
+from redodb.names import name_of, path_of, unescape
+
+MOST_LINKS = 40
+
+
+class RuleError(RedodbError):
+    """What is in the place of a .do file can't be run; the text says why."""
 
 
 class Rule(NamedTuple):
@@ -89,3 +99,61 @@ def is_there(do_file: bytes, top: bytes) -> bool:
         what = "a folder" if S_ISDIR(status.st_mode) else "no regular file"
         raise RuleError(f"{private.shown(do_file)} is {what}")
     return True
+
+
+def links_on(path: bytes) -> list[bytes]:
+    """Return the symbolic links that the folders of an absolute path lead through."""
+    folder = os.path.dirname(path)
+    if os.path.realpath(folder) == os.path.normpath(folder):
+        return []
+    found: list[bytes] = []
+    here = b"/"
+    parts = folder.split(b"/")[::-1]
+    while parts and len(found) < MOST_LINKS:
+        part = parts.pop()
+        one = os.path.normpath(os.path.join(here, part))
+        try:
+            text = os.readlink(one) if part not in (b"", b".", b"..") else None
+        except OSError:
+            text = None
+        if text is None:
+            here = one
+        else:
+            found.append(one)
+            parts += text.split(b"/")[::-1]
+            here = b"/" if text.startswith(b"/") else here
+    return found
+
+
+def relative_path(name: bytes, top: bytes, folder: bytes) -> bytes:
+    """Return the path of a name from a folder; a name that no path has is returned as it is.
+    """
+    try:
+        return os.path.relpath(path_of(name, top), folder)
+    except BadName:
+        return name
+
+
+def name_inside(path: bytes, top: bytes, seen: set[bytes]) -> bytes:
+    """Return the name of a path as name_of, if it is in this tree and in no other.
+
+    Folders that were seen aren't looked at; all that are in order are added. Raises OtherTree too.
+    """
+    name = name_of(path, top)
+    _check_inside(name, top, seen)
+    return name
+
+
+def _check_inside(name: bytes, top: bytes, seen: set[bytes]) -> None:
+    """Raise OtherTree if a folder below the top on the way to a name has .redo, as name_inside."""
+    if b"/" not in name or name.startswith((b"../", b"/")):
+        return  # at the top, outside of it, or no file
+    folder = os.path.dirname(unescape(name))
+    looked_at = []
+    while folder and folder not in seen:
+        inner = os.path.join(top, folder)
+        if os.access(os.path.join(inner, private.HOME, b"."), os.F_OK):
+            raise private.two_trees(inner, top)
+        looked_at.append(folder)
+        folder = os.path.dirname(folder)
+    seen.update(looked_at)

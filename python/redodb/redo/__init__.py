@@ -1,1 +1,0 @@
-"""The front end: redo, redo-ifchange and the programs beside them."""
