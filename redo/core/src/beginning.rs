@@ -88,12 +88,24 @@ impl<D: Database> Machine<D> {
     pub(crate) fn take(&mut self, id: TaskId) {
         let target = self.task(id).target;
         let reply = self.call(id, &Command::Lock(target));
-        assert_eq!(reply, Reply::Done);
-        if self.task(id).has_slot {
+        if reply == Reply::Busy {
+            self.task_mut(id).phase = Phase::Barred;
+            self.release(id);
+            self.abandon(id);
+        } else if self.task(id).has_slot {
             self.task_mut(id).phase = Phase::Looking;
             self.actions.push(Action::Look { task: id, target });
         } else {
             self.want_slot(id);
+        }
+    }
+
+    /// The lock of a name may be free, which somebody had who is no run.
+    pub(crate) fn unlocked(&mut self, name: Name) {
+        let Some(id) = self.owners.get(&name).copied() else { return };
+        if self.task(id).phase == Phase::Barred {
+            self.task_mut(id).phase = Phase::Busy;
+            self.agenda.push_back(Chore::Take(id));
         }
     }
 

@@ -160,6 +160,10 @@ impl<D: Database> Machine<D> {
                 self.leave_line(id);
                 self.remove_task(id);
             }
+            Phase::Barred => {
+                let target = self.remove_task(id).target;
+                self.pass_on(target);
+            }
             Phase::Wants => {
                 self.leave_queue_of(id);
                 self.end_unasked(id);
@@ -204,8 +208,10 @@ impl<D: Database> Machine<D> {
         if phase == Phase::Running {
             self.agenda.push_back(Chore::CloseFail { run, target });
         }
-        if phase != Phase::Parked {
-            self.agenda.push_back(Chore::CloseUnlock { run, target });
+        match phase {
+            Phase::Parked => {}
+            Phase::Barred => self.pass_on(target),
+            _ => self.agenda.push_back(Chore::CloseUnlock { run, target }),
         }
     }
 
@@ -216,6 +222,11 @@ impl<D: Database> Machine<D> {
 
     pub(crate) fn close_unlock(&mut self, run: RunId, target: Name) {
         self.database.obey(run, &Command::Unlock(target));
+        self.pass_on(target);
+    }
+
+    /// The first in the line for a lock leaves it.
+    fn pass_on(&mut self, target: Name) {
         self.owners.remove(&target);
         self.next_in_line(target);
     }

@@ -47,6 +47,11 @@ pub enum Event {
     Slot { run: RunId },
     /// A file as it is now.
     File { run: RunId, name: Name, stamp: Option<Stamp> },
+    /// Somebody who is no run told the database of a name, which had another file or another mark
+    /// then, and may have the former ones again. `run` is any that is open.
+    Touched { run: RunId, name: Name },
+    /// Somebody who is no run has released the lock of a name.
+    Unlocked { name: Name },
     /// A program asks.
     Ask {
         run: RunId,

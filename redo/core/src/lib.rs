@@ -13,12 +13,16 @@
 //! | [`Phase`] | Has its lock | Has a slot | Waits for | Goes on as |
 //! |---|---|---|---|---|
 //! | Parked | no | no | the task of another run that has the lock | Wants |
+//! | Barred | no | no | somebody who has the lock, and is no run | Wants |
 //! | Wants | yes | no | a slot of its run | Looking |
 //! | Looking | yes | yes | the shell's look at the file | it decides |
 //! | Needing | yes | no | a guess: what the target needed when it was last built | Wants |
 //! | Searching | yes | yes | the shell's search for the `.do` file | it decides again |
 //! | Preparing | yes | no | its `.do` file, which is a target | Wants |
 //! | Running | yes | unless it asks | its script, and what that asks for | it has ended |
+//!
+//! Others than runs may use the database, too: they take locks, and report files. A Barred task is
+//! the first of the runs in the line for its lock. The shell says when the lock may be free.
 //!
 //! Who holds a slot waits for nothing but the shell. A task that nobody asks for any more ends as
 //! soon as it can, but for one whose script runs.
@@ -66,7 +70,7 @@
 //!   once more when it is answered right: the script reads them from then on.
 //! - A row on a name that the script was answered for stays, however often it asks again.
 //! - If such a name has another mark than its row at any time while the script runs, or its file
-//!   isn't what its build left, the target is *doubtful*: it gets an always row before it is done,
+//!   isn't what its build left, or somebody who is no run changes it, the target is *doubtful*: it gets an always row before it is done,
 //!   and is built once more. So do targets whose script asked late for a source that was changed
 //!   after the script began, or did without a name although no row shows when it can be had.
 //!   `redo-always` puts a row on `//always` instead, so an always row says this alone: changed

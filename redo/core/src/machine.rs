@@ -70,6 +70,8 @@ impl<D: Database> Machine<D> {
             Event::Open { run, keep_going, always } => self.open(run, keep_going, always),
             Event::Slot { run } => self.slot(run),
             Event::File { run, name, stamp } => self.tell(run, Subject::File(name), stamp),
+            Event::Touched { run, name } => self.touched(run, name),
+            Event::Unlocked { name } => self.unlocked(name),
             Event::Ask { run, request, who, want, names, looks } => {
                 if self.may_ask(run, who) {
                     let depth = self.depth_of(who);
@@ -193,7 +195,9 @@ impl<D: Database> Machine<D> {
     pub(crate) fn call(&mut self, task: TaskId, command: &Command) -> Reply {
         let Task { run, target, phase, .. } = *self.task(task);
         let reply = self.database.obey(run, command);
-        assert!(!matches!(reply, Reply::Refused | Reply::Busy), "{reply:?}: {command:?}");
+        let is_lock = matches!(command, Command::Lock(_));
+        let is_done = reply != Reply::Refused && (is_lock || reply != Reply::Busy);
+        assert!(is_done, "{reply:?}: {command:?}");
         if phase != Phase::Keeping {
             self.changed(run, target);
         }

@@ -37,6 +37,17 @@ impl<D: Database> Machine<D> {
         self.doubt_readers(name);
     }
 
+    /// Somebody who is no run has changed a name: the scripts may have read it so that were answered
+    /// for it before, whatever it is by now.
+    pub(crate) fn touched(&mut self, run: RunId, name: Name) {
+        for reader in self.readers.get(&name).cloned().unwrap_or_default() {
+            self.task_mut(reader).doubtful = true;
+        }
+        if self.runs.contains_key(&run) {
+            self.changed(run, name);
+        }
+    }
+
     /// Of a script that was answered for this name, the target is to be built once more, whatever
     /// the script makes of both, and whatever comes after.
     fn doubt_readers(&mut self, name: Name) {

@@ -8,6 +8,8 @@ use std::collections::BTreeSet;
 pub enum Phase {
     /// In the line for the lock of its target, which a task of another run has.
     Parked,
+    /// First in the line for the lock of its target, which somebody has who is no run.
+    Barred,
     /// Has the lock, and waits for a slot.
     Wants,
     /// The shell looks at the target's file.

@@ -1,4 +1,5 @@
 //! What happens next in a world, at random.
+use crate::stranger::STRANGER;
 use crate::world::{Asked, Kind, World};
 use redo_core::{RequestId, RunId, TaskId};
 
@@ -15,6 +16,9 @@ enum Way {
     Close,
     Kill,
     Leave,
+    Lock,
+    Unlock,
+    Report,
 }
 
 impl World {
@@ -52,7 +56,21 @@ impl World {
             (Way::Kill, live && self.setup.kills && !self.users.is_empty(), 1),
             (Way::Leave, live && self.setup.background && !self.leavable().is_empty(), 2),
         ];
-        all.iter().filter(|(_, can, _)| *can).map(|(way, _, weight)| (*way, *weight)).collect()
+        let all = all.into_iter().chain(self.ways_of_stranger());
+        all.filter(|(_, can, _)| *can).map(|(way, _, weight)| (way, weight)).collect()
+    }
+
+    fn ways_of_stranger(&self) -> Vec<(Way, bool, u64)> {
+        if !self.setup.stranger {
+            return Vec::new();
+        }
+        let live = !self.frozen;
+        let has_locks = !self.locked_by(Some(STRANGER)).is_empty();
+        vec![
+            (Way::Lock, live && !self.locked_by(None).is_empty(), 3),
+            (Way::Unlock, has_locks, 4),
+            (Way::Report, live && !self.users.is_empty(), 4),
+        ]
     }
 
     fn ready(&self) -> Vec<TaskId> {
@@ -111,6 +129,13 @@ impl World {
             Way::Leave => {
                 let request = self.random.pick(&self.leavable());
                 self.leave(request);
+            }
+            Way::Lock => self.lock_as_stranger(),
+            Way::Unlock => self.unlock_as_stranger(),
+            Way::Report => {
+                let runs: Vec<RunId> = self.users.keys().copied().collect();
+                let run = self.random.pick(&runs);
+                self.report_as_stranger(run);
             }
         }
     }

@@ -20,6 +20,7 @@ pub struct Counts {
     pub tainted: u64,
     pub unsettled: u64,
     pub unseen: u64,
+    pub strange: u64,
 }
 
 impl Counts {
@@ -41,6 +42,7 @@ impl Counts {
         self.tainted += other.tainted;
         self.unsettled += other.unsettled;
         self.unseen += other.unseen;
+        self.strange += other.strange;
     }
 }
 
@@ -53,6 +55,7 @@ impl Display for Counts {
         writeln!(to, "{} late looks, {} rules built first", self.late, self.rules)?;
         writeln!(to, "{} warnings, {} overwritten", self.left, self.overwritten)?;
         writeln!(to, "{} targets compared, {} of them on rings", self.compared, self.tainted)?;
+        writeln!(to, "{} commands of strangers", self.strange)?;
         writeln!(to, "{} traces whose .do files never settled", self.unsettled)?;
         write!(to, "{} last runs after an edit that nobody saw", self.unseen)
     }

@@ -1,7 +1,8 @@
 //! Drives redo-core by random traces, and checks each.
 //!
 //! A trace has files that change, scripts that are functions of what they read, users, many runs,
-//! a jobserver, programs that leave and runs that are killed, in any order. These promises of the
+//! a jobserver, programs that leave, runs that are killed, and a stranger who uses the database and
+//! is no run, in any order. These promises of the
 //! shell it keeps: looks are told in their order; each look and search is answered once; no script
 //! outlives its run; a script reads what it was answered for, or a source that it asks for later;
 //! and no old content of a source comes back while scripts run.
@@ -45,4 +46,5 @@ pub mod setup;
 pub mod sha1;
 pub mod shell;
 pub mod steps;
+pub mod stranger;
 pub mod world;

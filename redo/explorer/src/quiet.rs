@@ -1,4 +1,5 @@
 //! What is to be true between two events: slots, locks, waits, rows, digests.
+use crate::stranger::STRANGER;
 use crate::world::World;
 use redo_core::{
     Database, Mark, Name, Phase, Request, RequestId, Run, Stage, State, Subject, Task, TaskId,
@@ -58,8 +59,9 @@ impl World {
         names.into_iter().find_map(|name| {
             let cell = self.machine.database().cell(name);
             let owner = self.machine.owners().get(&name);
-            let run = owner.and_then(|id| self.machine.tasks().get(id)).map(|task| task.run);
-            if cell.holder != run {
+            let task = owner.and_then(|id| self.machine.tasks().get(id));
+            let run = task.filter(|task| task.phase != Phase::Barred).map(|task| task.run);
+            if cell.holder.filter(|holder| *holder != STRANGER) != run {
                 return Some(format!("(c) {name:?} is locked by {:?}, not {run:?}", cell.holder));
             }
             let scripts = self.scripts.values().filter(|script| script.target == name).count();
@@ -94,7 +96,12 @@ impl World {
 
     fn fault_of_tasks(&self) -> Option<String> {
         let lost = self.machine.tasks().iter().find(|(id, task)| !self.is_task_alive(**id, task));
+        let works =
+            |task: &Task| matches!(task.phase, Phase::Looking | Phase::Searching | Phase::Running);
+        let mut tasks = self.machine.tasks().iter();
+        let unasked = tasks.find(|(_, task)| task.askers.is_empty() && !works(task));
         lost.map(|(id, task)| format!("(d) {id:?} waits for nothing: {task:?}"))
+            .or_else(|| unasked.map(|(id, task)| format!("(d) {id:?} waits for nobody: {task:?}")))
     }
 
     fn is_task_alive(&self, id: TaskId, task: &Task) -> bool {
@@ -104,6 +111,10 @@ impl World {
                 let owner = machine.owners().get(&task.target);
                 machine.lines().get(&task.target).is_some_and(|line| line.contains(&id))
                     && owner.is_some_and(|owner| machine.tasks().contains_key(owner))
+            }
+            Phase::Barred => {
+                let holder = machine.database().cell(task.target).holder;
+                holder == Some(STRANGER) && machine.owners().get(&task.target) == Some(&id)
             }
             Phase::Wants => {
                 let mut queue = machine.runs()[&task.run].queue.values();

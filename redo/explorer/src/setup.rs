@@ -1,5 +1,5 @@
 //! What a trace may contain, and which names there are.
-use crate::random::Random;
+use crate::random::{mix, Random};
 use redo_core::Name;
 
 /// The size of a trace, and what may happen in it.
@@ -17,6 +17,8 @@ pub struct Setup {
     pub digests: bool,
     /// Whether `.do` files may be targets.
     pub built_rules: bool,
+    /// Whether somebody uses the database who is no run.
+    pub stranger: bool,
     pub steps: usize,
 }
 
@@ -35,6 +37,7 @@ impl Setup {
             background: random.chance(40),
             digests: random.chance(50),
             built_rules: random.chance(50),
+            stranger: Random(mix(random.0, 7)).chance(30),
             steps: if is_large { 300 + random.below(1500) } else { 60 + random.below(300) },
         }
     }

@@ -1,6 +1,7 @@
 //! What the world does for users and for the machine: calls, edits, kills, actions.
 use crate::random::mix;
 use crate::script::{want, Script, FAILED};
+use crate::stranger::STRANGER;
 use crate::world::{Asked, Kind, User, World};
 use redo_core::{Action, Event, Look, Name, RequestId, RunId, Say, State, Subject, TaskId, Want};
 use std::collections::{BTreeSet, VecDeque};
@@ -9,6 +10,7 @@ impl World {
     /// A user calls. In a last run all targets are asked for.
     pub fn open(&mut self, last: Option<Vec<Name>>) {
         self.runs_made = if self.users.is_empty() { 1 } else { self.runs_made + 1 };
+        self.runs_made += u32::from(RunId(self.runs_made) == STRANGER);
         let run = RunId(self.runs_made);
         let keep_going = last.is_some() || self.random.chance(40);
         let kind = if last.is_some() { 0 } else { self.random.below(100) };

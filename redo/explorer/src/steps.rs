@@ -2,7 +2,7 @@
 use crate::random::mix;
 use crate::script::{fails, op, want, Op};
 use crate::world::World;
-use redo_core::{Digest, Event, Name, RequestId, State, Subject, TaskId, Want};
+use redo_core::{Digest, Event, Name, RequestId, RunId, Stamp, State, Subject, TaskId, Want};
 
 impl World {
     /// The next step of a script.
@@ -54,6 +54,15 @@ impl World {
             self.monitor.unseen.insert(script.target);
         }
         self.event(Event::Ended { task, ok, stamp, content });
+        self.tell_edit_at_end(script.run, script.target, stamp);
+    }
+
+    /// Tells the machine of an output that somebody has edited before its script's end was told.
+    fn tell_edit_at_end(&mut self, run: RunId, name: Name, told: Option<Stamp>) {
+        let stamp = self.stamp(name);
+        if stamp != told {
+            self.event(Event::File { run, name, stamp });
+        }
     }
 
     /// Of names that a script reads before it asks for them, the first: sources that are there, and

@@ -227,7 +227,7 @@ impl World {
     /// The machine is told of files, while scripts run that may have read them.
     fn note_seen(&mut self, event: &Event) {
         let seen: Vec<Name> = match event {
-            Event::File { name, .. } => vec![*name],
+            Event::File { name, .. } | Event::Touched { name, .. } => vec![*name],
             Event::Ask { names, looks, .. } if !looks.is_empty() => names.clone(),
             Event::Looked { task, .. } => vec![self.machine.tasks()[task].target],
             Event::Found { rule, missing, .. } => {
