@@ -5,7 +5,7 @@ import subprocess
 import sys
 import time
 
-from trees import PROGRAM_FOLDER, TOP, Ended, Skipped, Tree, ended, needs
+from trees import PROGRAM_FOLDER, TOP, Ended, Tree, ended, needs
 
 
 class Builder:
@@ -71,8 +71,6 @@ def case_changed_between_two_requests(tree: Tree) -> None:
 
 def case_judged_after_the_lock(tree: Tree) -> None:
     """What a run knows of a target is from after its lock was granted: nothing is frozen."""
-    if True:
-        raise Skipped("the other redo of this case locks by lines, as none of redo/ does")
     tree.files(x__do="redo-ifchange src\ncat src\n", src="1\n")
     tree.redo("x")
     tree.write("src", "22\n")

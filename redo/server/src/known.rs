@@ -131,6 +131,20 @@ impl Known {
         told.collect()
     }
 
+    /// The targets of which the database wasn't told yet whether they are edited.
+    pub fn untold_edits(&self) -> Vec<Name> {
+        let shadows = self.shadows.iter();
+        let told = shadows.filter_map(|shadow| self.names.name(*shadow).strip_prefix(EDITED));
+        let all = told.chain(self.edited.iter().map(|target| &**target));
+        let untold = all.filter(|target| {
+            let edited = self.edited.contains(*target);
+            let stamp = self.known_stamp(target).filter(|_| edited);
+            stamp != self.known_stamp(&[EDITED, target].concat())
+        });
+        let names: BTreeSet<Name> = untold.filter_map(|name| self.names.number(name)).collect();
+        names.into_iter().collect()
+    }
+
     /// Says whether a target is edited.
     pub fn has_edited(&self) -> bool {
         !self.edited.is_empty()

@@ -38,7 +38,8 @@
 //! A client whose first byte is NUL is a program that speaks the frames of `redo-wire`. A call that
 //! builds is a run of the machine of `redo-core`, in a session of its own, and what scripts ask are
 //! its requests; all else are questions. While the machine decides, nobody else talks to the
-//! database: what others have asked is answered first.
+//! database: what others have asked is answered first. Then the machine is told which names they have
+//! changed, and which they have unlocked.
 //!
 //! One thread does all; only a look at many files uses more. The modules:
 //!
@@ -52,6 +53,7 @@
 //! | [`conversation`] | a command goes to the database, and its reply comes back |
 //! | [`names`], [`log`], [`known`] | what the database knows of the files, and how they differ |
 //! | [`interned`] | numbers of stamps |
+//! | [`others`] | what the machine is to know of what text clients have done |
 //! | [`naming`] | the names of the paths of a call |
 //! | [`marks`], [`recovering`] | whether the log is whole, and what to do if it isn't |
 //! | [`processes`], [`groups`] | process groups that end with a connection |
@@ -77,6 +79,7 @@ pub mod log;
 pub mod marks;
 pub mod names;
 pub mod naming;
+pub mod others;
 pub mod outbox;
 pub mod processes;
 pub mod program;

@@ -239,11 +239,12 @@ impl Store {
                 self.grants.insert(*target, grant);
                 Reply::Done
             }
+            (Command::Lock(_), Answer::Busy) => Reply::Busy,
             (Command::IfChange(..), Answer::Stale(names)) => {
                 Reply::Stale(names.iter().map(|name| self.subject_of(name)).collect())
             }
             (Command::IfCreate(..), Answer::Exists(name)) => Reply::Exists(self.known.intern(name)),
-            (_, Answer::Granted(_) | Answer::Stale(_) | Answer::Exists(_)) => {
+            (_, Answer::Granted(_) | Answer::Busy | Answer::Stale(_) | Answer::Exists(_)) => {
                 self.break_run(run, command, b"another answer");
                 Reply::Done
             }

@@ -163,7 +163,7 @@ fn names_that_cannot_be_are_told() {
 }
 
 #[test]
-fn a_lock_of_another_client_stops_a_run() {
+fn a_lock_of_another_client_is_waited_for() {
     let tree = tree();
     let mut other = UnixStream::connect(tree.at(".redo/server/socket")).unwrap();
     other.write_all(b"1 lock t\n").unwrap();
@@ -172,6 +172,29 @@ fn a_lock_of_another_client_stops_a_run() {
     while !told[..count].ends_with(b"granted 1\n") {
         count += other.read(&mut told[count..]).unwrap();
     }
+    let mut link = tree.link();
+    let mut call = tree.call(Program::IfChange, &["t"], None);
+    let patience = b"REDO_PATIENCE=0.1".to_vec();
+    call.surroundings.environment.push(patience);
+    link.call(call);
+    let shown = |path: &[u8]| path.to_vec();
+    let line = match link.message() {
+        Some(ToProgram::Say(said)) => said.what.line(shown),
+        other => panic!("{other:?}"),
+    };
+    let line = String::from_utf8(line).unwrap();
+    assert_eq!(line, "waiting for t, which another program has locked");
+    other.shutdown(Shutdown::Both).unwrap();
+    let next = link.message();
+    assert!(matches!(next, Some(ToProgram::Run(_))), "{next:?}");
+    drop(link);
+    assert!(builds(&tree));
+}
+
+#[test]
+fn a_command_that_the_database_refuses_ends_the_run() {
+    let mut tree = tree();
+    tree.restart_with_edited_answers("s/ start t => ok$/ fault memory/");
     let mut link = tree.link();
     link.call(tree.call(Program::IfChange, &["t"], None));
     let mut said = Vec::new();
@@ -185,13 +208,8 @@ fn a_lock_of_another_client_stops_a_run() {
     }
     assert_eq!(
         said,
-        [b"the database has a fault: lock t => busy 1".to_vec()]
+        [b"the database has a fault: start t => fault memory".to_vec()]
     );
-    drop(link);
-    other.shutdown(Shutdown::Both).unwrap();
-    drop(other);
-    let right = (0..100).find(|_| builds(&tree));
-    assert!(right.is_some());
 }
 
 #[test]

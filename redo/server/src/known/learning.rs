@@ -31,6 +31,21 @@ impl Known {
         }
     }
 
+    /// Learns a line that others than runs have asked. Returns the name that it is about if that has
+    /// another file or another mark now.
+    pub fn learn_from_others(&mut self, told: &Told<'_>) -> Option<Name> {
+        let about = told.command.split(|byte| *byte == b' ').nth(1);
+        let name = about.and_then(|name| self.names.number(name));
+        let before = name.map(|name| *self.names.facts(name));
+        self.learn(told);
+        let name = name?;
+        let now = self.names.facts(name);
+        let is_same = before.map_or(true, |before| {
+            before.stamp == now.stamp && before.mark() == now.mark()
+        });
+        (!is_same).then_some(name)
+    }
+
     /// Learns the lines of a log that weren't learnt yet, all of which changed something.
     pub fn learn_log(&mut self, log: &mut LogReader) {
         let mut moved = BTreeSet::new();

@@ -137,10 +137,18 @@ impl Server {
         }
     }
 
+    /// Learns from a line that no run has asked.
     fn learn(&mut self, told: &Told<'_>) {
-        self.machine.database_mut().known.learn(told);
+        let known = &mut self.machine.database_mut().known;
+        if let Some(name) = known.learn_from_others(told) {
+            self.others.touch(name);
+        }
         if let (b"unlock", target) = partition(told.command) {
             if told.reply == b"ok" {
+                let unlocked = self.machine.database().known.names.number(target);
+                unlocked
+                    .into_iter()
+                    .for_each(|name| self.others.unlock(name));
                 self.waits.released(target);
                 self.settle_waits();
             }

@@ -6,6 +6,7 @@ use redo_wire::ToProgram;
 
 use crate::error::Failure;
 use crate::naming::name_of_resolved;
+use crate::others::Others;
 use crate::server::{Server, State};
 
 impl Server {
@@ -16,10 +17,38 @@ impl Server {
     /// Tells the machine what has happened, and does what it wants.
     pub(super) fn feed(&mut self, event: Event) {
         self.settle_clients();
-        if !self.is_ready() {
+        if self.is_ready() {
+            self.tell_of_others();
+            self.step_all(event);
+            self.obey_all();
+        }
+    }
+
+    /// Tells the machine what others than runs have done, and does what it wants.
+    pub(super) fn feed_others(&mut self) {
+        if self.others.is_empty() {
             return;
         }
-        self.step_all(event);
+        self.settle_clients();
+        if self.is_ready() {
+            self.tell_of_others();
+            self.obey_all();
+        }
+    }
+
+    /// Without a run, nothing rests on what others do: the next one finds out.
+    fn tell_of_others(&mut self) {
+        match self.machine.runs().keys().next().copied() {
+            Some(run) => {
+                while let Some(event) = self.others.next(run) {
+                    self.step_all(event);
+                }
+            }
+            None => self.others = Others::default(),
+        }
+    }
+
+    fn obey_all(&mut self) {
         while let Some(action) = self.actions.pop_front() {
             self.obey(action);
         }

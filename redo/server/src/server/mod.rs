@@ -25,6 +25,7 @@ use crate::known::Known;
 use crate::live;
 use crate::log::LogReader;
 use crate::marks::Marks;
+use crate::others::Others;
 use crate::sessions::{Session, Sessions};
 use crate::store::Store;
 use crate::system::{self, Interest, Poll, Ready};
@@ -112,6 +113,8 @@ pub struct Server {
     machine: Machine<Store>,
     /// What the machine wants to be done, and isn't yet.
     actions: VecDeque<Action>,
+    /// What the machine isn't told yet.
+    others: Others,
     calls: Calls,
     log: LogReader,
     sessions: Sessions<ClientId>,
@@ -148,6 +151,7 @@ impl Server {
             starts: 0,
             machine: Machine::new(Store::new(known_of(taken.home.top(), &boot)?), false),
             actions: VecDeque::new(),
+            others: Others::default(),
             calls: Calls::default(),
             log: LogReader::new(&taken.whole(places::LOG)),
             sessions: Sessions::new(),
@@ -184,6 +188,7 @@ impl Server {
 
     /// Does what can be done without a wait.
     fn do_what_is_due(&mut self) {
+        self.feed_others();
         self.ring_alarms();
         self.welcome();
         self.flush();

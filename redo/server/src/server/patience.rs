@@ -9,6 +9,14 @@ use crate::server::Server;
 use crate::sessions::Session;
 use crate::timers::Alarm;
 
+/// A task that waits for a lock of others.
+struct Waiting {
+    task: TaskId,
+    target: Name,
+    /// Who has the lock, behind the target.
+    why: &'static [u8],
+}
+
 impl Server {
     /// Says to a program which waits for its turn that it does.
     pub(super) fn tell_of_turn(&mut self, id: ClientId) {
@@ -26,39 +34,39 @@ impl Server {
     /// Says to a run for which targets it has waited since the last time this was looked at, each
     /// once.
     pub(super) fn tell_of_locks(&mut self, run: RunId) {
-        let parked = self.parked(run);
+        let waiting = self.waiting_for_locks(run);
         let record = match self.calls.runs.get_mut(&run) {
             Some(record) => record,
             None => return,
         };
         self.timers.set(Alarm::Locks(run), record.patience);
         let before = std::mem::take(&mut record.parked);
-        let is_old = |task: &TaskId| before.get(task) == Some(&false);
-        let told: Vec<Name> = parked
+        let is_old = |one: &&Waiting| before.get(&one.task) == Some(&false);
+        record.parked = waiting
             .iter()
-            .filter(|(task, _)| is_old(task))
-            .map(|(_, target)| *target)
+            .map(|one| (one.task, before.contains_key(&one.task)))
             .collect();
-        record.parked = parked
-            .iter()
-            .map(|(task, _)| (*task, before.contains_key(task)))
-            .collect();
-        for target in told {
+        for one in waiting.iter().filter(is_old) {
             let mut text = b"waiting for ".to_vec();
-            text.extend(self.shown(run, target));
-            text.extend(b", which another redo builds");
+            text.extend(self.shown(run, one.target));
+            text.extend(one.why);
             self.say_to_run(run, None, Say::Text(text));
         }
     }
 
-    /// The tasks of a run that wait for locks of others, and their targets.
-    fn parked(&self, run: RunId) -> Vec<(TaskId, Name)> {
+    fn waiting_for_locks(&self, run: RunId) -> Vec<Waiting> {
         let tasks = self.machine.runs().get(&run).map(|state| &state.tasks);
         let all = tasks.into_iter().flatten();
-        let parked = all.filter_map(|id| {
+        let waiting = all.filter_map(|id| {
             let task = self.machine.tasks().get(id)?;
-            (task.phase == Phase::Parked).then_some((*id, task.target))
+            let why: &[u8] = match task.phase {
+                Phase::Parked => b", which another redo builds",
+                Phase::Barred => b", which another program has locked",
+                _ => return None,
+            };
+            let (task, target) = (*id, task.target);
+            Some(Waiting { task, target, why })
         });
-        parked.collect()
+        waiting.collect()
     }
 }

@@ -64,7 +64,8 @@ impl Server {
         self.settle_clients();
         let changes = self.machine.database_mut().known.changes();
         let has_always = self.machine.database().file(Subject::Always).is_some();
-        if !changes.is_empty() || has_always {
+        let is_told = self.machine.database().known.untold_edits().is_empty();
+        if !changes.is_empty() || has_always || !is_told {
             let run = RunId(Session::QUESTIONS.number());
             self.open(run, false, &changes);
             self.feed(Event::Close { run });

@@ -162,6 +162,9 @@ impl Server {
             keep_going,
             always,
         });
+        for name in self.machine.database().known.untold_edits() {
+            self.feed(Event::Touched { run, name });
+        }
         for Change { name, stamp } in changes.iter().copied() {
             self.feed(Event::File { run, name, stamp });
         }
@@ -234,7 +237,8 @@ impl Server {
             }
             NameState::Building(_) | NameState::Failed => false,
         };
-        let is_plain = store.file(Subject::Always).is_none() && !store.known.has_edited();
+        let is_told = !store.known.has_edited() && store.known.untold_edits().is_empty();
+        let is_plain = store.file(Subject::Always).is_none() && is_told;
         let is_done = is_plain && names.iter().all(is_right);
         self.note_failure();
         is_done && self.is_ready()

@@ -11,6 +11,8 @@ pub enum Answer<'a> {
     /// `ok`, or `stamped D`.
     Done,
     Granted(u64),
+    /// `busy G`: somebody has the lock.
+    Busy,
     Stale(Vec<&'a [u8]>),
     /// `refused exists N`.
     Exists(&'a [u8]),
@@ -26,6 +28,7 @@ impl<'a> Answer<'a> {
                 Some(grant) => Answer::Granted(grant),
                 None => Answer::Other(answer),
             },
+            (b"busy", _) => Answer::Busy,
             (b"stale", names) => Answer::Stale(names.split(|byte| *byte == b' ').collect()),
             (b"refused", why) => match partition(why) {
                 (b"exists", name) => Answer::Exists(name),
@@ -133,13 +136,8 @@ mod tests {
         assert_eq!(Answer::parse(b"granted 12"), Answer::Granted(12));
         assert_eq!(Answer::parse(b"stale a b"), Answer::Stale(vec![b"a", b"b"]));
         assert_eq!(Answer::parse(b"refused exists a"), Answer::Exists(b"a"));
-        for other in [
-            &b"busy 1"[..],
-            b"refused building",
-            b"fault memory",
-            b"granted x",
-            b"",
-        ] {
+        assert_eq!(Answer::parse(b"busy 1"), Answer::Busy);
+        for other in [&b"refused building"[..], b"fault memory", b"granted x", b""] {
             assert_eq!(Answer::parse(other), Answer::Other(other));
         }
     }

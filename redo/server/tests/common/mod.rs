@@ -5,8 +5,9 @@ pub mod link;
 pub mod run;
 
 use std::env;
-use std::fs;
+use std::fs::{self, Permissions};
 use std::os::unix::ffi::OsStrExt;
+use std::os::unix::fs::PermissionsExt;
 use std::path::{Path, PathBuf};
 use std::process::{Child, Command, Stdio};
 use std::sync::atomic::{AtomicU32, Ordering};
@@ -36,7 +37,7 @@ impl Tree {
         let name = format!("redo-machine-{}-{number}", std::process::id());
         let folder = env::temp_dir().canonicalize().unwrap().join(name);
         fs::create_dir_all(folder.join(".redo")).unwrap();
-        let server = start(&folder);
+        let server = start(&folder, &live());
         Tree { folder, server }
     }
 
@@ -113,7 +114,18 @@ impl Tree {
     pub fn restart(&mut self, signal: &str) {
         self.signal(signal);
         self.server.wait().unwrap();
-        self.server = start(&self.folder);
+        self.server = start(&self.folder, &live());
+    }
+
+    /// Starts another server, whose database answers otherwise: each line as `sed` edits it.
+    pub fn restart_with_edited_answers(&mut self, edit: &str) {
+        self.signal("-TERM");
+        self.server.wait().unwrap();
+        let (live, program) = (live(), self.at("database"));
+        let line = format!("#!/bin/sh\n'{}' \"$@\" | sed -u '{edit}'\n", live.display());
+        self.write("database", &line);
+        fs::set_permissions(&program, Permissions::from_mode(0o755)).unwrap();
+        self.server = start(&self.folder, &program);
     }
 
     /// Kills the database of the server.
@@ -139,10 +151,10 @@ impl Drop for Tree {
     }
 }
 
-fn start(folder: &Path) -> Child {
+fn start(folder: &Path, live: &Path) -> Child {
     let mut command = Command::new(env!("CARGO_BIN_EXE_redo-server"));
     command.arg("--top").arg(folder).args(["--idle", "30"]);
-    command.env("REDODB_LIVE", live()).stdin(Stdio::null());
+    command.env("REDODB_LIVE", live).stdin(Stdio::null());
     let server = command.spawn().unwrap();
     let socket = folder.join(".redo/server/socket");
     let end = Instant::now() + LONGEST;
