@@ -137,8 +137,9 @@ impl Database {
 
     // The same for a line that is neither the end of a session nor a question.
     pub fn answer_command(&mut self, line: &[u8], answers: &mut Answers) {
-        let Some((session, text)) = session_of(line) else {
-            return answers.fault(0, "bad-session");
+        let (session, text) = match session_of(line) {
+            Some(known) => known,
+            None => return answers.fault(0, "bad-session"),
         };
         // what `end` needs is left over
         if self.calls + 131_072 >= 1 << 32 {

@@ -26,8 +26,9 @@ struct Restored {
 
 // whether a line of the log is what the database answers
 fn is_answer(database: &mut Database, line: &[u8], answers: &mut Answers) -> bool {
-    let Some(end) = line.windows(4).position(|four| four == b" => ") else {
-        return false;
+    let end = match line.windows(4).position(|four| four == b" => ") {
+        Some(end) => end,
+        None => return false,
     };
     answers.said.clear();
     answers.logged.clear();
@@ -40,8 +41,9 @@ fn is_log(name: &str, file: &File) -> Result<bool, String> {
     let mut head = [0; HEADER.len()];
     let length = file.metadata().map(|metadata| metadata.len());
     let count = file.read_at(&mut head, 0);
-    let (Ok(length), Ok(count)) = (length, count) else {
-        return Err(format!("{name}: read"));
+    let (length, count) = match (length, count) {
+        (Ok(length), Ok(count)) => (length, count),
+        _ => return Err(format!("{name}: read")),
     };
     if count as u64 > length {
         return Err(format!("{name}: not a regular file"));
@@ -174,7 +176,10 @@ impl Log {
         self.written += lines.len() as u64;
         if self.is_synced {
             let synced = self.file.sync_data();
-            synced.inspect_err(|_| drop(self.file.set_len(self.synced))).map_err(fault)?;
+            if synced.is_err() {
+                drop(self.file.set_len(self.synced));
+            }
+            synced.map_err(fault)?;
             self.synced = self.written;
         }
         Ok(())

@@ -1,8 +1,26 @@
 // Opens a log: a regular file that has one name.
-use std::fs::{self, File, Metadata, OpenOptions, TryLockError};
+use std::fs::{self, File, Metadata, OpenOptions};
 use std::io;
+use std::os::raw::c_int;
 use std::os::unix::fs::MetadataExt;
+use std::os::unix::io::AsRawFd;
 use std::path::Path;
+
+const LOCK_EX: c_int = 2;
+const LOCK_NB: c_int = 4;
+
+extern "C" {
+    fn flock(file: c_int, operation: c_int) -> c_int;
+}
+
+// Locks a file, as File::try_lock of newer compilers does.
+fn try_lock(file: &File) -> io::Result<()> {
+    // SAFETY: it takes an open file and numbers.
+    match unsafe { flock(file.as_raw_fd(), LOCK_EX | LOCK_NB) } {
+        0 => Ok(()),
+        _ => Err(io::Error::last_os_error()),
+    }
+}
 
 fn is_same(one: &Metadata, other: &Metadata) -> bool {
     (one.dev(), one.ino()) == (other.dev(), other.ino())
@@ -30,10 +48,10 @@ pub fn open(name: &str) -> Result<File, &'static str> {
         Ok(file) => file,
         Err(_) => open_found(name, OpenOptions::new().read(true).append(true))?,
     };
-    match file.try_lock() {
+    match try_lock(&file) {
         Ok(()) => Ok(file),
-        Err(TryLockError::WouldBlock) => Err("in use"),
-        Err(TryLockError::Error(_)) => Err("cannot lock"),
+        Err(error) if error.kind() == io::ErrorKind::WouldBlock => Err("in use"),
+        Err(_) => Err("cannot lock"),
     }
 }
 

@@ -121,8 +121,9 @@ fn run() -> Result<(), String> {
     let given: Option<Vec<String>> =
         std::env::args_os().skip(1).map(|word| word.into_string().ok()).collect();
     let words = given.and_then(|given| words_of(given.into_iter())).ok_or("usage")?;
-    let Some(name) = words.log else {
-        return talk(Database::new(), None, 0);
+    let name = match words.log {
+        Some(name) => name,
+        None => return talk(Database::new(), None, 0),
     };
     let mut log = Log::open(&name, words.is_synced)?;
     let (database, lines) = log.restored(words.is_salvaged)?;

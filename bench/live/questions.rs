@@ -152,8 +152,9 @@ impl Search {
 }
 
 fn put_why(store: &Store, search: &mut Search, t: Option<u32>, printer: &mut Printer) {
-    let Some(t) = t.filter(|t| store.memo.is_out(*t)) else {
-        return printer.put("clean");
+    let t = match t.filter(|t| store.memo.is_out(*t)) {
+        Some(t) => t,
+        None => return printer.put("clean"),
     };
     let reason = search.reason(store, t).expect("what is out of date has a reason");
     let chain = search.chain();
@@ -174,7 +175,7 @@ fn put_rows<M>(word: &str, rows: &Rows<M>, t: Option<u32>, printer: &mut Printer
 fn put_deps(graph: &Graph, t: Option<u32>, printer: &mut Printer) {
     put_rows("change", &graph.changes, t, printer);
     put_rows(" created", &graph.created, t, printer);
-    let has_always = t.is_some_and(|t| graph.cell(t).always);
+    let has_always = t.map_or(false, |t| graph.cell(t).always);
     printer.put(format!(" always {}", u8::from(has_always)));
 }
 

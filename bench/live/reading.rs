@@ -34,8 +34,8 @@ fn are_digits(word: &[u8]) -> bool {
 
 fn content_of(word: &[u8]) -> Vec<u8> {
     let digit = |byte: u8| char::from(byte).to_digit(16).expect("a digit") as u8;
-    let twos = if word == b"-" { &[] } else { word.as_chunks::<2>().0 };
-    twos.iter().map(|two| digit(two[0]) << 4 | digit(two[1])).collect()
+    let digits = if word == b"-" { &[] } else { word };
+    digits.chunks_exact(2).map(|two| digit(two[0]) << 4 | digit(two[1])).collect()
 }
 
 pub fn fault_of_bytes(text: &[u8]) -> Option<Fault> {

@@ -11,7 +11,7 @@ fn ones(mut word: u64) -> impl Iterator<Item = u32> {
 
 impl Bits {
     pub fn new(count: usize) -> Bits {
-        Bits(vec![0; count.div_ceil(64)])
+        Bits(vec![0; (count + 63) / 64])
     }
 
     pub fn set(&mut self, number: u32, is_in: bool) {

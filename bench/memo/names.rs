@@ -17,6 +17,11 @@ fn four(bytes: &[u8]) -> u64 {
     u64::from(u32::from_le_bytes([bytes[0], bytes[1], bytes[2], bytes[3]]))
 }
 
+// eight bytes as a number
+fn eight_of(bytes: &[u8]) -> u64 {
+    u64::from_le_bytes(bytes.try_into().expect("eight bytes"))
+}
+
 // up to eight bytes as a number
 fn few(bytes: &[u8]) -> u64 {
     match bytes {
@@ -31,14 +36,15 @@ fn few(bytes: &[u8]) -> u64 {
 
 impl Hasher for Folded {
     fn write(&mut self, bytes: &[u8]) {
-        let (eights, rest) = bytes.as_chunks::<8>();
+        let eights = bytes.chunks_exact(8);
+        let has_rest = !eights.remainder().is_empty();
         for eight in eights {
-            self.fold(u64::from_le_bytes(*eight));
+            self.fold(eight_of(eight));
         }
-        match bytes.last_chunk::<8>() {
-            Some(last) if !rest.is_empty() => self.fold(u64::from_le_bytes(*last)),
-            Some(_) => {}
-            None => self.fold(few(bytes)),
+        if bytes.len() < 8 {
+            self.fold(few(bytes));
+        } else if has_rest {
+            self.fold(eight_of(&bytes[bytes.len() - 8..]));
         }
     }
 

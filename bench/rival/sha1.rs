@@ -1,7 +1,7 @@
 pub fn sha1(content: &[u8]) -> [u8; 20] {
     let mut padded = content.to_vec();
     padded.push(0x80);
-    padded.resize((padded.len() + 8).next_multiple_of(64) - 8, 0);
+    padded.resize((padded.len() + 8 + 63) / 64 * 64 - 8, 0);
     padded.extend_from_slice(&(content.len() as u64 * 8).to_be_bytes());
     let mut hash: [u32; 5] = [0x67452301, 0xefcdab89, 0x98badcfe, 0x10325476, 0xc3d2e1f0];
     for block in padded.chunks(64) {

@@ -46,7 +46,10 @@ impl<D: Database> Machine<D> {
     /// Tells the database of the files that a script asks for, if their rows are to be noted.
     pub(crate) fn note_looks(&mut self, id: RequestId, names: &[Name], looks: &[Look]) {
         let request = &self.requests[&id];
-        let Who::Script(task) = request.who else { return };
+        let task = match request.who {
+            Who::Script(task) => task,
+            _ => return,
+        };
         let Task { run, target, .. } = *self.task(task);
         if !request.notes_rows() {
             return;
@@ -100,7 +103,10 @@ impl<D: Database> Machine<D> {
         if self.is_edited(name) {
             return self.is_left(run, name);
         }
-        let Who::Script(task) = self.requests[&id].who else { return false };
+        let task = match self.requests[&id].who {
+            Who::Script(task) => task,
+            _ => return false,
+        };
         let is_stale = if self.task(task).answered.contains(&name) {
             self.is_out_of_date(name) || self.is_absent(name)
         } else {
@@ -154,7 +160,10 @@ impl<D: Database> Machine<D> {
 
     /// Looks whether all names of a request are begun, and all its tasks have ended.
     pub(crate) fn over(&mut self, id: RequestId) {
-        let Some(request) = self.requests.get(&id) else { return };
+        let request = match self.requests.get(&id) {
+            Some(request) => request,
+            None => return,
+        };
         let is_done = request.todo.is_empty() && request.open.is_empty();
         if request.stage != Stage::Going || !is_done {
             return;
@@ -189,15 +198,21 @@ impl<D: Database> Machine<D> {
     fn over_inside(&mut self, id: RequestId, task: TaskId) {
         let request = self.remove_request(id);
         if let Who::Rule(_) = request.who {
-            self.task_mut(task).failed_rule = request.failed.first().copied();
+            self.task_mut(task).failed_rule = request.failed.iter().next().copied();
         }
         self.want_slot(task);
     }
 
     /// The rows of what the script reads from now on; then the answer.
     pub(crate) fn reply(&mut self, id: RequestId) {
-        let Some(request) = self.requests.get(&id) else { return };
-        let Who::Script(task) = request.who else { return };
+        let request = match self.requests.get(&id) {
+            Some(request) => request,
+            None => return,
+        };
+        let task = match request.who {
+            Who::Script(task) => task,
+            _ => return,
+        };
         let mut chores = match (request.notes_rows(), request.failed.is_empty()) {
             (false, _) => Vec::new(),
             (true, true) => self.renewed(task, request),
@@ -210,7 +225,10 @@ impl<D: Database> Machine<D> {
     /// Answers a script.
     pub(crate) fn settle(&mut self, id: RequestId) {
         let request = self.remove_request(id);
-        let Who::Script(task) = request.who else { return };
+        let task = match request.who {
+            Who::Script(task) => task,
+            _ => return,
+        };
         if request.notes_rows() {
             self.settle_rows(task, &request);
         }
@@ -250,7 +268,10 @@ impl<D: Database> Machine<D> {
 
     /// A name of a request can't be made right. Without keep-going, no more of them are begun.
     pub(crate) fn failed(&mut self, id: RequestId, name: Name) {
-        let Some(request) = self.requests.get_mut(&id) else { return };
+        let request = match self.requests.get_mut(&id) {
+            Some(request) => request,
+            None => return,
+        };
         request.failed.insert(name);
         let run = &self.runs[&request.run];
         request.missing.extend(run.missing.get(&name).into_iter().flatten());

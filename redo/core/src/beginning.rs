@@ -102,7 +102,10 @@ impl<D: Database> Machine<D> {
 
     /// The lock of a name may be free, which somebody had who is no run.
     pub(crate) fn unlocked(&mut self, name: Name) {
-        let Some(id) = self.owners.get(&name).copied() else { return };
+        let id = match self.owners.get(&name).copied() {
+            Some(id) => id,
+            None => return,
+        };
         if self.task(id).phase == Phase::Barred {
             self.task_mut(id).phase = Phase::Busy;
             self.agenda.push_back(Chore::Take(id));
@@ -121,7 +124,7 @@ impl<D: Database> Machine<D> {
     }
 
     pub(crate) fn drop_empty_line(&mut self, name: Name) {
-        if self.lines.get(&name).is_some_and(|line| line.is_empty()) {
+        if self.lines.get(&name).map_or(false, |line| line.is_empty()) {
             self.lines.remove(&name);
         }
     }

@@ -26,7 +26,7 @@ impl<D: Database> Machine<D> {
     fn judge(&self, id: TaskId) -> Verdict {
         let Task { target, forced, overwrites, .. } = *self.task(id);
         let file = self.database.file(Subject::File(target));
-        let is_file = file.is_some_and(|stamp| stamp != FOLDER);
+        let is_file = file.map_or(false, |stamp| stamp != FOLDER);
         match self.database.state(target) {
             State::Idle if is_file && !overwrites => Verdict::Source,
             State::Idle => Verdict::Build,
@@ -136,9 +136,12 @@ impl<D: Database> Machine<D> {
     /// The target is to be built, and the search has ended.
     fn proceed(&mut self, id: TaskId) {
         let Task { run, failed_rule, .. } = *self.task(id);
-        let Some(rule) = &self.task(id).rule else {
-            self.without_rule(id);
-            return;
+        let rule = match &self.task(id).rule {
+            Some(rule) => rule,
+            None => {
+                self.without_rule(id);
+                return;
+            }
         };
         let do_file = rule.do_file;
         if failed_rule == Some(do_file) {
@@ -184,7 +187,7 @@ impl<D: Database> Machine<D> {
     pub(crate) fn launch(&mut self, id: TaskId) {
         let task = self.task_mut(id);
         task.phase = Phase::Running;
-        let (run, target, first) = (task.run, task.target, task.askers.first().copied());
+        let (run, target, first) = (task.run, task.target, task.askers.iter().next().copied());
         let do_file = task.rule.as_ref().expect("a rule was found").do_file;
         task.answered.insert(do_file);
         self.readers.entry(do_file).or_default().insert(id);

@@ -64,7 +64,7 @@ impl<D: Database> Machine<D> {
             if let Some(readers) = self.readers.get_mut(&name) {
                 readers.remove(&id);
             }
-            if self.readers.get(&name).is_some_and(|readers| readers.is_empty()) {
+            if self.readers.get(&name).map_or(false, |readers| readers.is_empty()) {
                 self.readers.remove(&name);
             }
         }
@@ -128,7 +128,10 @@ impl<D: Database> Machine<D> {
 
     /// The program of a request is gone. If its script waits for no other, it has its slot again.
     pub(crate) fn left(&mut self, id: RequestId) {
-        let Some(request) = self.requests.get(&id) else { return };
+        let request = match self.requests.get(&id) {
+            Some(request) => request,
+            None => return,
+        };
         let (who, depth) = (request.who, request.depth);
         self.cancel(id);
         if let Who::Script(task) = who {
@@ -192,7 +195,10 @@ impl<D: Database> Machine<D> {
 
     /// The run is over: what it builds has failed, and what it holds is unlocked.
     pub(crate) fn close(&mut self, run: RunId) {
-        let Some(state) = self.runs.get_mut(&run) else { return };
+        let state = match self.runs.get_mut(&run) {
+            Some(state) => state,
+            None => return,
+        };
         let tasks: Vec<TaskId> = state.tasks.iter().copied().collect();
         for request in std::mem::take(&mut state.requests) {
             self.requests.remove(&request);

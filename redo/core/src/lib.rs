@@ -70,7 +70,8 @@
 //!   once more when it is answered right: the script reads them from then on.
 //! - A row on a name that the script was answered for stays, however often it asks again.
 //! - If such a name has another mark than its row at any time while the script runs, or its file
-//!   isn't what its build left, or somebody who is no run changes it, the target is *doubtful*: it gets an always row before it is done,
+//!   isn't what its build left, or somebody who is no run changes it, the target is *doubtful*: it
+//!   gets an always row before it is done,
 //!   and is built once more. So do targets whose script asked late for a source that was changed
 //!   after the script began, or did without a name although no row shows when it can be had.
 //!   `redo-always` puts a row on `//always` instead, so an always row says this alone: changed

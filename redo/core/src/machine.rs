@@ -123,7 +123,10 @@ impl<D: Database> Machine<D> {
 
     /// Does the next chore. False if there is none.
     pub fn step(&mut self) -> bool {
-        let Some(chore) = self.agenda.pop_front() else { return false };
+        let chore = match self.agenda.pop_front() {
+            Some(chore) => chore,
+            None => return false,
+        };
         match chore {
             Chore::Report { run, subject, stamp } => self.report(run, subject, stamp),
             Chore::Shadow { run, target } => self.tell_shadow(run, target),
@@ -276,16 +279,18 @@ impl<D: Database> Machine<D> {
     }
 
     fn looked(&mut self, task: TaskId, stamp: Option<Stamp>) {
-        let Some(&Task { run, target, phase: Phase::Looking, .. }) = self.tasks.get(&task) else {
-            return;
+        let (run, target) = match self.tasks.get(&task) {
+            Some(&Task { run, target, phase: Phase::Looking, .. }) => (run, target),
+            _ => return,
         };
         self.tell(run, Subject::File(target), stamp);
         self.agenda.push_back(Chore::Decide { task, searched: false });
     }
 
     fn found(&mut self, task: TaskId, rule: Option<(Name, Stamp)>, missing: Vec<Name>) {
-        let Some(&Task { run, target, phase: Phase::Searching, .. }) = self.tasks.get(&task) else {
-            return;
+        let (run, target) = match self.tasks.get(&task) {
+            Some(&Task { run, target, phase: Phase::Searching, .. }) => (run, target),
+            _ => return,
         };
         for name in &missing {
             self.tell(run, Subject::File(*name), None);
@@ -310,6 +315,6 @@ impl<D: Database> Machine<D> {
     }
 
     pub(crate) fn is_running(&self, task: TaskId) -> bool {
-        self.tasks.get(&task).is_some_and(|task| task.phase == Phase::Running)
+        self.tasks.get(&task).map_or(false, |task| task.phase == Phase::Running)
     }
 }

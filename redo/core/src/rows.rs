@@ -51,7 +51,10 @@ impl<D: Database> Machine<D> {
     /// Of a script that was answered for this name, the target is to be built once more, whatever
     /// the script makes of both, and whatever comes after.
     fn doubt_readers(&mut self, name: Name) {
-        let Some(readers) = self.readers.get(&name) else { return };
+        let readers = match self.readers.get(&name) {
+            Some(readers) => readers,
+            None => return,
+        };
         let doubtful: Vec<TaskId> = readers
             .iter()
             .copied()
@@ -74,7 +77,10 @@ impl<D: Database> Machine<D> {
     /// before: it may have read those.
     pub(crate) fn note_rows(&mut self, id: RequestId) {
         let request = &self.requests[&id];
-        let Who::Script(task) = request.who else { return };
+        let task = match request.who {
+            Who::Script(task) => task,
+            _ => return,
+        };
         let answered = &self.task(task).answered;
         let new = request.names.iter().filter(|name| !answered.contains(name));
         let mut chores = self.rows(task, Some(id), new.copied());
@@ -214,7 +220,7 @@ impl<D: Database> Machine<D> {
                 State::Built => true,
                 State::Failed => {
                     let left = self.database.file(Subject::Left(target));
-                    left.is_some_and(|left| left != file)
+                    left.map_or(false, |left| left != file)
                 }
             };
         is_edited.then_some(file)

@@ -68,9 +68,12 @@ impl<D: Database> Machine<D> {
     /// If a slot is free, the first in the queue has its turn. A turn that needs no slot leaves it
     /// to the next.
     pub(crate) fn serve(&mut self, id: RunId) {
-        let Some(run) = self.runs.get_mut(&id) else { return };
-        let first = if run.free > 0 { run.queue.pop_first() } else { None };
-        if let Some((_, waiter)) = first {
+        let run = match self.runs.get_mut(&id) {
+            Some(run) => run,
+            None => return,
+        };
+        let first = run.queue.keys().next().copied().filter(|_| run.free > 0);
+        if let Some(waiter) = first.and_then(|turn| run.queue.remove(&turn)) {
             self.agenda.push_front(Chore::Serve(id));
             match waiter {
                 Waiter::Begin(request) => self.begin(request),
@@ -93,7 +96,10 @@ impl<D: Database> Machine<D> {
     fn begin(&mut self, id: RequestId) {
         let request = self.request_mut(id);
         request.turn = None;
-        let Some(name) = request.todo.pop_front() else { return };
+        let name = match request.todo.pop_front() {
+            Some(name) => name,
+            None => return,
+        };
         let (depth, has_more) = (request.depth, !request.todo.is_empty());
         if has_more {
             self.queue(Waiter::Begin(id), depth);

@@ -173,7 +173,10 @@ fn a_late_name_counts_as_changed() {
     let (_, actions) = tree.user(ONE, Want::UpToDate, &[T]);
     let task = run_of(&actions, T);
     let (request, event) = tree.asking(ONE, task, &[SOURCE]);
-    let Event::Ask { run, who, want, names, looks, .. } = event else { unreachable!() };
+    let (run, who, want, names, looks) = match event {
+        Event::Ask { run, who, want, names, looks, .. } => (run, who, want, names, looks),
+        _ => unreachable!(),
+    };
     let looks = looks.into_iter().map(|look| Look { late: true, ..look }).collect();
     let actions = tree.event(Event::Ask { run, request, who, want, names, looks });
     assert!(answers(&actions, request, true));

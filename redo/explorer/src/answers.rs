@@ -27,7 +27,10 @@ impl World {
     }
 
     fn check_answer(&mut self, request: RequestId, right: bool) {
-        let Some(asked) = self.asked.get(&request) else { return };
+        let asked = match self.asked.get(&request) {
+            Some(asked) => asked,
+            None => return,
+        };
         let (run, task, names, want) = (asked.run, asked.task, asked.names.clone(), asked.want);
         let (ok, kind, absent) = (asked.right.clone(), asked.kind, asked.absent.clone());
         if right {
@@ -74,7 +77,7 @@ impl World {
                 format!("(f) {target:?} has no row on {name:?}")
             });
             let answered = self.monitor.answered.get(&target);
-            let is_new = answered.is_none_or(|answered| !answered.contains(name));
+            let is_new = answered.map_or(true, |answered| !answered.contains(name));
             if is_new || !right {
                 self.note_cause(target, *name, right, absent.contains(name));
             }
@@ -84,15 +87,19 @@ impl World {
 
     /// The rows of a request that goes on: on what the script wasn't answered for before.
     pub fn note_first_rows(&mut self, request: RequestId) {
-        let Some(asked) = self.asked.get(&request) else { return };
-        let Some(task) = asked.task.and_then(|task| self.machine.tasks().get(&task)) else {
-            return;
+        let asked = match self.asked.get(&request) {
+            Some(asked) => asked,
+            None => return,
+        };
+        let task = match asked.task.and_then(|task| self.machine.tasks().get(&task)) {
+            Some(task) => task,
+            None => return,
         };
         let answered = self.monitor.answered.get(&task.target);
-        let is_new = |name: &Name| answered.is_none_or(|answered| !answered.contains(name));
+        let is_new = |name: &Name| answered.map_or(true, |answered| !answered.contains(name));
         let is_asked = |name: Name| asked.names.contains(&name) && is_new(&name);
         let rows = self.machine.database().cell(task.target).changed.iter();
-        let new = rows.filter(|(subject, _)| World::file_of(**subject).is_some_and(is_asked));
+        let new = rows.filter(|(subject, _)| World::file_of(**subject).map_or(false, is_asked));
         let new: Vec<(Subject, Mark)> = new.map(|(subject, mark)| (*subject, *mark)).collect();
         self.monitor.asked.entry(task.target).or_default().extend(new);
     }
@@ -100,17 +107,21 @@ impl World {
     /// (f), of a script that does without a name: its rows are those of when it asked; and if no
     /// row can show that the name can be had, the target is to be built once more.
     fn check_refusal(&mut self, task: TaskId, request: RequestId) {
-        let Some(asked) = self.asked.get(&request) else { return };
+        let asked = match self.asked.get(&request) {
+            Some(asked) => asked,
+            None => return,
+        };
         let target = self.machine.tasks()[&task].target;
         let database = self.machine.database();
         let cell = database.cell(target);
         let answered = self.monitor.answered.get(&target);
         let is_new = |name: Name| {
-            asked.names.contains(&name) && answered.is_none_or(|answered| !answered.contains(&name))
+            asked.names.contains(&name)
+                && answered.map_or(true, |answered| !answered.contains(&name))
         };
         let mut noted = self.monitor.asked.get(&target).into_iter().flatten();
         let kept = noted.all(|(subject, mark)| {
-            let is_about = World::file_of(*subject).is_some_and(is_new);
+            let is_about = World::file_of(*subject).map_or(false, is_new);
             !is_about || cell.changed.get(subject) == Some(mark)
         });
         let is_built = |name: &Name| database.cell(*name).state == State::Built;
@@ -125,7 +136,10 @@ impl World {
 
     /// (f): each `.do` file that would have made a name which a script does without has a row.
     fn check_absences(&mut self, task: TaskId, request: RequestId) {
-        let Some(asked) = self.asked.get(&request) else { return };
+        let asked = match self.asked.get(&request) {
+            Some(asked) => asked,
+            None => return,
+        };
         let (target, doubtful) = (self.machine.tasks()[&task].target, self.is_doubtful(task));
         let database = self.machine.database();
         let cell = database.cell(target);
@@ -166,7 +180,10 @@ impl World {
             .flat_map(|name| database.reached_through(*name))
             .filter(|name| self.is_edited(*name))
             .collect();
-        let Some(user) = self.users.get(&run) else { return };
+        let user = match self.users.get(&run) {
+            Some(user) => user,
+            None => return,
+        };
         let silent: Vec<Name> =
             below.into_iter().filter(|name| !user.warned.contains(name)).collect();
         let overwritten = user.want == Want::Overwritten;
@@ -182,7 +199,7 @@ impl World {
             return;
         }
         let answered = self.monitor.answered.get(&target);
-        let is_new = |name: &Name| answered.is_none_or(|answered| !answered.contains(name));
+        let is_new = |name: &Name| answered.map_or(true, |answered| !answered.contains(name));
         let mut looked = names.iter().zip(looks);
         let late = looked
             .any(|(name, look)| look.late && is_new(name) && self.state(*name) == State::Idle);
@@ -198,10 +215,10 @@ impl World {
         let own = self.users[&script.run].always;
         let target = script.target;
         let told = self.always_told();
-        let is_other = told.is_some_and(|told| told != own);
+        let is_other = told.map_or(false, |told| told != own);
         if is_other && self.machine.runs()[&script.run].has_told_always {
             self.monitor.may_doubt.insert(target);
-            if told.is_some_and(|told| told > own) {
+            if told.map_or(false, |told| told > own) {
                 self.monitor.changed.insert(target);
             }
         }

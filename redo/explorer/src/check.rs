@@ -49,8 +49,8 @@ pub struct Monitor {
 impl Monitor {
     /// Whether a file with this stamp, of this target, is one that somebody edited.
     pub fn is_edited(&self, name: Name, file: Option<Stamp>) -> bool {
-        let is_file = file.is_some_and(|stamp| stamp != FOLDER);
-        let is_made = self.made.get(&name).is_some_and(|made| *made == file);
+        let is_file = file.map_or(false, |stamp| stamp != FOLDER);
+        let is_made = self.made.get(&name).map_or(false, |made| *made == file);
         let left = self.left.get(&name);
         is_file && !is_made && matches!(left, Some(LeftBy::Known(left)) if *left != file)
     }
@@ -139,7 +139,7 @@ impl World {
         let (run, target) = (task.run, task.target);
         let database = self.machine.database();
         let cell = database.cell(target);
-        let is_file = cell.file.is_some_and(|stamp| stamp != FOLDER);
+        let is_file = cell.file.map_or(false, |stamp| stamp != FOLDER);
         let is_idle = cell.state == State::Idle;
         let due = if is_idle { !is_file } else { database.is_out_of_date(target) };
         let own = is_idle || database.has_reason(target);
@@ -183,7 +183,7 @@ impl World {
         let created = cell.created.iter().any(|name| database.cell(*name).file.is_some());
         let changed = cell.changed.iter().any(|(other, mark)| database.mark(*other) != *mark);
         let gone = cell.file.is_none() && cell.done.is_some();
-        let is_edited = World::file_of(subject).is_some_and(|name| self.is_edited(name));
+        let is_edited = World::file_of(subject).map_or(false, |name| self.is_edited(name));
         let pends = matches!(cell.state, State::Failed | State::Building(_)) && !is_edited;
         pends || cell.always || created || changed || gone
     }
@@ -203,7 +203,10 @@ impl World {
     fn check_rule(&mut self, id: TaskId) {
         let (run, target) = self.place(id);
         let task = &self.machine.tasks()[&id];
-        let Some(do_file) = task.rule.as_ref().map(|rule| rule.do_file) else { return };
+        let do_file = match task.rule.as_ref().map(|rule| rule.do_file) {
+            Some(do_file) => do_file,
+            None => return,
+        };
         if task.failed_rule == Some(do_file) || task.overwrites {
             return; // it fails without a script; or its edit ends just now, which the rule may need
         }
@@ -255,7 +258,10 @@ impl World {
 
     /// (j): names are begun in the order in which they were asked for.
     fn check_order(&mut self, request: RequestId, name: Name) {
-        let Some(asked) = self.asked.get(&request) else { return };
+        let asked = match self.asked.get(&request) {
+            Some(asked) => asked,
+            None => return,
+        };
         let from = self.monitor.begun.get(&request).copied().unwrap_or(0);
         let place = asked.names.iter().skip(from).position(|other| *other == name);
         self.require(place.is_some(), || format!("(j) {name:?} is begun out of order"));
@@ -279,7 +285,10 @@ impl World {
     fn is_right_for(&self, run: RunId, name: Name, want: Want, decides: bool) -> bool {
         let database = self.machine.database();
         let cell = database.cell(name);
-        let Some(user) = self.users.get(&run) else { return false };
+        let user = match self.users.get(&run) {
+            Some(user) => user,
+            None => return false,
+        };
         if self.monitor.built.contains(&(run, name)) && cell.file == cell.done {
             return true;
         }
@@ -293,7 +302,7 @@ impl World {
     }
 
     fn is_told(&self, name: Name, since: u64) -> bool {
-        self.told.get(&name).is_some_and(|told| *told >= since)
+        self.told.get(&name).map_or(false, |told| *told >= since)
     }
 
     /// Not stale, as far as the database knows; and what that rests on was looked at since then.
@@ -301,7 +310,7 @@ impl World {
         let database = self.machine.database();
         let is_told = |subject: &Subject| {
             let created = &database.at(*subject).created;
-            World::file_of(*subject).is_none_or(|name| self.is_told(name, opened))
+            World::file_of(*subject).map_or(true, |name| self.is_told(name, opened))
                 && created.iter().all(|name| self.is_told(*name, opened))
         };
         !database.stale(name) && !self.is_edited(name) && database.reached(name).iter().all(is_told)

@@ -17,19 +17,23 @@ pub struct Cell {
     pub grants: u32,
 }
 
-/// What is kept of a name that no command was about.
-static UNKNOWN: Cell = Cell {
-    file: None,
-    state: State::Idle,
-    builds: 0,
-    done: None,
-    digest: None,
-    changed: BTreeMap::new(),
-    created: BTreeSet::new(),
-    always: false,
-    holder: None,
-    grants: 0,
-};
+impl Default for Cell {
+    /// What is kept of a name that no command was about.
+    fn default() -> Cell {
+        Cell {
+            file: None,
+            state: State::Idle,
+            builds: 0,
+            done: None,
+            digest: None,
+            changed: BTreeMap::new(),
+            created: BTreeSet::new(),
+            always: false,
+            holder: None,
+            grants: 0,
+        }
+    }
+}
 
 /// The reply to a command, with all that a history has of it.
 #[derive(Clone, PartialEq, Eq, Debug)]
@@ -50,6 +54,7 @@ pub type Line = (RunId, Command, Told);
 #[derive(Clone, PartialEq, Debug, Default)]
 pub struct Model {
     pub cells: BTreeMap<Subject, Cell>,
+    unknown: Cell,
     /// The names that are too long for `//edited/NAME` and `//left/NAME`.
     pub long: BTreeSet<Name>,
     pub history: Option<Vec<Line>>,
@@ -59,11 +64,11 @@ impl Model {
     /// An empty database.
     pub fn new(keeps_history: bool) -> Model {
         let history = keeps_history.then(Vec::new);
-        Model { cells: BTreeMap::new(), long: BTreeSet::new(), history }
+        Model { history, ..Model::default() }
     }
 
     pub fn at(&self, subject: Subject) -> &Cell {
-        self.cells.get(&subject).unwrap_or(&UNKNOWN)
+        self.cells.get(&subject).unwrap_or(&self.unknown)
     }
 
     pub fn cell(&self, name: Name) -> &Cell {
@@ -185,7 +190,7 @@ impl Model {
             Command::IfChange(_, names) => names.iter().map(|n| (*n, self.mark(*n))).collect(),
             _ => Vec::new(),
         };
-        let cell = self.cells.entry(subject_of(command)).or_insert_with(|| UNKNOWN.clone());
+        let cell = self.cells.entry(subject_of(command)).or_default();
         match command {
             Command::File(_, stamp) => cell.file = Some(*stamp),
             Command::Gone(_) => cell.file = None,

@@ -109,8 +109,8 @@ impl World {
         match task.phase {
             Phase::Parked => {
                 let owner = machine.owners().get(&task.target);
-                machine.lines().get(&task.target).is_some_and(|line| line.contains(&id))
-                    && owner.is_some_and(|owner| machine.tasks().contains_key(owner))
+                machine.lines().get(&task.target).map_or(false, |line| line.contains(&id))
+                    && owner.map_or(false, |owner| machine.tasks().contains_key(owner))
             }
             Phase::Barred => {
                 let holder = machine.database().cell(task.target).holder;
@@ -125,8 +125,8 @@ impl World {
             Phase::Needing(request) | Phase::Preparing(request) => {
                 machine.requests().contains_key(&request)
             }
-            Phase::Running => self.scripts.get(&id).is_some_and(|script| {
-                script.blocked.is_none_or(|request| machine.requests().contains_key(&request))
+            Phase::Running => self.scripts.get(&id).map_or(false, |script| {
+                script.blocked.map_or(true, |request| machine.requests().contains_key(&request))
             }),
             Phase::Busy | Phase::Keeping => false,
         }
@@ -135,7 +135,7 @@ impl World {
     fn fault_of_users(&self) -> Option<String> {
         let lost = self.users.iter().find(|(_, user)| {
             let waits = user.request.filter(|_| user.answer.is_none());
-            waits.is_some_and(|request| !self.machine.requests().contains_key(&request))
+            waits.map_or(false, |request| !self.machine.requests().contains_key(&request))
         });
         lost.map(|(run, _)| format!("(d) the request of {run:?} is lost"))
     }
@@ -216,7 +216,7 @@ impl World {
                 return Some(format!("(h) //left of {name:?} is {left:?}, not {known:?}"));
             }
             let digest = self.monitor.digests.get(&name).filter(|_| cell.state == State::Built);
-            let fits = digest.is_none_or(|digest| cell.digest == *digest);
+            let fits = digest.map_or(true, |digest| cell.digest == *digest);
             (!fits).then(|| format!("(l) {name:?} has the digest {:?}", cell.digest))
         })
     }

@@ -44,10 +44,12 @@ impl World {
             return Value::Content(content);
         }
         let candidates = self.setup.candidates(name).into_iter();
-        let Some(do_file) = candidates.into_iter().find(|rule| self.files.contains_key(rule))
-        else {
-            let is_kept = self.state(name) != State::Idle && content.is_some();
-            return content.filter(|_| is_kept).map_or(Value::Fails, Value::Content);
+        let do_file = match candidates.into_iter().find(|rule| self.files.contains_key(rule)) {
+            Some(do_file) => do_file,
+            None => {
+                let is_kept = self.state(name) != State::Idle && content.is_some();
+                return content.filter(|_| is_kept).map_or(Value::Fails, Value::Content);
+            }
         };
         scratch.stack.push(name);
         let value = match self.scratch(do_file, scratch) {
@@ -132,7 +134,7 @@ impl World {
         let has_rule = self.setup.candidates(target).iter().any(|r| self.files.contains_key(r));
         match (value, self.state(target)) {
             (Value::Ring, _) => true,
-            (Value::Content(content), State::Built) => file.is_none_or(|f| f.content == content),
+            (Value::Content(content), State::Built) => file.map_or(true, |f| f.content == content),
             (Value::Content(_), State::Idle) => file.is_some(),
             (Value::Content(_), State::Failed) => self.is_edited(target),
             (Value::Fails, State::Failed | State::Idle) => true,

@@ -64,7 +64,10 @@ impl World {
 
     /// A look at a name that the database knows; after all of them, the user asks.
     pub fn look_at_first(&mut self, run: RunId) {
-        let Some(user) = self.users.get_mut(&run) else { return };
+        let user = match self.users.get_mut(&run) {
+            Some(user) => user,
+            None => return,
+        };
         if let Some(name) = user.looks.pop() {
             self.told.insert(name, self.time);
             self.event(Event::File { run, name, stamp: self.stamp(name) });
@@ -98,7 +101,7 @@ impl World {
         let began = self.scripts[&task].began;
         Look {
             stamp: file.map(|file| file.stamp),
-            late: file.is_some_and(|file| file.changed > began),
+            late: file.map_or(false, |file| file.changed > began),
         }
     }
 
@@ -175,7 +178,7 @@ impl World {
     /// The program of a request is killed. If its script waited for it, the script fails.
     pub fn leave(&mut self, id: RequestId) {
         let task = self.asked.remove(&id).and_then(|asked| asked.task);
-        let waits = |task: &TaskId| self.scripts.get(task).is_some_and(|s| s.blocked == Some(id));
+        let waits = |task: &TaskId| self.scripts.get(task).map_or(false, |s| s.blocked == Some(id));
         if let Some(task) = task.filter(waits) {
             self.end_script(task, false);
         }
@@ -252,7 +255,10 @@ impl World {
     }
 
     fn answered(&mut self, id: RequestId, right: bool) {
-        let Some(asked) = self.asked.remove(&id) else { return };
+        let asked = match self.asked.remove(&id) {
+            Some(asked) => asked,
+            None => return,
+        };
         match asked.task {
             None => {
                 if let Some(user) = self.users.get_mut(&asked.run) {
@@ -264,8 +270,9 @@ impl World {
     }
 
     fn answered_script(&mut self, task: TaskId, id: RequestId, asked: &Asked, right: bool) {
-        let Some(script) = self.scripts.get_mut(&task).filter(|s| s.blocked == Some(id)) else {
-            return;
+        let script = match self.scripts.get_mut(&task).filter(|s| s.blocked == Some(id)) {
+            Some(script) => script,
+            None => return,
         };
         script.blocked = None;
         let names = std::mem::take(&mut script.asked);
@@ -280,7 +287,7 @@ impl World {
 
     /// Whether a script works, and waits for nothing that the machine has to answer.
     pub fn is_active(&self, task: TaskId) -> bool {
-        self.scripts.get(&task).is_some_and(|s| s.ended.is_some() || s.blocked.is_none())
+        self.scripts.get(&task).map_or(false, |s| s.ended.is_some() || s.blocked.is_none())
     }
 
     /// Whether a row is about a file of the tree.

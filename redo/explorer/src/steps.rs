@@ -45,8 +45,14 @@ impl World {
     }
 
     fn tell_end(&mut self, task: TaskId) {
-        let Some(script) = self.scripts.remove(&task) else { return };
-        let Some((ok, stamp)) = script.ended else { return };
+        let script = match self.scripts.remove(&task) {
+            Some(script) => script,
+            None => return,
+        };
+        let (ok, stamp) = match script.ended {
+            Some((ok, stamp)) => (ok, stamp),
+            None => return,
+        };
         self.told.insert(script.target, self.time);
         let content = stamp.filter(|_| ok).map(|stamp| Digest(u64::from(stamp.0)));
         self.expect_digest(script.target, ok, script.digest.or(content));

@@ -206,7 +206,10 @@ impl World {
     }
 
     fn chore(&mut self) -> bool {
-        let Some(next) = self.machine.next_chore().cloned() else { return false };
+        let next = match self.machine.next_chore().cloned() {
+            Some(next) => next,
+            None => return false,
+        };
         self.counts.chores += 1;
         self.note(|| format!("     . {next:?}"));
         self.before_chore(&next);
