@@ -16,6 +16,7 @@
 //! | [`stamp`], [`key`], [`look`] | what is in a file, and what `lstat` says of it |
 //! | [`contents`], [`stored`], [`clock`] | stamps that are kept while `lstat` says the same |
 //! | [`shares`] | a search that threads share |
+//! | [`sha256`] | a digest of bytes |
 //! | [`expected`] | the files of a tree, of which a look finds those that changed |
 //!
 //! What can't be read or isn't there is no error where redo only wants to know how it is: it has
@@ -56,6 +57,7 @@ pub mod names;
 pub mod paths;
 pub mod private;
 pub mod rules;
+pub mod sha256;
 pub mod shares;
 pub mod stamp;
 pub mod stored;

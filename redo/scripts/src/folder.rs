@@ -12,11 +12,11 @@ use redo_files::error::FileError;
 use redo_files::look::Reader;
 use redo_files::paths;
 use redo_files::private::{Home, Opening};
+use redo_files::sha256;
 use redo_files::system::{self, Folder, Kind};
 use redo_files::top::places::FOLDERS;
 
 use crate::removal;
-use crate::sha256;
 use crate::text::{cause_of, digits, joined, last_part, path, shown};
 
 const DIGITS: usize = 40;

@@ -18,7 +18,7 @@
 //! | [`script_terminal`] | the terminal that a script sees |
 //! | [`signals`] | Ctrl-C, Ctrl-Z, and the others |
 //! | [`system`] | the calls of the kernel; all `unsafe` of the crate |
-//! | [`sha256`], [`text`] | small things |
+//! | [`text`] | small things |
 //!
 //! A loop does this, as `examples/run.rs` shows it:
 //!
@@ -46,7 +46,6 @@ pub mod program;
 pub mod removal;
 pub mod script;
 pub mod script_terminal;
-pub mod sha256;
 pub mod signals;
 pub mod stored;
 pub mod strays;

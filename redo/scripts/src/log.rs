@@ -16,8 +16,8 @@ use std::os::unix::io::{AsRawFd, RawFd};
 
 use redo_files::error::FileError;
 use redo_files::private::{Home, Opening};
+use redo_files::sha256;
 
-use crate::sha256;
 use crate::system;
 use crate::text::{digits, joined, last_part};
 

@@ -7,6 +7,7 @@ use std::os::unix::fs::{OpenOptionsExt, PermissionsExt};
 use redo_files::key::Time;
 use redo_files::look::Reader;
 use redo_files::paths::{self, shown};
+use redo_files::sha256;
 use redo_files::stamp::Stamp;
 use redo_files::system::{self, Folder, Kind};
 
@@ -14,7 +15,6 @@ use crate::ending::{Ending, Failure};
 use crate::folder::{self, is_folder, is_there, Manifest};
 use crate::program::Exit;
 use crate::removal;
-use crate::sha256;
 use crate::text::{cause_of, digits, joined, last_part, path};
 
 const LONGEST_NAME: usize = 255;
