@@ -1,10 +1,12 @@
 """The programs that ask and build nothing, and redo-why."""
 import json
+import os
 import re
 import shutil
+import signal
 from textwrap import dedent
 
-from trees import TOP, Tree, ended, needs
+from trees import TOP, Tree, end_server, ended, needs
 
 
 def program_of_two(tree: Tree) -> None:
@@ -100,6 +102,24 @@ def case_whichdo_of_nothing(tree: Tree) -> None:
         "all", (run.status, run.out.splitlines()), (1, ["../" * depth + path for path in wanted])
     )
     tree.check.same("no name", tree.run("redo-whichdo", "").status, 2)
+
+
+def case_whichdo_without_a_server(tree: Tree) -> None:
+    """redo-whichdo asks no server, and starts none: it is about files alone."""
+    tree.files(x__do="echo x\n")
+    tree.redo("x")
+    server = int(tree.read(".redo/server/lock"))
+    os.kill(server, signal.SIGSTOP)
+    try:
+        run = tree.start("redo-whichdo", "x", environment={"REDO_PATIENCE": "0.1"})
+        told = ended(run)
+    finally:
+        os.kill(server, signal.SIGCONT)
+    tree.check.same("stopped", (told.status, told.out, told.err), (0, "x.do\n", ""))
+    end_server(tree)
+    told = tree.run("redo-whichdo", "x", environment={"REDODB_LIVE": "/nonexistent"})
+    tree.check.same("ended", (told.status, told.out, told.err), (0, "x.do\n", ""))
+    tree.check.same("started", tree.path(".redo/server/socket").exists(), False)
 
 
 def why(tree: Tree, *words: str) -> str:

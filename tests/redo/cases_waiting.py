@@ -70,13 +70,20 @@ def case_lock_that_another_redo_holds(tree: Tree) -> None:
 
 
 def case_lock_of_the_run_itself(tree: Tree) -> None:
-    """A run that waits for what it builds itself says nothing."""
-    tree.files(
-        a__do="redo-ifchange x\n", b__do="redo-ifchange x\n", x__do="sleep 1.5\n", all__do=""
-    )
-    run = tree.redo("-j3", "a", "b", environment=QUICKLY)
-    tree.check.same("lines", sorted(run.built), ["a", "b", "x"])
-    tree.check.same("no others", len(run.lines), 3)
+    """A run that waits for what it builds itself says nothing, for as long as another one waits
+    that says so.
+    """
+    tree.files(a__do="redo-ifchange x\n", b__do="redo-ifchange x\n", x__do=HELD)
+    run = tree.start("redo", "-j3", "a", "b", environment=QUICKLY)
+    tree.until("x begins", tree.path("begun.x").exists)
+    other = tree.start("sh", "-c", "exec redo-ifchange x 2>err", environment=QUICKLY)
+    tree.until("a line", lambda: "waiting for x" in tree.read("err"))
+    tree.write("go", "")
+    tree.check.same("other", ended(other).status, 0)
+    done = ended(run)
+    about_locks = [line for line in done.lines if "which another" in line]
+    tree.check.same("status, and lines about locks", (done.status, about_locks), (0, []))
+    tree.check.same("lines", sorted(done.built), ["a", "b", "x"])
 
 
 def case_patience_is_a_number(tree: Tree) -> None:
