@@ -90,8 +90,8 @@ _redodb_live() {
 _redo() {
     local word=${COMP_WORDS[COMP_CWORD]} options='--help --version'
     case ${COMP_WORDS[0]##*/} in
-        redo) options+=' -j --jobs= -k --keep-going -n --dry-run --shuffle -x --xtrace -v --verbose --overwrite --no-log --no-color --no-status' ;;
-        redo-log) options+=' -f --follow -n --no-recurse -r --recursive --no-color' ;;
+        redo) options+=' -j --jobs= -k --keep-going -n --dry-run -d --debug --shuffle -x --xtrace -v --verbose --overwrite --no-details --no-log --no-color --no-status' ;;
+        redo-log) options+=' -f --follow -n --no-recurse -r --recursive -u --unchanged --no-details --no-color' ;;
         redo-why) options+=' --json' ;;
     esac
     COMPREPLY=()

@@ -48,6 +48,7 @@ case $service in
     redo)
         _arguments '(-j --jobs)'{-j,--jobs=}'[scripts at once]:number:' '(-k --keep-going)'{-k,--keep-going}'[go on after a failure]' \
             '(-n --dry-run)'{-n,--dry-run}'[print what would be built]' \
+            '(-d --debug)'{-d,--debug}'[say what is decided, and why]' '--no-details[no lines of scripts]' \
             '--shuffle[build in random order]' '(-x --xtrace)'{-x,--xtrace}'[print commands]' \
             '(-v --verbose)'{-v,--verbose}'[print lines of scripts]' '--overwrite[build edited targets]' '--no-log[keep no log]' '--no-color[no colours]' \
             '--no-status[no progress]' '--help[print a summary]' '--version[print the version]' \
@@ -55,6 +56,7 @@ case $service in
     redo-why) _arguments '--json[print objects]' '--help[print a summary]' '--version[print the version]' '*:target:_redo_targets' ;;
     redo-log)
         _arguments '(-n --no-recurse)'{-n,--no-recurse}'[the log of the target alone]' '--no-color[no colours]' \
+            '(-u --unchanged)'{-u,--unchanged}'[lines for what was needed and not built]' '--no-details[no lines of scripts]' \
             '(-f --follow)'{-f,--follow}'[go on while it is built]' '(-r --recursive)'{-r,--recursive}'[those it asked for, too]' \
             '--help[print a summary]' '--version[print the version]' '*:target:_redo_targets' ;;
     redo-ifchange|redo-ifcreate|redo-whichdo)

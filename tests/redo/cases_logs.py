@@ -74,3 +74,47 @@ def within_seconds(tree: Tree, *words: str) -> Ended:
             os.kill(server, signal.SIGKILL)
         return Ended(-1, "", "it takes long")
     return Ended(process.returncode, os.fsdecode(out), os.fsdecode(err))
+
+
+def case_log_of_the_unchanged(tree: Tree) -> None:
+    """redo-log -u has a line for each target that was needed and not built, once."""
+    tree.files(
+        all__do="redo-ifchange a d/b\necho done >&2\n",
+        a__do="redo-ifchange c source\necho a >&2\n",
+        c__do="echo c\n",
+        source="1\n",
+    )
+    tree.write("d/b.do", "redo-ifchange ../c\n")
+    tree.redo()
+    first = ["redo  all", "redo    a", "redo      c", "a", "redo    d/b", "done"]
+    tree.check.same("first", tree.run("redo-log", "-u", "all").out.splitlines(), first)
+    tree.write("source", "2\n")
+    tree.redo()
+    unchanged = ["redo  all", "redo    a", "a", "redo      c (unchanged)", "done"]
+    unchanged += ["redo    d/b (unchanged)"]
+    for option in ("-u", "--unchanged"):
+        run = tree.run("redo-log", option, "all")
+        tree.check.same(f"{option}: second", (run.out.splitlines(), run.err), (unchanged, ""))
+    plain = ["redo  all", "redo    a", "a", "done"]
+    tree.check.same("without", tree.run("redo-log", "all").out.splitlines(), plain)
+    run = tree.run("redo-log", "-u", "-n", "../d/b", folder="d")
+    wanted = ["redo  b", "redo    ../c (unchanged)"]
+    tree.check.same("in a folder, alone", run.out.splitlines(), wanted)
+
+
+def case_no_details(tree: Tree) -> None:
+    """With --no-details, redo and redo-log show no line of a script; the log has them."""
+    tree.files(
+        all__do="echo of all >&2\nredo-ifchange bad\n",
+        bad__do="echo of bad >&2\nexit 3\n",
+    )
+    run = tree.run("redo", "--no-details")
+    wanted = ["redo  all", "redo    bad", "redo: bad: status 3", "redo: all: status 1"]
+    tree.check.same("redo", (run.status, run.lines), (1, wanted))
+    run = tree.run("redo-log", "--no-details", "all")
+    tree.check.same("redo-log", (run.status, run.out.splitlines()), (0, wanted))
+    for words in (["all"], ["--no-details", "--details", "all"]):
+        out = tree.run("redo-log", *words).out.splitlines()
+        tree.check.true(f"{words}", {"of all", "of bad"} <= set(out))
+    run = tree.run("redo", "--no-details", "--details", "bad")
+    tree.check.true("with details", "of bad" in run.lines)

@@ -184,3 +184,38 @@ def case_nobody_reads(tree: Tree) -> None:
     tree.write("c.do", "redo-ifchange d && exit 1\nprintf c\n")
     run = tree.run("sh", "-c", "redo a <&- >&- 2>&-; echo $? $(redo-targets 2>&-)")
     tree.check.same("all closed", run.out, "0 a b c\n")
+
+
+def case_debug(tree: Tree) -> None:
+    """redo -d says of each target what it decides, and why, as it does."""
+    tree.files(
+        all__do="redo-ifchange hello\n",
+        hello__do="redo-ifchange hello.o plain\ncat hello.o\n",
+        hello__o__do="redo-ifchange d/greeting.h\ncat d/greeting.h\n",
+        plain__do="echo plain\n",
+    )
+    tree.write("d/greeting.h", "hello\n")
+    first = tree.redo("-d")
+    for line in ("all: no build made it yet", "d/greeting.h: a source", "hello.o: built"):
+        tree.check.true(f"first: {line}", f"redo: {line}" in first.lines)
+    tree.write("d/greeting.h", "hi\n")
+    run = tree.redo("--debug")
+    wanted = [
+        "redo: all: hello <- hello.o <- d/greeting.h changed",
+        "redo: hello.o: d/greeting.h changed",
+        "redo: hello.o: built",
+        "redo: hello: hello.o changed",
+        "redo: plain: up to date",
+        "redo: hello: built",
+        "redo: all: built",
+    ]
+    tree.check.same("second", [line for line in run.lines if line in wanted], wanted)
+    tree.check.true("in a folder", "redo: ../all: its build is asked for" in in_folder(tree))
+    tree.check.true("quiet", not [line for line in tree.redo().lines if ": " in line])
+    run = tree.run("redo", "-d", "nothing")
+    tree.check.has("a failure", run.err, "redo: nothing: failed\n")
+
+
+def in_folder(tree: Tree) -> list[str]:
+    """The lines of a redo -d in another folder than the target's."""
+    return tree.redo("-d", "../all", folder="d").lines

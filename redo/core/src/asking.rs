@@ -3,7 +3,7 @@ use crate::action::{Action, Say};
 use crate::chore::Chore;
 use crate::database::{Database, Mark, State};
 use crate::event::{Look, Want, Who};
-use crate::machine::Machine;
+use crate::machine::{Machine, Note};
 use crate::name::{Name, RequestId, RunId, Subject, TaskId};
 use crate::request::{Request, Stage};
 use crate::run::{Outcome, Waiter};
@@ -79,8 +79,10 @@ impl<D: Database> Machine<D> {
         let names = self.requests[&id].names.clone();
         let absent: BTreeSet<Name> =
             names.iter().copied().filter(|name| self.is_absent(*name)).collect();
-        let todo: VecDeque<Name> =
-            names.into_iter().filter(|name| !self.is_right(run, id, *name)).collect();
+        let (right, todo): (Vec<Name>, Vec<Name>) =
+            names.into_iter().partition(|name| self.is_right(run, id, *name));
+        let todo = VecDeque::from(todo);
+        right.into_iter().for_each(|name| self.note(Note::Passed(run, name)));
         let request = self.request_mut(id);
         request.absent = absent;
         request.wanted = todo.iter().copied().collect();

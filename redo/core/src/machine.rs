@@ -14,6 +14,8 @@ use std::collections::{BTreeMap, BTreeSet, VecDeque};
 pub enum Note {
     /// A name of a request has its turn.
     Begun(RequestId, Name),
+    /// A name that a script asks for is right as it is: no task is made for it.
+    Passed(RunId, Name),
     /// A guess was given up, or not made, since it would close a ring.
     Skipped(RunId, Name),
     /// A task has ended.
@@ -61,6 +63,11 @@ impl<D: Database> Machine<D> {
             requests_made: 0,
             turns: 0,
         }
+    }
+
+    /// Has notes made from now on, or no more. Those that weren't taken are lost.
+    pub fn watch(&mut self, is_watched: bool) {
+        self.notes = is_watched.then(Vec::new);
     }
 
     /// Takes an event: puts its chores on the agenda, which has to be empty.

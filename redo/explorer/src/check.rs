@@ -235,6 +235,7 @@ impl World {
                     self.monitor.attempted.insert((run, name));
                 }
                 Note::Begun(request, name) => self.check_order(request, name),
+                Note::Passed(..) => {}
             }
         }
         let is_end = matches!(chore, Chore::Done { .. } | Chore::DoneKept { .. });

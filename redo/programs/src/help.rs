@@ -89,10 +89,12 @@ where it is out of date.
                        says, or one
     -k, --keep-going   goes on after a failure, as far as can be
     -n, --dry-run      builds nothing, and prints what would be built
+    -d, --debug        says what it decides of each target, and why
     --shuffle          builds targets in random order where the order is free
     -x, --xtrace       has sh print each command (sh -ex)
     -v, --verbose      has sh print each line that it reads (sh -ev)
     --overwrite        builds each TARGET also if somebody edited it, or made it
+    --no-details       shows the lines of redo alone; logs have the others
     --no-log           lets scripts write to standard error, and keeps no log
     --no-color         prints without colours
     --no-status        shows no line of progress
@@ -167,6 +169,8 @@ builds that it asked for.
     -f, --follow       goes on while the TARGET is built
     -n, --no-recurse   prints the log of the TARGET alone
     -r, --recursive    prints those of the builds that it asked for, too
+    -u, --unchanged    prints a line for what it needs and didn't build, too
+    --no-details       prints the lines of redo alone
     --no-color         prints without colours
 ";
 

@@ -1,5 +1,6 @@
 //! redo-log: the logs of builds, which are files of `.redo`.
 
+use std::cell::RefCell;
 use std::env;
 use std::io;
 use std::os::unix::ffi::OsStringExt;
@@ -11,19 +12,25 @@ use redo_files::{links, names};
 use redo_scripts::stored::{LogOptions, More, StoredLogs};
 use redo_scripts::terminal::{Style, Terminal};
 use redo_wire::options::{taken_out, targets_of};
+use redo_wire::{Program, ToProgram, ToServer};
 
+use crate::asking::{call_of_process, Patience, Sign};
 use crate::failure::Failure;
 use crate::reach::Tree;
 
 const OUTPUT: RawFd = 1;
 const TICK: Duration = Duration::from_millis(100);
-const WORDS: [&[u8]; 7] = [
+const WORDS: [&[u8]; 11] = [
     b"-f",
     b"--follow",
     b"-n",
     b"--no-recurse",
     b"-r",
     b"--recursive",
+    b"-u",
+    b"--unchanged",
+    b"--details",
+    b"--no-details",
     b"--no-color",
 ];
 
@@ -40,11 +47,42 @@ pub fn call(words: &[Vec<u8>]) -> Result<u8, Failure> {
     let style = style(&options);
     let terminal = Terminal::new(Box::new(io::stdout()), style);
     let options = log_options(&options, style);
+    let failure = RefCell::new(None);
     let mut logs = StoredLogs::new(terminal, tree.home(), &here, options);
+    logs.set_needs(Box::new(|name| {
+        needs(&tree, name).unwrap_or_else(|cause| {
+            failure.borrow_mut().get_or_insert(cause);
+            Vec::new()
+        })
+    }));
     targets
         .iter()
         .try_for_each(|target| print(&mut logs, target, &tree))?;
-    Ok(0)
+    drop(logs);
+    failure.into_inner().map_or(Ok(0), Err)
+}
+
+/// The targets that a target needed when it was last built: the server knows.
+fn needs(tree: &Tree, name: &[u8]) -> Result<Vec<Vec<u8>>, Failure> {
+    let path = names::path_of(name, tree.top())?;
+    let call = call_of_process(Program::Log, vec![path], None, None)?;
+    let mut patience = Patience::new(tree.top(), Sign::Silence);
+    let (mut link, mut message) = tree.ask(&ToServer::Call(Box::new(call)), &mut patience)?;
+    let mut told = Vec::new();
+    loop {
+        match message {
+            ToProgram::Output(bytes) => told.extend(bytes),
+            ToProgram::End { status: 0 } => break,
+            ToProgram::Error(text) => return Err(Failure::Text(text)),
+            _ => return Err(Failure::Ended),
+        }
+        message = patience.next_message(&mut link)?.ok_or(Failure::Ended)?;
+    }
+    let names = told.split(|byte| *byte == b'\n');
+    Ok(names
+        .filter(|name| !name.is_empty())
+        .map(<[u8]>::to_vec)
+        .collect())
 }
 
 fn print(logs: &mut StoredLogs<'_>, target: &[u8], tree: &Tree) -> Result<(), Failure> {
@@ -66,12 +104,14 @@ fn log_options(words: &[Vec<u8>], style: Style) -> LogOptions {
         )
     };
     let recurses = words.iter().rev().find(about_others);
+    let mut details = words.iter().rev();
+    let details = details.find(|word| word.ends_with(b"-details"));
+    let has = |short: &[u8], long: &[u8]| words.iter().any(|word| word == short || word == long);
     LogOptions {
         recurses: recurses.map_or(true, |word| word == b"-r" || word == b"--recursive"),
-        shows_unchanged: false,
-        follows: words
-            .iter()
-            .any(|word| word == b"-f" || word == b"--follow"),
+        shows_unchanged: has(b"-u", b"--unchanged"),
+        shows_details: details.map_or(true, |word| word == b"--details"),
+        follows: has(b"-f", b"--follow"),
         has_colours: style.has_colours,
     }
 }
@@ -91,14 +131,22 @@ fn style(words: &[Vec<u8>]) -> Style {
 mod tests {
     use super::*;
 
+    fn read(text: &str) -> LogOptions {
+        let words = text.split(' ').map(|word| word.as_bytes().to_vec());
+        log_options(&words.collect::<Vec<_>>(), Style::default())
+    }
+
+    #[test]
+    fn details_are_shown_unless_the_last_word_says_otherwise() {
+        assert!(read("-u").shows_details && read("-u").shows_unchanged);
+        assert!(!read("--no-details").shows_details && !read("-f").shows_unchanged);
+        assert!(read("--no-details --unchanged --details").shows_details);
+    }
+
     #[test]
     fn the_last_word_about_other_logs_counts() {
         let read = |text: &str| {
-            let words: Vec<Vec<u8>> = text
-                .split(' ')
-                .map(|word| word.as_bytes().to_vec())
-                .collect();
-            let options = log_options(&words, Style::default());
+            let options = read(text);
             (options.recurses, options.follows)
         };
         assert_eq!(read("--no-color"), (true, false));

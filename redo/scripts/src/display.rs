@@ -10,7 +10,7 @@ use std::os::unix::io::{AsRawFd, RawFd};
 use redo_files::error::FileError;
 use redo_files::private::Home;
 
-use crate::lines::{Line, Lines};
+use crate::lines::{is_redos, Line, Lines};
 use crate::log::{self, Keys, Log, Mark};
 use crate::script_terminal::ScriptTerminal;
 use crate::terminal::Terminal;
@@ -62,6 +62,8 @@ pub struct Display {
     /// The build that is shown, behind the one that asked for it.
     stack: Vec<BuildId>,
     failures: Vec<Vec<u8>>,
+    /// Whether what scripts write is shown.
+    shows_details: bool,
     /// Why targets failed that nobody has asked for yet, by their names.
     held: HashMap<Vec<u8>, failing::Told>,
 }
@@ -102,8 +104,14 @@ impl Display {
             waiting: VecDeque::new(),
             stack: Vec::new(),
             failures: Vec::new(),
+            shows_details: true,
             held: HashMap::new(),
         }
+    }
+
+    /// Shows lines of redo alone from now on: what scripts write is in their logs.
+    pub fn hide_details(&mut self) {
+        self.shows_details = false;
     }
 
     /// Begins the log of a build, and has it shown where its asker is shown.
@@ -235,12 +243,18 @@ impl Display {
     pub fn pump(&mut self) {
         loop {
             match self.step() {
-                Step::Text(line) => self.terminal.text(&line),
+                Step::Text(line) => self.show_text(&line),
                 Step::Build(id) => self.enter(id),
                 Step::Leave => self.leave(),
                 Step::Nothing => {}
                 Step::Wait => return,
             }
+        }
+    }
+
+    fn show_text(&mut self, text: &[u8]) {
+        if self.shows_details || is_redos(text) {
+            self.terminal.text(text);
         }
     }
 
@@ -330,7 +344,7 @@ impl Display {
         self.open(id);
         while let Some(line) = self.builds[id.0].next() {
             match line {
-                Line::Text(text) => self.terminal.text(&text),
+                Line::Text(text) => self.show_text(&text),
                 Line::Mark(Mark::Built(name)) => {
                     let child = self.by_name.get(&name).copied();
                     self.builds[id.0].children.extend(child);

@@ -22,6 +22,11 @@ pub enum Line {
     Mark(Mark),
 }
 
+/// Says whether a line is one of redo's own, or looks like it.
+pub fn is_redos(text: &[u8]) -> bool {
+    text.starts_with(b"redo: ")
+}
+
 /// The lines of a log, one after the other.
 #[derive(Debug)]
 pub struct Lines {

@@ -7,7 +7,7 @@ use redo_files::names::relative_path;
 use redo_files::private::Home;
 
 use crate::journal;
-use crate::lines::{Line, Lines};
+use crate::lines::{is_redos, Line, Lines};
 use crate::log::{self, Mark};
 use crate::terminal::{without_colours, Terminal};
 
@@ -16,8 +16,10 @@ use crate::terminal::{without_colours, Terminal};
 pub struct LogOptions {
     /// The logs of the builds that a target asked for are shown as well.
     pub recurses: bool,
-    /// So are the names that were up to date.
+    /// So are the targets that it needs and that weren't built for it.
     pub shows_unchanged: bool,
+    /// So is what scripts wrote; else the lines of redo alone.
+    pub shows_details: bool,
     /// A log that grows is shown until its build ends.
     pub follows: bool,
     /// Lines keep the colours that compilers gave them.
@@ -41,7 +43,11 @@ pub struct StoredLogs<'a> {
     options: LogOptions,
     shown: HashSet<Vec<u8>>,
     stack: Vec<Open>,
+    needs: Needs<'a>,
 }
+
+/// Returns the names of the targets that a target needs.
+pub type Needs<'a> = Box<dyn FnMut(&[u8]) -> Vec<Vec<u8>> + 'a>;
 
 /// A log that is shown.
 struct Open {
@@ -64,7 +70,13 @@ impl<'a> StoredLogs<'a> {
             options,
             shown: HashSet::new(),
             stack: Vec::new(),
+            needs: Box::new(|_| Vec::new()),
         }
+    }
+
+    /// Has what a target needs come from here, as of its last build.
+    pub fn set_needs(&mut self, needs: Needs<'a>) {
+        self.needs = needs;
     }
 
     /// Begins to show the log of a name, and says whether there is one.
@@ -84,22 +96,37 @@ impl<'a> StoredLogs<'a> {
             match top.lines.next(grows).unwrap_or(None) {
                 Some(line) => self.show(line),
                 None if grows => return More::Later,
-                None => drop(self.stack.pop()),
+                None => self.leave(),
             }
         }
         More::No
     }
 
+    fn leave(&mut self) {
+        let depth = self.stack.len();
+        let top = self.stack.pop();
+        if let (Some(top), true) = (top, self.options.shows_unchanged) {
+            for name in (self.needs)(&top.name) {
+                self.show_unchanged(&name, depth);
+            }
+        }
+    }
+
+    fn show_unchanged(&mut self, name: &[u8], depth: usize) {
+        if self.shown.insert(name.to_vec()) {
+            let path = relative_path(name, self.home.top(), &self.here);
+            self.terminal.unchanged(&path, depth);
+        }
+    }
+
     fn show(&mut self, line: Line) {
         match line {
+            Line::Text(text) if !self.options.shows_details && !is_redos(&text) => {}
             Line::Text(text) if self.options.has_colours => self.terminal.text(&text),
             Line::Text(text) => self.terminal.text(&without_colours(&text)),
             Line::Mark(Mark::Built(name)) if self.options.recurses => self.descend(&name),
             Line::Mark(Mark::Unchanged(name)) if self.options.shows_unchanged => {
-                if self.shown.insert(name.clone()) {
-                    let path = relative_path(&name, self.home.top(), &self.here);
-                    self.terminal.unchanged(&path, self.stack.len());
-                }
+                self.show_unchanged(&name, self.stack.len());
             }
             Line::Mark(Mark::End) => {
                 let top = self.stack.last_mut();
@@ -136,6 +163,7 @@ mod tests {
     const ALL: LogOptions = LogOptions {
         recurses: true,
         shows_unchanged: false,
+        shows_details: true,
         follows: false,
         has_colours: false,
     };
@@ -209,6 +237,37 @@ mod tests {
         };
         let wanted = "redo  all\nall begins\nredo    a\nredo      c\nredo: a: status 1\n\
                       redo    d/u (unchanged)\n\x1b[31mall ends\x1b[m\n";
+        assert_eq!(Tree::new().shown(options, &["all"]), wanted);
+    }
+
+    #[test]
+    fn what_a_target_needs_is_unchanged_if_it_was_not_built_for_it() {
+        let (tree, shown) = (Tree::new(), Shown::default());
+        let terminal = Terminal::new(Box::new(shown.clone()), Style::default());
+        let options = LogOptions {
+            shows_unchanged: true,
+            ..ALL
+        };
+        let mut logs = StoredLogs::new(terminal, &tree.home, &tree.scratch.top(), options);
+        logs.set_needs(Box::new(|name| match name {
+            b"a" => vec![b"c".to_vec(), b"d/v".to_vec(), b"all".to_vec()],
+            _ => Vec::new(),
+        }));
+        assert!(logs.begin(b"a").unwrap());
+        assert_eq!(logs.pump(), More::No);
+        drop(logs);
+        let wanted = "redo  a\nredo    c\nredo: a: status 1\nredo    d/v (unchanged)\n\
+                      redo    all (unchanged)\n";
+        assert_eq!(shown.text(), wanted);
+    }
+
+    #[test]
+    fn lines_of_redo_are_shown_without_details() {
+        let options = LogOptions {
+            shows_details: false,
+            ..ALL
+        };
+        let wanted = "redo  all\nredo    a\nredo      c\nredo: a: status 1\n";
         assert_eq!(Tree::new().shown(options, &["all"]), wanted);
     }
 

@@ -1,6 +1,6 @@
 //! The calls of programs that aren't answered yet: runs, and what scripts ask.
 
-use std::collections::BTreeMap;
+use std::collections::{BTreeMap, BTreeSet};
 use std::rc::Rc;
 use std::time::Duration;
 
@@ -45,6 +45,8 @@ pub struct Run {
     pub obstacles: BTreeMap<Name, Vec<u8>>,
     /// The targets that were built as a guess, by the task that they were built for.
     pub built_before: BTreeMap<TaskId, Vec<Name>>,
+    /// The targets of which it was told why they are to be built.
+    pub explained: BTreeSet<Name>,
     /// How long it waits before it is told what for.
     pub patience: Duration,
     /// The tasks that waited for locks of others when that was looked at, and whether they had
@@ -106,6 +108,7 @@ impl Run {
             scripts: BTreeMap::new(),
             obstacles: BTreeMap::new(),
             built_before: BTreeMap::new(),
+            explained: BTreeSet::new(),
             patience: patience(&call.surroundings),
             parked: BTreeMap::new(),
             is_told: false,

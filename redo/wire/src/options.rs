@@ -40,6 +40,8 @@ pub struct Options {
     pub keeps_going: bool,
     /// It builds nothing, and says what it would build.
     pub only_tells: bool,
+    /// It says what it decides of each target, and why.
+    pub debugs: bool,
     /// The order is random where it is free.
     pub shuffles: bool,
     /// What `sh` shows.
@@ -48,6 +50,8 @@ pub struct Options {
     pub overwrites: bool,
     /// It keeps logs; else scripts write to standard error at once.
     pub keeps_logs: bool,
+    /// It shows what scripts write; else the lines of redo alone.
+    pub shows_details: bool,
     /// It shows colours on a terminal.
     pub has_colours: bool,
     /// It shows a line of progress on a terminal.
@@ -61,10 +65,12 @@ impl Default for Options {
             jobs: None,
             keeps_going: false,
             only_tells: false,
+            debugs: false,
             shuffles: false,
             flags: ShellFlags::default(),
             overwrites: false,
             keeps_logs: true,
+            shows_details: true,
             has_colours: true,
             has_status: true,
         }
@@ -106,11 +112,13 @@ impl Options {
             b"--jobs" => self.jobs = Some(number_behind(word, rest)?),
             b"--keep-going" => self.keeps_going = true,
             b"--dry-run" => self.only_tells = true,
+            b"--debug" => self.debugs = true,
             b"--shuffle" => self.shuffles = true,
             b"--xtrace" => self.flags.traces = true,
             b"--verbose" => self.flags.is_verbose = true,
             b"--overwrite" => self.overwrites = true,
             b"--log" | b"--no-log" => self.keeps_logs = is_on(word),
+            b"--details" | b"--no-details" => self.shows_details = is_on(word),
             b"--color" | b"--no-color" => self.has_colours = is_on(word),
             b"--status" | b"--no-status" => self.has_status = is_on(word),
             _ => match word.strip_prefix(b"--jobs=") {
@@ -140,6 +148,7 @@ impl Options {
                 }
                 b'k' => self.keeps_going = true,
                 b'n' => self.only_tells = true,
+                b'd' => self.debugs = true,
                 b'x' => self.flags.traces = true,
                 b'v' => self.flags.is_verbose = true,
                 other => return Err(UsageError::NoOption(vec![b'-', *other])),
@@ -237,7 +246,10 @@ mod tests {
 
     #[test]
     fn each_option_says_one_thing() {
-        let cases: [(&str, Change); 8] = [
+        let cases: [(&str, Change); 11] = [
+            ("--no-details", |options| options.shows_details = false),
+            ("--no-details --details", |_| {}),
+            ("-d", |options| options.debugs = true),
             ("-k", |options| options.keeps_going = true),
             ("-n", |options| options.only_tells = true),
             ("--shuffle", |options| options.shuffles = true),
@@ -255,6 +267,7 @@ mod tests {
         for (short, long) in [
             ("-k", "--keep-going"),
             ("-n", "--dry-run"),
+            ("-d", "--debug"),
             ("-x", "--xtrace"),
         ] {
             assert_eq!(read(short), read(long));

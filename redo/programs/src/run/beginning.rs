@@ -26,6 +26,9 @@ pub fn display(options: &Options, own: &Surroundings, tree: &Tree) -> Result<Dis
         (true, false) => Errors::Logs,
     };
     let mut display = Display::new(Terminal::of_errors(style), tree.home(), errors);
+    if !options.shows_details {
+        display.hide_details();
+    }
     for text in journal::clear(tree.home())? {
         display.say(None, &text);
     }

@@ -1,6 +1,6 @@
 //! The machine: it is told what happens, and what it wants is done.
 
-use redo_core::{Action, Event, Name, RequestId, TaskId};
+use redo_core::{Action, Event, Name, RequestId, Task, TaskId};
 use redo_files::{names, rules, FileError};
 use redo_wire::ToProgram;
 
@@ -70,6 +70,7 @@ impl Server {
         self.machine.event(event);
         while self.machine.step() {}
         self.actions.extend(self.machine.take_actions());
+        self.tell_notes();
         for target in self.machine.database_mut().take_released() {
             let name = self.machine.database().known.names.name(target).clone();
             self.waits.released(&name);
@@ -132,6 +133,8 @@ impl Server {
 
     /// Searches the `.do` file of a target. One that can't be run is found, and its script fails.
     fn search(&mut self, task: TaskId, target: Name) {
+        let Task { run, forced, .. } = self.machine.tasks()[&task];
+        self.tell_reason(run, target, forced);
         let found = self.searched(task, target);
         let (rule, missing) = match found {
             Ok(found) => found,

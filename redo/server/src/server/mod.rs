@@ -3,6 +3,7 @@
 mod asking;
 mod clients;
 mod database;
+mod debugging;
 mod deciding;
 mod patience;
 mod programs;

@@ -25,9 +25,9 @@ struct Printed {
 }
 
 /// Why a target is to be built: a word, and the paths of what depends on what.
-struct Cause {
-    word: String,
-    chain: Vec<Vec<u8>>,
+pub(super) struct Cause {
+    pub word: String,
+    pub chain: Vec<Vec<u8>>,
 }
 
 impl Server {
@@ -40,6 +40,7 @@ impl Server {
             Program::Targets => self.list_targets(call),
             Program::Why => self.whys(call),
             Program::WhichDo => self.which(call),
+            Program::Log => self.needed(call),
             _ => Err(usage("the server has no answer to that")),
         };
         match printed {
@@ -129,7 +130,7 @@ impl Server {
         self.look_for_question();
         let mut text = Vec::new();
         for name in names {
-            let cause = self.cause_of(name, call)?;
+            let cause = self.cause_of(name, &call.folder)?;
             text.extend(if taken.is_empty() {
                 cause.line()
             } else {
@@ -138,6 +139,30 @@ impl Server {
             text.push(b'\n');
         }
         Ok(Printed { text, status: 0 })
+    }
+
+    /// The names of the targets that these need by their last build, for redo-log.
+    fn needed(&mut self, call: &Call) -> Result<Printed, Refusal> {
+        self.settle_clients();
+        let mut text = Vec::new();
+        for name in self.names_asked(&call.words, call)? {
+            let needs = self.targets_built_from(name).into_iter();
+            text.extend(needs.flat_map(|need| [self.name_text(need), b"\n".to_vec()].concat()));
+        }
+        self.note_failure();
+        Ok(Printed { text, status: 0 })
+    }
+
+    fn targets_built_from(&self, name: Name) -> Vec<Name> {
+        let store = self.machine.database();
+        let needs = store.needs(name).into_iter();
+        let files = needs.filter_map(|subject| match subject {
+            Subject::File(need) | Subject::Edited(need) => Some(need),
+            Subject::Left(_) | Subject::Always => None,
+        });
+        files
+            .filter(|need| store.state(*need) != NameState::Idle)
+            .collect()
     }
 
     fn names_asked(&mut self, words: &[Vec<u8>], call: &Call) -> Result<Vec<Name>, Refusal> {
@@ -154,11 +179,12 @@ impl Server {
         Ok(names)
     }
 
-    fn cause_of(&mut self, name: Name, call: &Call) -> Result<Cause, Refusal> {
+    /// Why a name is to be built, with paths from a folder.
+    pub(super) fn cause_of(&mut self, name: Name, folder: &[u8]) -> Result<Cause, Refusal> {
         let text = self.machine.database().known.names.name(name).to_vec();
         let answer = self.ask_database(&[b"why ", &text])?;
         let words: Vec<&[u8]> = answer.split(|byte| *byte == b' ').collect();
-        let path = |name: &[u8]| self.path_asked(name, call);
+        let path = |name: &[u8]| self.path_from(name, folder);
         let (reason, place, chain) = match words[..] {
             [reason, place, ref chain @ ..] if !chain.is_empty() => (reason, place, chain),
             _ => {
@@ -179,9 +205,9 @@ impl Server {
         Ok(Cause { word, chain: paths })
     }
 
-    fn path_asked(&self, name: &[u8], call: &Call) -> Vec<u8> {
+    fn path_from(&self, name: &[u8], folder: &[u8]) -> Vec<u8> {
         let name = name.strip_prefix(EDITED).unwrap_or(name);
-        let folder = links::resolved(&call.folder).unwrap_or_else(|_| call.folder.clone());
+        let folder = links::resolved(folder).unwrap_or_else(|_| folder.to_vec());
         relative_path(name, self.taken.home.top(), &folder)
     }
 
@@ -238,7 +264,7 @@ impl Server {
             }
             let is_asked = is_forced && wanted.names.contains(&name);
             if self.would_build(name, is_asked) {
-                let path = self.path_asked(&self.name_text(name), call);
+                let path = self.path_from(&self.name_text(name), &call.folder);
                 text.extend([b"redo  ", shown(&path).as_slice(), b"\n"].concat());
             }
             line.extend(self.targets_needed(name));

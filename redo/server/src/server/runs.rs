@@ -134,6 +134,7 @@ impl Server {
         self.timers.drop(Alarm::Turn(id));
         self.timers.set(Alarm::Locks(run), record.patience);
         self.calls.runs.insert(run, record);
+        self.watch_for_debugging();
         self.set_role(id, Role::Run(run));
         self.open(run, keep_going, &changes);
         let request = self.calls.ask(Asked {
@@ -298,7 +299,9 @@ impl Server {
         self.end_all(left);
         self.calls.asked.retain(|_, asked| asked.run != run);
         self.timers.drop(Alarm::Locks(run));
-        if let Some(record) = self.calls.runs.remove(&run) {
+        let closed = self.calls.runs.remove(&run);
+        self.watch_for_debugging();
+        if let Some(record) = closed {
             if record.is_stopped {
                 self.end_session(record.session);
             } else {
