@@ -66,3 +66,22 @@ def case_guess_that_cannot_run(tree: Tree) -> None:
     run = tree.ifchange("x")
     tree.check.same("lines", about("n", run.lines), [])
     tree.check.same("x", tree.read("x"), "x\n")
+
+
+def case_guess_closes_no_ring(tree: Tree) -> None:
+    """What a target needed may need that target now: the former need makes no ring."""
+    script = 'redo-ifchange cfg\nif grep -q "%s needs %s" cfg; then redo-ifchange %s; fi\necho %s\n'
+    tree.files(
+        cfg__do="redo-ifchange src\ncat src\nredo-stamp <src\n",
+        a__do=script % ("a", "n", "n", "a"),
+        n__do=script % ("n", "a", "a", "n"),
+        all__do="redo-ifchange a n\n",
+    )
+    tree.write("src", "a needs n\n")
+    tree.ifchange("all")
+    for number, jobs in enumerate(("-j1", "-j2", "-j8")):
+        for needs in ("n needs a", "a needs n"):
+            tree.write("src", f"{needs}, {number}\n")
+            run = tree.redo(jobs, "all")
+            tree.check.same(f"{jobs}, {needs}: built", sorted(run.built), ["a", "all", "cfg", "n"])
+            tree.check.same(f"{jobs}, {needs}: nothing", tree.ifchange("all").built, [])

@@ -114,7 +114,12 @@ def goes_on(tree: Tree, run: "subprocess.Popen[bytes]") -> Ended:
     return ended(run)
 
 
-PAUSE = ": >ready\nwhile [ ! -e go ]; do sleep 0.02; done\n"
+def until(name: str) -> str:
+    """The line of a script that waits for a file."""
+    return f"while [ ! -e {name} ]; do sleep 0.02; done\n"
+
+
+PAUSE = ": >ready\n" + until("go")
 
 
 def case_asked_twice(tree: Tree) -> None:
@@ -173,6 +178,55 @@ def case_read_before_it_was_asked_for(tree: Tree) -> None:
     tree.check.same("then nothing", tree.ifchange("x").built, [])
 
 
+# after so many seconds, an edit is older for the clock of a file system than what begins then
+TICK = 0.03
+COMPILES = f"""redo-ifchange x.c
+gcc -MD -MF x.d -MT x.o -c -o $3 x.c
+{PAUSE}read -r names <x.d
+redo-ifchange ${{names#*:}}
+"""
+
+
+def case_edited_during_the_compile(tree: Tree) -> None:
+    """A source or a header that is edited while the compiler runs, which names both at its end, has
+    the object built again; without an edit there is nothing to do."""
+    needs("gcc")
+    tree.files(x__o__do=COMPILES, x__c='#include "x.h"\nint x = X;\n', x__h="#define X 1\n")
+    time.sleep(TICK)
+    tree.check.same("status", goes_on(tree, while_it_runs(tree, "redo", "x.o")).status, 0)
+    tree.check.same("without an edit", tree.ifchange("x.o").built, [])
+    edits = {"x.h": "#define X 2\n", "x.c": '#include "x.h"\nint x = X + 1;\n'}
+    for name, text in edits.items():
+        run = while_it_runs(tree, "redo", "x.o")
+        tree.write(name, text)
+        tree.check.same(f"{name}: status", goes_on(tree, run).status, 0)
+        time.sleep(TICK)
+        tree.check.same(f"{name}: built again", tree.ifchange("x.o").built, ["x.o"])
+        tree.run("gcc", "-c", "-o", "wanted", "x.c")
+        same = tree.path("x.o").read_bytes() == tree.path("wanted").read_bytes()
+        tree.check.true(f"{name}: x.o is that of the compiler", same)
+        tree.check.same(f"{name}: then nothing", tree.ifchange("x.o").built, [])
+
+
+def case_gone_in_the_run(tree: Tree) -> None:
+    """A target whose file is removed after the run built it isn't taken for built: who asks for it
+    later is told, and what went on without the file isn't up to date once it is there again."""
+    tree.files(
+        a__do="echo text\necho text | redo-stamp\n",
+        p__do="redo-ifchange a || :\nif [ -e a ]; then cat a; else echo nothing; fi\n",
+        all__do=f"redo-ifchange a\n{PAUSE}redo-ifchange p\n",
+    )
+    run = while_it_runs(tree, "redo-ifchange", "all")
+    tree.path("a").unlink()
+    first = goes_on(tree, run)
+    told = "redo: a was built in this run, and its file is gone" in first.lines
+    tree.check.same("told, or built again", (told, tree.path("a").exists()), (True, False))
+    tree.check.same("p went on", tree.read("p"), "nothing\n")
+    tree.ifchange("p")
+    tree.check.same("p", (tree.read("a"), tree.read("p")), ("text\n", "text\n"))
+    tree.check.same("then nothing", tree.ifchange("p").built, [])
+
+
 def case_always_after_another_run_began(tree: Tree) -> None:
     """A target that was declared always after another run began is built again by that one."""
     tree.files(
@@ -199,26 +253,28 @@ def case_asks_and_ends(tree: Tree) -> None:
     """A script that ends while a redo-ifchange of its own waits takes no job with it."""
     tree.files(
         all__do="redo-ifchange p\nredo-ifchange q\n",
-        p__do="redo-ifchange t >/dev/null 2>&1 &\nsleep 0.3\necho p >$3\n",
-        t__do="sleep 0.6\necho t >$3\n",
+        p__do=f"redo-ifchange t >/dev/null 2>&1 &\n{until('t.began')}echo p >$3\n",
+        t__do=f": >t.began\n{until('p')}echo t >$3\n",
         q__do="echo q >$3\n",
     )
     for jobs in ("-j1", "-j2"):
         tree.redo(jobs, "all")
         tree.check.same(f"{jobs}: q", tree.read("q"), "q\n")
+        for name in ("p", "q", "t", "t.began"):
+            tree.path(name).unlink(missing_ok=True)
 
 
 def case_asks_while_another_request_waits(tree: Tree) -> None:
     """A script asks again while its job's token is on its way back from another request."""
     tree.files(
-        a__do="sleep 1.0\necho a >$3\n",
-        b__do="sleep 2.0\necho b >$3\n",
+        a__do=f": >a.began\n{until('b.began')}echo a >$3\n",
+        b__do=f": >b.began\n{until('p.asks')}sleep 0.5\necho b >$3\n",
         c__do="echo c >$3\n",
-        p__do="redo-ifchange a & sleep 1.2\nredo-ifchange c\nwait\necho p >$3\n",
+        p__do=f"redo-ifchange a &\n{until('a')}: >p.asks\nredo-ifchange c\nwait\necho p >$3\n",
         q__do="redo-ifchange b\necho q >$3\n",
     )
     other = tree.start("redo", "a")
-    time.sleep(0.3)
+    tree.until("another run builds a", tree.path("a.began").exists)
     tree.redo("p", "q")
     tree.check.same("the other run", ended(other).status, 0)
 

@@ -114,6 +114,43 @@ def case_standard_input(tree: Tree) -> None:
     tree.check.same("x", tree.read("x"), "<>\n")
 
 
+def case_surroundings_of_the_asker(tree: Tree) -> None:
+    """A script has the environment, umask and limits of whoever asks: of a script, or of the user.
+
+    They are no reason to build, and nobody else has them.
+    """
+    tree.files(
+        y__do='echo "$WORD $(umask) $(ulimit -S -n)"\n',
+        x__do="WORD=mine\nexport WORD\numask 027\nulimit -S -n 50\nredo-ifchange y\n",
+        z__do="redo-ifchange y x\n" + 'echo "$WORD $(umask) $(ulimit -S -n)"\n',
+    )
+    users = "WORD='%s'; export WORD; umask %s; ulimit -S -n %s; exec redo-ifchange -- %s"
+    tree.run("sh", "-c", users % ("the user", "002", 60, "x z"))
+    tree.check.same("of a script", tree.read("y"), "mine 0027 50\n")
+    tree.check.same("its file", tree.path("y").stat().st_mode & 0o777, 0o640)
+    tree.check.same("of the user", tree.read("z"), "the user 0002 60\n")
+    tree.run("sh", "-c", users % ("the next", "022", 70, "y"))
+    tree.check.same("no reason to build", tree.read("y"), "mine 0027 50\n")
+    tree.path("y").unlink()
+    tree.run("sh", "-c", users % ("the next", "022", 70, "y"))
+    tree.check.same("of the next user", tree.read("y"), "the next 0022 70\n")
+    tree.check.same("its file, too", tree.path("y").stat().st_mode & 0o777, 0o644)
+
+
+def case_surroundings_of_a_guess(tree: Tree) -> None:
+    """What is built as a guess has them from whoever asked for the target that needed it."""
+    tree.files(
+        y__do='redo-ifchange src\necho "$WORD"\n',
+        x__do="WORD=mine\nexport WORD\nredo-ifchange y\n",
+        src="1\n",
+    )
+    tree.ifchange("x", environment={"WORD": "the user's"})
+    tree.check.same("at first", tree.read("y"), "mine\n")
+    tree.write("src", "2\n")
+    tree.ifchange("x", environment={"WORD": "the user's"})
+    tree.check.same("as a guess", tree.read("y"), "the user's\n")
+
+
 def case_folder_without_a_rule(tree: Tree) -> None:
     """To redo a folder that no rule makes is no error, and is told of."""
     tree.path("d").mkdir()

@@ -30,11 +30,7 @@ def case_script_dies_with_run_and_server(tree: Tree) -> None:
     run = tree.start("redo", "t")
     tree.until("began", tree.path("began").exists)
     kill_all(tree, run)
-    time.sleep(0.5)
-    left = list(sleepers(tree, False))
-    tree.check.same("processes", len(left), 0)
-    for process in left:
-        os.kill(process, signal.SIGKILL)
+    tree.until("all processes are gone", lambda: not sleepers(tree, False))
     tree.files(t__do='echo "$$" >>"$3"\n')
     tree.redo("t")
     tree.check.same("builders", tree.count("t"), 1)
