@@ -7,16 +7,29 @@ import time
 
 from trees import Tree
 
-MANY = 70
+MANY = 200
 AT_ONCE = 63
-ENOUGH = 90.0
+ENOUGH = 150.0
 OTHERS = "redo: 63 others build in {}; waiting for one to end"
+
+QUESTIONS = (
+    ("redo-ood",),
+    ("redo-why", "right"),
+    ("redo-targets",),
+    ("redo-sources",),
+    ("redo-whichdo", "right"),
+    ("redo-log", "right"),
+)
 
 # begins, waits until very many have begun, asks questions, and has something built
 ASKING = """: >"begun.$2"
 until [ -e go ] || ! [ -e "begun.$2" ]; do sleep 0.2; done
-redo-why src >&2
+redo-why right >&2
 redo-ood >&2
+redo-targets >/dev/null
+redo-sources >/dev/null
+redo-whichdo "$1" >/dev/null
+redo-log right >/dev/null
 redo-ifchange src
 env -u REDO_SOCKET redo-ifchange right
 cat src
@@ -26,7 +39,7 @@ cat src
 def case_many_whose_scripts_ask(tree: Tree) -> None:
     """More `redo` than the server has sessions, each of whose scripts asks, end well.
 
-    Those that wait for a session say so.
+    Those that wait for a session say so. A question needs none, and is answered meanwhile.
     """
     tree.files(default__out__do=ASKING, right__do="redo-ifchange src\ncat src\n", src="text\n")
     tree.ifchange("right")
@@ -38,11 +51,13 @@ def case_many_whose_scripts_ask(tree: Tree) -> None:
     ]
     try:
         tree.until("63 have begun", lambda: len(list(tree.folder.glob("begun.*"))) == AT_ONCE)
-        tree.until("7 wait", lambda: said(tree, line) == MANY - AT_ONCE)
+        tree.until("the others wait", lambda: said(tree, line) == MANY - AT_ONCE)
+        meanwhile = [tree.run(*words).status for words in QUESTIONS]
         tree.write("go", "")
         statuses = statuses_of(runs)
     finally:
         end_all(runs)
+    tree.check.same("questions", meanwhile, [0] * len(QUESTIONS))
     tree.check.same("statuses", statuses, [0] * MANY)
     built = [tree.read(f"{number}.out") for number in range(MANY)]
     tree.check.same("targets", built, ["text\n"] * MANY)
