@@ -1,6 +1,7 @@
 //! One client of the server.
 
 use std::io::{self, Read};
+use std::mem;
 use std::os::unix::net::UnixStream;
 
 use redo_wire::{Call, FrameBuffer, ToProgram, WireError};
@@ -88,6 +89,8 @@ pub struct Client {
     pub course: Course,
     pub inbox: Inbox,
     pub frames: FrameBuffer,
+    /// So many bytes has the call of a program.
+    pub call_size: usize,
     pub outbox: Outbox,
     pub groups: Groups,
     /// The waits that aren't answered, each with its request.
@@ -103,6 +106,12 @@ pub struct Client {
     /// The first fault of the look that runs.
     pub look_fault: Option<Vec<u8>>,
     interest: Interest,
+}
+
+/// How many bytes a call has, of which each of its texts needs some more.
+pub fn size_of(call: &Call) -> usize {
+    let texts = call.words.iter().chain(&call.surroundings.environment);
+    texts.map(|text| text.len() + mem::size_of_val(text)).sum()
 }
 
 /// What came from a client.
@@ -124,6 +133,7 @@ impl Client {
             course: Course::Open,
             inbox: Inbox::default(),
             frames: FrameBuffer::default(),
+            call_size: 0,
             outbox: Outbox::default(),
             groups: Groups::default(),
             waits: Vec::new(),
@@ -178,6 +188,11 @@ impl Client {
             Standing::Program(Role::New | Role::Run(_) | Role::Asks(_))
         );
         hears && self.course != Course::Closing
+    }
+
+    /// How many bytes are kept for it: of what it has sent, and of what it is told.
+    pub fn kept(&self) -> usize {
+        self.frames.rest().len() + self.call_size + self.outbox.unsent()
     }
 
     pub fn is_program(&self) -> bool {

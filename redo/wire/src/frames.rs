@@ -10,6 +10,8 @@ pub const MOST_BODY: usize = 4 << 20;
 
 const HEAD: usize = 4;
 
+const ROOM_KEPT: usize = 1 << 14;
+
 /// What has come over a connection, and isn't read yet.
 #[derive(Clone, Debug, Default)]
 pub struct FrameBuffer {
@@ -34,6 +36,11 @@ impl FrameBuffer {
     /// Passes over bytes; all of them, if there are fewer.
     pub fn skip(&mut self, count: usize) {
         self.taken = self.bytes.len().min(self.taken.saturating_add(count));
+        if self.taken == self.bytes.len() {
+            self.bytes.clear();
+            self.bytes.shrink_to(ROOM_KEPT);
+            self.taken = 0;
+        }
     }
 
     /// Says whether a whole frame may be there. Then no more has to be read before it is taken.

@@ -16,10 +16,10 @@ use crate::waits::GivenUp;
 const BREATH: Duration = Duration::from_secs(1);
 const LINGER: Duration = Duration::from_secs(5);
 const MOST_AT_ONCE: usize = 100;
-/// A client with more unsent bytes is looked at more closely.
-const MUCH_UNSENT: usize = 1 << 20;
-/// So many bytes may be unsent to all clients together.
-const MOST_UNSENT_IN_ALL: usize = 1 << 27;
+/// A client for which more bytes are kept is looked at more closely.
+const MUCH_KEPT: usize = 1 << 16;
+/// So many bytes may be kept for all clients together.
+const MOST_KEPT_IN_ALL: usize = 1 << 27;
 
 impl Server {
     /// Waits for clients to come, or doesn't.
@@ -143,12 +143,12 @@ impl Server {
         let change = client.outbox.flush(&mut client.socket);
         let is_over = client.course == Course::Closing && client.outbox.is_empty();
         let is_well = client.regulate(id, &self.poll).is_ok();
-        let unsent = client.outbox.unsent();
+        let kept = client.kept();
         match change {
             Ok(_) if is_over || !is_well => self.lose(id),
             Err(_) => self.lose(id),
             Ok(Change::BecameFree) => self.work(id),
-            Ok(_) if unsent > MUCH_UNSENT => self.bound_unsent(),
+            Ok(_) if kept > MUCH_KEPT => self.bound_kept(),
             Ok(_) => {}
         }
     }
@@ -312,14 +312,11 @@ impl Server {
         }
     }
 
-    /// Ends the connection of the client that reads least, if too much is unsent in all.
-    fn bound_unsent(&mut self) {
-        let unsent = self
-            .clients
-            .iter()
-            .map(|(id, client)| (client.outbox.unsent(), *id));
-        let sum: usize = unsent.clone().map(|(unsent, _)| unsent).sum();
-        if let Some((_, most)) = unsent.max().filter(|_| sum > MOST_UNSENT_IN_ALL) {
+    /// Ends the connection of the client for which most is kept, if that is too much in all.
+    fn bound_kept(&mut self) {
+        let kept = self.clients.iter().map(|(id, client)| (client.kept(), *id));
+        let sum: usize = kept.clone().map(|(kept, _)| kept).sum();
+        if let Some((_, most)) = kept.max().filter(|_| sum > MOST_KEPT_IN_ALL) {
             self.lose(most);
         }
     }

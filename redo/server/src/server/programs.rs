@@ -4,7 +4,7 @@ use redo_core::TaskId;
 use redo_files::stamp::Stamp as LookStamp;
 use redo_wire::{Call, Program, ToProgram, ToServer, WireError};
 
-use crate::client::{ClientId, Role, Standing};
+use crate::client::{size_of, ClientId, Role, Standing};
 use crate::server::{Server, State};
 
 /// So many bytes of output has a message at most.
@@ -83,6 +83,9 @@ impl Server {
     }
 
     fn take_call(&mut self, id: ClientId, call: Box<Call>) {
+        if let Some(client) = self.clients.get_mut(&id) {
+            client.call_size = size_of(&call);
+        }
         match (call.program, call.task) {
             (program, Some(task)) if program.is_for_scripts() => {
                 self.call_of_script(id, call, task)
