@@ -1,5 +1,6 @@
-//! Clients that mean harm, or are about to end: they hold nobody up, take little of the server's
-//! memory, and leave no open file. Programs speak frames here, as `redo` and what scripts call do.
+//! Programs that mean harm, or are about to end: they hold nobody up, take little of the server's
+//! memory, and leave no open file. They speak frames, as `redo` and what scripts call do; those that
+//! speak lines are in `python/tests/test_hostile.py`.
 
 mod common;
 
@@ -94,27 +95,6 @@ fn opened(call: Call) -> Vec<u8> {
     let mut bytes = vec![OPENING];
     ToServer::Call(Box::new(call)).encode(&mut bytes).unwrap();
     bytes
-}
-
-#[test]
-fn a_gigabyte_without_an_end_is_a_line_that_is_too_long() {
-    let tree = tree();
-    let mut socket = connect(&tree);
-    assert!(pour(&mut socket, b"1 file "));
-    let block = vec![b'a'; 1 << 20];
-    assert!((0..1024).all(|_| pour(&mut socket, &block)));
-    assert!(serves(&tree));
-    assert!(pour(&mut socket, b" 1\n2 state b\n"));
-    let mut told = Vec::new();
-    let mut room = [0; 4096];
-    while !told.ends_with(b"2 idle lock - file -\n") {
-        let count = socket.read(&mut room).unwrap();
-        assert_ne!(count, 0);
-        told.extend_from_slice(&room[..count]);
-    }
-    let text = String::from_utf8(told).unwrap();
-    assert!(text.contains("1 fault line-too-long\n"), "{text}");
-    assert!(memory(&tree) < LITTLE, "{}", memory(&tree));
 }
 
 #[test]
