@@ -86,10 +86,9 @@ class Archive:
 
     def fetch(self, package: str) -> Path:
         """Fetches a source package; returns the archive of its authors' files."""
-        if not list(self.folder.glob("lists/*Sources*")):
-            self._run("update")
-        self._run("source", "--download-only", package)
-        found = list(self.folder.glob(f"{package}_*.orig.tar.*[!c]"))
+        self._run("lists/*Sources*", "update")  # of several archives, one may be enough
+        self._run(f"{package}_*.dsc", "source", "--download-only", package)
+        found = list(self.folder.glob(f"{package}_*.orig.tar.*[!c]"))  # no .asc
         if len(found) != 1:
             raise Skipped(f"apt has no one archive of {package}: {found}")
         return found[0]
@@ -104,7 +103,10 @@ class Archive:
                 text = re.sub(r"(?m)^deb\s", "deb-src ", text)
                 (self.folder / "settings" / place.name).write_text(text)
 
-    def _run(self, *words: str) -> None:
+    def _run(self, wanted: str, *words: str) -> None:
+        """Runs apt-get, if what is wanted isn't there. Then it has to be."""
+        if list(self.folder.glob(wanted)):
+            return
         settings = {
             "Dir::Etc::sourcelist": "/dev/null",
             "Dir::Etc::sourceparts": self.folder / "settings",
@@ -127,7 +129,7 @@ class Archive:
             )
         except (OSError, subprocess.TimeoutExpired) as cause:
             raise Skipped(f"apt-get {words[0]}: {cause}") from None
-        if run.returncode != 0 and words[0] != "update":  # of several archives, one may be enough
+        if not list(self.folder.glob(wanted)):
             raise Skipped(f"apt-get {words[0]}: {run.stderr.strip()[-300:]}")
 
 
