@@ -78,6 +78,21 @@ def case_lock_of_a_client_that_dies(tree: Tree) -> None:
     client.end()
 
 
+def case_build_of_a_client_that_is_broken_off(tree: Tree) -> None:
+    """What the build of a client that dies has left is no edit, also if an earlier build failed."""
+    tree.files(x__do="exit 1\n")
+    tree.check.same("a failure", tree.run("redo", "x").status, 1)
+    client = Asker(tree)
+    answers = [client.ask(request) for request in ("lock x", "start x")]
+    tree.check.same("begun", (answers[0][:8], answers[1]), ("granted ", "ok"))
+    tree.write("x", "half of it\n")
+    client.process.kill()
+    client.end()
+    tree.write("x.do", "echo all of it\n")
+    run = tree.ifchange("x")
+    tree.check.same("x", (tree.read("x"), run.err), ("all of it\n", "redo  x\n"))
+
+
 def case_run_that_ends_while_it_waits_for_a_client(tree: Tree) -> None:
     """A run that waits for a client's lock is ended by SIGINT; the lock stays the client's."""
     tree.files(x__do="echo x\n", z__do="redo-ifchange x\ncat x\n")

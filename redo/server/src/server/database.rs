@@ -2,6 +2,7 @@
 
 use std::time::Duration;
 
+use redo_files::names::LEFT;
 use redo_files::top::places;
 
 use crate::conversation::{is_greeting, Addressee, Span, Told};
@@ -143,8 +144,8 @@ impl Server {
         if let Some(name) = known.learn_from_others(told) {
             self.others.touch(name);
         }
-        if let (b"unlock", target) = partition(told.command) {
-            if told.reply == b"ok" {
+        match partition(told.command) {
+            (b"unlock", target) if told.reply == b"ok" => {
                 let unlocked = self.machine.database().known.names.number(target);
                 unlocked
                     .into_iter()
@@ -152,6 +153,18 @@ impl Server {
                 self.waits.released(target);
                 self.settle_waits();
             }
+            (b"start", target) if told.reply == b"ok" => self.forget_left(target),
+            _ => {}
+        }
+    }
+
+    /// What an earlier failed build has left counts no more: somebody else builds the target, and
+    /// nobody knows what that leaves if it is broken off.
+    fn forget_left(&mut self, target: &[u8]) {
+        let name = [LEFT, target].concat();
+        let facts = self.machine.database().known.names.facts_of(&name);
+        if facts.map_or(false, |facts| facts.stamp.is_some()) {
+            self.tell(Session::QUESTIONS, &[b"gone ", name.as_slice()].concat());
         }
     }
 
