@@ -10,7 +10,17 @@ import beside  # noqa: F401
 from redodb.places import find_program
 from trees import TOP, TreeTest, is_proved, program_answers
 
-COPIED = ["install", "redodb", "redodb-live", "bin", "completion", "man", "include", "python/redodb"]
+COPIED = [
+    "install",
+    "redodb",
+    "redodb-live",
+    "VERSION",
+    "bin",
+    "completion",
+    "man",
+    "include",
+    "python/redodb",
+]
 BUILT = "crates/redo_live_cli/out/redo_live_cli"
 REDO = TOP / "redo/target/release/redo"
 PACKAGES = "lib/redodb/python"
@@ -113,6 +123,15 @@ class InstallCopy(InstallTest):
             self.assertTrue(self.said(redodb, word, "--help").startswith(f"usage: {usage}"))
         self.assertTrue(self.said(redodb, "serve", "--help").startswith("usage: redo-server"))
 
+    def test_words_of_python_where_the_package_is_not(self) -> None:
+        self.installed()
+        shutil.rmtree(self.prefix / "lib/redodb/python")
+        for word in ("record", "picture"):
+            words = [self.prefix / "bin/redodb", word, "--help"]
+            run = subprocess.run(words, capture_output=True, text=True, check=False)
+            line = f"redodb: {word}: the package python3-redodb has this word\n"
+            self.assertEqual((run.returncode, run.stdout, run.stderr), (2, "", line))
+
     def test_nothing_is_imported_from_the_working_folder(self) -> None:
         self.installed()
         for name in ("redodb/__init__", "redodb/__main__", "json", "os", "sitecustomize", "shutil"):
@@ -196,17 +215,19 @@ class InstallCopy(InstallTest):
         )
 
     def test_library(self) -> None:
-        names = ["include/redodb.h", "lib/libredodb.a", "lib/libredodb.so"]
+        library = self.prefix / "lib/libredodb.so.0"
+        names = ["include/redodb.h", "lib/libredodb.a", "lib/libredodb.so", "lib/pkgconfig/redodb.pc"]
         self.installed()
         self.assertFalse(any((self.prefix / name).exists() for name in names))
-        for name in ("libredodb.a", "libredodb.so"):
+        for name in ("libredodb.a", library.name):
             self.write(f"copy/library/out/{name}", name)
         self.installed()
         self.assertTrue(all((self.prefix / name).is_file() for name in names))
+        self.assertEqual(os.readlink(self.prefix / "lib/libredodb.so"), library.name)
         finds = "from redodb.places import find_library; print(find_library().decode())"
         program = ("python3", "-c", f"import sys; sys.path.insert(0, {PACKAGES!r}); {finds}")
         found = self.said(*program, cwd=self.prefix)
-        self.assertEqual(Path(found.strip()), self.prefix / "lib/libredodb.so")
+        self.assertEqual(Path(found.strip()), library)
 
     def assert_refused(self, line: str) -> None:
         self.assertEqual(self.install(self.copy, self.prefix), (2, "", f"install: {line}\n"))
