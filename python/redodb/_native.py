@@ -8,7 +8,7 @@ from types import TracebackType
 
 from .commands import Commands
 from .errors import LibraryError
-from .places import find_library
+from .places import LIBRARY, find_library
 from .requests import Answer, Request
 
 ABI = 1
@@ -22,18 +22,16 @@ class Library:
     """The functions of the shared library. Raises LibraryError if there is none."""
 
     def __init__(self, path: bytes | None = None) -> None:
-        found = find_library() if path is None else path
-        if found is None:
-            raise LibraryError(NOT_FOUND)
+        name = os.fsdecode(path or find_library() or LIBRARY)
         try:
-            library = ctypes.CDLL(os.fsdecode(found))
+            library = ctypes.CDLL(name)
             self.restore = library.redodb_restore
             self.answer = library.redodb_answer
             self.close = library.redodb_close
             self.text = library.redodb_status_text
             abi = library.redodb_abi
         except (OSError, AttributeError) as error:
-            raise LibraryError(f"{os.fsdecode(found)}: {error}") from error
+            raise LibraryError(NOT_FOUND if name == LIBRARY else f"{name}: {error}") from error
         handle, size, bytes_at = ctypes.c_void_p, ctypes.c_size_t, ctypes.c_char_p
         self.restore.argtypes = [ctypes.POINTER(handle), bytes_at, size, ctypes.c_void_p]
         sizes = [ctypes.POINTER(size), ctypes.POINTER(size)]
@@ -42,7 +40,7 @@ class Library:
         self.text.restype = bytes_at
         abi.restype = ctypes.c_uint
         if abi() != ABI:
-            raise LibraryError(f"{os.fsdecode(found)}: its interface is {abi()}, and not {ABI}")
+            raise LibraryError(f"{name}: its interface is {abi()}, and not {ABI}")
 
     def error(self, status: int) -> LibraryError:
         return LibraryError(f"libredodb: {self.text(status).decode()}")

@@ -3,6 +3,8 @@ import os
 from stat import S_ISDIR, S_ISLNK, S_ISSOCK
 
 HOME = b".redo"
+LIBRARY = "libredodb.so.0"
+"""The library's file, by which the system's loader finds it too."""
 SHARED = 0o1002
 """The mode of a folder like /tmp: all may make files, and nobody may remove those of others."""
 
@@ -121,26 +123,40 @@ def find_program() -> bytes | None:
     if chosen:
         return os.path.abspath(chosen)
     home = os.path.dirname(package_folder())
-    return _first_program(b"redodb-live", [home + b"/libexec", home])
+    return _first_program(b"redodb-live", [home + b"/libexec", home, *_path()])
 
 
 def find_server() -> bytes | None:
     """Return the path of redo-server, or None.
 
     It is $REDO_SERVER, else that of the installation or repository that this package is in, else of
-    PATH.
+    PATH, else that of the redo of PATH.
     """
     chosen = os.environb.get(b"REDO_SERVER")
     if chosen:
         return os.path.abspath(chosen)
     home = os.path.dirname(package_folder())
-    return _first_program(b"redo-server", [home + b"/libexec", home + b"/redo/target/release"])
+    folders = [home + b"/libexec", home + b"/redo/target/release", *_path()]
+    return _first_program(b"redo-server", folders + _folders_of_redo())
+
+
+def _folders_of_redo() -> list[bytes]:
+    """Return the folders that have what belongs to the redo of PATH: its file's own, and libexec."""
+    redo = _first_program(b"redo", _path())
+    if redo is None:
+        return []
+    own = os.path.dirname(os.path.realpath(redo))
+    return [own, os.path.dirname(own) + b"/libexec"]
+
+
+def _path() -> list[bytes]:
+    path = os.environb.get(b"PATH", os.fsencode(os.defpath)).split(b":")
+    return list(filter(os.path.isabs, path))
 
 
 def _first_program(name: bytes, folders: list[bytes]) -> bytes | None:
-    """Return the path of a program in the first of these folders, or of those of PATH, with it."""
-    path = os.environb.get(b"PATH", os.fsencode(os.defpath)).split(b":")
-    for folder in [*folders, *filter(os.path.isabs, path)]:
+    """Return the path of a program in the first of these folders that has it."""
+    for folder in folders:
         program = os.path.join(folder, name)
         if os.path.isfile(program) and os.access(program, os.X_OK):
             return program
@@ -148,16 +164,19 @@ def _first_program(name: bytes, folders: list[bytes]) -> bytes | None:
 
 
 def find_library() -> bytes | None:
-    """Return the path of libredodb.so, or None.
+    """Return the path of libredodb, or None.
 
-    It is $REDODB_LIBRARY, else that of the installation or repository that this package is in.
+    It is $REDODB_LIBRARY, else that of the installation or repository that this package is in, else
+    that of the installation with the redo of PATH.
     """
     chosen = os.environb.get(b"REDODB_LIBRARY")
     if chosen:
         return os.path.abspath(chosen)
     home = os.path.dirname(package_folder())
-    for folder in (os.path.dirname(home), home + b"/library/out"):
-        library = folder + b"/libredodb.so"
+    folders = [os.path.dirname(home), home + b"/library/out"]
+    folders += [os.path.dirname(os.path.dirname(own)) for own in _folders_of_redo()[:1]]
+    for folder in folders:
+        library = os.path.join(folder, os.fsencode(LIBRARY))
         if os.path.isfile(library):
             return library
     return None

@@ -130,3 +130,18 @@ class Programs(unittest.TestCase):
             program = self.program(place, name="redo-server")
             self.assertEqual(found(), str(program))
         self.assertEqual(found(REDO_SERVER="here"), f"{self.home}/base/python/here")
+
+    def test_belong_to_the_redo_of_path(self) -> None:
+        """As of a package beside an installation: in a virtual environment, or Debian's."""
+        redo = self.program("usr/lib/redodb/bin", name="redo")
+        self.program("usr/bin", name="redo").unlink()
+        (self.home / "usr/bin/redo").symlink_to("../lib/redodb/bin/redo")
+        path = f"/none:{self.home}/usr/bin"
+        self.assertEqual(self.found("find_server", PATH=path), "none")
+        self.assertEqual(self.found("find_library", PATH=path), "none")
+        server = self.program("usr/lib/redodb/libexec", name="redo-server")
+        self.assertEqual(self.found("find_server", PATH=path), str(server))
+        library = self.program("usr/lib", name="libredodb.so.0")
+        self.assertEqual(self.found("find_library", PATH=path), str(library))
+        redo.unlink()
+        self.assertEqual(self.found("find_server", PATH=path), "none")
