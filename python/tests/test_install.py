@@ -127,7 +127,7 @@ class InstallCopy(InstallTest):
         self.installed()
         shutil.rmtree(self.prefix / "lib/redodb/python")
         for word in ("record", "picture"):
-            words = [self.prefix / "bin/redodb", word, "--help"]
+            words = [str(self.prefix / "bin/redodb"), word, "--help"]
             run = subprocess.run(words, capture_output=True, text=True, check=False)
             line = f"redodb: {word}: the package python3-redodb has this word\n"
             self.assertEqual((run.returncode, run.stdout, run.stderr), (2, "", line))
