@@ -214,13 +214,13 @@ def case_hello(tree: Tree) -> None:
 
 
 def case_readme(tree: Tree) -> None:
-    """The first screen of README.md shows what its commands print, once redo is built."""
-    copy_hello(tree)
-    section = (TOP / "README.md").read_text().partition("**With redo.**")[2].partition("|")[0]
+    """The commands of README.md that build a tree print what it says, in an empty folder."""
+    needs("cc")
+    section = (TOP / "README.md").read_text().partition("\n## Build\n")[2].partition("\n## ")[0]
     blocks = [dedent(block) for block in re.findall("(?:    .*\n)+", section)]
     tree.check.same("commands and what they print", len(blocks), 6)
     for commands, printed in zip(blocks[::2], blocks[1::2]):
-        said = ("redo/build", "cd ", "export ")
-        here = [line for line in commands.splitlines() if not line.startswith(said)]
-        run = tree.run("sh", "-ec", "\n".join(here))
-        tree.check.same(str(here), (run.status, run.out + run.err), (0, printed))
+        run = tree.run("sh", "-ec", commands)
+        last = commands.splitlines()[-1]
+        tree.check.same(last, (run.status, run.out + run.err), (0, printed))
+    tree.check.same("hello", tree.run("./hello").out, "good morning\n")
