@@ -55,7 +55,7 @@ impl Monitor {
         is_file && !is_made && matches!(left, Some(LeftBy::Known(left)) if *left != file)
     }
 
-    fn begin(&mut self, target: Name) {
+    pub fn begin(&mut self, target: Name) {
         self.first.remove(&target);
         self.answered.remove(&target);
         self.asked.remove(&target);

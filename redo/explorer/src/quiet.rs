@@ -65,7 +65,7 @@ impl World {
                 return Some(format!("(c) {name:?} is locked by {:?}, not {run:?}", cell.holder));
             }
             let scripts = self.scripts.values().filter(|script| script.target == name).count();
-            let is_building = matches!(cell.state, State::Building(_));
+            let is_building = matches!(cell.state, State::Building(run) if run != STRANGER);
             let fits = is_building == (scripts == 1) && scripts <= 1;
             (!fits).then(|| format!("(c) {name:?} is {:?}, with {scripts} scripts", cell.state))
         })

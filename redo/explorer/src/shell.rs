@@ -211,7 +211,9 @@ impl World {
         match what {
             Say::Ring(_) => self.counts.rings += 1,
             Say::NoRule(name) | Say::FailedBefore(name) | Say::Gone(name) => {
-                if let Some(asked) = self.asked.get_mut(&request) {
+                // of a `.do` file it is said to those who ask for its target
+                let asked = self.asked.get_mut(&request);
+                if let Some(asked) = asked.filter(|asked| asked.names.contains(name)) {
                     asked.refused.insert(*name);
                 }
             }

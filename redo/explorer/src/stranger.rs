@@ -1,5 +1,6 @@
 //! A stranger: somebody who uses the database, and is no run. It takes locks and releases them, and
-//! reports files.
+//! reports files. It begins builds, and breaks all of them off.
+use crate::check::LeftBy;
 use crate::world::World;
 use redo_core::{Command, Database, Event, Name, Reply, RunId, State, Subject};
 
@@ -17,6 +18,22 @@ impl World {
         let name = self.random.pick(&self.locked_by(None));
         self.note(|| format!("      a stranger locks {name:?}"));
         self.obey_stranger(&Command::Lock(name));
+        let is_target = (name.0 as usize) < self.setup.targets;
+        if is_target && !self.users.is_empty() && self.random.chance(30) {
+            self.begin_as_stranger(name);
+        }
+    }
+
+    /// The stranger begins a build. What an earlier one has left counts no more, as the server says.
+    fn begin_as_stranger(&mut self, name: Name) {
+        self.note(|| format!("      a stranger builds {name:?}"));
+        self.obey_stranger(&Command::Start(name));
+        self.monitor.begin(name);
+        self.mentioned.insert(name);
+        if self.machine.database().file(Subject::Left(name)).is_some() {
+            self.obey_stranger(&Command::Gone(Subject::Left(name)));
+        }
+        self.tell_touched(name);
     }
 
     /// The stranger releases a lock. It may have it again before the machine is told.
@@ -24,11 +41,25 @@ impl World {
         let name = self.random.pick(&self.locked_by(Some(STRANGER)));
         let is_back = !self.frozen && self.random.chance(25);
         self.note(|| format!("      a stranger unlocks {name:?}, and takes it again: {is_back}"));
+        if matches!(self.state(name), State::Building(_)) {
+            self.obey_stranger(&Command::Failed(name));
+            self.monitor.left.insert(name, LeftBy::Unknown);
+            self.tell_touched(name);
+        }
         self.obey_stranger(&Command::Unlock(name));
         if is_back {
             self.obey_stranger(&Command::Lock(name));
         }
         self.event(Event::Unlocked { name });
+    }
+
+    /// Tells the machine, if a run is there that may rest on it.
+    fn tell_touched(&mut self, name: Name) {
+        self.note_touched(name);
+        let run = self.users.keys().next().copied();
+        if let Some(run) = run {
+            self.event(Event::Touched { run, name });
+        }
     }
 
     /// The stranger reports a file as it is. It may have been another for a while, and reported.
