@@ -124,8 +124,12 @@ impl<D: Database> Machine<D> {
 
     /// Built in this run, and its file is what that build left.
     pub(crate) fn is_built(&self, run: RunId, name: Name) -> bool {
+        self.was_built(run, name) && self.database.is_as_built(name)
+    }
+
+    /// Built in this run, or kept as it was without a rule, whatever its file is by now.
+    pub(crate) fn was_built(&self, run: RunId, name: Name) -> bool {
         self.runs[&run].outcomes.get(&name) == Some(&Outcome::Built)
-            && self.database.is_as_built(name)
     }
 
     /// Has names begun, one after the other, as slots come. The script's own slot is the first.

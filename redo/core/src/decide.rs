@@ -24,7 +24,8 @@ enum Verdict {
 
 impl<D: Database> Machine<D> {
     fn judge(&self, id: TaskId) -> Verdict {
-        let Task { target, forced, overwrites, .. } = *self.task(id);
+        let Task { run, target, forced, overwrites, .. } = *self.task(id);
+        let overwrites = overwrites && !self.was_built(run, target);
         let file = self.database.file(Subject::File(target));
         let is_file = file.map_or(false, |stamp| stamp != FOLDER);
         match self.database.state(target) {
@@ -49,7 +50,7 @@ impl<D: Database> Machine<D> {
             self.end(id, Ending::Unmade);
             return;
         }
-        let is_gone = self.runs[&run].outcomes.get(&target) == Some(&Outcome::Built);
+        let is_gone = self.was_built(run, target);
         match verdict {
             Verdict::Source => self.source(id),
             Verdict::Nothing => self.end(id, Ending::Right),

@@ -82,6 +82,17 @@ fn overwriting_builds_it_and_so_does_removing_its_file() {
 }
 
 #[test]
+fn an_edit_after_the_build_of_the_run_is_left_also_if_it_may_be_overwritten() {
+    let mut tree = Tree::new(&[], &[T]);
+    tree.build(ONE, T, &[]);
+    tree.write(T);
+    tree.tell(T);
+    let (user, actions) = tree.user(ONE, Want::Overwritten, &[T]);
+    assert!(says(&actions, user, Say::ByHand(T)), "{actions:?}");
+    assert!(answers(&actions, user, true) && targets_run(&actions).is_empty());
+}
+
+#[test]
 fn what_a_failed_build_left_is_no_edit_and_what_comes_after_is() {
     let mut tree = Tree::new(&[SOURCE], &[A]);
     let (_, actions) = tree.user(ONE, Want::UpToDate, &[A]);
