@@ -226,6 +226,20 @@ fn a_database_that_ends_stops_all() {
 }
 
 #[test]
+fn a_server_whose_database_ended_takes_nobody_more() {
+    let tree = tree();
+    tree.write("t.do", "wait go");
+    let (mut deaf, mut link) = (tree.link(), tree.link());
+    let option = format!("--{}", "x".repeat(1 << 21));
+    deaf.call(tree.call(Program::Redo, &[&option], None));
+    link.call(tree.call(Program::Redo, &["t"], None));
+    assert!(matches!(link.message(), Some(ToProgram::Run(_))));
+    tree.kill_database();
+    assert!(matches!(link.message(), Some(ToProgram::Error(_))));
+    assert!(!tree.at(".redo/server/socket").exists());
+}
+
+#[test]
 fn a_program_that_goes_lets_the_script_go_on() {
     let tree = tree();
     tree.write("slow.do", "wait go\necho slow");

@@ -14,6 +14,7 @@ use crate::recovering;
 use crate::server::{Server, State};
 use crate::sessions::Session;
 use crate::steps::{After, Taker};
+use crate::system::Interest;
 use crate::timers::Alarm;
 use crate::wire::partition;
 
@@ -198,7 +199,12 @@ impl Server {
     /// if there is none any more, the next one takes the next server.
     fn fail(&mut self, failure: &Failure) {
         let message = self.with_way_out(failure);
-        self.is_told = self.state == State::Ready || !self.clients.is_empty();
+        let was_ready = self.state == State::Ready;
+        if was_ready {
+            self.listen(Interest::NOTHING);
+            self.taken.close(); // who comes now takes the next server
+        }
+        self.is_told = was_ready || !self.clients.is_empty();
         self.state = State::Failed;
         self.failure = Some(message.clone());
         self.fail_clients(&message);
