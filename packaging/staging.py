@@ -98,7 +98,6 @@ def check_paths(stage: Path, others: Iterable[Path]) -> None:
 def build_python(sources: Path, to: Path, environment: dict[str, str]) -> None:
     """Builds the wheel and the sdist of the sources there."""
     folder = sources / "python"
-    (folder / "LICENSE").unlink()
     shutil.copyfile(sources / "LICENSE", folder / "LICENSE")
     output([PYTHON_OF_DEBIAN, "-c", BUILDS.format(to=to)], folder, environment)
 

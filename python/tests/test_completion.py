@@ -13,7 +13,7 @@ WORDS = {"run", "replay", "serve", "record", "picture"}
 KINDS = {"record": {"ninja", "make", "depfiles"}, "picture": {"run", "graph"}}
 HELPED = [(["redodb", word], [str(TOP / "redodb"), word]) for word in ("record", "picture")]
 HELPED += [(["redodb-live"], [str(TOP / "redodb-live")])]
-if (TOP / "bin/redo").exists():
+if (TOP / "redo/target/release/redo").exists():
     HELPED += [(["redodb", "serve"], [str(TOP / "redodb"), "serve"])]
     HELPED += [([program.name], [str(program)]) for program in sorted((TOP / "bin").iterdir())]
 BASH = """

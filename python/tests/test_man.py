@@ -32,6 +32,7 @@ PROGRAMS = [
     "redo-whichdo",
     "redo-log",
 ]
+IS_BUILT = (TOP / "redo/target/release/redo").exists()
 HELPED = [
     ("redodb-live", [str(TOP / "redodb-live")]),
     ("redodb-record", [str(TOP / "redodb"), "record"]),
@@ -116,7 +117,7 @@ class Man(unittest.TestCase):
     def test_options_of_help_stand_in_the_page(self) -> None:
         tried = 0
         for name, words in HELPED:
-            if not Path(words[0]).exists():
+            if name in ("redo", "redo-why") and not IS_BUILT:
                 continue
             run = subprocess.run([*words, "--help"], capture_output=True, text=True, check=False)
             self.assertEqual((run.returncode, run.stderr), (0, ""))

@@ -31,7 +31,7 @@ FILES = {
 
 
 @unittest.skipUnless(
-    (TOP / "bin/redo").exists() and has_tools("ninja", "gcc"),
+    (TOP / "redo/target/release/redo").exists() and has_tools("ninja", "gcc"),
     "wants redo, ninja, gcc and redodb-live",
 )
 class RecordForRedo(TreeTest):

@@ -8,7 +8,7 @@ from nothing by gcc alone.
 
 Usage: tests/redo/program.py [--jobs N]
            --jobs builds at -j N alone
-The programs are those of the folder $REDO_PROGRAMS, or of bin. The database is $REDODB_LIVE, or
+The programs are those of $REDO_PROGRAMS, or of redo/target/release. The database is $REDODB_LIVE, or
 ./redodb-live if it is proved. The last line is 'N passed, M failed, K skipped'."""
 import argparse
 import os
@@ -26,7 +26,7 @@ from pathlib import Path
 from program_sources import FLAGS, Program, appearing, object_of, program
 
 TOP = Path(__file__).resolve().parent.parent.parent
-PROGRAM_FOLDER = Path(os.environ.get("REDO_PROGRAMS") or TOP / "bin").resolve()
+PROGRAM_FOLDER = Path(os.environ.get("REDO_PROGRAMS") or TOP / "redo/target/release").resolve()
 JOBS = (1, 8)
 SECONDS = 600
 

@@ -14,7 +14,7 @@ from pathlib import Path
 from typing import Any, Callable, Iterator, Mapping
 
 TOP = Path(__file__).resolve().parent.parent.parent
-PROGRAM_FOLDER = Path(os.environ.get("REDO_PROGRAMS") or TOP / "bin").resolve()
+PROGRAM_FOLDER = Path(os.environ.get("REDO_PROGRAMS") or TOP / "redo/target/release").resolve()
 SECONDS = 180.0
 SERVER = "REDO_SERVER"
 SERVER_IDLE = "3"
