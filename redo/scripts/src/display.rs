@@ -199,10 +199,8 @@ impl Display {
     /// Returns what to wait for until [`Display::on_readable`] has something to show. What goes to
     /// logs shows itself by no descriptor: [`Display::pump`] looks.
     pub fn descriptors(&self) -> impl Iterator<Item = RawFd> + '_ {
-        let terminals = self
-            .builds
-            .iter()
-            .filter_map(|build| build.terminal.as_ref());
+        let builds = self.running.iter().map(|id| &self.builds[id.0]);
+        let terminals = builds.filter_map(|build| build.terminal.as_ref());
         terminals.filter_map(ScriptTerminal::descriptor)
     }
 
