@@ -1,4 +1,4 @@
-"""A generated tree of trivial targets, for redo, ninja and make alike.
+"""A generated tree of trivial targets, for redo, ninja, make and tup alike.
 
 Each target is two files, one of them common to all, put together. A list of each folder depends on
 the folder's targets, and `top` on all lists."""
@@ -39,6 +39,7 @@ class Forest:
         texts |= {"lists": "".join(f"{folder}/all.list\n" for folder in self.folders)}
         texts |= {"default.out.do": TARGET_DO, "default.list.do": LIST_DO, "top.do": TOP_DO}
         texts |= {"build.ninja": NINJA + self._edges(), "Makefile": self._rules()}
+        texts |= {"Tupfile": self._tupfile()}
         for name, text in texts.items():
             path = self.folder / name
             path.parent.mkdir(parents=True, exist_ok=True)
@@ -51,15 +52,27 @@ class Forest:
             for folder in self.folders
         ]
         lines += [
-            f"build top: list {' '.join(f'{folder}/all.list' for folder in self.folders)}",
+            f"build top: list {self._lists()}",
             "default top",
         ]
         return "".join(f"{line}\n" for line in lines)
 
+    def _lists(self) -> str:
+        return " ".join(f"{folder}/all.list" for folder in self.folders)
+
+    def _tupfile(self) -> str:
+        lines = [f": {self.source(name)} common |> cat %f >%o |> {name}" for name in self.targets]
+        lines += [
+            f": {' '.join(self.members(folder))} |> echo %o >%o |> {folder}/all.list"
+            for folder in self.folders
+        ]
+        lines.append(f": {self._lists()} |> echo %o >%o |> top")
+        return "".join(f"{line}\n" for line in lines)
+
     def _rules(self) -> str:
-        lists = [f"{folder}/all.list" for folder in self.folders]
-        rules = {"top": lists, **{f"{each}/all.list": self.members(each) for each in self.folders}}
-        lines = [f"{name}: {' '.join(inputs)}\n\techo $@ >$@" for name, inputs in rules.items()]
+        lists = {f"{each}/all.list": " ".join(self.members(each)) for each in self.folders}
+        rules = {"top": self._lists(), **lists}
+        lines = [f"{name}: {inputs}\n\techo $@ >$@" for name, inputs in rules.items()]
         for target in self.targets:
             lines.append(f"{target}: {self.source(target)} common\n\tcat $^ >$@")
         return "".join(f"{line}\n" for line in lines)
@@ -68,7 +81,15 @@ class Forest:
     def source(target: str) -> str:
         return f"{target.removesuffix('.out')}.in"
 
-    def remove_built(self) -> None:
-        """Removes all targets."""
-        for name in ["top", *(f"{folder}/all.list" for folder in self.folders), *self.targets]:
-            (self.folder / name).unlink(missing_ok=True)
+    def edit_common(self, text: str) -> None:
+        """Adds a line to the file that all targets depend on."""
+        with (self.folder / "common").open("a") as common:
+            common.write(f"{text}\n")
+
+    def check_built(self) -> None:
+        """Ends this program if a target isn't what its sources make it."""
+        common = (self.folder / "common").read_text()
+        for target in self.targets:
+            wanted = (self.folder / self.source(target)).read_text() + common
+            if (self.folder / target).read_text() != wanted:
+                raise SystemExit(f"{self.folder / target} was built wrong")
