@@ -4,7 +4,7 @@ use std::collections::HashMap;
 
 use crate::clock::Clock;
 use crate::error::FileError;
-use crate::key::Key;
+use crate::key::{FileKey, Key};
 use crate::look::{Look, Reader};
 use crate::names;
 use crate::private::Home;
@@ -100,6 +100,19 @@ impl Contents {
             }
         }
         self.look_anew(path)
+    }
+
+    /// Returns the key under which a plain file is stored with a stamp, if it wasn't looked at since.
+    /// From now on it counts as looked at: who asks compares the key with what `lstat` says.
+    pub fn stored_key(&mut self, path: &[u8], stamp: Stamp) -> Option<FileKey> {
+        let entry = self.files.get_mut(path).filter(|entry| !entry.is_seen)?;
+        match &entry.kept.key {
+            Key::Plain(key) if entry.kept.stamp == stamp => {
+                entry.is_seen = true;
+                Some(*key)
+            }
+            _ => None,
+        }
     }
 
     /// Forgets what was stored of files that were not looked at since: nothing is known of them.

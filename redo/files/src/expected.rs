@@ -61,6 +61,7 @@ impl Expected {
     pub fn suspects(&mut self, contents: &mut Contents) -> Vec<Vec<u8>> {
         let (mut known, mut suspects) = (Vec::new(), Vec::new());
         for (path, expectation) in &mut self.paths {
+            expectation.take_stored(path, contents);
             if expectation.is_known() {
                 known.push((path, &*expectation));
             } else if !expectation.is_met_now(path, contents) {
@@ -85,6 +86,15 @@ impl Expectation {
     /// Says whether `lstat` tells whether what is expected is there.
     fn is_known(&self) -> bool {
         matches!(self, Expectation::Nothing | Expectation::Plain(_))
+    }
+
+    /// Expects the key under which the file is stored with the stamp that is expected.
+    fn take_stored(&mut self, path: &[u8], contents: &mut Contents) {
+        if let Expectation::Stamp(stamp) = self {
+            if let Some(key) = contents.stored_key(path, *stamp) {
+                *self = Expectation::Plain(key);
+            }
+        }
     }
 
     /// Says whether what is at a path is what was found there before.
@@ -122,7 +132,9 @@ fn path_of(name: &[u8]) -> Option<Vec<u8>> {
 mod tests {
     use super::*;
     use crate::clock::Clock;
+    use crate::private::Home;
     use crate::scratch::Scratch;
+    use crate::trust::Trust;
     use std::time::Duration;
 
     /// The digest of `file 0`, NUL and `1`, which `b2sum -l 224` of coreutils prints.
@@ -173,6 +185,24 @@ mod tests {
         assert!(world.suspects().is_empty());
         assert!(world.suspects().is_empty());
         assert_eq!(world.contents.reads(), 2);
+    }
+
+    #[test]
+    fn what_is_stored_is_not_read_again_and_suspect_if_it_has_another_key() {
+        let mut world = World::new();
+        assert!(world.suspects().is_empty());
+        let home = Home::new(&world.scratch.top(), &Trust::of_process());
+        home.make().unwrap();
+        world.contents.store(&home, b"stamps", |_| true).unwrap();
+        let folder = Folder::open(&world.scratch.top()).unwrap();
+        world.contents = Contents::new(folder, Clock::new(b"probe"), b"boot");
+        world.contents.load(&home, b"stamps");
+        world.expected = Expected::new();
+        world.expected.put(b"one", Some(STAMP_OF_ONE));
+        world.expected.put(b"a%20b", Some(STAMP_OF_ONE));
+        world.scratch.file("a b", b"2");
+        assert_eq!(world.suspects(), ["a%20b"]);
+        assert_eq!(world.contents.reads(), 0);
     }
 
     #[test]
