@@ -1,6 +1,7 @@
 """The works by which redo is measured beside ninja, make and tup."""
 import shutil
 import subprocess
+import time
 from collections.abc import Callable, Iterator
 from dataclasses import dataclass
 from pathlib import Path
@@ -13,6 +14,7 @@ BENCH = Path(__file__).resolve().parent
 JOBS = "4"
 CALLED = "called"
 TRUE = "/bin/true"
+TIME_OF_TUP = 1.1
 TOOLS = {
     "ninja": ("ninja", "-j", JOBS, "top"),
     "make": ("make", "-s", "-j", JOBS, "top"),
@@ -200,6 +202,7 @@ def header(bench: Bench, folder: Path, targets: int) -> None:
             task()
 
         def edited(tool: str) -> Taken:
+            time.sleep(TIME_OF_TUP)  # else tup doesn't see the edit
             trees.tree(tool).edit_common("edited")
             took = tasks[tool]()
             trees.tree(tool).check_built()

@@ -296,7 +296,9 @@ pub fn wait_readable(files: &[RawFd], most: Option<Duration>) -> io::Result<Vec<
         revents,
     });
     let mut polled: Vec<libc::pollfd> = polled.collect();
-    let whole = |most: Duration| c_int::try_from(most.as_millis() + 1).unwrap_or(c_int::MAX);
+    // rounded up, so that no time is left; no time at all is no wait
+    let whole =
+        |most: Duration| c_int::try_from((most.as_micros() + 999) / 1000).unwrap_or(c_int::MAX);
     let (count, most) = (polled.len() as libc::nfds_t, most.map_or(-1, whole));
     // SAFETY: there are so many of them, and poll writes to their `revents`.
     let returned = unsafe { libc::poll(polled.as_mut_ptr(), count, most) };
