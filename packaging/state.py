@@ -7,7 +7,6 @@ from machine import TOP, ReleaseError, output
 
 CHECKED = TOP / "out/check"
 """What ./check writes when it has passed: the commit, the time, the kit's line, its last lines."""
-NOT_CHECKED = "none: this is a draft, made without it"
 
 
 @dataclass(frozen=True)
@@ -22,14 +21,11 @@ class State:
     gate: str
 
 
-def state(is_draft: bool) -> State:
+def state() -> State:
     """What is known of the tree. Raises ReleaseError if no release can be made of it."""
+    check_clean()
     commit = output(["git", "rev-parse", "HEAD"]).strip()
-    if is_draft:
-        gate = NOT_CHECKED
-    else:
-        check_clean()
-        gate = checked(commit)
+    gate = checked(commit)
     return State(
         version=(TOP / "VERSION").read_text().strip(),
         commit=commit,

@@ -11,7 +11,8 @@ MIRROR = "http://deb.debian.org/debian"
 # a command that hasn't ended after this many seconds doesn't end
 SECONDS = 900
 BEGIN = """\
-mount -t proc proc "$1/proc" && mount -t tmpfs tmpfs "$1/tmp" && cp -r "$2/." "$1/tmp/" || exit 99
+mount --bind "$4" "$1/var/cache/apt/archives" && mount -t proc proc "$1/proc" || exit 99
+mount -t tmpfs tmpfs "$1/tmp" && cp -r "$2/." "$1/tmp/" || exit 99
 exec chroot "$1" /usr/bin/env -i HOME=/root LC_ALL=C.UTF-8 DEBIAN_FRONTEND=noninteractive \\
     PATH=/usr/sbin:/usr/bin:/sbin:/bin sh -euc "$3"
 """
@@ -44,11 +45,13 @@ class Bare:
     folder: Path
     files: Path
     """What lies in /tmp of each command."""
+    debs: Path
+    """Where the packages are kept that were downloaded."""
 
-    def made(self, suite: str, debs: Path) -> str:
-        """Makes it, with the packages kept in debs; the line that says why it can't be made."""
-        debs.mkdir(parents=True, exist_ok=True)
-        words = ["debootstrap", "--variant=minbase", f"--cache-dir={debs.absolute()}", suite]
+    def made(self, suite: str) -> str:
+        """Makes it; the line that says why it can't be made."""
+        (self.debs / "partial").mkdir(parents=True, exist_ok=True)
+        words = ["debootstrap", "--variant=minbase", f"--cache-dir={self.debs.absolute()}", suite]
         words += [str(self.folder), mirror()]
         run = subprocess.run(words, capture_output=True, text=True, check=False, timeout=SECONDS)
         if run.returncode:
@@ -62,6 +65,7 @@ class Bare:
         """The status of a command of sh, as root, and what it prints."""
         words = ["unshare", "--mount", "--pid", "--fork", *["--net"] * (not network)]
         words += ["sh", "-c", BEGIN, "sh", str(self.folder), str(self.files), command]
+        words.append(str(self.debs))
         run = subprocess.run(
             words,
             stdin=subprocess.DEVNULL,
