@@ -229,6 +229,15 @@ class InstallCopy(InstallTest):
         found = self.said(*program, cwd=self.prefix)
         self.assertEqual(Path(found.strip()), library)
 
+    def test_programs_of_a_clone(self) -> None:
+        """The scripts in bin run what redo/build built, also through a symbolic link."""
+        os.symlink(self.copy / "bin/redo-log", self.top / "redo-log")
+        line = "redo-log: not built yet: redo/build builds it\n"
+        run = subprocess.run(["./redo-log"], cwd=self.top, capture_output=True, check=False)
+        self.assertEqual((run.returncode, run.stdout, run.stderr), (2, b"", line.encode()))
+        self.write("copy/redo/target/release/redo-log", STAND_IN).chmod(0o755)
+        self.assertEqual(self.said("./redo-log", "a b", cwd=self.top), "program a b\n")
+
     def assert_refused(self, line: str) -> None:
         self.assertEqual(self.install(self.copy, self.prefix), (2, "", f"install: {line}\n"))
         self.assertFalse(self.prefix.exists())
