@@ -52,6 +52,8 @@ def link_statically(stage: Path, work: Path) -> None:
     kit = kit_folder()
     linker = [str(kit / "bin/rattle-link"), "--target", "x86_64-unknown-linux-gnu"]
     for name, crate in PROGRAMS.items():
+        if not Path(f"{built(crate)}.o").exists():
+            raise ReleaseError(f"{name}: its object isn't there: ./prove --passed builds it")
         again = work / crate
         output([*linker, "--toolchain", str(kit / "toolchain"), *link_words(crate, again)])
         if again.read_bytes() != built(crate).read_bytes():
