@@ -52,7 +52,7 @@ _redodb_targets() {
 
 _redodb_kinds() {
     case $1 in
-        record) echo ninja make depfiles ;;
+        record) echo ninja make depfiles compdb ;;
         picture) echo run graph ;;
     esac
 }
@@ -69,7 +69,7 @@ _redodb() {
     elif [ "${word#-}" != "$word" ]; then
         case $first in
             serve) mapfile -t COMPREPLY < <(compgen -W '--top --idle --help' -- "$word") ;;
-            record) mapfile -t COMPREPLY < <(compgen -W '--log' -- "$word") ;;
+            record) mapfile -t COMPREPLY < <(compgen -W '--rules --log' -- "$word") ;;
             picture) mapfile -t COMPREPLY < <(compgen -W '--lines --targets' -- "$word") ;;
         esac
     else

@@ -32,7 +32,8 @@ _redodb_program() {
     case $words[2] in
         serve) _arguments '2:word:' '--top[top of the tree]:folder:_files -/' '--idle[seconds after the last client]:seconds:' '--help[print a summary]' ;;
         record)
-            _arguments '2:word:' '3:kind:(ninja make depfiles)' '4:folder:_files -/' '--log[write a log]:log:_files' '*:goal:' ;;
+            _arguments '2:word:' '3:kind:(ninja make depfiles compdb)' '4:folder:_files -/' '--log[write a log]:log:_files' \
+                '--rules[write .do files]' '*:goal:' ;;
         picture)
             _arguments '2:word:' '3:kind:(run graph)' '4:history:_files' '--lines[lines to show]:first-last:' \
                 '--targets[targets to show]:number:' '*:target:_redo_targets' ;;

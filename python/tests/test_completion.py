@@ -10,7 +10,7 @@ from trees import TOP
 
 FOLDER = TOP / "completion"
 WORDS = {"run", "replay", "serve", "record", "picture"}
-KINDS = {"record": {"ninja", "make", "depfiles"}, "picture": {"run", "graph"}}
+KINDS = {"record": {"ninja", "make", "depfiles", "compdb"}, "picture": {"run", "graph"}}
 HELPED = [(["redodb", word], [str(TOP / "redodb"), word]) for word in ("record", "picture")]
 HELPED += [(["redodb-live"], [str(TOP / "redodb-live")])]
 if (TOP / "redo/target/release/redo").exists():

@@ -143,6 +143,15 @@ class RecordNinja(AgreeTest):
         with self.touched("version.txt"):
             self.assertIn("main.o", self.assert_agrees(lines))
 
+    def test_name_that_has_order_only_inputs_alone(self) -> None:
+        names = "build names: phony || version.h\nbuild named.txt: link_text pair.txt | names\n"
+        rule = "rule link_text\n  command = cp $in $out\n  description = $out\n"
+        self.write(
+            "build.ninja", MANIFEST.replace("default all", rule + names + "default named.txt")
+        )
+        self.built()
+        self.assertEqual(self.out_of_date(self.recorded("ninja")) & {"named.txt", "names"}, set())
+
     def test_one_of_two_outputs_is_old(self) -> None:
         self.built()
         self.age("left.txt", 200)

@@ -49,7 +49,8 @@ class Story:
         self.graph = graph
         self.top = os.path.realpath(top)
         self.order = inputs_first(graph)
-        names = [name for target in graph.values() for name in target.inputs]
+        self.aside = {name for target in graph.values() for name in target.aside}
+        names = [name for target in graph.values() for name in target.inputs + target.aside]
         self.sources = [name for name in dict.fromkeys(names) if name not in graph]
         self.written = {name: self._written(name) for name in [*self.sources, *graph]}
         self.times: dict[bytes, float] = {}
@@ -85,6 +86,8 @@ class Story:
         What is no file changed when its newest input did, and a source that is lost at the end.
         """
         written = self.written[name]
+        if name in self.aside:
+            return 0
         if written is not None:
             return written
         if name not in self.graph:
@@ -130,13 +133,15 @@ class Story:
         target = self.graph[name]
         yield b"lock %b" % name
         yield b"start %b" % name
-        yield from in_lines(b"ifchange %b" % name, target.inputs)
+        yield from in_lines(b"ifchange %b" % name, target.inputs + target.aside)
         yield from self._end(name, target)
         yield b"unlock %b" % name
 
     def _end(self, name: bytes, target: Target) -> Iterator[bytes]:
         if target.checked is not None:
             yield b"stamp %b -" % name
+        elif target.digest is not None:
+            yield b"stamp %b %b" % (name, target.digest)
         if target.standing is Standing.ALWAYS:
             yield b"always %b" % name
         if target.standing is not Standing.UNBUILT:

@@ -32,6 +32,10 @@ class Target:
     """When the tool last found it right without writing it, in nanoseconds, if that is known."""
     together: tuple[bytes, ...] = ()
     """All outputs of the same build, if there are several: they are out of date together."""
+    digest: bytes | None = None
+    """What the tool is to know of its content, whatever is in its file."""
+    aside: list[bytes] = field(default_factory=list)
+    """Inputs whose times tell nothing: the build is taken for one from what they are now."""
 
 
 Graph = dict[bytes, Target]

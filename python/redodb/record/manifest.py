@@ -3,9 +3,10 @@
 import os
 import posixpath
 import re
-from dataclasses import dataclass, field
+from dataclasses import dataclass, field, replace
 
 from .graph import RecordError
+from .shell import quoted
 
 _CONTINUED = re.compile(rb"\$\$|\$\r?\n[ ]*")
 _VARIABLE = re.compile(rb"\$(?:\{([A-Za-z0-9_.-]+)\}|([A-Za-z0-9_-]+)|([$ :]))")
@@ -49,6 +50,9 @@ class Edge(Scope):
     """Explicit and implicit ones; order-only ones make nothing out of date."""
     explicit_outputs: list[bytes] = field(default_factory=list)
     explicit_inputs: list[bytes] = field(default_factory=list)
+    order_only: list[bytes] = field(default_factory=list)
+    is_for_a_shell: bool = False
+    """Whether the paths in variables are quoted, as ninja does in commands."""
 
     @property
     def is_phony(self) -> bool:
@@ -56,20 +60,32 @@ class Edge(Scope):
 
     def value(self, name: bytes) -> bytes:
         """Return a variable as the edge's rule sees it."""
-        if name in (b"out", b"in"):
-            return b" ".join(self.explicit_outputs if name == b"out" else self.explicit_inputs)
+        if name in (b"out", b"in", b"in_newline"):
+            paths = self.explicit_outputs if name == b"out" else self.explicit_inputs
+            words = [quoted(path) for path in paths] if self.is_for_a_shell else paths
+            return (b"\n" if name == b"in_newline" else b" ").join(words)
         if name not in self.variables:
             rule = self.rule(self.rule_name)
             if name in rule:
                 return self.put_in(rule[name])
         return super().value(name)
 
+    def text(self, name: bytes) -> bytes:
+        """Return a variable as a shell is to read it. Raises RecordError if it has no end."""
+        try:
+            return replace(self, is_for_a_shell=True).value(name)
+        except RecursionError:
+            raise RecordError(
+                f"{os.fsdecode(self.rule_name)}: its {name.decode()} is made of itself"
+            ) from None
+
 
 @dataclass
 class Manifest:
-    """The edges of build.ninja, and the folder of ninja's logs relative to its own."""
+    """The edges of build.ninja, what it builds by default, and the folder of ninja's logs."""
 
     edges: list[Edge] = field(default_factory=list)
+    defaults: list[bytes] = field(default_factory=list)
     builddir: bytes = b""
 
 
@@ -119,7 +135,10 @@ def _read_file(top: bytes, name: bytes, scope: Scope, manifest: Manifest) -> Non
         elif word in (b"include", b"subninja"):
             inner = scope if word == b"include" else Scope(scope)
             _read_file(top, scope.put_in(rest.strip()), inner, manifest)
-        elif word not in (b"default", b"pool"):
+        elif word == b"default":
+            words = _PATH.findall(rest.strip())
+            manifest.defaults += _parts(words, scope)[b":"]
+        elif word != b"pool":
             variable, value = _binding(name, statement)
             scope.variables[variable] = scope.put_in(value)
 
@@ -162,10 +181,11 @@ def _edge(name: bytes, rest: bytes, bindings: list[tuple[bytes, bytes]], scope: 
     edge.outputs = outputs[b":"] + outputs[b"|"]
     edge.inputs = inputs[b":"] + inputs[b"|"]
     edge.explicit_outputs, edge.explicit_inputs = outputs[b":"], inputs[b":"]
+    edge.order_only = inputs[b"||"]
     return edge
 
 
-def _parts(words: list[bytes], edge: Edge) -> dict[bytes, list[bytes]]:
+def _parts(words: list[bytes], scope: Scope) -> dict[bytes, list[bytes]]:
     """Return the paths after each separator; the explicit ones are at the colon."""
     parts: dict[bytes, list[bytes]] = {separator: [] for separator in _SEPARATORS}
     part = b":"
@@ -173,5 +193,5 @@ def _parts(words: list[bytes], edge: Edge) -> dict[bytes, list[bytes]]:
         if word in _SEPARATORS:
             part = word
         else:
-            parts[part].append(posixpath.normpath(Scope.put_in(edge, word)))
+            parts[part].append(posixpath.normpath(scope.put_in(word)))
     return parts

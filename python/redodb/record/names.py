@@ -1,6 +1,7 @@
 """The tool's paths as names of the database: one file, one name."""
 
 import os
+from dataclasses import replace
 
 from ..errors import BadName
 from ..names import name_of
@@ -34,7 +35,8 @@ class Names:
             inputs = dict.fromkeys(self.name(each) for each in target.inputs)
             inputs.pop(name, None)
             together = tuple(self.name(each) for each in target.together)
-            new = Target(list(inputs), target.standing, target.checked, together)
+            aside = [self.name(each) for each in target.aside]
+            new = replace(target, inputs=list(inputs), together=together, aside=aside)
             named[name] = _joined(named[name], new) if name in named else new
         return named
 
@@ -43,4 +45,8 @@ def _joined(one: Target, other: Target) -> Target:
     """Return what two rules say of the same target."""
     standing = other.standing if one.standing is Standing.BUILT else one.standing
     inputs = list(dict.fromkeys(one.inputs + other.inputs))
-    return Target(inputs, standing, one.checked or other.checked, one.together + other.together)
+    together, aside = one.together + other.together, one.aside + other.aside
+    checked = one.checked or other.checked
+    return replace(
+        one, inputs=inputs, standing=standing, checked=checked, together=together, aside=aside
+    )

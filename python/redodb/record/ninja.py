@@ -10,13 +10,16 @@ from .ninja_logs import Read, read_build_log, read_deps_log
 
 
 class NinjaTree:
-    """A folder with a build.ninja, and ninja's logs of it."""
+    """A folder with a build.ninja, and ninja's logs of it.
+
+    Raises RecordError if there is no build.ninja that can be read, or a log of another version.
+    """
 
     def __init__(self, top: bytes) -> None:
         self.top = top
-        manifest = read_manifest(top)
-        logs = os.path.join(top, manifest.builddir)
-        self.edges = manifest.edges
+        self.manifest = read_manifest(top)
+        logs = os.path.join(top, self.manifest.builddir)
+        self.edges = self.manifest.edges
         self.built = read_build_log(os.path.join(logs, b".ninja_log"))
         self.read = read_deps_log(os.path.join(logs, b".ninja_deps"))
 
@@ -30,7 +33,7 @@ class NinjaTree:
         together = tuple(edge.outputs) if len(edge.outputs) > 1 else ()
         target = Target(list(edge.inputs), together=together)
         if edge.is_phony:
-            if not edge.inputs and self._time(output) is None:
+            if not edge.inputs + edge.order_only and self._time(output) is None:
                 target.standing = Standing.ALWAYS
             return target
         found = self._found(edge)
@@ -69,11 +72,3 @@ class NinjaTree:
             return os.stat(os.path.join(self.top, name)).st_mtime_ns
         except OSError:
             return None
-
-
-def read_ninja(top: bytes) -> Graph:
-    """Return what ninja knows of the tree in this folder.
-
-    Raises RecordError if there is no build.ninja that can be read, or a log of another version.
-    """
-    return NinjaTree(top).graph()
