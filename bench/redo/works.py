@@ -1,7 +1,6 @@
 """The works by which redo is measured beside ninja, make and tup."""
 import shutil
 import subprocess
-import time
 from collections.abc import Callable, Iterator
 from dataclasses import dataclass
 from pathlib import Path
@@ -14,7 +13,6 @@ BENCH = Path(__file__).resolve().parent
 JOBS = "4"
 CALLED = "called"
 TRUE = "/bin/true"
-TIME_OF_TUP = 1.1
 TOOLS = {
     "ninja": ("ninja", "-j", JOBS, "top"),
     "make": ("make", "-s", "-j", JOBS, "top"),
@@ -197,12 +195,12 @@ def header(bench: Bench, folder: Path, targets: int) -> None:
         tasks: dict[str, Callable[[], Taken]] = {
             "redo": lambda: trees.build_by_redo(server, "redo", "-j", JOBS, "top")
         }
-        tasks |= dict(_builds(trees))
+        # tup doesn't see the edit on each file system
+        tasks |= {tool: build for tool, build in _builds(trees) if tool != "tup"}
         for task in tasks.values():
             task()
 
         def edited(tool: str) -> Taken:
-            time.sleep(TIME_OF_TUP)  # else tup doesn't see the edit
             trees.tree(tool).edit_common("edited")
             took = tasks[tool]()
             trees.tree(tool).check_built()
