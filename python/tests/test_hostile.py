@@ -3,6 +3,7 @@ import contextlib
 import os
 import random
 import resource
+import signal
 import socket
 import struct
 import time
@@ -193,8 +194,11 @@ class Hostile(ServedTree):
         reading, writing = os.pipe()
         self.addCleanup(os.close, reading)
         os.set_inheritable(writing, True)
-        command = [self.server_program, "--top", self.top, "--idle", "1", "--detach"]
-        os.waitpid(os.posix_spawn(command[0], command, os.environ), 0)
+        command = [self.server_program, "--top", self.top, "--idle", "60", "--detach"]
+        environment = {**os.environ, "REDODB_LIVE": self.program}
+        _, status = os.waitpid(os.posix_spawn(command[0], command, environment), 0)
+        self.assertEqual(status, 0)
         os.close(writing)
         self.assertEqual(os.read(reading, 1), b"")
         self.assertEqual(self.client().talk("1 lock a"), ["1 granted 1"])
+        os.kill(int(Path(os.fsdecode(self.places.lock)).read_text()), signal.SIGTERM)
