@@ -100,7 +100,7 @@ int redodb_close(redodb **database);
  * "unknown status". The text is static. */
 const char *redodb_status_text(int status);
 
-/* Returns the library's version, as "0.2.0". The text is static. */
+/* Returns the library's version, as "0.3.0". The text is static. */
 const char *redodb_version(void);
 
 /* Returns the number of the interface that the library was built with, which has to be REDODB_ABI. */

@@ -136,6 +136,6 @@ EXPORTED const char *redodb_status_text(int status) {
     }
 }
 
-EXPORTED const char *redodb_version(void) { return "0.2.0"; }
+EXPORTED const char *redodb_version(void) { return "0.3.0"; }
 
 EXPORTED unsigned redodb_abi(void) { return REDODB_ABI; }

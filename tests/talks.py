@@ -51,7 +51,7 @@ def shown(value: object) -> str:
 
 def greeting(restored: int) -> str:
     """The first line that is written."""
-    return f"redodb-live 0.2.0 restored {restored}\n"
+    return f"redodb-live 0.3.0 restored {restored}\n"
 
 
 def ended(program: Path, text: str, *words: str, **options: object) -> Ended:

@@ -103,7 +103,7 @@ fn talk(mut database: Database, mut log: Option<Log>, lines: u64) -> Result<(), 
     let mut out = stdout().lock();
     let mut answers = Answers::default();
     let mut line = Vec::new();
-    answers.said = format!("redodb-live 0.2.0 restored {lines}\n").into_bytes();
+    answers.said = format!("redodb-live 0.3.0 restored {lines}\n").into_bytes();
     loop {
         // what was answered leaves before more is waited for
         if answers.is_long() || !input.buffer().contains(&b'\n') {

@@ -11,7 +11,7 @@ if TYPE_CHECKING:
     from ._native import Database
     from .client import Client
 
-__version__ = "0.2.0"
+__version__ = "0.3.0"
 __all__ = ["AsyncClient", "Client", "Database", "__version__", "errors", "replies"]
 
 _HOMES = {"Client": "client", "AsyncClient": "aio", "Database": "_native"}

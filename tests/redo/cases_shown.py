@@ -169,7 +169,7 @@ def case_help_and_version(tree: Tree) -> None:
         tree.check.true(f"{program} --help: columns", max(map(len, run.out.split("\n"))) <= 80)
         run = tree.run(program, "--version")
         tree.check.same(
-            f"{program} --version", (run.status, run.out), (0, f"{program} (redodb) 0.2.0\n")
+            f"{program} --version", (run.status, run.out), (0, f"{program} (redodb) 0.3.0\n")
         )
     tree.check.same("started", list(tree.folder.iterdir()), [])
     tree.check.same("programs", called_by_users(), sorted(PROGRAMS))

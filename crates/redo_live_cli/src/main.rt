@@ -17,7 +17,7 @@ use std::process::ExitCode;
 use std::rt::Env;
 use std::{env, io};
 
-const VERSION: &str = "0.2.0";
+const VERSION: &str = "0.3.0";
 
 /// The words after the program's name.
 fn given_words<R: Env + AllocGlobal>(rt: &R) -> Result<Vec<String>, Fault> {

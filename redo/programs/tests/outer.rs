@@ -137,7 +137,7 @@ fn help_and_version_are_printed_at_once() {
             );
         }
         let done = run(tree.program(name).args(["x", "--version", "--help"]));
-        assert_eq!(done, ended(0, &format!("{name} (redodb) 0.2.0\n"), ""));
+        assert_eq!(done, ended(0, &format!("{name} (redodb) 0.3.0\n"), ""));
     }
     assert_eq!(fs::read_dir(&tree.0).unwrap().count(), 0);
     let done = run(&mut tree.program("made"));

@@ -256,13 +256,13 @@ mod tests {
 
     #[test]
     fn a_greeting_names_the_program_and_a_number() {
-        assert!(is_greeting(b"redodb-live 0.2.0 restored 17"));
+        assert!(is_greeting(b"redodb-live 0.3.0 restored 17"));
         for line in [
             "hello",
             "",
-            "redodb-live 0.2.0 restored",
-            "redodb-live 0.2.0 restored x",
-            "redodb-live 0.2.0 restored 1 2",
+            "redodb-live 0.3.0 restored",
+            "redodb-live 0.3.0 restored x",
+            "redodb-live 0.3.0 restored 1 2",
         ] {
             assert!(!is_greeting(line.as_bytes()), "{line}");
         }

@@ -2,7 +2,7 @@ use super::*;
 use crate::client::ClientId;
 use crate::error::Failure;
 
-const GREETING: &[u8] = b"redodb-live 0.2.0 restored 0";
+const GREETING: &[u8] = b"redodb-live 0.3.0 restored 0";
 
 fn database() -> Database {
     Database::new(b"/no/such/program", b"/no/such/log")
@@ -36,7 +36,7 @@ fn text(heard: &Heard) -> String {
 #[test]
 fn what_comes_first_is_a_greeting() {
     assert_eq!(
-        heard(&mut database(), "redodb-live 0.2.0 restored 7"),
+        heard(&mut database(), "redodb-live 0.3.0 restored 7"),
         ["greeting"]
     );
     let wanted = ["not the greeting of redodb-live: b'hello'"];
