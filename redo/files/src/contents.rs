@@ -16,7 +16,8 @@ use crate::system::Folder;
 #[derive(Debug)]
 struct Entry {
     kept: Kept,
-    /// Whether the file was found to have the key. It wasn't yet if the entry was stored.
+    /// Whether the file was found to have the key, or somebody compares it with what `lstat` says. If
+    /// the entry was stored, it wasn't yet.
     is_seen: bool,
 }
 

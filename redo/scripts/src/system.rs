@@ -286,8 +286,8 @@ fn fcntl(file: RawFd, command: c_int, number: c_int) -> io::Result<c_int> {
     checked(|| unsafe { libc::fcntl(file, command, number) })
 }
 
-/// Waits until one of these files can be read or has ended, or until the time is over. Returns
-/// which ones; none also after a signal.
+/// Waits until one of these files can be read or has ended, or until the time is over, in whole
+/// milliseconds: no time is no wait. Returns which ones; none also after a signal.
 pub fn wait_readable(files: &[RawFd], most: Option<Duration>) -> io::Result<Vec<RawFd>> {
     let (events, revents) = (libc::POLLIN, 0);
     let polled = files.iter().map(|fd| libc::pollfd {
@@ -296,7 +296,6 @@ pub fn wait_readable(files: &[RawFd], most: Option<Duration>) -> io::Result<Vec<
         revents,
     });
     let mut polled: Vec<libc::pollfd> = polled.collect();
-    // rounded up, so that no time is left; no time at all is no wait
     let whole =
         |most: Duration| c_int::try_from((most.as_micros() + 999) / 1000).unwrap_or(c_int::MAX);
     let (count, most) = (polled.len() as libc::nfds_t, most.map_or(-1, whole));
