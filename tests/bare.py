@@ -8,12 +8,15 @@ from pathlib import Path
 
 SOURCES = Path("/etc/apt/sources.list.d/debian.sources")
 MIRROR = "http://deb.debian.org/debian"
+FILES = "/tmp"
+"""Where the files of a command lie."""
+HOME = "/root"
 # a command that hasn't ended after this many seconds doesn't end
 SECONDS = 900
-BEGIN = """\
+BEGIN = f"""\
 mount --bind "$4" "$1/var/cache/apt/archives" && mount -t proc proc "$1/proc" || exit 99
-mount -t tmpfs tmpfs "$1/tmp" && cp -r "$2/." "$1/tmp/" || exit 99
-exec chroot "$1" /usr/bin/env -i HOME=/root LC_ALL=C.UTF-8 DEBIAN_FRONTEND=noninteractive \\
+mount -t tmpfs tmpfs "$1{FILES}" && cp -r "$2/." "$1{FILES}/" || exit 99
+exec chroot "$1" /usr/bin/env -i HOME={HOME} LC_ALL=C.UTF-8 DEBIAN_FRONTEND=noninteractive \\
     PATH=/usr/sbin:/usr/bin:/sbin:/bin sh -euc "$3"
 """
 
@@ -44,7 +47,7 @@ class Bare:
 
     folder: Path
     files: Path
-    """What lies in /tmp of each command."""
+    """What lies in FILES of each command."""
     debs: Path
     """Where the packages are kept that were downloaded."""
 
@@ -90,4 +93,4 @@ class Bare:
         return found
 
 
-NOTES = {Path(name) for name in ("/proc", "/tmp", "/var/log", "/var/cache", "/var/lib/apt")}
+NOTES = {Path(name) for name in ("/proc", FILES, "/var/log", "/var/cache", "/var/lib/apt")}

@@ -4,7 +4,7 @@ import time
 from pathlib import Path
 
 import bare
-from bare import Bare
+from bare import FILES, HOME, Bare
 from counting import TARBALL, TOP, VERSION, WHEEL, Tests, said
 
 DEBS = TOP / "out/debs"
@@ -12,12 +12,13 @@ FORMER = "0.0.1"
 """The version of the package that is upgraded: the same files, packed again with this number."""
 PYTHON_REDO = "7faee45a"
 """The commit of the last version whose redo was Python."""
-TREE = """\
-mkdir /root/tree && cd /root/tree
+TREE = f"""\
+mkdir {HOME}/tree && cd {HOME}/tree
 echo 'redo-ifchange part' >all.do
 echo 'redo-ifchange source; tr a-z A-Z <source' >part.do
 echo text >source
 """
+QUIETLY = f">{FILES}/log 2>&1"
 BUILT = "redo  all\nredo    part\n"
 NAMES = sorted(path.name for path in (TOP / "bin").iterdir())
 EMBEDDED = "1 end => ok"
@@ -28,10 +29,10 @@ def installed(tests: Tests, debian: Bare) -> None:
     before = debian.paths()
     tests.same("no Python", debian.said("command -v python3 || echo none"), (0, "none\n"))
     begun = time.monotonic()
-    command = f"apt-get install -qq -y /tmp/redodb_{VERSION}_amd64.deb >/tmp/log 2>&1\n{TREE}redo"
+    command = f"apt-get install -qq -y {FILES}/redodb_{VERSION}_amd64.deb {QUIETLY}\n{TREE}redo"
     tests.same("install and build", debian.said(command), (0, BUILT))
     print(f"from apt-get install to the built tree: {time.monotonic() - begun:.1f} s", flush=True)
-    tree = "cd /root/tree; "
+    tree = f"cd {HOME}/tree; "
     tests.same("nothing to do", debian.said(tree + "redo-ifchange all"), (0, ""))
     edit = tree + "echo more >source; redo-why all; redo; cat part"
     answer = f"all <- part <- source changed\n{BUILT}MORE\n"
@@ -44,7 +45,7 @@ def installed(tests: Tests, debian: Bare) -> None:
     tests.same("a word of Python", word, (0, line))
     library = debian.said("ldconfig -p | grep -c libredodb.so.0")
     tests.same("ldconfig knows the library", library, (0, "1\n"))
-    purge = "rm -r /root/tree; apt-get purge -qq -y redodb >/tmp/log 2>&1 || cat /tmp/log"
+    purge = f"rm -r {HOME}/tree; apt-get purge -qq -y redodb {QUIETLY} || cat {FILES}/log"
     tests.same("purge", debian.said(purge), (0, ""))
     tests.same("purge leaves nothing", sorted(debian.paths() - before), [])
     tests.same("purge takes nothing", sorted(before - debian.paths()), [])
@@ -58,10 +59,10 @@ def upgraded(tests: Tests, debian: Bare, made: Path, folder: Path) -> None:
     control = tree / "DEBIAN/control"
     control.write_text(control.read_text().replace(f"Version: {VERSION}", f"Version: {FORMER}"))
     said(["dpkg-deb", "-b", tree, debian.files / "former.deb"])
-    old = f"apt-get install -qq -y /tmp/former.deb >/tmp/log 2>&1\n{TREE}redo"
+    old = f"apt-get install -qq -y {FILES}/former.deb {QUIETLY}\n{TREE}redo"
     tests.same("the version before", debian.said(old), (0, BUILT))
-    new = f"apt-get install -qq -y /tmp/{package.name} >/tmp/log 2>&1; dpkg-query -W redodb; "
-    go_on = "cd /root/tree; redo-ifchange all; redo-why all; redo-ood; echo x >source; redo"
+    new = f"apt-get install -qq -y {FILES}/{package.name} {QUIETLY}; dpkg-query -W redodb; "
+    go_on = f"cd {HOME}/tree; redo-ifchange all; redo-why all; redo-ood; echo x >source; redo"
     answer = f"redodb\t{VERSION}\nall is up to date\n{BUILT}"
     tests.same("upgrade", debian.said(new + go_on), (0, answer))
 
@@ -71,15 +72,15 @@ def goes_on(tests: Tests, debian: Bare, folder: Path) -> None:
     if said(["git", "cat-file", "-e", PYTHON_REDO])[0]:
         tests.skip("a tree of the version before", "the history isn't here")
         return
-    old, tree, here = folder / "old", folder / "old-tree", debian.folder / "root/old"
+    old, tree, here = folder / "old", folder / "old-tree", debian.folder / f"{HOME}/old".lstrip("/")
     old.mkdir()
     said(["sh", "-c", f"git archive {PYTHON_REDO} bin python redodb | tar -xf - -C '{old}'"])
-    make = TREE.replace("/root/tree", f"'{tree}'")
+    make = TREE.replace(f"{HOME}/tree", f"'{tree}'")
     words = ["sh", "-ec", f"{make}'{old}/bin/redo'"]
     status, _ = said(words, REDODB_LIVE=str(TOP / "redodb-live"))
     tests.same("redo of the version before", (status, (tree / "part").read_text()), (0, "TEXT\n"))
     shutil.copytree(tree, here, ignore=shutil.ignore_patterns("server"))
-    command = "cd /root/old; redo-ifchange all; echo then; redo-ifchange all; redo-ood"
+    command = f"cd {HOME}/old; redo-ifchange all; echo then; redo-ifchange all; redo-ood"
     tests.same("goes on", debian.said(command), (0, f"{BUILT}then\n"))
     log = (tree / ".redo/log").read_bytes()
     tests.same("its log", (here / ".redo/log").read_bytes().startswith(log), True)
@@ -89,23 +90,25 @@ def compiled(tests: Tests, debian: Bare) -> None:
     """hello and a C program, with the compiler of Debian; pages of the manual."""
     names = "gcc libc6-dev pkg-config man-db"
     get = f"apt-get update -qq; apt-get install -qq -y --no-install-recommends {names}"
-    dev = f"apt-get install -qq -y /tmp/libredodb-dev_{VERSION}_amd64.deb"
-    command = f"{{ {get} && {dev}; }} >/tmp/log 2>&1 || cat /tmp/log"
+    dev = f"apt-get install -qq -y {FILES}/libredodb-dev_{VERSION}_amd64.deb"
+    command = f"{{ {get} && {dev}; }} {QUIETLY} || cat {FILES}/log"
     tests.same("a compiler", debian.said(command, network=True), (0, ""))
-    hello = "cp -r /usr/share/doc/redodb/examples/hello /root; cd /root/hello; redo 2>&1; ./hello"
+    copied = f"cp -r /usr/share/doc/redodb/examples/hello {HOME}; cd {HOME}/hello; "
+    hello = f"{copied}redo 2>&1; ./hello"
     built = "redo  all\nredo    hello\nredo      hello.o\n"
     status, text = debian.said(hello)
     tests.same("hello", (status, text[: len(built)], len(text) > len(built)), (0, built, True))
-    edit = "cd /root/hello; echo '#define GREETING \"good morning\"' >greeting.h; redo-why all"
+    edit = f"cd {HOME}/hello; echo '#define GREETING \"good morning\"' >greeting.h; redo-why all"
     tests.same(
         "redo-why", debian.said(edit), (0, "all <- hello <- hello.o <- greeting.h changed\n")
     )
     source = "/usr/share/doc/libredodb-dev/examples/main.c"
     for flags in ("", "-static"):
-        words = f"cc {flags} {source} $(pkg-config --cflags --libs redodb) -o /tmp/main"
-        answer = debian.said(f"{words}; /tmp/main | tail -n 1")
+        words = f"cc {flags} {source} $(pkg-config --cflags --libs redodb) -o {FILES}/main"
+        answer = debian.said(f"{words}; {FILES}/main | tail -n 1")
         tests.same(f"cc with pkg-config {flags}", answer, (0, f"{EMBEDDED}\n"))
-    needed = f"cc {source} -lredodb -o /tmp/main; objdump -p /tmp/main | grep -o libredodb.*"
+    linked = f"cc {source} -lredodb -o {FILES}/main; "
+    needed = f"{linked}objdump -p {FILES}/main | grep -o libredodb.*"
     tests.same("the soname", debian.said(needed), (0, "libredodb.so.0\n"))
     for name in [*NAMES, "redodb", "redodb-live"]:
         page = debian.said(f"MANWIDTH=80 man {name} | grep -c {name}")
@@ -118,19 +121,21 @@ def compiled(tests: Tests, debian: Bare) -> None:
 
 def from_python(tests: Tests, debian: Bare) -> None:
     """The package of Debian, and the wheel in an environment of its own, without a network."""
-    names = f"/tmp/python3-redodb_{VERSION}_all.deb python3-venv"
-    get = f"apt-get install -qq -y --no-install-recommends {names} >/tmp/log 2>&1 || cat /tmp/log"
+    names = f"{FILES}/python3-redodb_{VERSION}_all.deb python3-venv"
+    get = f"apt-get install -qq -y --no-install-recommends {names} {QUIETLY} || cat {FILES}/log"
     tests.same("Python", debian.said(get, network=True), (0, ""))
     database = "with redodb.Database() as d: d.file('a', '1'); print(d.ood())"
     words = f"import redodb; print(redodb.__version__)\n{database}"
     answer = (0, f"{VERSION}\nNames(names=())\n")
     tests.same("import redodb", debian.said(f'python3 -c "{words}"'), answer)
     client = f'{TREE}redo; python3 -c "import redodb\nwith redodb.Client() as c: print(c.ood())"'
-    status, text = debian.said(f"rm -rf /root/tree; {client}")
+    status, text = debian.said(f"rm -rf {HOME}/tree; {client}")
     tests.same("a client", (status, text), (0, f"{BUILT}Names(names=())\n"))
     usage = debian.said("redodb record --help | head -n 1; redodb picture --help | head -n 1")[1]
     tests.same("words", [line[:13] for line in usage.splitlines()], ["usage: redodb"] * 2)
-    venv = f"python3 -m venv /tmp/v; /tmp/v/bin/pip install -q --no-index /tmp/{WHEEL}; cd /tmp/v"
+    own = f"{FILES}/own"
+    pip = f"{own}/bin/pip install -q --no-index {FILES}/{WHEEL}"
+    venv = f"python3 -m venv {own}; {pip}; cd {own}"
     typed = "from importlib.resources import files; print((files('redodb') / 'py.typed').is_file())"
     program = f'bin/python -c "{words}"; bin/python -c "{typed}"; bin/python -m redodb --version'
     tests.same(
@@ -143,7 +148,7 @@ def from_python(tests: Tests, debian: Bare) -> None:
 def purged(tests: Tests, debian: Bare) -> None:
     """All packages at once."""
     names = "python3-redodb libredodb-dev redodb"
-    purge = f"rm -r /root/*; apt-get purge -qq -y {names} >/tmp/log 2>&1 || cat /tmp/log"
+    purge = f"rm -r {HOME}/*; apt-get purge -qq -y {names} {QUIETLY} || cat {FILES}/log"
     tests.same("purge all", debian.said(purge), (0, ""))
     left = sorted(path for path in debian.paths() if "redo" in path)
     tests.same("nothing is left", left, [])
@@ -173,7 +178,7 @@ def debian_11(tests: Tests, made: Path, folder: Path) -> None:
         return
     glibc = debian.said("ldd --version | head -n 1 | grep -o '[0-9.]*$'")
     tests.same("glibc", glibc, (0, "2.31\n"))
-    path = f"tar -xf /tmp/{TARBALL}.tar.gz -C /opt; PATH=/opt/{TARBALL}/bin:$PATH\n"
+    path = f"tar -xf {FILES}/{TARBALL}.tar.gz -C /opt; PATH=/opt/{TARBALL}/bin:$PATH\n"
     tests.same("the tarball", debian.said(f"{path}{TREE}redo; redo-ifchange all"), (0, BUILT))
     words = f"cd /opt/{TARBALL}; bin/redodb run examples/first.redo | head -n 1"
     words += "; echo '1 ood' | bin/redodb-live"
