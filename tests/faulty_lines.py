@@ -7,9 +7,10 @@ from talks import Checks, ended, greeting
 
 # no number of a session and a space in front
 BAD_SESSION = [
-    "", " ", "1", "64", "ood", "0 ood", "00 ood", "01 ood", "65 ood", "99 ood", "100 ood", "257 ood", "4294967297 ood",
+    "", " ", "1", "64", "ood", "0 ood", "00 ood", "01 ood", "065 ood", "65536 ood", "65537 ood", "99999 ood", "100000 ood",
+    "131072 ood", "4294967297 ood",
     "+1 ood", "-1 ood", " 1 ood", "1\tood", "1.0 ood", "# 1 ood", "#", "? 1 ood", "?", "end", "1end", "x 1 ood",
-    "0 end", "65 end", "\xff", "\x00", "1\x00ood", "-", "a" * 8193, "65 " + "a" * 9000, "ood " * 5000,
+    "0 end", "65536 end", "\xff", "\x00", "1\x00ood", "-", "a" * 8193, "65536 " + "a" * 9000, "ood " * 5000,
 ]
 # the rest of a line that names its session, by its fault
 FAULTS: dict[str, list[str]] = {
@@ -47,6 +48,11 @@ ANSWERS = {
     "1 file #": "1 fault wrong-words",
     "1 lock 1": "1 lock 1 => granted 1",
     "10 lock 1": "10 lock 1 => busy 1",
+    "65 lock 1": "65 lock 1 => busy 1",
+    "65535 lock 2": "65535 lock 2 => granted 1",
+    "255 lock 2": "255 lock 2 => busy 1",
+    "256 unlock 2": "256 unlock 2 => refused not-locked",
+    "65535 end": "65535 unlock 2 => ok\n65535 end => ok",
     "1 file a #": "1 file a # => ok",
     "1 end": "1 unlock 1 => ok\n1 end => ok",
 }
@@ -56,39 +62,13 @@ def check(program: Path, checks: Checks) -> None:
     """Each line alone, all of them in one conversation, and what the others are answered."""
     pairs = [(line, "0 fault bad-session") for line in BAD_SESSION]
     for word, texts in FAULTS.items():
-        pairs += [(f"{session} {text}", f"{session} fault {word}") for text in texts for session in (1, 64)]
+        pairs += [(f"{session} {text}", f"{session} fault {word}") for text in texts for session in (1, 64, 65, 65_535)]
     for line, answer in pairs:
         checks.check(f"fault of {line[:60]!r}", ended(program, line + "\n"), (0, f"{greeting(0)}{answer}\n", ""))
     pairs += ANSWERS.items()
     asked, wanted = ("".join(f"{pair[at]}\n" for pair in pairs) for at in (0, 1))
     checks.check("all faults", ended(program, asked), (0, greeting(0) + wanted, ""))
-    check_names(program, checks)
     check_endless(program, checks)
-
-
-def check_names(program: Path, checks: Checks) -> None:
-    """With 65,535 names a fault adds none, and takes no name's place; there is one more, and then none."""
-    most = [f"1 ifchange t {' '.join(f'n{64 * line + at}' for at in range(64))}" for line in range(1023)]
-    most.append(f"1 ifchange t {' '.join(f'n{65_472 + at}' for at in range(62))}")
-    rest = {
-        "1 ifchange t new other": "1 fault too-many-names",
-        "1 ifcreate other t new": "1 fault too-many-names",
-        "1 file other -": "1 fault bad-stamp",
-        "1 ifchange t - more": "1 fault bad-name",
-        "1 ifchange t last last n7": "1 ifchange t last last n7 => refused not-building",
-        "1 lock new": "1 fault too-many-names",
-        "1 gone other": "1 fault too-many-names",
-        "1 file other -- x": "1 fault wrong-words",
-        "1 ifcreate new -": "1 fault bad-name",
-        "1 stamp new 6": "1 fault bad-hex",
-        "1 lock last": "1 lock last => granted 1",
-        "1 file n65533 1": "1 file n65533 1 => ok",
-        "1 end": "1 unlock last => ok\n1 end => ok",
-    }
-    asked = "".join(f"{line}\n" for line in [*most, *rest])
-    said = [f"{line} => refused not-building" for line in most]
-    wanted = "".join(f"{line}\n" for line in [*said, *rest.values()])
-    checks.check("65,536 names", ended(program, asked), (0, greeting(0) + wanted, ""))
 
 
 def check_endless(program: Path, checks: Checks) -> None:

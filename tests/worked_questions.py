@@ -222,9 +222,9 @@ class Worked:
     def faults(self) -> None:
         """Each is answered by its fault, and changes nothing."""
         pairs = [(f"{session} {text}\n", f"{session} fault {word}\n")
-                 for word, texts in FAULTS.items() for text in texts for session in (1, 64)]
+                 for word, texts in FAULTS.items() for text in texts for session in (1, 64, 65, 65_535)]
         pairs += [(f"{session}why a\n", "0 fault bad-session\n")
-                  for session in ("", " ", "0 ", "65 ", "01 ", "1", "? 1 ")]
+                  for session in ("", " ", "0 ", "65536 ", "01 ", "1", "? 1 ")]
         pairs.append((f"1 why {'a' * 255}\n", f"1 why {'a' * 255} => clean\n"))
         asked, wanted = ("".join(texts) for texts in zip(*pairs))
         log = self.folder / "faults.log"
@@ -243,22 +243,19 @@ class Worked:
             self.checks.check(f"a log with {question}: kept", log.read_text(), text)
 
     def names(self) -> None:
-        """Questions about names that nobody spoke of take no name's place, and need none."""
+        """Questions about names that nobody spoke of are answered among many names, before and after others of them."""
         most = [f"1 ifchange t {' '.join(f'n{64 * line + at}' for at in range(64))}"
-                for line in range(1023)]
-        most.append(f"1 ifchange t {' '.join(f'n{65_472 + at}' for at in range(62))}")
+                for line in range(1100)]
         unknown = [(f"{session} {question} {name}", told) for session, name in enumerate(NEW, 1)
                    for question, told in UNKNOWN.items()]
         pairs = [(line, f"{line} => refused not-building") for line in most]
         pairs += [(line, f"{line} => {told}") for line, told in unknown]
-        pairs += [("1 lock last", "1 lock last => granted 1"),
-                  ("1 lock new", "1 fault too-many-names")]
+        pairs += [("1 lock last", "1 lock last => granted 1")]
         pairs += [(line, f"{line} => {told}") for line, told in unknown]
-        pairs += [("9 state last", "9 state last => idle lock 1 file -"),
-                  ("9 gone new", "9 fault too-many-names")]
+        pairs += [("9 state last", "9 state last => idle lock 1 file -")]
         asked, wanted = (text_of(lines) for lines in zip(*pairs))
         got = ended(self.program, asked)
-        self.checks.check("65,536 names", got, (0, greeting(0) + wanted, ""))
+        self.checks.check("70,401 names", got, (0, greeting(0) + wanted, ""))
 
     def all(self) -> None:
         self.worked()

@@ -70,7 +70,7 @@ module _ (p : PlanOf) (plan : IsPlan p) where
   pub below_most : (lines : List (histories.Line ℕ))
       → AllByRecursion (IsLineBelow (length p.names)) lines
       → AllByRecursion (IsLineBelow 65536) lines
-  below_most lines all = lines_up (length p.names) 65536 lines plan.names.few all
+  below_most lines all = lines_up (length p.names) 65536 lines plan.few_names all
 
 pub state_from : (p : PlanOf) (c : Core) (log : List Line)
     → (after_all p c log).state ≡ left_by (naming_of p) c.state (map line_of log)

@@ -39,7 +39,7 @@ pub next_word : (p : PlanOf) (s : ℕ) (j : List Line) (n : Numbered ℕ) (h : B
     ≡ records_after (naming_of p) (replay p ws) s h n.command
 next_word p s j n h ws plan here below is-next in-row =
     let few = plan.few in
-    let names = plan.names.few in
+    let names = plan.few_names in
     let line = made s n Okay (Row 0) in
     let tells : RowTells (script_of p) line =
     elim (next_cases (naming_of p) (script_of p s) j n is-next) [

@@ -40,15 +40,15 @@ line_read : (names : List Text) (number : ℕ) (text word rest : Text) (session 
     → IsRead names text ⊎ Fails names number text
 line_read names number text word rest session cut is = elim (cut_at_arrow rest) [
   | inr none ↦ inr (BadReply number, λ e. absurd cc, (refl, (rest, begins, inl none)))
-  | inl parts ↦ by parts.0 parts.1 parts.2 (line_fault names parts.0) refl
+  | inl parts ↦ by parts.0 parts.1 parts.2 (line_fault 65536 names parts.0) refl
 ]
   where
     begins : HasSession text rest
     begins = (word, session, cut, is)
 
     answered : (command reply : Text) → IsCutAtArrow rest command reply → (said : Command Text)
-        (mid : List Text) → IsCommandLine command said → AddsNames names (said ∷ []) mid
-        → (found : Result (Reply Text × List Text) LineFault) → reply_in mid reply ≡ found
+        (mid : List Text) → IsCommandLine command said → AddsNames 65536 names (said ∷ []) mid
+        → (found : Result (Reply Text × List Text) LineFault) → reply_in 65536 mid reply ≡ found
         → IsRead names text ⊎ Fails names number text
     answered command reply arrow said mid spelled adds (Err why) e =
         let none : IsNoReply mid reply =
@@ -76,13 +76,13 @@ line_read names number text word rest session cut is = elim (cut_at_arrow rest) 
         )
 
     by : (command reply : Text) → IsCutAtArrow rest command reply
-        → (fault : Option LineFault) → line_fault names command ≡ fault
+        → (fault : Option LineFault) → line_fault 65536 names command ≡ fault
         → IsRead names text ⊎ Fails names number text
     by command reply arrow (Some fault) e =
         inr (BadLine number fault, λ h. absurd cc, (refl, (rest, command, reply, begins, arrow, e)))
     by command reply arrow None e =
         let said = command_without_fault names command e in
-        answered command reply arrow said.0 said.1 said.2 said.3 (reply_in said.1 reply) refl
+        answered command reply arrow said.0 said.1 said.2 said.3 (reply_in 65536 said.1 reply) refl
 
 line_or_fault : (names : List Text) (number : ℕ) (text : Text)
     → IsRead names text ⊎ Fails names number text

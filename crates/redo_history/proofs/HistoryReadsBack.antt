@@ -54,7 +54,7 @@ history_reads_back lines names rest forms few named = record {
 
 pub legal_history_reads_back : (lines : List (Line Text)) (names : List Text) (rest : Text)
     → Legal texts lines → AllByRecursion IsLineSaid lines → length lines ≤ 1048576
-    → AddsNames [] (map (λ line. line.command) lines) names
+    → AddsNames 65536 [] (map (λ line. line.command) lines) names
     → IsHistory (history_text_of lines ++ rest) names lines
 legal_history_reads_back lines names rest legal said few adds =
     let fit = legal_lines_fit lines legal said (omega arith) in

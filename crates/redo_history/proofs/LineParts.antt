@@ -28,7 +28,7 @@ line_parts text word rest command reply session cut is at_arrow = by cut.parts
 
 -- a line's names are those of its command and then those of its reply
 pub line_named : (old mid new : List Text) (line : Line Text)
-    → AddsNames old (line.command ∷ []) mid → AddsReplyNames mid line.reply new
+    → AddsNames 65536 old (line.command ∷ []) mid → AddsReplyNames 65536 mid line.reply new
     → AddsLineNames old line new
 line_named old mid new line said answered = (
   answered.0 ∙ ap (λ (ns : List Text). with_names ns (names_in_reply line.reply)) (said.0

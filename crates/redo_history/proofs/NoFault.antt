@@ -152,7 +152,7 @@ parts_of names text rest command reply good has cut =
 
 -- the names with the command's fit, and so do those with the reply's
 command_fits : (names : List Text) (text : Text) (good : IsGood names text)
-    → AddsNames names (good.line.command ∷ []) (with_names names (names_in good.line.command))
+    → AddsNames 65536 names (good.line.command ∷ []) (with_names names (names_in good.line.command))
 command_fits names text good =
     let all = with_names-append names (names_in good.line.command)
     (names_in_reply good.line.reply) in
@@ -164,7 +164,7 @@ command_fits names text good =
     )
 
 reply_fits : (names : List Text) (text : Text) (good : IsGood names text)
-    → AddsReplyNames (with_names names (names_in good.line.command)) good.line.reply
+    → AddsReplyNames 65536 (with_names names (names_in good.line.command)) good.line.reply
     (with_names (with_names names (names_in good.line.command)) (names_in_reply good.line.reply))
 reply_fits names text good = (
   refl,

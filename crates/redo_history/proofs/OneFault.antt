@@ -52,8 +52,8 @@ command_or_reply names line fault bad other =
           let cut = one_cut_at_arrow bad.0 bad.1 bad.2 some.0 some.1 bad.4
           (subst (λ (t : Text). IsCutAtArrow t some.0 some.1) (sym rest) some.4) in
           let fine = no_fault_in_a_line names some.0 some.2 some.3 some.5 some.6 in
-          let faulty : line_fault names some.0 ≡ Some fault =
-          ap (line_fault names) (sym cut.0) ∙ bad.5 in
+          let faulty : line_fault 65536 names some.0 ≡ Some fault =
+          ap (line_fault 65536 names) (sym cut.0) ∙ bad.5 in
           absurd cc
     ]
 
@@ -63,7 +63,7 @@ one_command_fault names line a b p q =
     let rest = one_rest line p.0 q.0 p.3 q.3 in
     let cut = one_cut_at_arrow p.0 p.1 p.2 q.1 q.2 p.4
     (subst (λ (t : Text). IsCutAtArrow t q.1 q.2) (sym rest) q.4) in
-    same_found a b (sym p.5 ∙ ap (line_fault names) cut.0 ∙ q.5)
+    same_found a b (sym p.5 ∙ ap (line_fault 65536 names) cut.0 ∙ q.5)
 
 -- a line has one fault
 one_cause : (names : List Text) (number : ℕ) (line : Text) (a b : HistoryFault) → a ≢ Memory

@@ -48,7 +48,7 @@ HasSession line rest =
 abbrev pub IsNoReply : List Text → Text → Type 0
 IsNoReply names text =
     (reply : Reply Text) (after : List Text) → IsReplyText text reply
-    → ¬ (AddsReplyNames names reply after)
+    → ¬ (AddsReplyNames 65536 names reply after)
 
 -- a session and a command, and then no reply
 abbrev pub HasBadReply : List Text → Text → Type 0
@@ -56,13 +56,13 @@ HasBadReply names line =
     (rest : Text) × HasSession line rest × (HasNoArrow rest
     ⊎ ((text : Text) × (reply : Text) × (command : Command Text) × (after : List Text)
     × IsCutAtArrow rest text reply × IsCommandLine text command
-    × AddsNames names (command ∷ []) after × IsNoReply after reply))
+    × AddsNames 65536 names (command ∷ []) after × IsNoReply after reply))
 
 -- a session, and then no command: this is the fault of its text
 abbrev pub HasBadCommand : List Text → Text → LineFault → Type 0
 HasBadCommand names line fault =
     (rest : Text) × (text : Text) × (reply : Text) × HasSession line rest
-    × IsCutAtArrow rest text reply × (line_fault names text ≡ Some fault)
+    × IsCutAtArrow rest text reply × (line_fault 65536 names text ≡ Some fault)
 
 -- the lines before the one of this number, counted from 1, are read, with these names; the header
 -- counts this one too, and this is what is left of the input

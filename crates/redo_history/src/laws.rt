@@ -37,7 +37,7 @@ pub fn legal_lines_fit()
 pub fn legal_history_reads_back()
     ensures { (lines : List (Line Text)) (names : List Text) (rest : Text) → Legal texts lines
         → AllByRecursion IsLineSaid lines → length lines ≤ 1048576
-        → AddsNames [] (map (λ line. line.command) lines) names
+        → AddsNames 65536 [] (map (λ line. line.command) lines) names
         → IsHistory (history_text_of lines ++ rest) names lines }
 {}
 

@@ -17,7 +17,7 @@ use crate::cuts::{cut_at, cut_at_arrow, cut_at_space};
 use crate::fault::HistoryFault;
 use crate::history::{History, MOST_LINES};
 use redo_journal::MOST_SESSIONS;
-use redo_names::Names;
+use redo_names::{MOST_NAMES, Names};
 use redo_terms::Line;
 use redo_text::{LineFault, ReadFault, ReplyFault, read_command, read_number, read_reply};
 use std::alloc::Global;
@@ -87,6 +87,7 @@ pub fn read_line(
     text: &[u8],
     names: &mut Names,
 ) -> Result<Line, HistoryFault>
+    requires { length names.old ≤ 65536 }
     ensures read { IfOk result (λ line. IsHistoryLine text.now (line_at names.new line)) }
     ensures named { IfOk result (λ line.
         AddsLineNames names.old (line_at names.new line) names.new) }
@@ -102,11 +103,11 @@ pub fn read_line(
     let Some((command, reply)) = cut_at_arrow(rest) else {
         return Err(HistoryFault::BadReply(number));
     };
-    let command = match read_command(alloc, command, names) {
+    let command = match read_command(alloc, command, names, MOST_NAMES) {
         Ok(command) => command,
         Err(fault) => return Err(command_fault(number, fault)),
     };
-    let reply = match read_reply(alloc, reply, names) {
+    let reply = match read_reply(alloc, reply, names, MOST_NAMES) {
         Ok(reply) => reply,
         Err(fault) => return Err(reply_fault(number, fault)),
     };

@@ -29,7 +29,8 @@ scripts_named plan = map (λ script. map (named_item (text_at plan.names)) scrip
 abbrev pub AreBelow : ℕ → List Item → Type 0
 AreBelow n script = AllByRecursion (λ item. IsBelow n (command_of item.command)) script
 
--- 1 to 64 scripts, each of at most 4,096 lines, over the numbers of the names
+-- 1 to 64 scripts, each of at most 4,096 lines, over the numbers of the names, of which there are
+-- at most 65,536
 pub record IsPlan (plan : PlanOf) : Type 0 where
   pub some : 1 ≤ length plan.scripts
   pub few : length plan.scripts ≤ 64
@@ -37,3 +38,4 @@ pub record IsPlan (plan : PlanOf) : Type 0 where
   pub below : (s : ℕ)
       → AllByRecursion (λ item. IsBelow (length plan.names) item.command) (script_of plan s)
   pub names : AreNames plan.names
+  pub few_names : length plan.names ≤ 65536

@@ -1,4 +1,4 @@
-ghost use Rattle.std.specs.Prelude.{◌≡◌, ◌<◌, ◌↔◌, length, IfOk, IsErrOf};
+ghost use Rattle.std.specs.Prelude.{◌≡◌, ◌<◌, ◌≤◌, ◌↔◌, length, IfOk, IsErrOf};
 ghost use Rattle.std.specs.List.{AllByRecursion};
 ghost use Rattle.redo_journal.specs.Plans.{AreBelow, IsPlan, scripts_of};
 
@@ -44,6 +44,7 @@ impl Plan {
     /// The plan of these scripts, whose names these are.
     pub fn new(scripts: Vec<Script>, names: Names) -> Result<Plan, PlanFault>
         requires below { AllByRecursion (AreBelow (length names)) scripts.items }
+        requires few { length names ≤ 65536 }
         ensures plan { IfOk result (λ plan. plan
             ≡ record { names = names; scripts = scripts_of scripts.items }) }
         ensures none { IsErrOf result PlanFault.NoSession ↔ (length scripts.items ≡ 0) }

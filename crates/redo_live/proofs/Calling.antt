@@ -1,5 +1,5 @@
 -- A call over the names that its numbers stand for.
-use Rattle.std.proofs.Common.{◌≡◌, ◌+◌, ◌<◌, ℕ, List, ap, ◌∙◌, sym, subst, length}
+use Rattle.std.proofs.Common.{◌≡◌, ◌+◌, ◌*◌, ◌^◌, ◌<◌, arith, ℕ, List, ap, ◌∙◌, sym, subst, length}
 use Rattle.redo_names.specs.Inside.Names.{AreNames}
 use Rattle.redo_model.specs.Names.{Text, texts, text_at}
 use Rattle.redo_model.specs.State.{State}
@@ -13,7 +13,7 @@ use Rattle.redo_model.proofs.Texts.{texts_are_names}
 use Rattle.redo_terms.specs.Meaning.{by_text}
 use Rattle.redo_store.specs.Tables.{Tables, state_of, tables_order, calls_of}
 use Rattle.redo_store.specs.Inside.Tables.{tables_naming}
-use Rattle.redo_live.specs.Inside.LiveState.{LiveState, state_in, calls_in, IsSameDatabase}
+use Rattle.redo_live.specs.Inside.LiveState.{LiveState, state_in, calls_in, HasCallsLeft, IsSameDatabase}
 use Rattle.redo_live.specs.Inside.Kept.{IsKept}
 use Rattle.redo_live.specs.Inside.Ordered.{IsSortedReply}
 use Rattle.redo_live.proofs.Answering.{renaming, now_answers, now_below}
@@ -72,12 +72,12 @@ module _ (old mid : LiveState) (names : List Text) (tables next : Tables)
         (state_of tables) session command below
         ∙ (λ i. after texts (is_old i) session (named_command (text_at (same i)) command))
 
-    pub called_keeps : calls_in old < 4294836223 → calls_of next ≡ calls_of tables + 1
+    pub called_keeps : HasCallsLeft old → calls_of next ≡ calls_of tables + 1
         → IsKept names (state_of next) (calls_of next)
     unfolding here
     called_keeps few counted =
-        let left : calls_of tables < 4294836223 =
-        subst (λ (n : ℕ). n < 4294836223) (sym (ap calls_in is ∙ known.calls)) few in
+        let left : calls_of tables + 1 + 2 * length names < 2 ^ 32 =
+        omega (arith, few, ap calls_in is ∙ known.calls, ap length same) in
         subst (λ (at : State ℕ × ℕ). IsKept names at.0 at.1) (λ i. (sym steps i, sym counted i))
         (IsKept-after names are (tables_order tables) (state_of tables) session command
         (named_reply (text_at names) now) (calls_of tables) left below kept here_answers)

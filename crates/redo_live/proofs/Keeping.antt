@@ -76,7 +76,8 @@ IsReached-after st line reached answers = record {
 module _ (names : List Text) (are : AreNames names) (order : ℕ → ℕ → Ordering) (st : State ℕ)
     (s : ℕ) (command : Command ℕ) (reply : Reply Text) (calls : ℕ)
   where
-    pub IsKept-after : calls < 4294836223 → IsBelow (length names) command → IsKept names st calls
+    pub IsKept-after : calls + 1 + 2 * length names < 2 ^ 32 → IsBelow (length names) command
+        → IsKept names st calls
         → Answers texts (named_state (numbering names) st) s
         (named_command (text_at names) command) reply
         → IsKept names (after (numbers order) st s command) (calls + 1)
@@ -95,7 +96,7 @@ module _ (names : List Text) (are : AreNames names) (order : ℕ → ℕ → Ord
           closing = λ ts once taken.
               omega (
                 arith,
-                are.few,
+                left,
                 few_taken (length names) next.locks ts within.holder once taken,
               );
         }

@@ -1,5 +1,6 @@
 pub mod Within
 pub mod MoreNames
+pub mod NewNames
 pub mod Reordered
 pub mod Answering
 pub mod Asking

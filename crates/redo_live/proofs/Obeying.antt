@@ -1,5 +1,5 @@
 -- The line of the answer answers a session's command.
-use Rattle.std.proofs.Common.{◌≡◌, ◌+◌, ◌<◌, ◌⊎◌, inl, inr, ℕ, Bool, cond, List, [], ◌∷◌, ◌++◌, refl, sym, ap, ◌∙◌, subst, length}
+use Rattle.std.proofs.Common.{◌≡◌, ◌+◌, ◌*◌, ◌^◌, ◌<◌, ◌⊎◌, inl, inr, ℕ, Bool, cond, List, [], ◌∷◌, ◌++◌, refl, sym, ap, ◌∙◌, subst, length}
 use Rattle.redo_names.specs.Inside.Names.{AreNames}
 use Rattle.redo_model.specs.Names.{Text, texts, text_at}
 use Rattle.redo_model.specs.State.{State}
@@ -96,7 +96,7 @@ module _ (names : List Text) (are : AreNames names) (tables : Tables)
         same_step =
             steps ∙ ap (after (tables_naming tables) (state_of tables) session) is.command_is
 
-        pub kept_after : calls_of tables < 4294836223
+        pub kept_after : calls_of tables + 1 + 2 * length names < 2 ^ 32
             → IsKept names (state_of next) (calls_of next)
         kept_after left =
             subst (λ (st : State ℕ). IsKept names st (calls_of next)) (sym same_step)
@@ -213,7 +213,7 @@ pub answered : (old mid new : LiveState) (session : ℕ) (text : Text) (command 
     (said said_after logged logged_after : Text) → state_in mid ≡ state_in old
     → calls_in mid ≡ calls_in old → new.names ≡ mid.names
     → IsCommandLine text (named_command (text_at mid.names) command)
-    → AddsNames old.names (named_command (text_at mid.names) command ∷ []) mid.names
+    → AddsNames 16777216 old.names (named_command (text_at mid.names) command ∷ []) mid.names
     → IsObeyed mid new session command said said_after logged logged_after
     → AnswersText old new session text said said_after logged logged_after
 answered old mid new session text command said said_after logged logged_after same calls names
@@ -224,8 +224,9 @@ answered old mid new session text command said said_after logged logged_after sa
       is = record {
         session_is = obeys.session_is;
         said = subst (IsCommandLine text) (sym obeys.command_is) is_line;
-        named = subst (λ (ns : List Text). AddsNames old.names (line.command ∷ []) ns) (sym names)
-            (subst (λ (asked : Command Text). AddsNames old.names (asked ∷ []) mid.names)
+        named = subst (λ (ns : List Text). AddsNames 16777216 old.names (line.command ∷ []) ns)
+            (sym names)
+            (subst (λ (asked : Command Text). AddsNames 16777216 old.names (asked ∷ []) mid.names)
             (sym obeys.command_is) adds);
         answers = subst (λ (st : State Text). Answers texts st session line.command line.reply) same
             obeys.answers;
@@ -244,7 +245,7 @@ answered old mid new session text command said said_after logged logged_after sa
 pub withheld : (old mid : LiveState) (session : ℕ) (text : Text) (command : Command ℕ)
     (most : ℕ) (why : Withheld) → state_in mid ≡ state_in old
     → IsCommandLine text (named_command (text_at mid.names) command)
-    → AddsNames old.names (named_command (text_at mid.names) command ∷ []) mid.names
+    → AddsNames 16777216 old.names (named_command (text_at mid.names) command ∷ []) mid.names
     → IsUnobeyedFor mid session command most why → IsWithheldFor old session text most why
 withheld old mid session text command most (Unanswered why) same is_line adds e =
     subst (IsUnansweredFor old text) (sym e) tt
@@ -256,7 +257,8 @@ withheld old mid session text command most (TooLong size) same is_line adds (mor
         session_is = would.session_is;
         said = subst (IsCommandLine text) (sym would.command_is) is_line;
         names_after = mid.names;
-        named = subst (λ (asked : Command Text). AddsNames old.names (asked ∷ []) mid.names)
+        named = subst
+            (λ (asked : Command Text). AddsNames 16777216 old.names (asked ∷ []) mid.names)
             (sym would.command_is) adds;
         answers = subst (λ (st : State Text). Answers texts st session line.command line.reply) same
             would.answers;

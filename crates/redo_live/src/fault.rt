@@ -62,14 +62,13 @@ impl From<AllocError> for Withheld {
     }
 }
 
-impl From<ReadFault> for Withheld {
+impl From<Unanswered> for Withheld {
     ghost use Rattle.std.specs.Prelude.{◌≡◌};
-    ghost use Rattle.redo_live.specs.Inside.Told.{unread};
     ghost use Rattle.redo_live.specs.declared.fault.Withheld.TheVariants.{Unanswered};
 
-    ghost from_gives = { λ fault why. why ≡ Unanswered (unread fault) };
+    ghost from_gives = { λ unanswered why. why ≡ Unanswered unanswered };
 
-    fn from(fault: ReadFault) -> Withheld {
-        Withheld::Unanswered(Unanswered::from(fault))
+    fn from(unanswered: Unanswered) -> Withheld {
+        Withheld::Unanswered(unanswered)
     }
 }

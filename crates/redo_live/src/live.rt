@@ -1,9 +1,11 @@
-ghost use Rattle.std.specs.Prelude.{◌≡◌, ◌≤◌, ◌<◌, ◌+◌, [], None, length, IfOk, IfErr, OnOk, OnErr, true};
+ghost use Rattle.std.specs.Prelude.{◌≡◌, ◌↔◌, ◌≤◌, ◌+◌, [], ◌∷◌, None, length, IfOk, IfErr, OnOk, OnErr, true};
 ghost use Rattle.redo_names.specs.Inside.Names.{Extends, AreNames};
 ghost use Rattle.redo_model.specs.State.{empty};
 ghost use Rattle.redo_model.specs.Renaming.{IsBelow};
 ghost use Rattle.redo_model.specs.Step.{Answers};
 ghost use Rattle.redo_terms.specs.Meaning.{command_of, reply_of};
+ghost use Rattle.redo_terms.specs.Inside.Meaning.{command_at};
+ghost use Rattle.redo_text.specs.Grammar.{IsCommandLine, AddsNames};
 ghost use Rattle.redo_text.specs.Questions.{line_fault};
 ghost use Rattle.redo_store.specs.Stored.{has_room_for};
 ghost use Rattle.redo_store.specs.Tables.{state_of, tables_count};
@@ -11,7 +13,7 @@ ghost use Rattle.redo_store.specs.Inside.Tables.{tables_naming};
 
 use crate::fault::{Unanswered, Withheld};
 use crate::told::{answered, line_text, tell_within, text_if};
-use redo_names::{MOST_NAMES, Names};
+use redo_names::Names;
 use redo_store::Redo;
 use redo_terms::{Command, Line, Reply};
 use redo_text::read_command;
@@ -26,9 +28,11 @@ mod replaying;
 /// How many numbers there are for names at first.
 const FIRST_NUMBERS: u32 = 64;
 
-/// After this many calls it answers no more commands: closing takes two calls for each held target, of which there are at
-/// most as many as names.
-const MOST_CALLS: u32 = u32::MAX - 131_072;
+/// How many names a conversation has at most.
+const MOST_NAMES: u32 = 16_777_216;
+
+/// How many names a line has at most.
+const NAMES_OF_A_LINE: u32 = 65;
 
 /// A database over names that become known with the commands.
 #[derive(Drop)]
@@ -54,8 +58,9 @@ impl Model for Live {
 }
 
 impl Live {
-    ghost use Rattle.redo_live.specs.Inside.LiveState.{state_in, calls_in, IsAsKnown, IsSameDatabase};
-    ghost use Rattle.redo_live.specs.Inside.Told.{IsUnansweredFor, AnswersText, TellsNothing};
+    ghost use Rattle.redo_live.specs.Inside.LiveState.{state_in, calls_in, HasCallsLeft};
+    ghost use Rattle.redo_live.specs.Inside.LiveState.{IsAsKnown, IsSameDatabase};
+    ghost use Rattle.redo_live.specs.Inside.Told.{IsUnansweredFor, IsWorn, AnswersText, TellsNothing};
     ghost use Rattle.redo_live.specs.Inside.Told.{IsDue, IsObeyed};
     ghost use Rattle.redo_live.specs.Inside.Withheld.{IsWithheldFor, IsUnobeyedFor};
 
@@ -88,7 +93,7 @@ impl Live {
 
         // A fault is that of the line, and a line that is answered has none.
         ensures cause { IfErr result (IsUnansweredFor self.old text.now) }
-        ensures no_fault { OnOk result (line_fault self.old.names text.now ≡ None) }
+        ensures no_fault { OnOk result (line_fault 16777216 self.old.names text.now ≡ None) }
 
         ensures known { OnErr result (IsAsKnown self.old self.new) }
         ensures untold { OnErr result
@@ -120,13 +125,13 @@ impl Live {
 
         // A fault is that of the line, and a line that is answered has none. `TooLong` has the length of the answer.
         ensures cause { IfErr result (IsWithheldFor self.old session text.now most) }
-        ensures no_fault { OnOk result (line_fault self.old.names text.now ≡ None) }
+        ensures no_fault { OnOk result (line_fault 16777216 self.old.names text.now ≡ None) }
 
         ensures known { OnErr result (IsAsKnown self.old self.new) }
         ensures untold { OnErr result
             (TellsNothing said.old.items said.new.items logged.old.items logged.new.items) }
     {
-        if self.redo.calls() >= MOST_CALLS {
+        if self.is_worn() {
             return Err(Withheld::Unanswered(Unanswered::Worn));
         }
         let count = self.names.len();
@@ -135,6 +140,45 @@ impl Live {
             Err(why) => {
                 self.names.keep_first(count);
                 Err(why)
+            }
+        }
+    }
+
+    /// Whether too few calls are left: closing takes two for each held target, and there are at most as many of these
+    /// as names.
+    fn is_worn(&self) -> bool
+        ensures { (result ≡ true) ↔ IsWorn self.now }
+    {
+        let closing = 2 * (self.names.len() + NAMES_OF_A_LINE);
+        self.redo.calls() >= u32::MAX - closing
+    }
+
+    /// Reads a command: its names become known. After an error no more names are known than before.
+    fn read(&mut self, alloc: Global, text: &[u8]) -> Result<Command, Unanswered>
+        requires names { AreNames self.old.names }
+        ensures read { IfOk result (λ command.
+            IsCommandLine text.now (command_at self.new.names command)) }
+        ensures named { IfOk result (λ command. AddsNames 16777216 self.old.names
+            (command_at self.new.names command ∷ []) self.new.names) }
+        ensures below { IfOk result
+            (λ command. IsBelow (length self.new.names) (command_of command)) }
+        ensures cause { IfErr result (IsUnansweredFor self.old text.now) }
+        ensures kept { Extends self.old.names self.new.names }
+        ensures names { AreNames self.new.names }
+        ensures known { IsSameDatabase self.old self.new }
+        ensures state { state_in self.new ≡ state_in self.old }
+        ensures same { OnErr result (self.new.names ≡ self.old.names) }
+    {
+        let known = self.names.len();
+        match read_command(alloc, text, &mut self.names, MOST_NAMES) {
+            Ok(command) => {
+                self.names.are_names();
+                Ok(command)
+            }
+            Err(fault) => {
+                self.names.keep_first(known);
+                self.names.are_names();
+                Err(Unanswered::from(fault))
             }
         }
     }
@@ -150,7 +194,7 @@ impl Live {
         logged: &mut Vec<u8>,
     ) -> Result<(), Withheld>
         requires names { AreNames self.old.names }
-        requires calls { calls_in self.old < 4294836223 }
+        requires calls { ¬ (IsWorn self.old) }
         ensures answered { OnOk result (AnswersText self.old self.new session text.now
             said.old.items said.new.items logged.old.items logged.new.items) }
         ensures fits { OnOk result
@@ -161,9 +205,7 @@ impl Live {
         ensures untold { OnErr result
             (TellsNothing said.old.items said.new.items logged.old.items logged.new.items) }
     {
-        let read = read_command(alloc, text, &mut self.names);
-        self.names.are_names();
-        let command = read?;
+        let command = self.read(alloc, text)?;
         self.obey(alloc, session, command, most, said, logged)?;
         Ok(())
     }
@@ -180,7 +222,7 @@ impl Live {
     ) -> Result<(), Withheld>
         requires below { IsBelow (length self.old.names) (command_of command) }
         requires names { AreNames self.old.names }
-        requires calls { calls_in self.old < 4294836223 }
+        requires calls { HasCallsLeft self.old }
         ensures obeyed { OnOk result (IsObeyed self.old self.new session (command_of command)
             said.old.items said.new.items logged.old.items logged.new.items) }
         ensures fits { OnOk result
@@ -244,7 +286,7 @@ impl Live {
     ) -> Result<Reply, AllocError>
         requires below { IsBelow (length self.old.names) (command_of command.now) }
         requires names { AreNames self.old.names }
-        requires calls { calls_in self.old < 4294836223 }
+        requires calls { HasCallsLeft self.old }
         ensures names { self.new.names ≡ self.old.names }
         ensures known { IsSameDatabase self.old self.new }
         ensures count { OnOk result (length self.new.names ≤ tables_count self.new.tables) }
@@ -280,7 +322,7 @@ impl Live {
     {
         let count = self.names.len();
         if count > self.numbers {
-            let numbers = (2 * self.numbers).max(count).min(MOST_NAMES as u32);
+            let numbers = (2 * self.numbers).max(count).min(MOST_NAMES);
             self.redo.grow(numbers)?;
             self.numbers = numbers;
         }

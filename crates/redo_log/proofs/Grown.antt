@@ -56,7 +56,8 @@ logged_prefix lines more is = record {
 
 -- one line more after logged lines, and the database that answered it
 pub logged_more : (lines : List (Line Text)) (line : Line Text) (names : List Text)
-    → AreLogged lines → IsLineSaid line → AddsNames (names_after lines) (line.command ∷ []) names
+    → AreLogged lines → IsLineSaid line
+        → AddsNames 16777216 (names_after lines) (line.command ∷ []) names
     → Answers texts (left_by texts empty lines) line.session line.command line.reply
     → AreLogged (lines ++ line ∷ []) × (names ≡ names_after (lines ++ line ∷ []))
 logged_more lines line names is said named answers =
@@ -65,7 +66,7 @@ logged_more lines line names is said named answers =
       record {
         legal = legal_more texts empty lines line is.legal answers;
         said = all_more IsLineSaid lines line is.said said;
-        few_names = subst (λ (ns : List Text). length ns ≤ 65536) same named.1;
+        few_names = subst (λ (ns : List Text). length ns ≤ 16777216) same named.1;
       },
       same,
     )
@@ -81,7 +82,7 @@ can_follow lines others line live left is =
     ∙ ap
     (λ (ns : List Text). with_names (with_names (names_after lines) ns) (flat_map own_names others))
     (sym (append-nil (own_names line))) in
-    let few : length (names_after (lines ++ line ∷ others)) ≤ 65536 = is.few_names in
+    let few : length (names_after (lines ++ line ∷ others)) ≤ 16777216 = is.few_names in
     let longer : length added ≤ length (with_names added (flat_map own_names others)) =
     with_names-longer added (flat_map own_names others) in
     let same : length (names_after (lines ++ line ∷ others))

@@ -27,14 +27,14 @@ IsAskedBy live left session said =
 
 -- a text with a fault is no text of a command whose names fit
 pub faulty : (live : LiveState) (left said : Text) (session : ℕ) (fault : LineFault)
-    → IsAskedBy live left session said → line_fault live.names said ≡ Some fault
+    → IsAskedBy live left session said → line_fault 16777216 live.names said ≡ Some fault
     → NothingFollows live left
 faulty live left said session fault asked is line rest follows e =
     let (_, same) = asked line rest follows e in
-    let none : line_fault live.names (command_text_of line.command) ≡ None =
+    let none : line_fault 16777216 live.names (command_text_of line.command) ≡ None =
     no_fault_in_a_line live.names (command_text_of line.command) line.command follows.names
     (line_said line.command follows.said.said) follows.named in
-    absurd (let some = ap (line_fault live.names) (sym same) ∙ is in cc)
+    absurd (let some = ap (line_fault 16777216 live.names) (sym same) ∙ is in cc)
 
 module _ (old new : LiveState) (left own said logged logged_after : Text) (session : ℕ)
     (few : session < 64) (is : AnswersText old new session own [] said logged logged_after)

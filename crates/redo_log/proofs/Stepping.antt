@@ -13,6 +13,7 @@ use Rattle.redo_history.specs.Histories.{line_text_of}
 use Rattle.redo_history.proofs.HistoryReadsBack.{own_text_of}
 use Rattle.redo_history.proofs.TextCuts.{has_lf}
 use Rattle.redo_live.specs.Inside.LiveState.{LiveState, state_in, calls_in}
+use Rattle.redo_live.specs.Inside.Told.{IsWorn}
 use Rattle.redo_live.specs.Lines.{lines_text_of, names_after}
 use Rattle.redo_log.specs.Logs.{log_header, AreLogged, IsLogOf}
 use Rattle.redo_log.specs.Restores.{IsLeftBy, IsRestoredTo, DiffersBehind, IsRestoreCause, IsOfRoom}
@@ -96,7 +97,8 @@ pub done_more : (log : Text) (lines : List (Line Text)) (old new : LiveState) (l
 done_more log lines old new left rest is next =
     let line = next.line in
     let more = logged_more lines line new.names is.logged next.said
-    (subst (λ (ns : List Text). AddsNames ns (line.command ∷ []) new.names) is.left_by.names
+    (subst (λ (ns : List Text). AddsNames 16777216 ns
+    (line.command ∷ []) new.names) is.left_by.names
     next.named)
     (subst (λ (st : State Text). Answers texts st line.session line.command line.reply)
     is.left_by.state next.answers) in
@@ -191,11 +193,12 @@ sizes log left lines live is = (
 -- the cause of `Memory` or `Worn`
 pub room_cause : (log left : Text) (lines : List (Line Text)) (live : LiveState)
     (fault : RestoreFault) → IsDoneUpTo log lines live left → IsOfRoom fault
-    → (fault ≡ Worn → 4294836223 ≤ calls_in live) → IsRestoreCause log fault
+    → (fault ≡ Worn → IsWorn live) → IsRestoreCause log fault
 room_cause log left lines live Memory is room worn = tt
 room_cause log left lines live Worn is room worn =
     let long = worn refl in
     let calls = is.left_by.calls in
+    let names = ap length is.left_by.names in
     (lines, left, is.logged, is.parts, omega arith)
 room_cause log left lines live (Differs number count size) is room worn = absurd room
 

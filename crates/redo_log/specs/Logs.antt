@@ -18,7 +18,7 @@ log_header = ended header_words
 pub record AreLogged (lines : List (Line Text)) : Type 0 where
   pub legal : Legal texts lines
   pub said : AllByRecursion IsLineSaid lines
-  pub few_names : length (names_after lines) ≤ 65536
+  pub few_names : length (names_after lines) ≤ 16777216
 
 -- the bytes are a log of the lines, and then a rest without an LF
 pub record IsLogOf (bytes : Text) (lines : List (Line Text)) (torn : Text) : Type 0 where

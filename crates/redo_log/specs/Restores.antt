@@ -1,5 +1,5 @@
 -- What is restored from a log, and why a log is refused.
-use Rattle.std.specs.Prelude.{◌≡◌, ◌≢◌, ◌⊎◌, ℕ, ◌+◌, ◌≤◌, List, [], ◌∷◌, ◌++◌, length, Contains, ⊤}
+use Rattle.std.specs.Prelude.{◌≡◌, ◌≢◌, ◌⊎◌, ℕ, ◌+◌, ◌*◌, ◌^◌, ◌≤◌, List, [], ◌∷◌, ◌++◌, length, Contains, ⊤}
 use Rattle.redo_model.specs.Names.{Text, texts}
 use Rattle.redo_model.specs.State.{empty}
 use Rattle.redo_model.specs.History.{Line, left_by}
@@ -52,11 +52,13 @@ DiffersAt bytes number count size =
     ⊎ ((lines : List (Line Text)) × DiffersBehind bytes lines × (number ≡ length lines + 2)
     × (count ≡ length lines) × (size ≡ length (log_header ++ lines_text_of lines)))
 
--- there are more lines than the database answers
+-- there are more lines than the database answers: one more, and two for each of 65 names more than
+-- are known, can't be counted
 abbrev pub HasTooMany : Text → Type 0
 HasTooMany bytes =
     (lines : List (Line Text)) × (rest : Text) × AreLogged lines
-    × (bytes ≡ log_header ++ lines_text_of lines ++ rest) × (4294836223 ≤ length lines)
+    × (bytes ≡ log_header ++ lines_text_of lines ++ rest)
+    × (2 ^ 32 ≤ length lines + 1 + 2 * (length (names_after lines) + 65))
 
 -- the cause of a fault; `Memory` says nothing of the log
 abbrev pub IsRestoreCause : Text → RestoreFault → Type 0

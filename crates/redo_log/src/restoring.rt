@@ -5,6 +5,7 @@ ghost use Rattle.redo_model.specs.Command.{Command};
 ghost use Rattle.redo_model.specs.History.{Line};
 ghost use Rattle.redo_text.specs.Grammar.{IsCommandLine};
 ghost use Rattle.redo_live.specs.Inside.LiveState.{state_in, calls_in};
+ghost use Rattle.redo_live.specs.Inside.Told.{IsWorn};
 ghost use Rattle.redo_history.specs.Inside.HistoryFaults.{IsCutAt};
 ghost use Rattle.redo_log.specs.Logs.{log_header, IsLogOf, IsTornHeader};
 ghost use Rattle.redo_log.specs.Restores.{IsRestored, IsRestoredTo, IsRestoreCause, IsOfRoom};
@@ -101,7 +102,7 @@ impl Again {
             (λ rest. DoesNext self.old.live self.new.live left.now rest.now)) }
         ensures room { IfErr result IsOfRoom }
         ensures worn { IfErr result
-            (λ fault. fault ≡ RestoreFault.Worn → 4294836223 ≤ calls_in self.old.live) }
+            (λ fault. fault ≡ RestoreFault.Worn → IsWorn self.old.live) }
     {
         let Some((session, command)) = asked(text) else {
             return Ok(None);

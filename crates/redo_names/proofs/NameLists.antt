@@ -1,5 +1,5 @@
 -- Growing lists of names.
-use Rattle.std.proofs.Common.{◌≡◌, ℕ, zero, suc, ◌<◌, Bool, true, false, ◌||◌, List, [], ◌∷◌, ◌++◌, length, take, Some, slice_get, refl, sym, ap, ◌∙◌, arith, length-append, append-nil, append_assoc}
+use Rattle.std.proofs.Common.{◌≡◌, ℕ, zero, suc, ◌<◌, ◌+◌, ◌^◌, Bool, true, false, ◌||◌, List, [], ◌∷◌, ◌++◌, length, take, Some, slice_get, refl, sym, ap, ◌∙◌, arith, length-append, append-nil, append_assoc}
 use Rattle.std.specs.Prelude.{bytes_eq}
 use Rattle.std.specs.List.{AllByRecursion, IsDistinct}
 use Rattle.std.proofs.lemmas.Cmp.{nat_list_eq_equiv}
@@ -46,7 +46,7 @@ each-push [] text each is = (is, tt)
 each-push (_ ∷ names) text each is = (each.0, each-push names text each.1 is)
 
 pub AreNames-push : (names : List (List ℕ)) (text : List ℕ) → AreNames names → is_name text ≡ true
-    → has names text ≡ false → length names < 65536 → AreNames (names ++ text ∷ [])
+    → has names text ≡ false → length names + 1 < 2 ^ 32 → AreNames (names ++ text ∷ [])
 AreNames-push names text are is new room = record {
   few = omega (arith, length-append names (text ∷ []));
   distinct = IsDistinct-push nat_list_eq_equiv names text are.distinct new;

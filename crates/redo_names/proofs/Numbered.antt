@@ -1,5 +1,5 @@
 -- Names, and what a map has at each of them.
-use Rattle.std.proofs.Common.{◌≡◌, ◌≢◌, ◌↔◌, ℕ, zero, suc, ◌+◌, ◌<◌, ◌≤◌, Bool, true, false, cond, ◌||◌, List, [], ◌∷◌, ◌++◌, length, take, Option, Some, None, slice_get, refl, sym, ap, subst, ◌∙◌, ◌⊎◌, inl, inr, arith, slice_index_or, length-append}
+use Rattle.std.proofs.Common.{◌≡◌, ◌≢◌, ◌↔◌, ℕ, zero, suc, ◌+◌, ◌<◌, ◌≤◌, ◌^◌, Bool, true, false, cond, ◌||◌, List, [], ◌∷◌, ◌++◌, length, take, Option, Some, None, slice_get, refl, sym, ap, subst, ◌∙◌, ◌⊎◌, inl, inr, arith, slice_index_or, length-append}
 use Rattle.std.specs.Prelude.{String, bytes_eq, string_bytes, is_some, IfSome}
 use Rattle.std.specs.Global.{Global}
 use Rattle.std.specs.HashMap.{HashMap, IsEmpty, get_by_text}
@@ -250,7 +250,7 @@ AreNumbered-none numbers texts empty = record {
 
 pub AreNumbered-more : {S : Type 0} (old new : HashMap (String Global) ℕ S) (count : ℕ)
     (texts after : List (List ℕ)) (text : List ℕ) → AreNumbered old count texts
-    → is_name text ≡ true → has (take count texts) text ≡ false → count ≢ 65536
+    → is_name text ≡ true → has (take count texts) text ≡ false → count + 1 < 2 ^ 32
     → after ≡ take count texts ++ text ∷ []
     → ((name : List ℕ) → get_by_text new name
     ≡ update bytes_eq (λ name. get_by_text old name) text (Some count) name)

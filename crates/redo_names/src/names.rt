@@ -14,8 +14,8 @@ use std::collections::HashMap;
 use std::marker::Model;
 use thiserror::Error;
 
-/// How many names there are at most.
-pub const MOST_NAMES: usize = 65536;
+/// How many names a run or a history has at most.
+pub const MOST_NAMES: u32 = 65_536;
 
 /// Why a name was not added.
 #[derive(Debug, Drop, Error)]
@@ -23,7 +23,7 @@ pub enum NamesFault {
     /// Fault 1: there is no memory for another name.
     #[error("out of memory")]
     Memory,
-    /// Fault 2: there are 65,536 names, and this would be a new one.
+    /// Fault 2: there are as many names as the caller allows, and this would be a new one.
     #[error("too many names")]
     Full,
 }
@@ -125,7 +125,7 @@ impl Names {
         self.count
     }
 
-    /// A law of names: they are distinct, each is a name, and there are at most 65,536.
+    /// A law of names: they are distinct, each is a name, and there are fewer than 2^32.
     pub fn are_names(&self)
         ensures { AreNames self.now }
     {
@@ -244,21 +244,22 @@ impl Names {
         self.text(a).cmp(self.text(b))
     }
 
-    /// The number of a name, which is added at the end if it is new.
+    /// The number of a name, which is added at the end if it is new and there are fewer than `most` names.
     ///
     /// A name that is known keeps its number, and adding it again never fails.
-    pub fn add(&mut self, text: &[u8]) -> Result<u32, NamesFault>
+    pub fn add(&mut self, text: &[u8], most: u32) -> Result<u32, NamesFault>
         requires { is_name text.now ≡ true }
         ensures added { OnOk result (self.new ≡ with_name self.old text.now) }
         ensures number { IfOk result (λ number. slice_get self.new number ≡ Some text.now) }
         ensures within { IfOk result (λ number. number < length self.new) }
 
         ensures full { IsErrOf result NamesFault.Full
-            ↔ ((length self.old ≡ 65536) × (has self.old text.now ≡ false)) }
+            ↔ ((most ≤ length self.old) × (has self.old text.now ≡ false)) }
         ensures there { has self.old text.now ≡ true → IsOk result }
         ensures err { OnErr result (self.new ≡ self.old) }
 
         ensures kept { Extends self.old self.new }
+        ensures few { length self.old ≤ most → OnOk result (length self.new ≤ most) }
         ensures names { AreNames self.new }
     {
         if let Some(number) = self.number_of(text) {
@@ -266,7 +267,7 @@ impl Names {
             return Ok(number);
         }
         let number = self.count;
-        if number as usize == MOST_NAMES {
+        if number >= most {
             return Err(NamesFault::Full);
         }
         let alloc = *self.followers.allocator();

@@ -1,5 +1,5 @@
 -- What is read from known bytes, and why it is refused.
-use Rattle.std.proofs.Common.{◌≡◌, ◌↔◌, ◌≤◌, ℕ, List, Option, None, Some, Result, Ok, Err, length, refl, sym, subst}
+use Rattle.std.proofs.Common.{◌≡◌, ◌↔◌, ◌≤◌, List, Option, None, Some, Result, Ok, Err, length, refl, sym, subst}
 use Rattle.std.specs.Prelude.{IfSome, IfOk, IfErr}
 use Rattle.redo_model.specs.Names.{Text, texts}
 use Rattle.redo_model.specs.History.{Line, Legal}

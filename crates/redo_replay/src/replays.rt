@@ -24,6 +24,7 @@ fn compared(
     line: &Line,
 ) -> Result<Verdict, AllocError>
     requires below { IsLineBelow (length live.old.names) (line_of line.now) }
+    requires few { length live.old.names ≤ 65536 }
     requires calls { calls_in live.old < 1048576 }
     ensures names { live.new.names ≡ live.old.names }
     ensures calls { OnOk result (calls_in live.new ≡ calls_in live.old + 1) }
@@ -53,6 +54,7 @@ fn judge(
     line: &Line,
 ) -> Result<(), AllocError>
     requires below { IsLineBelow (length live.old.names) (line_of line.now) }
+    requires few { length live.old.names ≤ 65536 }
     requires calls { calls_in live.old < 1048576 }
     ensures names { live.new.names ≡ live.old.names }
     ensures calls { OnOk result (calls_in live.new ≤ calls_in live.old + 1) }

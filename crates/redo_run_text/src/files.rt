@@ -1,4 +1,4 @@
-ghost use Rattle.std.specs.Prelude.{◌≡◌, ◌↔◌, ℕ, ◌<◌, false, [], length, map, IfOk, IfErr, IsErrAnd, OnErr};
+ghost use Rattle.std.specs.Prelude.{◌≡◌, ◌↔◌, ℕ, ◌<◌, ◌≤◌, false, [], length, map, IfOk, IfErr, IsErrAnd, OnOk, OnErr};
 ghost use Rattle.redo_names.specs.Inside.Names.{Extends};
 ghost use Rattle.redo_terms.specs.Inside.Meaning.{item_at};
 ghost use Rattle.redo_whole.specs.Watched.{failures_of, has_failed};
@@ -52,9 +52,11 @@ fn read_file<R: Read>(
     file: &mut Watched<R>,
     names: &mut Names,
 ) -> Result<Script, Fault>
+    requires few { length names.old ≤ 65536 }
     ensures accepted { IfOk result (λ script. IsAccepted names.old
         (known_in R.remaining file.old) (map (item_at names.new) script) names.new) }
     ensures below { IfOk result (IsScriptBelow names.new) }
+    ensures few { OnOk result (length names.new ≤ 65536) }
     ensures kept { Extends names.old names.new }
     ensures cause { IfErr result (IsFileCause names.old
         (known_in R.remaining file.old) (has_failed file.old file.new) at) }
@@ -84,6 +86,7 @@ pub fn read_files<R: Read>(
     ensures accepted { IfOk result (λ scripts. AreAccepted []
         (bytes_of_files R.remaining files.old) (scripts_at names.new scripts.items) names.new) }
     ensures below { IfOk result (λ scripts. AreScriptsBelow names.new scripts.items) }
+    ensures few { OnOk result (length names.new ≤ 65536) }
 
     // Each fault has its cause; without a file there is none.
     ensures cause { IfErr result (IsRunCause

@@ -45,7 +45,7 @@ module _ (names : List Text) (scripts : List (List (Item Text))) (few : length s
       (all_map (λ (line : Line Text). line.command) (IsAsked names) lines each) in
       let less = few_known names (flat_map names_in commands) known in
       let met = with_names [] (flat_map names_in commands) in
-      let named : AddsNames [] commands met = (refl, omega arith) in
+      let named : AddsNames 65536 [] commands met = (refl, omega arith) in
       let is = legal_history_reads_back lines met rest run.legal said (omega arith) named in
       (met, lines, is, run.legal)
 

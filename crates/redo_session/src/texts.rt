@@ -51,7 +51,8 @@ fn text_of_scripts<T: Threads + Wait + Sync>(
     scripts: Vec<Script>,
     names: Names,
 ) -> Result<Vec<u8>, Fault>
-    requires { AreScriptsBelow names scripts.items }
+    requires below { AreScriptsBelow names scripts.items }
+    requires few_names { length names ≤ 65536 }
     ensures text { IfOk result (λ text. IsRunText (scripts_at names scripts.items) text.items) }
     ensures few { OnOk result (length scripts.items ≤ 64) }
     ensures none { IsErrOf result Fault.NoSession ↔ (length scripts.items ≡ 0) }

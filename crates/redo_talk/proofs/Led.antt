@@ -98,7 +98,7 @@ module _ (before : List (Line Text)) (old new : Known) (round : Round) (led : Le
       text = step.text;
       asks = step.asks;
       says = step.says;
-      few_names = subst (λ ns. length ns ≤ 65536) (answering_names step) step.few_names;
+      few_names = subst (λ ns. length ns ≤ 16777216) (answering_names step) step.few_names;
       answers = answering_answers step;
       lines_are = step.lines_are;
       said_is = step.said_is;

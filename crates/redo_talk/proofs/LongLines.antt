@@ -56,7 +56,8 @@ fault_of_more names text more word long (inl (fault, other, is, e)) =
     inl (
       fault,
       (λ same. absurd (omega (arith, ap length same))),
-      asked_when_long names (text ++ more) longer ∙ sym (asked_when_long names text long) ∙ is,
+      asked_when_long 16777216 names (text ++ more) longer
+          ∙ sym (asked_when_long 16777216 names text long) ∙ is,
       e,
     )
 fault_of_more names text more word long (inr want) = inr want

@@ -42,7 +42,7 @@ pub command_cause : (live : LiveState) (text : Text) (why : Why)
 command_cause live text Memory none cause = tt
 command_cause live text Worn none cause = tt
 command_cause live text (Fault fault) none cause =
-    asked_of_command live.names text none ∙ cause
+    asked_of_command 16777216 live.names text none ∙ cause
 
 module _ (old : LiveState) (heard : Text) (session : ℕ) where
   pub answered_round : (new : LiveState) (text said said' logged logged' : Text)

@@ -32,7 +32,7 @@ pub record IsAnswered (before : List (Line Text)) (round : Round) : Type 0 where
   pub text : Text
   pub asks : Asks round.heard line.session text
   pub says : IsCommandLine text line.command
-  pub few_names : length (names_after (before ++ line ∷ [])) ≤ 65536
+  pub few_names : length (names_after (before ++ line ∷ [])) ≤ 16777216
   pub answers : Answers texts (left_by texts empty before) line.session line.command line.reply
   pub lines_are : round.lines ≡ line ∷ []
   pub said_is : round.said ≡ line_text_of line
@@ -73,7 +73,7 @@ HasNoSession heard = (s : ℕ) (text : Text) → ¬ (Asks heard s text)
 -- the word of the first fault of a text that is no end, or of running out of memory or of counters
 abbrev pub IsFaultWord : List Text → Text → Text → Type 0
 IsFaultWord names text word =
-    ((fault : LineFault) × (text ≢ end_word) × (asked_fault names text ≡ Some fault)
+    ((fault : LineFault) × (text ≢ end_word) × (asked_fault 16777216 names text ≡ Some fault)
     × (word ≡ fault_word_of fault))
     ⊎ ((word ≡ codes "memory") ⊎ (word ≡ codes "worn"))
 

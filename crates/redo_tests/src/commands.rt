@@ -1,8 +1,9 @@
 //! Commands that are read: each is the same as a copy of it, and as no other.
-use redo_names::Names;
+use redo_names::{MOST_NAMES, Names};
 use redo_terms::Command;
 use redo_text::read_command;
 use std::alloc::Global;
+use std::process::Abort;
 use std::test::Fail;
 
 /// Commands that differ: in the kind, in the target, in a name of the list, or in the stamp.
@@ -46,10 +47,11 @@ fn is_alone(commands: &[Command], place: usize, one: &Command) -> bool {
 }
 
 /// The commands of these texts.
-fn read(alloc: Global, names: &mut Names) -> Result<Vec<Command>, Fail> {
+fn read(rt: &impl Abort, alloc: Global, names: &mut Names) -> Result<Vec<Command>, Fail> {
     let mut commands = Vec::new(alloc);
     for text in TEXTS {
-        commands.push(read_command(alloc, text.as_bytes(), names)?)?;
+        assert!(rt; names.len() <= MOST_NAMES);
+        commands.push(read_command(alloc, text.as_bytes(), names, MOST_NAMES)?)?;
     }
     Ok(commands)
 }
@@ -58,7 +60,7 @@ fn read(alloc: Global, names: &mut Names) -> Result<Vec<Command>, Fail> {
 fn same(rt: HostRuntime) -> Result<(), Fail> {
     let alloc = rt.alloc();
     let mut names = Names::new(alloc);
-    let commands = read(alloc, &mut names)?;
+    let commands = read(&rt, alloc, &mut names)?;
     for (place, command) in commands.iter().enumerate() {
         let copy = command.copy(alloc)?;
         assert!(rt; is_alone(&commands, place, &copy), "command {place}");

@@ -1,6 +1,6 @@
 //! Lines of histories, printed and cut.
 use redo_history::{cut_at, cut_at_arrow, cut_at_space, put_line, session_of};
-use redo_names::Names;
+use redo_names::{MOST_NAMES, Names};
 use redo_terms::{Line, Reply};
 use redo_text::read_command;
 use std::test::Fail;
@@ -10,7 +10,7 @@ fn written(rt: HostRuntime) -> Result<(), Fail> {
     let alloc = rt.alloc();
     let mut text = Vec::from_slice(alloc, b">")?;
     let mut names = Names::new(alloc);
-    let command = read_command(alloc, b"lock a", &mut names)?;
+    let command = read_command(alloc, b"lock a", &mut names, MOST_NAMES)?;
     let line = Line {
         session: 11,
         command,

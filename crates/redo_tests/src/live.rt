@@ -64,14 +64,23 @@ const COMMON_PATH: &[Step] = &[
     (0, Answer("ood"), Said("1 ood => ood a.o\n")),
 ];
 
-/// A command whose names don't fit is a fault, and makes no name known. Nor does one whose answer is over the limit.
-const TOO_MANY_NAMES: &[Step] = &[
-    (0, Gone(65_535), Nothing),
-    (0, Within("lock c", 0), TooLong(22)),
-    (0, Answer("ifchange a b"), Fault(LineFault::TooManyNames)),
-    (0, Answer("gone a"), Said("1 gone a => ok\n")),
-    (0, Answer("gone b"), Fault(LineFault::TooManyNames)),
+/// More names than a run takes are known, and stay so as more become known.
+const MANY_NAMES: &[Step] = &[
+    (0, Gone(65_536), Nothing),
+    (0, Within("lock a", 0), TooLong(22)),
     (1, Answer("lock a"), Logged("2 lock a => granted 1\n")),
+    (
+        0,
+        Answer("ifchange n0 a"),
+        Said("1 ifchange n0 a => refused not-building\n"),
+    ),
+    (0, Gone(81_921), Nothing),
+    (0, Answer("lock a"), Said("1 lock a => busy 1\n")),
+    (
+        0,
+        Answer("lock n81920"),
+        Logged("1 lock n81920 => granted 1\n"),
+    ),
 ];
 
 /// A line that is no command is a fault, and has no answer.
@@ -285,7 +294,7 @@ fn check_steps(rt: &impl Abort, alloc: Global, steps: &[Step]) -> Result<(), All
 fn steps(rt: HostRuntime) -> Result<(), AllocError> {
     for steps in [
         COMMON_PATH,
-        TOO_MANY_NAMES,
+        MANY_NAMES,
         FAULTS,
         ENDS,
         TOO_LONG,

@@ -1,13 +1,23 @@
 //! Names and their numbers.
-use redo_names::{Names, NamesFault, Turn, is_name};
+use redo_names::{MOST_NAMES, Names, NamesFault, Turn, is_name};
 use std::alloc::Global;
 use std::cmp::Ordering;
 use std::process::Abort;
 
+/// Adds the name with this text, if there are fewer than so many.
+fn add_within(
+    rt: &impl Abort,
+    names: &mut Names,
+    text: &str,
+    most: u32,
+) -> Result<u32, NamesFault> {
+    assert!(rt; is_name(text.as_bytes()));
+    names.add(text.as_bytes(), most)
+}
+
 /// Adds the name with this text.
 fn add(rt: &impl Abort, names: &mut Names, text: &str) -> Result<u32, NamesFault> {
-    assert!(rt; is_name(text.as_bytes()));
-    names.add(text.as_bytes())
+    add_within(rt, names, text, MOST_NAMES)
 }
 
 fn check_order(rt: &impl Abort, names: &Names, first: u32, second: u32, want: Ordering) {
@@ -84,7 +94,7 @@ fn add_number(
     add(rt, names, &format!(in alloc; "n{number}")?)
 }
 
-/// There are at most 65,536 names. One more is a fault, and the others keep their numbers.
+/// At the limit of a run one more name is a fault, and the others keep their numbers.
 fn check_full(rt: &impl Abort, alloc: Global, names: &mut Names) -> Result<(), NamesFault> {
     for number in 0..65536 {
         assert!(rt; add_number(rt, alloc, names, number)? == number);
@@ -96,6 +106,24 @@ fn check_full(rt: &impl Abort, alloc: Global, names: &mut Names) -> Result<(), N
     }
     assert!(rt; names.len() == 65536);
     Ok(())
+}
+
+/// Only two names are allowed: a third is a fault, and the two are still found.
+fn check_two(rt: &impl Abort, names: &mut Names) -> Result<(), NamesFault> {
+    for (text, want) in [("a", 0), ("b", 1), ("a", 0)] {
+        assert!(rt; add_within(rt, names, text, 2)? == want);
+    }
+    let one_more = add_within(rt, names, "c", 2);
+    assert!(rt; matches!(one_more, Err(NamesFault::Full)));
+    assert!(rt; add_within(rt, names, "b", 1)? == 1);
+    assert!(rt; add_within(rt, names, "c", 3)? == 2);
+    Ok(())
+}
+
+#[test]
+fn two_names(rt: HostRuntime) -> Result<(), NamesFault> {
+    let mut names = Names::new(rt.alloc());
+    check_two(&rt, &mut names)
 }
 
 #[test]

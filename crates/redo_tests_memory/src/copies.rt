@@ -4,13 +4,11 @@ ghost use Rattle.std.specs.Prelude.{length};
 ghost use Rattle.redo_model.specs.Renaming.{IsBelow, IsReplyBelow};
 ghost use Rattle.redo_terms.specs.Meaning.{command_of, reply_of};
 
+use crate::reading::{read_command, read_reply, read_script};
 use crate::told::again;
 use redo_names::Names;
 use redo_terms::{Command, Item, Kind, Reply, Script};
-use redo_text::{
-    ReadFault, ReplyFault, command_text, line_text, read_command, read_reply, read_script,
-    reply_text,
-};
+use redo_text::{ReadFault, ReplyFault, command_text, line_text, reply_text};
 use std::alloc::{AllocError, Global};
 use std::process::Abort;
 use std::test::Fail;

@@ -16,6 +16,8 @@ mod lines;
 #[cfg(test)]
 mod names;
 #[cfg(test)]
+mod reading;
+#[cfg(test)]
 mod runs;
 #[cfg(test)]
 mod stores;

@@ -3,10 +3,11 @@ ghost use Rattle.std.specs.Prelude.{◌≡◌, length, IfOk, OnOk};
 ghost use Rattle.redo_model.specs.Renaming.{IsBelow, IsReplyBelow};
 ghost use Rattle.redo_terms.specs.Meaning.{command_of, reply_of};
 
+use crate::reading::read_command;
 use crate::told::again;
-use redo_names::{Names, NamesFault, is_name};
+use redo_names::{MOST_NAMES, Names, NamesFault, is_name};
 use redo_terms::{Command, Reply};
-use redo_text::{ReadFault, read_command, reply_text};
+use redo_text::{ReadFault, reply_text};
 use std::alloc::{AllocError, Global};
 use std::process::Abort;
 use std::test::Fail;
@@ -103,7 +104,7 @@ fn add_names(
 {
     for text in texts {
         assert!(rt; is_name(text.as_bytes()));
-        again!(rt, alloc, NamesFault::Memory, names.add(text.as_bytes()));
+        again!(rt, alloc, NamesFault::Memory, names.add(text.as_bytes(), MOST_NAMES));
     }
     assert!(rt; names.len() == 2);
     Ok(())

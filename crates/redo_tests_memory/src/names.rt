@@ -1,6 +1,6 @@
 //! Names are added, and found by their texts.
 use crate::told::again;
-use redo_names::{Names, NamesFault, is_name};
+use redo_names::{MOST_NAMES, Names, NamesFault, is_name};
 use std::alloc::Global;
 use std::process::Abort;
 
@@ -31,7 +31,7 @@ fn check_added(
         rt,
         alloc,
         NamesFault::Memory,
-        names.add(&text),
+        names.add(&text, MOST_NAMES),
         is_none_of(names, want, &text)
     );
     assert!(rt; got == want);

@@ -28,13 +28,13 @@ abbrev names_read : List Text → Result (List Text) LineFault
 names_read names = Ok names
 
 -- adding gives the names with this one, which are not too many
-pub added_is : (names : List Text) (t : Text) (after : List Text) → length names ≤ 65536
-    → added names t ≡ Ok after → (after ≡ with_name names t) × (length after ≤ 65536)
-added_is names t after few e = by (has names t) (eqb (length names) 65536) refl e
+pub added_is : {most : ℕ} (names : List Text) (t : Text) (after : List Text) → length names ≤ most
+    → added most names t ≡ Ok after → (after ≡ with_name names t) × (length after ≤ most)
+added_is {most} names t after few e = by (has names t) (eqb (length names) most) refl e
   where
-    by : (b d : Bool) → eqb (length names) 65536 ≡ d
+    by : (b d : Bool) → eqb (length names) most ≡ d
         → cond b (Ok names) (cond d (Err TooManyNames) (Ok (names ++ t ∷ []))) ≡ Ok after
-        → (after ≡ cond b names (names ++ t ∷ [])) × (length after ≤ 65536)
+        → (after ≡ cond b names (names ++ t ∷ [])) × (length after ≤ most)
     by true d full h =
         let same : names ≡ after = same_given names after h in
         (sym same, omega (arith, ap length same))
@@ -46,11 +46,12 @@ added_is names t after few e = by (has names t) (eqb (length names) 65536) refl 
         (sym same, grind (arith, nat_tests, len, full, few))
 
 -- if the names with this one are not too many, it is added
-pub added_fits : (names : List Text) (t : Text) (after : List Text) → after ≡ with_name names t
-    → length after ≤ 65536 → added names t ≡ Ok after
-added_fits names t after e few = by (has names t) (eqb (length names) 65536) refl e
+pub added_fits : {most : ℕ} (names : List Text) (t : Text) (after : List Text)
+    → after ≡ with_name names t
+    → length after ≤ most → added most names t ≡ Ok after
+added_fits {most} names t after e few = by (has names t) (eqb (length names) most) refl e
   where
-    by : (b d : Bool) → eqb (length names) 65536 ≡ d → after ≡ cond b names (names ++ t ∷ [])
+    by : (b d : Bool) → eqb (length names) most ≡ d → after ≡ cond b names (names ++ t ∷ [])
         → cond b (Ok names) (cond d (Err TooManyNames) (Ok (names ++ t ∷ []))) ≡ Ok after
     by true d full h = ap names_read (sym h)
     by false true full h =
@@ -59,17 +60,19 @@ added_fits names t after e few = by (has names t) (eqb (length names) 65536) ref
     by false false full h = ap names_read (sym h)
 
 -- the same for the names of a command with one name
-pub one_added : (names : List Text) (t : Text) (command : commands.Command Text) (after : List Text)
-    → length names ≤ 65536 → commands.names_in command ≡ t ∷ [] → added names t ≡ Ok after
-    → AddsNames names (command ∷ []) after
-one_added names t command after few own e =
+pub one_added : {most : ℕ} (names : List Text) (t : Text) (command : commands.Command Text)
+    (after : List Text)
+    → length names ≤ most → commands.names_in command ≡ t ∷ [] → added most names t ≡ Ok after
+    → AddsNames most names (command ∷ []) after
+one_added {most} names t command after few own e =
     let is = added_is names t after few e in
     (is.0 ∙ ap (λ (ts : List Text). with_names names (ts ++ [])) (sym own), is.1)
 
-pub one_fits : (names : List Text) (t : Text) (command : commands.Command Text) (after : List Text)
-    → commands.names_in command ≡ t ∷ [] → AddsNames names (command ∷ []) after
-    → added names t ≡ Ok after
-one_fits names t command after own adds =
+pub one_fits : {most : ℕ} (names : List Text) (t : Text) (command : commands.Command Text)
+    (after : List Text)
+    → commands.names_in command ≡ t ∷ [] → AddsNames most names (command ∷ []) after
+    → added most names t ≡ Ok after
+one_fits {most} names t command after own adds =
     added_fits names t after
     (adds.0 ∙ ap (λ (ts : List Text). with_names names (ts ++ [])) own) adds.1
 

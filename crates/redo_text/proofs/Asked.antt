@@ -46,32 +46,32 @@ or_asked : (b : Bool) (fault : LineFault) (qs : List Question)
 or_asked true fault qs = refl
 or_asked false fault qs = refl
 
-asked_full : (names ts : List Text)
-    → fault_in (all_added names ts) ≡ first_yes ((is_full names ts, TooManyNames) ∷ [])
+asked_full : (most : ℕ) (names ts : List Text)
+    → fault_in (all_added most names ts) ≡ first_yes ((is_full most names ts, TooManyNames) ∷ [])
 unfolding all_added
-asked_full names ts = by (leb (length (with_names names ts)) 65536) refl
+asked_full most names ts = by (leb (length (with_names names ts)) most) refl
   where
-    by : (b : Bool) → leb (length (with_names names ts)) 65536 ≡ b
+    by : (b : Bool) → leb (length (with_names names ts)) most ≡ b
         → fault_in (cond b (Ok (with_names names ts)) (Err TooManyNames))
-        ≡ cond (ltb 65536 (length (with_names names ts))) (Some TooManyNames) None
+        ≡ cond (ltb most (length (with_names names ts))) (Some TooManyNames) None
     by true room =
-        let test : ltb 65536 (length (with_names names ts)) ≡ false =
+        let test : ltb most (length (with_names names ts)) ≡ false =
         grind (arith, nat_tests, room) in
         rw test refl
     by false room =
-        let test : ltb 65536 (length (with_names names ts)) ≡ true =
+        let test : ltb most (length (with_names names ts)) ≡ true =
         grind (arith, nat_tests, room) in
         rw test refl
 
-asked_one : (names : List Text) (t : Text) → length names ≤ 65536
-    → fault_in (added names t) ≡ first_yes ((is_full names (t ∷ []), TooManyNames) ∷ [])
-asked_one names t few = ap fault_in (sym (one_all_added names t few)) ∙ asked_full names (t ∷ [])
+asked_one : {most : ℕ} (names : List Text) (t : Text) → length names ≤ most
+    → fault_in (added most names t) ≡ first_yes ((is_full most names (t ∷ []), TooManyNames) ∷ [])
+asked_one names t few = ap fault_in (sym (one_all_added names t few)) ∙ asked_full _ names (t ∷ [])
 
 -- another number of words
-another : (names : List Text) (kind : Kind) (args : List Text)
+another : (most : ℕ) (names : List Text) (kind : Kind) (args : List Text)
     → (length args ≡ length (wanted kind args) → ⊥)
-    → Some WrongWords ≡ first_yes (form_questions names (Some kind) args)
-another names kind args other =
+    → Some WrongWords ≡ first_yes (form_questions most names (Some kind) args)
+another most names kind args other =
     let e : eqb (length args) (length (wanted kind args)) ≡ false = ne_eqb _ _ other in
     rw e refl
 
@@ -84,63 +84,65 @@ added_last (Err fault) command = refl
 abbrev words_read : Text × List Text → Result (Text × List Text) LineFault
 words_read x = Ok x
 
-asked_name : (form : Text → Command Text) (names args : List Text) → length names ≤ 65536
-    → fault_in (one_name_in form names args)
-    ≡ first_yes (form_questions names (Some kinds.Gone) args)
+asked_name : {most : ℕ} (form : Text → Command Text) (names args : List Text) → length names ≤ most
+    → fault_in (one_name_in most form names args)
+    ≡ first_yes (form_questions most names (Some kinds.Gone) args)
 unfolding one_name_in
-asked_name form names [] few = refl
-asked_name form names (n ∷ []) few = by (is_name n)
+asked_name {most} form names [] few = refl
+asked_name {most} form names (n ∷ []) few = by (is_name n)
   where
     by : (b : Bool)
         → fault_in (cond b (Ok n) (Err BadName)
-        >>= λ name. added names name >>= λ after. read (form name, after))
-        ≡ first_yes ((not b, BadName) ∷ (is_full names (n ∷ []), TooManyNames) ∷ [])
-    by true = added_last (added names n) (form n) ∙ asked_one names n few
+        >>= λ name. added most names name >>= λ after. read (form name, after))
+        ≡ first_yes ((not b, BadName) ∷ (is_full most names (n ∷ []), TooManyNames) ∷ [])
+    by true = added_last (added most names n) (form n) ∙ asked_one names n few
     by false = refl
-asked_name form names (n ∷ w ∷ ws) few =
-    another names kinds.Gone (n ∷ w ∷ ws) (λ e. absurd (omega (arith, e)))
+asked_name {most} form names (n ∷ w ∷ ws) few =
+    another _ names kinds.Gone (n ∷ w ∷ ws) (λ e. absurd (omega (arith, e)))
 
-asked_file : (names args : List Text) → length names ≤ 65536
-    → fault_in (file_in names args) ≡ first_yes (form_questions names (Some kinds.File) args)
+asked_file : {most : ℕ} (names args : List Text) → length names ≤ most
+    → fault_in (file_in most names args)
+    ≡ first_yes (form_questions most names (Some kinds.File) args)
 unfolding file_in
-asked_file names [] few = refl
-asked_file names (n ∷ []) few = refl
-asked_file names (n ∷ s ∷ []) few = by (is_name n) (is_stamp s)
+asked_file {most} names [] few = refl
+asked_file {most} names (n ∷ []) few = refl
+asked_file {most} names (n ∷ s ∷ []) few = by (is_name n) (is_stamp s)
   where
     by : (b d : Bool)
         → fault_in (cond b (Ok n) (Err BadName) >>= λ name. cond d (Ok s) (Err BadStamp)
-        >>= λ stamp. added names name >>= λ after. read (File name stamp, after))
+        >>= λ stamp. added most names name >>= λ after. read (File name stamp, after))
         ≡ first_yes ((not b, BadName) ∷ (not d, BadStamp)
-        ∷ (is_full names (n ∷ []), TooManyNames) ∷ [])
-    by true true = added_last (added names n) (File n s) ∙ asked_one names n few
+        ∷ (is_full most names (n ∷ []), TooManyNames) ∷ [])
+    by true true = added_last (added most names n) (File n s) ∙ asked_one names n few
     by true false = refl
     by false d = refl
-asked_file names (n ∷ s ∷ w ∷ ws) few =
-    another names kinds.File (n ∷ s ∷ w ∷ ws) (λ e. absurd (omega (arith, e)))
+asked_file {most} names (n ∷ s ∷ w ∷ ws) few =
+    another _ names kinds.File (n ∷ s ∷ w ∷ ws) (λ e. absurd (omega (arith, e)))
 
-asked_done : (names args : List Text) → length names ≤ 65536
-    → fault_in (done_in names args) ≡ first_yes (form_questions names (Some kinds.Done) args)
+asked_done : {most : ℕ} (names args : List Text) → length names ≤ most
+    → fault_in (done_in most names args)
+    ≡ first_yes (form_questions most names (Some kinds.Done) args)
 unfolding done_in
-asked_done names [] few = refl
-asked_done names (n ∷ []) few = refl
-asked_done names (n ∷ s ∷ []) few = by (is_name n) (bytes_eq s (codes "-")) (is_stamp s)
+asked_done {most} names [] few = refl
+asked_done {most} names (n ∷ []) few = refl
+asked_done {most} names (n ∷ s ∷ []) few = by (is_name n) (bytes_eq s (codes "-")) (is_stamp s)
   where
-    last : (stamp : Option Text) → fault_in (added names n >>= λ after. read (Done n stamp, after))
-        ≡ first_yes ((is_full names (n ∷ []), TooManyNames) ∷ [])
-    last stamp = added_last (added names n) (Done n stamp) ∙ asked_one names n few
+    last : (w : Option Text) → fault_in (added most names n >>= λ after. read (Done n w, after))
+        ≡ first_yes ((is_full most names (n ∷ []), TooManyNames) ∷ [])
+    last w = added_last (added most names n) (Done n w) ∙ asked_one names n few
 
     by : (b dash d : Bool)
         → fault_in (cond b (Ok n) (Err BadName)
         >>= λ name. cond dash (Ok None) (cond d (Ok s) (Err BadStamp) >>= λ x. Ok (Some x))
-        >>= λ stamp. added names name >>= λ after. read (Done name stamp, after))
+        >>= λ stamp. added most names name >>= λ after. read (Done name stamp, after))
         ≡ first_yes ((not b, BadName) ∷ (not (dash || d), BadStamp)
-        ∷ (is_full names (n ∷ []), TooManyNames) ∷ [])
+        ∷ (is_full most names (n ∷ []), TooManyNames) ∷ [])
     by true true d = last None
     by true false true = last (Some s)
     by true false false = refl
     by false dash d = refl
-asked_done names (n ∷ s ∷ w ∷ ws) few =
-    another names kinds.Done (n ∷ s ∷ w ∷ ws) (λ e. absurd (omega (arith, e)))
+asked_done {most} names (n ∷ s ∷ w ∷ ws) few =
+    another _ names kinds.Done (n ∷ s ∷ w ∷ ws) (λ e. absurd (omega (arith, e)))
 
 -- no digits
 none_are_digits : (c : Text) → length c ≡ 0 → are_digits c ≡ false
@@ -185,34 +187,35 @@ asked_content c = by (bytes_eq c (codes "-")) (decode_of c) refl
     by false (Ok (b ∷ bs)) is = test true (decoded_are_digits c (b ∷ bs) is (omega arith))
     by false (Err fault) is = test false (undecoded c fault is)
 
-asked_stamp : (names args : List Text) → length names ≤ 65536
-    → fault_in (stamp_in names args) ≡ first_yes (form_questions names (Some kinds.Stamp) args)
+asked_stamp : {most : ℕ} (names args : List Text) → length names ≤ most
+    → fault_in (stamp_in most names args)
+    ≡ first_yes (form_questions most names (Some kinds.Stamp) args)
 unfolding stamp_in
-asked_stamp names [] few = refl
-asked_stamp names (n ∷ []) few = refl
-asked_stamp names (n ∷ c ∷ []) few = by (is_name n)
+asked_stamp {most} names [] few = refl
+asked_stamp {most} names (n ∷ []) few = refl
+asked_stamp {most} names (n ∷ c ∷ []) few = by (is_name n)
   where
     last : List Question
-    last = (is_full names (n ∷ []), TooManyNames) ∷ []
+    last = (is_full most names (n ∷ []), TooManyNames) ∷ []
 
     wrong : Bool
     wrong = not (is_it some_content c)
 
     by : (b : Bool)
         → fault_in (cond b (Ok n) (Err BadName) >>= λ name. content_in c
-        >>= λ content. added names name >>= λ after. read (Stamp name content, after))
+        >>= λ content. added most names name >>= λ after. read (Stamp name content, after))
         ≡ first_yes ((not b, BadName) ∷ (wrong, BadHex) ∷ last)
     by true =
         fault_then (content_in c)
-        (λ content. added names n >>= λ after. read (Stamp n content, after))
+        (λ content. added most names n >>= λ after. read (Stamp n content, after))
         (first_yes last)
-        (λ content. added_last (added names n) (Stamp n content)
+        (λ content. added_last (added most names n) (Stamp n content)
         ∙ asked_one names n few)
         ∙ ap (λ (o : Option LineFault). or_else o (first_yes last)) (asked_content c)
         ∙ or_asked wrong BadHex last
     by false = refl
-asked_stamp names (n ∷ c ∷ w ∷ ws) few =
-    another names kinds.Stamp (n ∷ c ∷ w ∷ ws) (λ e. absurd (omega (arith, e)))
+asked_stamp {most} names (n ∷ c ∷ w ∷ ws) few =
+    another _ names kinds.Stamp (n ∷ c ∷ w ∷ ws) (λ e. absurd (omega (arith, e)))
 
 abbrev all_names_wanted : List Text → List Wanted
 all_names_wanted words = map (λ word. a_name) words
@@ -236,18 +239,18 @@ own_names : (ws : List Text) → ws ≡ names_among (all_names_wanted ws) ws
 own_names [] = refl
 own_names (w ∷ ws) = ap (λ (others : List Text). w ∷ others) (own_names ws)
 
-asked_list : (form : Text → List Text → Command Text) (names args : List Text)
-    → length names ≤ 65536
-    → fault_in (names_form_in form names args)
-    ≡ first_yes (form_questions names (Some kinds.IfChange) args)
+asked_list : {most : ℕ} (form : Text → List Text → Command Text) (names args : List Text)
+    → length names ≤ most
+    → fault_in (names_form_in most form names args)
+    ≡ first_yes (form_questions most names (Some kinds.IfChange) args)
 unfolding names_form_in target_and_names_in
-asked_list form names [] few = refl
-asked_list form names (t ∷ []) few = refl
-asked_list form names (t ∷ n ∷ ns) few =
+asked_list {most} form names [] few = refl
+asked_list {most} form names (t ∷ []) few = refl
+asked_list {most} form names (t ∷ n ∷ ns) few =
     let all = t ∷ n ∷ ns in
     let count : eqb (length all) (length (all_names_wanted all)) ≡ true =
     eq-eqb _ _ (sym (length-map all (λ (w : Text). a_name))) in
-    let full = λ (own : List Text). (is_full names own, TooManyNames) ∷ [] in
+    let full = λ (own : List Text). (is_full most names own, TooManyNames) ∷ [] in
     let words = λ (o : Option LineFault). cond (ltb 64 (length (n ∷ ns))) (Some TooManyNames) o in
     by (ltb 64 (length (n ∷ ns))) (list_all is_name all)
     ∙ ap words (asked_names all (full all)
@@ -260,59 +263,59 @@ asked_list form names (t ∷ n ∷ ns) few =
     by : (many good : Bool)
         → fault_in
         (cond many (Err TooManyNames) (cond (not good) (Err BadName) (words_read (t, n ∷ ns)))
-        >>= λ x. all_added names (x.0 ∷ x.1) >>= λ after. read (form x.0 x.1, after))
+        >>= λ x. all_added most names (x.0 ∷ x.1) >>= λ after. read (form x.0 x.1, after))
         ≡ cond many (Some TooManyNames) (cond (not good) (Some BadName)
-        (first_yes ((is_full names (t ∷ n ∷ ns), TooManyNames) ∷ [])))
+        (first_yes ((is_full most names (t ∷ n ∷ ns), TooManyNames) ∷ [])))
     by true good = refl
     by false false = refl
     by false true =
-        added_last (all_added names (t ∷ n ∷ ns)) (form t (n ∷ ns))
-        ∙ asked_full names (t ∷ n ∷ ns)
+        added_last (all_added most names (t ∷ n ∷ ns)) (form t (n ∷ ns))
+        ∙ asked_full _ names (t ∷ n ∷ ns)
 
-asked_alone : (form : Command Text) (names args : List Text) → length names ≤ 65536
+asked_alone : {most : ℕ} (form : Command Text) (names args : List Text) → length names ≤ most
     → fault_in (no_words_in form names args)
-    ≡ first_yes (form_questions names (Some kinds.Ood) args)
+    ≡ first_yes (form_questions most names (Some kinds.Ood) args)
 unfolding no_words_in
-asked_alone form names [] few = sym (ap fault_in (none_added names few)) ∙ asked_full names []
-asked_alone form names (w ∷ ws) few =
-    another names kinds.Ood (w ∷ ws) (λ e. absurd (omega (arith, e)))
+asked_alone form names [] few = sym (ap fault_in (none_added names few)) ∙ asked_full _ names []
+asked_alone {most} form names (w ∷ ws) few =
+    another _ names kinds.Ood (w ∷ ws) (λ e. absurd (omega (arith, e)))
 
-asked_form : (kind : Option Kind) (names args : List Text) → length names ≤ 65536
-    → fault_in (form_in kind names args) ≡ first_yes (form_questions names kind args)
+asked_form : {most : ℕ} (kind : Option Kind) (names args : List Text) → length names ≤ most
+    → fault_in (form_in most kind names args) ≡ first_yes (form_questions most names kind args)
 unfolding form_in
-asked_form None names args few = refl
-asked_form (Some kinds.File) names args few = asked_file names args few
-asked_form (Some kinds.Gone) names args few = asked_name Gone names args few
-asked_form (Some kinds.Lock) names args few = asked_name Lock names args few
-asked_form (Some kinds.Unlock) names args few = asked_name Unlock names args few
-asked_form (Some kinds.Start) names args few = asked_name Start names args few
-asked_form (Some kinds.IfChange) names args few = asked_list IfChange names args few
-asked_form (Some kinds.IfCreate) names args few = asked_list IfCreate names args few
-asked_form (Some kinds.Always) names args few = asked_name Always names args few
-asked_form (Some kinds.Stamp) names args few = asked_stamp names args few
-asked_form (Some kinds.Done) names args few = asked_done names args few
-asked_form (Some kinds.Failed) names args few = asked_name Failed names args few
-asked_form (Some kinds.Ood) names args few = asked_alone Ood names args few
-asked_form (Some kinds.Targets) names args few = asked_alone Targets names args few
-asked_form (Some kinds.Sources) names args few = asked_alone Sources names args few
+asked_form {most} None names args few = refl
+asked_form {most} (Some kinds.File) names args few = asked_file names args few
+asked_form {most} (Some kinds.Gone) names args few = asked_name Gone names args few
+asked_form {most} (Some kinds.Lock) names args few = asked_name Lock names args few
+asked_form {most} (Some kinds.Unlock) names args few = asked_name Unlock names args few
+asked_form {most} (Some kinds.Start) names args few = asked_name Start names args few
+asked_form {most} (Some kinds.IfChange) names args few = asked_list IfChange names args few
+asked_form {most} (Some kinds.IfCreate) names args few = asked_list IfCreate names args few
+asked_form {most} (Some kinds.Always) names args few = asked_name Always names args few
+asked_form {most} (Some kinds.Stamp) names args few = asked_stamp names args few
+asked_form {most} (Some kinds.Done) names args few = asked_done names args few
+asked_form {most} (Some kinds.Failed) names args few = asked_name Failed names args few
+asked_form {most} (Some kinds.Ood) names args few = asked_alone Ood names args few
+asked_form {most} (Some kinds.Targets) names args few = asked_alone Targets names args few
+asked_form {most} (Some kinds.Sources) names args few = asked_alone Sources names args few
 
-asked_words : (names words : List Text) → length names ≤ 65536
-    → fault_in (words_in names words) ≡ first_yes (word_list_questions names words)
+asked_words : {most : ℕ} (names words : List Text) → length names ≤ most
+    → fault_in (words_in most names words) ≡ first_yes (word_list_questions most names words)
 unfolding words_in
-asked_words names [] few = refl
-asked_words names (word ∷ args) few = asked_form (kind_named word) names args few
+asked_words {most} names [] few = refl
+asked_words {most} names (word ∷ args) few = asked_form (kind_named word) names args few
 
 -- the fault of a line is that of its reading
-pub asked_line : (names : List Text) (line : Text) → length names ≤ 65536
-    → fault_in (line_in names line) ≡ line_fault names line
+pub asked_line : {most : ℕ} (names : List Text) (line : Text) → length names ≤ most
+    → fault_in (line_in most names line) ≡ line_fault most names line
 unfolding line_in line_fault
-asked_line names line few = by (is_too_long line) (has_bad_byte line)
+asked_line {most} names line few = by (is_too_long line) (has_bad_byte line)
   where
     by : (long bad : Bool)
         → fault_in (cond long (Err LineTooLong)
-        (cond bad (Err BadByte) (words_in names (words_of line))))
+        (cond bad (Err BadByte) (words_in most names (words_of line))))
         ≡ cond long (Some LineTooLong) (cond bad (Some BadByte)
-        (first_yes (word_list_questions names (words_of line))))
+        (first_yes (word_list_questions most names (words_of line))))
     by true bad = refl
     by false true = refl
     by false false = asked_words names (words_of line) few
@@ -333,20 +336,21 @@ unfolding script_line_in file_line_fault
 asked_file_line count names line few =
     by (is_too_long line) (is_skipped line) (eqb count 4096) refl
   where
-    asked : List Question
-    asked = (has_bad_byte line, BadByte) ∷ word_list_questions names (words_of (unguarded line))
+    ask : List Question
+    ask = (has_bad_byte line, BadByte) ∷ word_list_questions 65536 names (words_of (unguarded line))
 
     by : (long skipped full : Bool) → is_too_long line ≡ long
         → fault_in (cond long (Err LineTooLong) (cond skipped (line_read (None, names))
-        (cond full (Err TooManyLines) (line_in names (unguarded line)
+        (cond full (Err TooManyLines) (line_in 65536 names (unguarded line)
         >>= λ x. line_read (Some (item_in line x.0), x.1)))))
         ≡ cond long (Some LineTooLong)
-        (first_yes (cond skipped [] ((full, TooManyLines) ∷ asked)))
+        (first_yes (cond skipped [] ((full, TooManyLines) ∷ ask)))
     by true skipped full short = refl
     by false true full short = refl
     by false false true short = refl
     by false false false short =
-        item_last line (line_in names (unguarded line)) ∙ asked_line names (unguarded line) few
+        item_last line (line_in 65536 names (unguarded line))
+        ∙ asked_line names (unguarded line) few
         ∙ asked_unguarded names line short
 
 pub succeeds : {A : Type 0} (r : Result A LineFault) → fault_in r ≡ None → (x : A) × (r ≡ Ok x)
@@ -366,16 +370,16 @@ last_no (question ∷ qs) b fault e =
     last_no qs b fault (later question (qs ++ (b, fault) ∷ []) e)
 
 -- if no answer is "yes", there are not too many names before
-pub few_before : (names : List Text) (line : Text) → line_fault names line ≡ None
-    → length names ≤ 65536
+pub few_before : {most : ℕ} (names : List Text) (line : Text) → line_fault most names line ≡ None
+    → length names ≤ most
 unfolding line_fault
-few_before names line e =
+few_before {most} names line e =
     by (words_of line)
-    (later (has_bad_byte line, BadByte) (word_list_questions names (words_of line))
-    (later (is_too_long line, LineTooLong) (text_questions names line) e))
+    (later (has_bad_byte line, BadByte) (word_list_questions most names (words_of line))
+    (later (is_too_long line, LineTooLong) (text_questions most names line) e))
   where
     of_kind : (kind : Option Kind) (words : List Text)
-        → first_yes (form_questions names kind words) ≡ None → length names ≤ 65536
+        → first_yes (form_questions most names kind words) ≡ None → length names ≤ most
     of_kind None words h = absurd cc
     of_kind (Some kind) words h =
         let own = names_among (wanted kind words) words in
@@ -383,13 +387,13 @@ few_before names line e =
         (not (eqb (length words) (length (wanted kind words))), WrongWords) in
         let many : Question = (ltb 64 (length (drop 1 words)), TooManyNames) in
         let rest : List Question =
-        word_questions (wanted kind words) words ++ (is_full names own, TooManyNames) ∷ [] in
+        word_questions (wanted kind words) words ++ (is_full most names own, TooManyNames) ∷ [] in
         let room =
-        last_no (word_questions (wanted kind words) words) (is_full names own) TooManyNames
+        last_no (word_questions (wanted kind words) words) (is_full most names own) TooManyNames
         (later many rest (later count (many ∷ rest) h)) in
         omega (arith, ltb-false _ _ room, with_names-longer names own)
 
-    by : (words : List Text) → first_yes (word_list_questions names words) ≡ None
-        → length names ≤ 65536
+    by : (words : List Text) → first_yes (word_list_questions most names words) ≡ None
+        → length names ≤ most
     by [] h = absurd cc
     by (word ∷ words) h = of_kind (kind_named word) words h

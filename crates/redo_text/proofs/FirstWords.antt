@@ -1,5 +1,5 @@
 -- A text by its first word.
-use Rattle.std.proofs.Common.{◌≡◌, ◌≢◌, List, [], ◌∷◌, length, Option, Some, None, Err, refl, sym, ap, ◌∙◌, arith, ◌==◌, Bor}
+use Rattle.std.proofs.Common.{◌≡◌, ◌≢◌, List, [], ◌∷◌, length, Option, Some, None, Err, refl, sym, ap, ◌∙◌, arith, ◌==◌, Bor, ℕ}
 use Rattle.std.specs.Prelude.{bytes_eq}
 use Rattle.std.proofs.lemmas.List.Splits.{length-slice_split}
 use Rattle.std.proofs.lemmas.Slice.Eq.{bytes_eq-Decides}
@@ -56,18 +56,18 @@ word_is word kind named =
     (found_passes (λ k. bytes_eq word (word_of k)) all_kinds kind named)
 
 -- a text by the kind that its first word names
-pub words_by_kind : (text word : Text) (args : List Text) (kind : Option Kind)
+pub words_by_kind : (most : ℕ) (text word : Text) (args : List Text) (kind : Option Kind)
     → words_of text ≡ word ∷ args → kind_named word ≡ kind → (names : List Text)
-    → words_in names (words_of text) ≡ form_in kind names args
+    → words_in most names (words_of text) ≡ form_in most kind names args
 unfolding words_in
-words_by_kind text word args kind e named names =
-    ap (words_in names) e ∙ ap (λ (k : Option Kind). form_in k names args) named
+words_by_kind most text word args kind e named names =
+    ap (words_in most names) e ∙ ap (λ (k : Option Kind). form_in most k names args) named
 
-pub no_kind : (text word : Text) (args : List Text) → words_of text ≡ word ∷ args
+pub no_kind : (most : ℕ) (text word : Text) (args : List Text) → words_of text ≡ word ∷ args
     → kind_named word ≡ None → (names : List Text)
-    → words_in names (words_of text) ≡ Err UnknownCommand
+    → words_in most names (words_of text) ≡ Err UnknownCommand
 unfolding words_in form_in
-no_kind text word args e named names = words_by_kind text word args None e named names
+no_kind most text word args e named names = words_by_kind _ text word args None e named names
 
 -- the same for replies
 pub reply_word_is : (word : Text) (kind : ReplyKind) → reply_kind_named word ≡ Some kind

@@ -48,14 +48,14 @@ not_longer line =
 
 -- the questions about what follows a line's guard are those about the line
 pub asked_unguarded : (names : List Text) (line : Text) → is_too_long line ≡ false
-    → line_fault names (unguarded line) ≡ first_yes ((has_bad_byte line, BadByte)
-    ∷ word_list_questions names (words_of (unguarded line)))
+    → line_fault 65536 names (unguarded line) ≡ first_yes ((has_bad_byte line, BadByte)
+    ∷ word_list_questions 65536 names (words_of (unguarded line)))
 unfolding line_fault
 asked_unguarded names line short =
     let fits : is_too_long (unguarded line) ≡ false =
     le-ltb 8192 (length (unguarded line))
     (omega (arith, ltb-false 8192 (length line) short, not_longer line)) in
-    let words = word_list_questions names (words_of (unguarded line)) in
+    let words = word_list_questions 65536 names (words_of (unguarded line)) in
     λ i. cond (fits i) (Some LineTooLong) (first_yes ((same_bytes line i, BadByte) ∷ words))
 
 -- a command's line begins with none
@@ -73,8 +73,8 @@ guard_off false text none = (none, ap (λ (b : Bool). cond b (drop 2 text) text)
 -- what is read after a line's guard is what the line says
 pub item_found : (names : List Text) (line : Text) (command : Command Text) (after : List Text)
     → length names ≤ 65536 → length line ≤ 8192
-    → line_in names (unguarded line) ≡ Ok (command, after)
-    → IsItemLine line (item_in line command) × AddsNames names (command ∷ []) after
+    → line_in 65536 names (unguarded line) ≡ Ok (command, after)
+    → IsItemLine line (item_in line command) × AddsNames 65536 names (command ∷ []) after
 item_found names line command after few short e =
     let found = line_found names (unguarded line) command after few e in (
       record {
@@ -88,13 +88,14 @@ item_found names line command after few short e =
 
 -- what a line says is read after its guard
 pub item_only : (names : List Text) (line : Text) (item : Item Text) (after : List Text)
-    → length names ≤ 65536 → IsItemLine line item → AddsNames names (item.command ∷ []) after
-    → (line_in names (unguarded line) ≡ Ok (item.command, after))
+    → length names ≤ 65536 → IsItemLine line item → AddsNames 65536 names (item.command ∷ []) after
+    → (line_in 65536 names (unguarded line) ≡ Ok (item.command, after))
     × (item_in line item.command ≡ item)
 item_only names line item after few is adds =
     let off = guard_off item.guarded is.said (no_guard is.said item.command is.command.2) in
     let guarded : is_guarded line ≡ item.guarded = ap is_guarded is.guard ∙ off.0 in
     let said : unguarded line ≡ is.said = ap unguarded is.guard ∙ off.1 in (
-      ap (line_in names) said ∙ line_only names is.said item.command after few is.command adds,
+      ap (line_in 65536 names) said
+          ∙ line_only names is.said item.command after few is.command adds,
       λ i. record { guarded = guarded i; command = item.command },
     )

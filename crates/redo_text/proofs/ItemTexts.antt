@@ -53,7 +53,7 @@ one_line text good =
 
 pub line_reads_back : (names : List Text) (item : Item Text) (after : List Text)
     → HasForm item.command → IsShort (item_text_of item)
-    → AddsNames names (item.command ∷ []) after
+    → AddsNames 65536 names (item.command ∷ []) after
     → IsScript names (item_text_of item) (item ∷ []) after
 line_reads_back names item after form short adds =
     let text = item_text_of item in

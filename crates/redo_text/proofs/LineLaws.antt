@@ -22,18 +22,20 @@ abbrev is_bad : ℕ → Bool
 is_bad b = not (is_text_byte b)
 
 -- what is read is a command line, and its names are added
-pub line_found : (names : List Text) (line : Text) (command : Command Text) (after : List Text)
-    → length names ≤ 65536 → line_in names line ≡ Ok (command, after)
-    → IsCommandLine line command × AddsNames names (command ∷ []) after
+pub line_found : {most : ℕ} (names : List Text) (line : Text) (command : Command Text)
+    (after : List Text)
+    → length names ≤ most → line_in most names line ≡ Ok (command, after)
+    → IsCommandLine line command × AddsNames most names (command ∷ []) after
 unfolding line_in words_in
-line_found names line command after few e =
+line_found {most} names line command after few e =
     let a = unless_ok (ltb 8192 (length line)) LineTooLong _ (command, after) e in
     let b = unless_ok (list_any is_bad line) BadByte _ (command, after) a.1 in
     let short : length line ≤ 8192 = grind (arith, nat_tests, a.0) in
     by short (words_of line) refl b.1
   where
-    by : IsShort line → (words : List Text) → words_of line ≡ words → words_in names words
-        ≡ Ok (command, after) → IsCommandLine line command × AddsNames names (command ∷ []) after
+    by : IsShort line → (words : List Text) → words_of line ≡ words → words_in most names words
+        ≡ Ok (command, after)
+        → IsCommandLine line command × AddsNames most names (command ∷ []) after
     by short [] split h = absurd cc
     by short (word ∷ args) split h =
         let says = words_say names word args command after few h in
@@ -43,13 +45,15 @@ line_found names line command after few e =
         ((says.form, short, spelled), says.adds)
 
 -- the words that a line is read as have no bad byte
-pub good_line : (names : List Text) (line : Text) (command : Command Text) (after : List Text)
-    → length names ≤ 65536 → words_in names (words_of line) ≡ Ok (command, after)
+pub good_line : {most : ℕ} (names : List Text) (line : Text) (command : Command Text)
+    (after : List Text)
+    → length names ≤ most → words_in most names (words_of line) ≡ Ok (command, after)
     → list_any is_bad line ≡ false
-good_line names line command after few e =
+good_line {most} names line command after few e =
     let first = some_word line in
     let says =
-    words_say names first.0 first.1 command after few (ap (words_in names) (sym first.2) ∙ e) in
+    words_say names first.0 first.1 command after few
+    (ap (words_in most names) (sym first.2) ∙ e) in
     let spelled =
     subst (λ (l : Text). IsSpelled l command)
     (sym (line_is_spaced line first.0 first.1 first.2)) says.spelled in
@@ -57,22 +61,24 @@ good_line names line command after few e =
     ap (list_any is_bad) from.text
     ∙ spaced_is_text from.word from.args from.visible.0 from.visible.1
 
-pub line_read : (names : List Text) (line : Text) (command : Command Text) (after : List Text)
-    → length names ≤ 65536 → length line ≤ 8192
-    → words_in names (words_of line) ≡ Ok (command, after)
-    → line_in names line ≡ Ok (command, after)
+pub line_read : {most : ℕ} (names : List Text) (line : Text) (command : Command Text)
+    (after : List Text)
+    → length names ≤ most → length line ≤ 8192
+    → words_in most names (words_of line) ≡ Ok (command, after)
+    → line_in most names line ≡ Ok (command, after)
 unfolding line_in
-line_read names line command after few le e =
+line_read {most} names line command after few le e =
     let short : ltb 8192 (length line) ≡ false = le-ltb _ _ le in
     let good : list_any is_bad line ≡ false = good_line names line command after few e in
     rw (short, good) e
 
 -- a command line whose names fit is read
-pub line_only : (names : List Text) (line : Text) (command : Command Text) (after : List Text)
-    → length names ≤ 65536 → IsCommandLine line command → AddsNames names (command ∷ []) after
-    → line_in names line ≡ Ok (command, after)
+pub line_only : {most : ℕ} (names : List Text) (line : Text) (command : Command Text)
+    (after : List Text)
+    → length names ≤ most → IsCommandLine line command → AddsNames most names (command ∷ []) after
+    → line_in most names line ≡ Ok (command, after)
 unfolding line_in
-line_only names line command after few is adds =
+line_only {most} names line command after few is adds =
     let from = read_from_words names line command after is.0 is.2 adds in
     let text : line ≡ spaced from.word from.args = from.text in
     let short : ltb 8192 (length line) ≡ false = le-ltb _ _ is.1 in
@@ -96,7 +102,7 @@ length-with_names names (t ∷ ts) =
 
 -- the names of a command alone fit
 fits_alone : (command : Command Text) → HasForm command
-    → AddsNames [] (command ∷ []) (with_names [] (names_in command ++ []))
+    → AddsNames 65536 [] (command ∷ []) (with_names [] (names_in command ++ []))
 fits_alone command form = (
   refl,
   omega (

@@ -23,93 +23,98 @@ use Rattle.redo_text.proofs.Spaced.{IsVisible, name_is_visible}
 use Rattle.redo_text.proofs.Steps.{both, unless_ok, same_given}
 
 -- a name that is not added would be one too many
-full_with : (names : List Text) (t : Text) (fault : LineFault) → added names t ≡ Err fault
-    → (fault ≡ TooManyNames) × (65536 < length (with_name names t))
-full_with names t fault e = by (has names t) (eqb (length names) 65536) refl e
+full_with : {most : ℕ} (names : List Text) (t : Text) (fault : LineFault)
+    → added most names t ≡ Err fault
+    → (fault ≡ TooManyNames) × (most < length (with_name names t))
+full_with {most} names t fault e = by (has names t) (eqb (length names) most) refl e
   where
-    by : (b d : Bool) → eqb (length names) 65536 ≡ d
+    by : (b d : Bool) → eqb (length names) most ≡ d
         → cond b (Ok names) (cond d (Err TooManyNames) (Ok (names ++ t ∷ []))) ≡ Err fault
-        → (fault ≡ TooManyNames) × (65536 < length (cond b names (names ++ t ∷ [])))
+        → (fault ≡ TooManyNames) × (most < length (cond b names (names ++ t ∷ [])))
     by true d full h = absurd cc
     by false true full h = (cc, grind (arith, nat_tests, full, length-append names (t ∷ [])))
     by false false full h = absurd cc
 
 -- so the others are too many with it
-pub all_added-none : (names : List Text) (t : Text) (ts : List Text) (fault : LineFault)
-    → added names t ≡ Err fault → all_added names (t ∷ ts) ≡ Err fault
+pub all_added-none : (most : ℕ) (names : List Text) (t : Text) (ts : List Text) (fault : LineFault)
+    → added most names t ≡ Err fault → all_added most names (t ∷ ts) ≡ Err fault
 unfolding all_added
-all_added-none names t ts fault e =
+all_added-none most names t ts fault e =
     let full = full_with names t fault e in
-    let over : 65536 < length (with_name names t) = full.1 in
+    let over : most < length (with_name names t) = full.1 in
     let longer : length (with_name names t) ≤ length (with_names (with_name names t) ts) =
     with_names-longer (with_name names t) ts in
-    let test : leb (length (with_names (with_name names t) ts)) 65536 ≡ false =
+    let test : leb (length (with_names (with_name names t) ts)) most ≡ false =
     lt-leb _ _ (omega arith) in
     rw (test, full.0) refl
 
 -- if the first is added, the others are added after it
-pub with_names-next : (names : List Text) (t : Text) (ts after : List Text) → length names ≤ 65536
-    → added names t ≡ Ok after → with_names names (t ∷ ts) ≡ with_names after ts
-with_names-next names t ts after few e =
+pub with_names-next : {most : ℕ} (names : List Text) (t : Text) (ts after : List Text)
+    → length names ≤ most
+    → added most names t ≡ Ok after → with_names names (t ∷ ts) ≡ with_names after ts
+with_names-next {most} names t ts after few e =
     ap (λ (l : List Text). with_names l ts) (sym (added_is names t after few e).0)
 
-all_added-same : (a b ts us : List Text) → with_names a ts ≡ with_names b us
-    → all_added a ts ≡ all_added b us
+all_added-same : (most : ℕ) (a b ts us : List Text) → with_names a ts ≡ with_names b us
+    → all_added most a ts ≡ all_added most b us
 unfolding all_added
-all_added-same a b ts us e =
-    ap (λ (l : List Text). cond (leb (length l) 65536) (Ok l) (Err TooManyNames)) e
+all_added-same most a b ts us e =
+    ap (λ (l : List Text). cond (leb (length l) most) (Ok l) (Err TooManyNames)) e
 
-pub all_added-next : (names : List Text) (t : Text) (ts after : List Text) → length names ≤ 65536
-    → added names t ≡ Ok after → all_added names (t ∷ ts) ≡ all_added after ts
-all_added-next names t ts after few e =
-    all_added-same names after (t ∷ ts) ts (with_names-next names t ts after few e)
+pub all_added-next : {most : ℕ} (names : List Text) (t : Text) (ts after : List Text)
+    → length names ≤ most
+    → added most names t ≡ Ok after → all_added most names (t ∷ ts) ≡ all_added most after ts
+all_added-next {most} names t ts after few e =
+    all_added-same _ names after (t ∷ ts) ts (with_names-next names t ts after few e)
 
 -- adding gives the names with these, which are not too many
-pub all_added-is : (names ts after : List Text) → all_added names ts ≡ Ok after
-    → (after ≡ with_names names ts) × (length after ≤ 65536)
+pub all_added-is : {most : ℕ} (names ts after : List Text) → all_added most names ts ≡ Ok after
+    → (after ≡ with_names names ts) × (length after ≤ most)
 unfolding all_added
-all_added-is names ts after e = by (leb (length (with_names names ts)) 65536) refl e
+all_added-is {most} names ts after e = by (leb (length (with_names names ts)) most) refl e
   where
-    by : (b : Bool) → leb (length (with_names names ts)) 65536 ≡ b
+    by : (b : Bool) → leb (length (with_names names ts)) most ≡ b
         → cond b (Ok (with_names names ts)) (Err TooManyNames) ≡ Ok after
-        → (after ≡ with_names names ts) × (length after ≤ 65536)
+        → (after ≡ with_names names ts) × (length after ≤ most)
     by true room h =
         let is : after ≡ with_names names ts = cc in
-        (is, subst (λ (l : List Text). length l ≤ 65536) (sym is) (leb-true _ _ room))
+        (is, subst (λ (l : List Text). length l ≤ most) (sym is) (leb-true _ _ room))
     by false room h = absurd cc
 
-pub all_added-fits : (names ts after : List Text) → after ≡ with_names names ts
-    → length after ≤ 65536 → all_added names ts ≡ Ok after
+pub all_added-fits : {most : ℕ} (names ts after : List Text) → after ≡ with_names names ts
+    → length after ≤ most → all_added most names ts ≡ Ok after
 unfolding all_added
-all_added-fits names ts after is few =
-    let room : leb (length (with_names names ts)) 65536 ≡ true =
-    le-leb _ _ (subst (λ (l : List Text). length l ≤ 65536) is few) in
+all_added-fits {most} names ts after is few =
+    let room : leb (length (with_names names ts)) most ≡ true =
+    le-leb _ _ (subst (λ (l : List Text). length l ≤ most) is few) in
     rw (room, is) refl
 
 drop_next : (ws : List Text) (i : ℕ) → i < length ws → drop i ws ≡ get_or ws i [] ∷ drop (i + 1) ws
 drop_next ws i lt = rw (add-one, drop-cons ws i []) refl
 
 -- the names with those of the words that are left: one more word is added
-pub rest_more : (names ws : List Text) (i : ℕ) (w : Text) (after total : List Text)
-    → length names ≤ 65536 → i < length ws → get_or ws i [] ≡ w → added names w ≡ Ok after
+pub rest_more : {most : ℕ} (names ws : List Text) (i : ℕ) (w : Text) (after total : List Text)
+    → length names ≤ most → i < length ws → get_or ws i [] ≡ w → added most names w ≡ Ok after
     → total ≡ with_names names (drop i ws) → total ≡ with_names after (drop (i + 1) ws)
-rest_more names ws i w after total few lt at e rest =
+rest_more {most} names ws i w after total few lt at e rest =
     rest ∙ ap (with_names names) (drop_next ws i lt ∙ ap (λ (t : Text). t ∷ drop (i + 1) ws) at)
     ∙ with_names-next names w (drop (i + 1) ws) after few e
 
 -- one word is not added
-pub rest_none : (start names ws : List Text) (i : ℕ) (w : Text) → i < length ws → get_or ws i [] ≡ w
+pub rest_none : (most : ℕ) (start names ws : List Text) (i : ℕ) (w : Text) → i < length ws
+    → get_or ws i [] ≡ w
     → with_names start ws ≡ with_names names (drop i ws) → (fault : LineFault)
-    → added names w ≡ Err fault → all_added start ws ≡ Err fault
-rest_none start names ws i w lt at rest fault e =
-    all_added-same start names ws (drop i ws) rest
-    ∙ ap (all_added names) (drop_next ws i lt ∙ ap (λ (t : Text). t ∷ drop (i + 1) ws) at)
-    ∙ all_added-none names w (drop (i + 1) ws) fault e
+    → added most names w ≡ Err fault → all_added most start ws ≡ Err fault
+rest_none most start names ws i w lt at rest fault e =
+    all_added-same _ start names ws (drop i ws) rest
+    ∙ ap (all_added most names) (drop_next ws i lt ∙ ap (λ (t : Text). t ∷ drop (i + 1) ws) at)
+    ∙ all_added-none _ names w (drop (i + 1) ws) fault e
 
 -- no word is left
-pub rest_done : (start names ws : List Text) (i : ℕ) → length ws ≤ i → length names ≤ 65536
-    → with_names start ws ≡ with_names names (drop i ws) → all_added start ws ≡ Ok names
-rest_done start names ws i le few rest =
+pub rest_done : {most : ℕ} (start names ws : List Text) (i : ℕ) → length ws ≤ i
+    → length names ≤ most
+    → with_names start ws ≡ with_names names (drop i ws) → all_added most start ws ≡ Ok names
+rest_done {most} start names ws i le few rest =
     let none : drop i ws ≡ [] = nil_from_length (drop i ws) (omega (arith, length-drop i ws)) in
     all_added-fits start ws names (sym (rest ∙ ap (with_names names) none)) few
 
@@ -122,31 +127,34 @@ fails_alike view seen unread.Memory r s alike met = tt
 fails_alike view seen (unread.Fault fault) r s alike met = alike fault met
 
 -- the target is not added
-pub form_without_target : (form : Text → List Text → Command Text) (names args : List Text)
+pub form_without_target : (most : ℕ) (form : Text → List Text → Command Text)
+    (names args : List Text)
     (t : Text) (ts : List Text) → target_and_names_in args ≡ Ok (t, ts) → (fault : LineFault)
-    → added names t ≡ Err fault → names_form_in form names args ≡ Err fault
+    → added most names t ≡ Err fault → names_form_in most form names args ≡ Err fault
 unfolding names_form_in
-form_without_target form names args t ts words fault e =
-    let none = all_added-none names t ts fault e in
+form_without_target most form names args t ts words fault e =
+    let none = all_added-none _ names t ts fault e in
     rw (words, none) refl
 
 -- the target is added, and not all the names are
-pub form_without_names : (form : Text → List Text
-    → Command Text) (names args : List Text) (t : Text) (ts mid : List Text) → length names ≤ 65536
-    → target_and_names_in args ≡ Ok (t, ts) → added names t ≡ Ok mid
-    → (fault : LineFault) → all_added mid ts ≡ Err fault → names_form_in form names args ≡ Err fault
+pub form_without_names : {most : ℕ} (form : Text → List Text
+    → Command Text) (names args : List Text) (t : Text) (ts mid : List Text) → length names ≤ most
+    → target_and_names_in args ≡ Ok (t, ts) → added most names t ≡ Ok mid
+    → (fault : LineFault) → all_added most mid ts ≡ Err fault
+    → names_form_in most form names args ≡ Err fault
 unfolding names_form_in
-form_without_names form names args t ts mid few words target fault e =
+form_without_names {most} form names args t ts mid few words target fault e =
     let none = all_added-next names t ts mid few target ∙ e in
     rw (words, none) refl
 
 -- all are added
-pub form_with_names : (form : Text → List Text → Command Text) (names args : List Text) (t : Text)
-    (ts mid after : List Text) → length names ≤ 65536 → target_and_names_in args ≡ Ok (t, ts)
-    → added names t ≡ Ok mid → all_added mid ts ≡ Ok after
-    → names_form_in form names args ≡ Ok (form t ts, after)
+pub form_with_names : {most : ℕ} (form : Text → List Text → Command Text) (names args : List Text)
+    (t : Text)
+    (ts mid after : List Text) → length names ≤ most → target_and_names_in args ≡ Ok (t, ts)
+    → added most names t ≡ Ok mid → all_added most mid ts ≡ Ok after
+    → names_form_in most form names args ≡ Ok (form t ts, after)
 unfolding names_form_in
-form_with_names form names args t ts mid after few words target e =
+form_with_names {most} form names args t ts mid after few words target e =
     let all = all_added-next names t ts mid few target ∙ e in
     rw (words, all) refl
 
@@ -234,17 +242,19 @@ names_are_visible [] each = tt
 names_are_visible (n ∷ ns) each = (name_is_visible n each.0, names_are_visible ns each.1)
 
 -- the names of a command with these names are added
-pub all_adds : (names ts : List Text) (command : Command Text) (after : List Text)
-    → names_in command ≡ ts → all_added names ts ≡ Ok after → AddsNames names (command ∷ []) after
-all_adds names ts command after own e =
+pub all_adds : {most : ℕ} (names ts : List Text) (command : Command Text) (after : List Text)
+    → names_in command ≡ ts → all_added most names ts ≡ Ok after
+    → AddsNames most names (command ∷ []) after
+all_adds {most} names ts command after own e =
     let is = all_added-is names ts after e in (
       is.0 ∙ ap (with_names names)
           (sym (append-nil ts) ∙ ap (λ (l : List Text). l ++ []) (sym own)),
       is.1,
     )
 
-pub all_fit : (names ts : List Text) (command : Command Text) (after : List Text)
-    → names_in command ≡ ts → AddsNames names (command ∷ []) after → all_added names ts ≡ Ok after
-all_fit names ts command after own adds =
+pub all_fit : {most : ℕ} (names ts : List Text) (command : Command Text) (after : List Text)
+    → names_in command ≡ ts → AddsNames most names (command ∷ []) after
+    → all_added most names ts ≡ Ok after
+all_fit {most} names ts command after own adds =
     all_added-fits names ts after
     (adds.0 ∙ ap (with_names names) (ap (λ (l : List Text). l ++ []) own ∙ append-nil ts)) adds.1

@@ -50,10 +50,10 @@ pub below_known : (names : List Text) (t : Text) (n : ℕ) → IsNumbered names 
 below_known names t n is = slice_get_within names n t is.at
 
 -- such a name is known already
-pub added_known : (names : List Text) (t : Text) (n : ℕ) → IsNumbered names t n
-    → added names t ≡ Ok names
-added_known names t n is =
-    let new = cond (length names == 65536) (Err TooManyNames) (Ok (names ++ t ∷ [])) in
+pub added_known : (most : ℕ) (names : List Text) (t : Text) (n : ℕ) → IsNumbered names t n
+    → added most names t ≡ Ok names
+added_known most names t n is =
+    let new = cond (length names == most) (Err TooManyNames) (Ok (names ++ t ∷ [])) in
     ap (λ (b : Bool). cond b (Ok names) new) (has_at names n t is.at)
 
 -- a name is one word
@@ -93,13 +93,14 @@ name_before_space name text first rest others b is parts same cut space =
     ∙ ap (λ (r : Text). name ++ r) (cut ∙ ap (λ (x : ℕ). x ∷ others) space))
     ∙ words_of-first name others (name_is_visible name is)
 
-pub one_name_known : (form : Text → Command Text) (names args : List Text) (t : Text) (n : ℕ)
+pub one_name_known : (most : ℕ) (form : Text → Command Text) (names args : List Text) (t : Text)
+    (n : ℕ)
     → args ≡ t ∷ [] → IsNumbered names t n
-    → one_name_in form names args ≡ Ok (form (text_at names n), names)
+    → one_name_in most form names args ≡ Ok (form (text_at names n), names)
 unfolding one_name_in
-one_name_known form names args t n alone is =
+one_name_known most form names args t n alone is =
     let name : is_name t ≡ true = is.name in
-    let there : added names t ≡ Ok names = added_known names t n is in
+    let there : added most names t ≡ Ok names = added_known _ names t n is in
     let text : text_at names n ≡ t = text_at_known names t n is in
     rw (alone, name, there, text) refl
 
@@ -122,33 +123,35 @@ with_known names (n ∷ ns) below =
     ap (λ (b : Bool). with_names (cond b names (names ++ text_at names n ∷ [])) others) there
     ∙ with_known names ns below.1
 
-all_added_known : (names : List Text) (ns : List ℕ) → AreNames names → AllBelow (length names) ns
-    → all_added names (map (text_at names) ns) ≡ Ok names
-all_added_known names ns are below =
-    all_added-fits names (map (text_at names) ns) names (sym (with_known names ns below)) are.few
+all_added_known : (most : ℕ) (names : List Text) (ns : List ℕ) → length names ≤ most
+    → AllBelow (length names) ns
+    → all_added most names (map (text_at names) ns) ≡ Ok names
+all_added_known most names ns few below =
+    all_added-fits names (map (text_at names) ns) names (sym (with_known names ns below)) few
 
-pub listed_known : (names args : List Text) (ns : List ℕ) → AreNames names
-    → AllBelow (length names) ns → args ≡ map (text_at names) ns
-    → with_its_names (λ ts. ts) names (names_in_words args) ≡ Ok (map (text_at names) ns, names)
-listed_known names args ns are below is =
+pub listed_known : (most : ℕ) (names args : List Text) (ns : List ℕ) → AreNames names
+    → length names ≤ most → AllBelow (length names) ns → args ≡ map (text_at names) ns
+    → with_its_names most (λ ts. ts) names (names_in_words args)
+    ≡ Ok (map (text_at names) ns, names)
+listed_known most names args ns are few below is =
     let all = all_known names ns are below in
-    let there = all_added_known names ns are below in
+    let there = all_added_known _ names ns few below in
     rw (is, all, there) refl
 
-pub form_known : (form : Text → List Text → Command Text)
+pub form_known : (most : ℕ) (form : Text → List Text → Command Text)
     → (names args : List Text) (t : ℕ) (ns : List ℕ)
-    → AreNames names → AllBelow (length names) (t ∷ ns)
+    → AreNames names → length names ≤ most → AllBelow (length names) (t ∷ ns)
     → 1 ≤ length ns → length ns ≤ 64
     → args ≡ text_at names t ∷ map (text_at names) ns
-    → names_form_in form names args
+    → names_form_in most form names args
     ≡ Ok (form (text_at names t) (map (text_at names) ns), names)
 unfolding names_form_in
-form_known form names args t ns are below some few is =
+form_known most form names args t ns are room below some few is =
     let each =
     each_name (text_at names t ∷ map (text_at names) ns) (all_known names (t ∷ ns) are below) in
     let count = length-map ns (text_at names) in
     let words =
     target_and_names_read (text_at names t) (map (text_at names) ns) each.0
     (record { some = omega (arith, count); few = omega (arith, count); each = each.1 }) in
-    let there = all_added_known names (t ∷ ns) are below in
+    let there = all_added_known _ names (t ∷ ns) room below in
     rw (is, words, there) refl

@@ -194,16 +194,19 @@ words_say text reply e = by (words_of text) refl e
             )
 
 -- what is read is a reply's text, and its names are added
-pub reply_found : (names : List Text) (text : Text) (reply : Reply Text) (after : List Text)
-    → reply_in names text ≡ Ok (reply, after)
-    → IsReplyText text reply × AddsReplyNames names reply after
+pub reply_found : {most : ℕ} (names : List Text) (text : Text) (reply : Reply Text)
+    (after : List Text)
+    → reply_in most names text ≡ Ok (reply, after)
+    → IsReplyText text reply × AddsReplyNames most names reply after
 unfolding reply_in
-reply_found names text reply after e =
+reply_found {most} names text reply after e =
     let a =
     bind_ok (reply_words_in (words_of text))
-    (λ r. all_added names (names_in_reply r) >>= λ later. Ok (r, later)) (reply, after) e in
+    (λ r. all_added most names (names_in_reply r) >>= λ later. Ok (r, later)) (reply, after) e in
     let b =
-    bind_ok (all_added names (names_in_reply a.0)) (λ later. Ok (a.0, later)) (reply, after) a.2 in
+    bind_ok (all_added most names (names_in_reply a.0)) (λ later. Ok (a.0, later))
+    (reply, after) a.2 in
     let same : (a.0, b.0) ≡ (reply, after) = cc in
-    subst (λ (p : Reply Text × List Text). IsReplyText text p.0 × AddsReplyNames names p.0 p.1) same
+    subst (λ (p : Reply Text × List Text). IsReplyText text p.0
+    × AddsReplyNames most names p.0 p.1) same
     (words_say text a.0 a.1, all_added-is names (names_in_reply a.0) b.0 b.1)

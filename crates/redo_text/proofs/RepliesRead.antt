@@ -1,5 +1,5 @@
 -- The text of a reply is read as the reply.
-use Rattle.std.proofs.Common.{◌≡◌, true, List, [], ◌∷◌, Some, Ok, Err, refl, ap, ◌∙◌}
+use Rattle.std.proofs.Common.{◌≡◌, true, List, [], ◌∷◌, Some, Ok, Err, refl, ap, ◌∙◌, ℕ}
 use Rattle.std.specs.Prelude.{decimal, ◌≢◌}
 use Rattle.std.specs.List.{AllByRecursion, list_all}
 use Rattle.hex.specs.Hex.{encode_lower}
@@ -137,19 +137,21 @@ words_read text reply is =
     rw (words, named) from.reads
 
 -- a reply's text whose names fit is read
-pub reply_only : (names : List Text) (text : Text) (reply : Reply Text) (after : List Text)
-    → IsReplyText text reply → AddsReplyNames names reply after
-    → reply_in names text ≡ Ok (reply, after)
+pub reply_only : {most : ℕ} (names : List Text) (text : Text) (reply : Reply Text)
+    (after : List Text)
+    → IsReplyText text reply → AddsReplyNames most names reply after
+    → reply_in most names text ≡ Ok (reply, after)
 unfolding reply_in
-reply_only names text reply after is adds =
+reply_only {most} names text reply after is adds =
     let words = words_read text reply is in
     let fit = all_added-fits names (names_in_reply reply) after adds.0 adds.1 in
     rw (words, fit) refl
 
-pub reply_has_no_fault : (names : List Text) (text : Text) (reply : Reply Text) (after : List Text)
-    (fault : LineFault) → IsReplyText text reply → AddsReplyNames names reply after
-    → reply_in names text ≡ Err fault → ⊥
-reply_has_no_fault names text reply after fault is adds e =
+pub reply_has_no_fault : {most : ℕ} (names : List Text) (text : Text) (reply : Reply Text)
+    (after : List Text)
+    (fault : LineFault) → IsReplyText text reply → AddsReplyNames most names reply after
+    → reply_in most names text ≡ Err fault → ⊥
+reply_has_no_fault {most} names text reply after fault is adds e =
     let reads = reply_only names text reply after is adds in
     absurd cc
 

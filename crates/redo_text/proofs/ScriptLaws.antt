@@ -74,7 +74,7 @@ none_taken count names line room few short skipped = record {
 
 some_taken : (count : ℕ) (names : List Text) (line : Text) (command : Command Text)
     (after : List Text) → count < 4096 → length names ≤ 65536 → length line ≤ 8192
-    → is_skipped line ≡ false → line_in names (unguarded line) ≡ Ok (command, after)
+    → is_skipped line ≡ false → line_in 65536 names (unguarded line) ≡ Ok (command, after)
     → Taken count names line (Some (item_in line command)) after
 some_taken count names line command after room few short said e =
     let found = item_found names line command after few short e in
@@ -100,7 +100,7 @@ line_taken count names line read after room few e =
     by : (long skipped full : Bool) → ltb 8192 (length line) ≡ long → is_skipped line ≡ skipped
         → eqb count 4096 ≡ full
         → cond long (Err LineTooLong) (cond skipped (line_read (None, names))
-        (cond full (Err TooManyLines) (then_item line (line_in names (unguarded line)))))
+        (cond full (Err TooManyLines) (then_item line (line_in 65536 names (unguarded line)))))
         ≡ Ok (read, after)
         → Taken count names line read after
     by true skipped full l s f h = absurd cc
@@ -111,8 +111,8 @@ line_taken count names line read after room few e =
         (none_taken count names line room few (ltb-false _ _ l) s))
     by false false true l s f h = absurd cc
     by false false false l s f h =
-        let from : ReadFrom line (line_in names (unguarded line)) read after =
-        read_from line (line_in names (unguarded line)) read after h in
+        let from : ReadFrom line (line_in 65536 names (unguarded line)) read after =
+        read_from line (line_in 65536 names (unguarded line)) read after h in
         let differ : count ≡ 4096 → ⊥ = eqb-false count 4096 f in
         let lt : count < 4096 = omega (arith, differ) in
         subst (λ (r : Option (Item Text)). Taken count names line r after) (sym from.is)
@@ -124,11 +124,12 @@ unfolding script_line_in
 skipped_line count names line short s =
     let l : ltb 8192 (length line) ≡ false = le-ltb 8192 (length line) short in
     λ i. cond (l i) (Err LineTooLong) (cond (s i) (line_read (None, names))
-    (cond (eqb count 4096) (Err TooManyLines) (then_item line (line_in names (unguarded line)))))
+    (cond (eqb count 4096) (Err TooManyLines)
+    (then_item line (line_in 65536 names (unguarded line)))))
 
 said_line : (count : ℕ) (names : List Text) (line : Text) (item : Item Text)
     (after : List Text) → length line ≤ 8192 → is_skipped line ≡ false → count < 4096
-    → (line_in names (unguarded line) ≡ Ok (item.command, after))
+    → (line_in 65536 names (unguarded line) ≡ Ok (item.command, after))
     × (item_in line item.command ≡ item)
     → script_line_in count names line ≡ Ok (Some item, after)
 unfolding script_line_in
@@ -156,7 +157,7 @@ line_takes count names line items after script room =
   where
     by : (skipped : Bool) → is_skipped line ≡ skipped → (cs : List (Item Text))
         → AreItemLines (cond (not skipped) (line ∷ []) []) cs → count + length cs ≤ 4096
-        → AddsNames names (commands_in cs) after → Takes count names line cs after
+        → AddsNames 65536 names (commands_in cs) after → Takes count names line cs after
     by true s [] said fits adds = record {
       read = None;
       gives = subst (λ (a : List Text). script_line_in count names line ≡ Ok (None, a))

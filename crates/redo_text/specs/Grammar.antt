@@ -1,5 +1,5 @@
 -- Which texts are commands, lines of scripts, and scripts.
-use Rattle.std.specs.Prelude.{◌≡◌, ◌≢◌, ◌<◌, ◌≤◌, ◌⊎◌, Bool, true, not, List, [], ◌∷◌, length, filter, IsTrue, IfSome, Ok, codes, ◌==◌, ⊤}
+use Rattle.std.specs.Prelude.{◌≡◌, ◌≢◌, ◌<◌, ◌≤◌, ◌⊎◌, Bool, true, not, List, [], ◌∷◌, length, filter, IsTrue, IfSome, Ok, codes, ◌==◌, ⊤, ℕ}
 use Rattle.std.specs.List.{slice_split, flat_map, AllByRecursion}
 use Rattle.hex.specs.Hex.{decode_of}
 use Rattle.redo_names.specs.Names.{is_name, with_name, AreAllNames}
@@ -65,9 +65,9 @@ with_names names [] = names
 with_names names (t ∷ ts) = with_names (with_name names t) ts
 
 -- after are the names with those of the commands, and not too many
-abbrev pub AddsNames : List Text → List (Command Text) → List Text → Type 0
-AddsNames names commands after =
-    (after ≡ with_names names (flat_map names_in commands)) × (length after ≤ 65536)
+abbrev pub AddsNames : ℕ → List Text → List (Command Text) → List Text → Type 0
+AddsNames most names commands after =
+    (after ≡ with_names names (flat_map names_in commands)) × (length after ≤ most)
 
 -- the pieces between line feeds: the piece after a last line feed is empty, and is skipped as any
 -- empty one
@@ -92,7 +92,7 @@ pub record AreScriptLines (names : List Text) (lines : List Text) (items : List 
   pub short : AllByRecursion IsShort lines
   pub said : AreItemLines (filter (λ line. not (is_skipped line)) lines) items
   pub few : length items ≤ 4096
-  pub named : AddsNames names (commands_in items) after
+  pub named : AddsNames 65536 names (commands_in items) after
 
 -- the text is a script of these items, and after are the names with its names
 abbrev pub IsScript : List Text → Text → List (Item Text) → List Text → Type 0

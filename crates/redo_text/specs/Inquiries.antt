@@ -1,5 +1,5 @@
 -- Questions about a name: their texts, and the faults of a line whose first word is a question's.
-use Rattle.std.specs.Prelude.{List, [], ◌∷◌, drop, length, Option, None, not, ◌==◌, bytes_eq, codes, find, is_some, if◌then◌else◌}
+use Rattle.std.specs.Prelude.{List, [], ◌∷◌, drop, length, Option, None, not, ◌==◌, bytes_eq, codes, find, is_some, if◌then◌else◌, ℕ}
 use Rattle.redo_model.specs.Names.{Text}
 use Rattle.redo_text.specs.declared.fault.LineFault.{LineFault}
 use Rattle.redo_text.specs.declared.fault.LineFault.TheVariants.{LineTooLong, BadByte, WrongWords}
@@ -37,6 +37,6 @@ inquiry_fault line =
     ∷ (not (length words == 1), WrongWords) ∷ word_questions (a_name ∷ []) words)
 
 -- the fault of a question, else of a command
-abbrev pub asked_fault : List Text → Text → Option LineFault
-asked_fault names line =
-    if is_some (inquiry_in (words_of line)) then inquiry_fault line else line_fault names line
+abbrev pub asked_fault : ℕ → List Text → Text → Option LineFault
+asked_fault most names line =
+    if is_some (inquiry_in (words_of line)) then inquiry_fault line else line_fault most names line

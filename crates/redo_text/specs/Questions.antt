@@ -89,23 +89,23 @@ all_kinds =
 abbrev pub kind_named : Text → Option Kind
 kind_named word = find (λ kind. bytes_eq word (word_of kind)) all_kinds
 
--- would there be more than 65,536 names with these?
-abbrev pub is_full : List Text → List Text → Bool
-is_full names own = nat_lt 65536 (length (with_names names own))
+-- would there be more than `most` names with these?
+abbrev pub is_full : ℕ → List Text → List Text → Bool
+is_full most names own = nat_lt most (length (with_names names own))
 
 -- Is the first word no command? Is the number of words another? Are there more than 64 names after
 -- the target? Word by word, is it not what it has to be? Would there be too many names?
-abbrev pub form_questions : List Text → Option Kind → List Text → List Question
-form_questions names None words = (true, UnknownCommand) ∷ []
-form_questions names (Some kind) words =
+abbrev pub form_questions : ℕ → List Text → Option Kind → List Text → List Question
+form_questions most names None words = (true, UnknownCommand) ∷ []
+form_questions most names (Some kind) words =
     (not (length words == length (wanted kind words)), WrongWords)
     ∷ (nat_lt 64 (length (drop 1 words)), TooManyNames)
     ∷ word_questions (wanted kind words) words
-    ++ (is_full names (names_among (wanted kind words) words), TooManyNames) ∷ []
+    ++ (is_full most names (names_among (wanted kind words) words), TooManyNames) ∷ []
 
-abbrev pub word_list_questions : List Text → List Text → List Question
-word_list_questions names [] = (true, UnknownCommand) ∷ []
-word_list_questions names (word ∷ words) = form_questions names (kind_named word) words
+abbrev pub word_list_questions : ℕ → List Text → List Text → List Question
+word_list_questions most names [] = (true, UnknownCommand) ∷ []
+word_list_questions most names (word ∷ words) = form_questions most names (kind_named word) words
 
 -- the pieces between single spaces
 abbrev pub words_of : Text → List Text
@@ -123,13 +123,14 @@ abbrev pub is_too_long : Text → Bool
 is_too_long line = nat_lt 8192 (length line)
 
 -- the questions about the bytes and words of a line; these are the names before it
-abbrev pub text_questions : List Text → Text → List Question
-text_questions names line =
-    (has_bad_byte line, BadByte) ∷ word_list_questions names (words_of line)
+abbrev pub text_questions : ℕ → List Text → Text → List Question
+text_questions most names line =
+    (has_bad_byte line, BadByte) ∷ word_list_questions most names (words_of line)
 
 -- the fault of a line without its LF
-unfoldable pub line_fault : List Text → Text → Option LineFault
-line_fault names line = first_yes ((is_too_long line, LineTooLong) ∷ text_questions names line)
+unfoldable pub line_fault : ℕ → List Text → Text → Option LineFault
+line_fault most names line = first_yes
+    ((is_too_long line, LineTooLong) ∷ text_questions most names line)
 
 -- does it begin with "? "?
 abbrev pub is_guarded : Text → Bool
@@ -146,7 +147,7 @@ abbrev pub file_line_questions : ℕ → List Text → Text → List Question
 file_line_questions count names line =
     if is_skipped line then []
     else (count == 4096, TooManyLines) ∷ (has_bad_byte line, BadByte)
-    ∷ word_list_questions names (words_of (unguarded line))
+    ∷ word_list_questions 65536 names (words_of (unguarded line))
 
 -- the fault of a line of a session file, after this many items
 unfoldable pub file_line_fault : ℕ → List Text → Text → Option LineFault

@@ -59,6 +59,6 @@ names_in_reply (Sources ns) = ns
 names_in_reply (Refused refusal) = names_in_refusal refusal
 
 -- after are the names with those of the reply, and not too many
-abbrev pub AddsReplyNames : List Text → Reply Text → List Text → Type 0
-AddsReplyNames names reply after =
-    (after ≡ with_names names (names_in_reply reply)) × (length after ≤ 65536)
+abbrev pub AddsReplyNames : ℕ → List Text → Reply Text → List Text → Type 0
+AddsReplyNames most names reply after =
+    (after ≡ with_names names (names_in_reply reply)) × (length after ≤ most)

@@ -95,8 +95,8 @@ impl Form {
     /// What follows the word of a command of this kind.
     #[tactic(auto, unfolding(crate::specs::Inside::Reading::form_in))]
     pub(crate) fn of(kind: Kind) -> Form
-        ensures { (names args : List Text)
-            → form_in (Some kind) names args ≡ words_read result names args }
+        ensures { (most : ℕ) (names args : List Text)
+            → form_in most (Some kind) names args ≡ words_read most result names args }
     {
         match kind {
             Kind::File => Form::File,

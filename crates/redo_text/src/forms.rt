@@ -1,4 +1,4 @@
-ghost use Rattle.std.specs.Prelude.{◌≡◌, ◌<◌, List, length, IfOk, IfErr, OnErr, Err};
+ghost use Rattle.std.specs.Prelude.{◌≡◌, ◌<◌, List, length, IfOk, IfErr, OnErr, Err, ◌≤◌};
 ghost use Rattle.redo_names.specs.Inside.Names.{Extends};
 ghost use Rattle.redo_model.specs.Names.{Text, text_at};
 ghost use Rattle.redo_model.specs.Command as commands;
@@ -24,10 +24,11 @@ use std::alloc::Global;
 
 /// The number of the one name of a form.
 #[tactic(auto, using(crate::proofs::Added::extends_same), unfolding(crate::specs::Inside::Reading::one_name_in))]
-fn one_name_of(names: &mut Names, args: Option<&[u8]>) -> Result<u32, Unread>
+fn one_name_of(names: &mut Names, args: Option<&[u8]>, most: u32) -> Result<u32, Unread>
+    requires few { length names.old ≤ most }
     ensures reads { (form : Text → commands.Command Text)
         → Reads (λ n. (form (text_at names.new n), names.new)) result
-        (one_name_in form names.old (words_after args.entry)) }
+        (one_name_in most form names.old (words_after args.entry)) }
     ensures within { IfOk result (λ n. n < length names.new) }
     ensures left { OnErr result (names.new ≡ names.old) }
     ensures kept { Extends names.old names.new }
@@ -40,13 +41,19 @@ fn one_name_of(names: &mut Names, args: Option<&[u8]>) -> Result<u32, Unread>
         return Err(Unread::Fault(LineFault::WrongWords));
     };
     let name = name_of(word)?;
-    number_of(names, None, name)
+    number_of(names, None, name, most)
 }
 
 #[tactic(auto, using(crate::proofs::Added::extends_same), unfolding(crate::specs::Inside::Reading::file_in))]
-fn file_of(alloc: Global, names: &mut Names, args: Option<&[u8]>) -> Result<Command, Unread>
+fn file_of(
+    alloc: Global,
+    names: &mut Names,
+    args: Option<&[u8]>,
+    most: u32,
+) -> Result<Command, Unread>
+    requires few { length names.old ≤ most }
     ensures reads { Reads (λ command. (command_at names.new command, names.new)) result
-        (file_in names.old (words_after args.entry)) }
+        (file_in most names.old (words_after args.entry)) }
     ensures within { IfOk result (λ command. IsBelow (length names.new) (command_of command)) }
     ensures left { OnErr result (names.new ≡ names.old) }
     ensures kept { Extends names.old names.new }
@@ -56,14 +63,20 @@ fn file_of(alloc: Global, names: &mut Names, args: Option<&[u8]>) -> Result<Comm
     };
     let known = known_name(names, n)?;
     let stamp = Box::new(alloc, file_stamp_of(s)?)?;
-    let number = number_of(names, known, n)?;
+    let number = number_of(names, known, n, most)?;
     Ok(Command::File(number, stamp))
 }
 
 #[tactic(auto, using(crate::proofs::Added::extends_same), unfolding(crate::specs::Inside::Reading::stamp_in))]
-fn stamp_of(alloc: Global, names: &mut Names, args: Option<&[u8]>) -> Result<Command, Unread>
+fn stamp_of(
+    alloc: Global,
+    names: &mut Names,
+    args: Option<&[u8]>,
+    most: u32,
+) -> Result<Command, Unread>
+    requires few { length names.old ≤ most }
     ensures reads { Reads (λ command. (command_at names.new command, names.new)) result
-        (stamp_in names.old (words_after args.entry)) }
+        (stamp_in most names.old (words_after args.entry)) }
     ensures within { IfOk result (λ command. IsBelow (length names.new) (command_of command)) }
     ensures left { OnErr result (names.new ≡ names.old) }
     ensures kept { Extends names.old names.new }
@@ -73,14 +86,20 @@ fn stamp_of(alloc: Global, names: &mut Names, args: Option<&[u8]>) -> Result<Com
     };
     let known = known_name(names, n)?;
     let content = content_of(alloc, c)?;
-    let number = number_of(names, known, n)?;
+    let number = number_of(names, known, n, most)?;
     Ok(Command::Stamp(number, content))
 }
 
 #[tactic(auto, using(crate::proofs::Added::extends_same), unfolding(crate::specs::Inside::Reading::done_in))]
-fn done_of(alloc: Global, names: &mut Names, args: Option<&[u8]>) -> Result<Command, Unread>
+fn done_of(
+    alloc: Global,
+    names: &mut Names,
+    args: Option<&[u8]>,
+    most: u32,
+) -> Result<Command, Unread>
+    requires few { length names.old ≤ most }
     ensures reads { Reads (λ command. (command_at names.new command, names.new)) result
-        (done_in names.old (words_after args.entry)) }
+        (done_in most names.old (words_after args.entry)) }
     ensures within { IfOk result (λ command. IsBelow (length names.new) (command_of command)) }
     ensures left { OnErr result (names.new ≡ names.old) }
     ensures kept { Extends names.old names.new }
@@ -90,7 +109,7 @@ fn done_of(alloc: Global, names: &mut Names, args: Option<&[u8]>) -> Result<Comm
     };
     let known = known_name(names, n)?;
     let stamp = boxed(alloc, file_stamp_or_none_of(s)?)?;
-    let number = number_of(names, known, n)?;
+    let number = number_of(names, known, n, most)?;
     Ok(Command::Done(number, stamp))
 }
 
@@ -109,28 +128,34 @@ pub(crate) fn check_no_words(args: Option<&[u8]>) -> Result<(), Unread>
 
 /// The command that a text is, by its first word.
 #[tactic(auto, using(crate::proofs::Added::extends_same, crate::proofs::Left::same_left, crate::proofs::Left::same_left_on))]
-pub(crate) fn form_of(alloc: Global, names: &mut Names, text: &[u8]) -> Result<Command, Unread>
+pub(crate) fn form_of(
+    alloc: Global,
+    names: &mut Names,
+    text: &[u8],
+    most: u32,
+) -> Result<Command, Unread>
+    requires few { length names.old ≤ most }
     ensures reads { Reads (λ command. (command_at names.new command, names.new)) result
-        (words_in names.old (words_of text.now)) }
+        (words_in most names.old (words_of text.now)) }
     ensures within { IfOk result (λ command. IsBelow (length names.new) (command_of command)) }
-    ensures left { IfErr result (LeavesWords names.old text.now names.new) }
+    ensures left { IfErr result (LeavesWords most names.old text.now names.new) }
     ensures kept { Extends names.old names.new }
 {
     let Some((kind, args)) = cut_kind(text) else {
         return Err(Unread::Fault(LineFault::UnknownCommand));
     };
     match Form::of(kind) {
-        Form::OneName(form) => Ok(form.command(one_name_of(names, args)?)),
+        Form::OneName(form) => Ok(form.command(one_name_of(names, args, most)?)),
         Form::Listing(form) => {
-            let (target, others) = target_and_numbers_of(alloc, names, args)?;
+            let (target, others) = target_and_numbers_of(alloc, names, args, most)?;
             Ok(form.command(target, others))
         }
         Form::Bare(form) => {
             check_no_words(args)?;
             Ok(form.command())
         }
-        Form::File => file_of(alloc, names, args),
-        Form::Stamp => stamp_of(alloc, names, args),
-        Form::Done => done_of(alloc, names, args),
+        Form::File => file_of(alloc, names, args, most),
+        Form::Stamp => stamp_of(alloc, names, args, most),
+        Form::Done => done_of(alloc, names, args, most),
     }
 }

@@ -1,4 +1,4 @@
-ghost use Rattle.std.specs.Prelude.{◌≡◌, ◌∷◌, List, Some, Err, IfSome, MatchOption};
+ghost use Rattle.std.specs.Prelude.{◌≡◌, ◌∷◌, List, Some, Err, IfSome, MatchOption, ℕ};
 ghost use Rattle.redo_model.specs.Names.{Text};
 ghost use Rattle.redo_text.specs.Texts.{word_of};
 ghost use Rattle.redo_text.specs.Questions.{words_of, kind_named};
@@ -39,9 +39,10 @@ fn kind_of_word(word: &[u8]) -> Option<Kind>
 /// The kind of command with the first word of a text, and the text after its space, if it has one.
 #[tactic(auto, using(crate::proofs::FirstWords::words_by_kind, crate::proofs::FirstWords::no_kind, crate::proofs::FirstWords::word_is))]
 pub(crate) fn cut_kind(text: &[u8]) -> Option<(Kind, Option<&[u8]>)>
-    ensures reads { (names : List Text)
-        → MatchOption result (words_in names (words_of text.now) ≡ Err UnknownCommand)
-        (λ k. words_in names (words_of text.now) ≡ form_in (Some k.0) names (words_after k.1)) }
+    ensures reads { (most : ℕ) (names : List Text)
+        → MatchOption result (words_in most names (words_of text.now) ≡ Err UnknownCommand)
+        (λ k. words_in most names (words_of text.now)
+        ≡ form_in most (Some k.0) names (words_after k.1)) }
     ensures words { IfSome result (λ k. words_of text.now ≡ word_of k.0 ∷ words_after k.1) }
 {
     let (word, args) = cut_word(text);

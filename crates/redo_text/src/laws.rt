@@ -22,7 +22,7 @@ pub fn command_reads_back()
 /// if it is not too long and its names fit.
 pub fn line_reads_back()
     ensures { (names : List Text) (item : Item Text) (after : List Text) → HasForm item.command
-        → IsShort (item_text_of item) → AddsNames names (item.command ∷ []) after
+        → IsShort (item_text_of item) → AddsNames 65536 names (item.command ∷ []) after
         → IsScript names (item_text_of item) (item ∷ []) after }
 {}
 
@@ -58,12 +58,14 @@ pub fn no_read_fault()
 
 /// A line is a command's whose names fit, or it has a fault, and never both.
 pub fn fault_or_command()
-    ensures command { (names : List Text) (line : Text) → line_fault names line ≡ None
+    ensures command { (most : ℕ) (names : List Text) (line : Text)
+        → line_fault most names line ≡ None
         → (command : Command Text) × (after : List Text)
-        × IsCommandLine line command × AddsNames names (command ∷ []) after }
-    ensures fault { (names : List Text) (line : Text) (command : Command Text) (after : List Text)
-        → IsCommandLine line command → AddsNames names (command ∷ []) after
-        → line_fault names line ≡ None }
+        × IsCommandLine line command × AddsNames most names (command ∷ []) after }
+    ensures fault { (most : ℕ) (names : List Text) (line : Text) (command : Command Text)
+        (after : List Text)
+        → IsCommandLine line command → AddsNames most names (command ∷ []) after
+        → line_fault most names line ≡ None }
 {}
 
 /// A text is a session file, or it has a first fault, and it has no two.

@@ -57,21 +57,22 @@ pub(crate) fn numbers_of(
     alloc: Global,
     names: &mut Names,
     words: &[&[u8]],
+    most: u32,
 ) -> Result<Vec<u32>, Unread>
-    requires few { length names.old ≤ 65536 }
+    requires few { length names.old ≤ most }
     requires names { list_all name_test (map (λ w. w.now) words.now) ≡ true }
     ensures reads { Reads (λ _. names.new) result
-        (all_added names.old (map (λ w. w.now) words.now)) }
+        (all_added most names.old (map (λ w. w.now) words.now)) }
     ensures numbers { IfOk result
         (λ numbers. map (text_at names.new) numbers.items ≡ map (λ w. w.now) words.now) }
     ensures within { IfOk result (λ numbers. AllBelow (length names.new) numbers.items) }
     ensures left { IfErr result
-        (LeavesPrefix names.old (map (λ w. w.now) words.now) names.new) }
+        (LeavesPrefix most names.old (map (λ w. w.now) words.now) names.new) }
     ensures kept { Extends names.old names.new }
 {
     let mut numbers = Vec::new(alloc);
     for word in words {
-        let number = number_of(names, None, *word)?;
+        let number = number_of(names, None, *word, most)?;
         numbers.push(number)?;
     }
     Ok(numbers)
@@ -83,18 +84,20 @@ fn target_and_numbers_in(
     alloc: Global,
     names: &mut Names,
     words: &[&[u8]],
+    most: u32,
 ) -> Result<(u32, Vec<u32>), Unread>
+    requires few { length names.old ≤ most }
     ensures reads { (form : Text → List Text → commands.Command Text) → Reads
         (λ p. (form (text_at names.new p.0) (map (text_at names.new) p.1.items), names.new))
-        result (names_form_in form names.old (map (λ w. w.now) words.now)) }
+        result (names_form_in most form names.old (map (λ w. w.now) words.now)) }
     ensures within { IfOk result (λ p. AllBelow (length names.new) (p.0 ∷ p.1.items)) }
-    ensures left { IfErr result (LeavesSome names.old (map (λ w. w.now) words.now) names.new) }
+    ensures left { IfErr result (LeavesSome most names.old (map (λ w. w.now) words.now) names.new) }
     ensures kept { Extends names.old names.new }
 {
     names.are_names();
     let (target, others) = target_and_names(words)?;
-    let number = number_of(names, None, target)?;
-    let numbers = numbers_of(alloc, names, others)?;
+    let number = number_of(names, None, target, most)?;
+    let numbers = numbers_of(alloc, names, others, most)?;
     Ok((number, numbers))
 }
 
@@ -104,12 +107,14 @@ pub(crate) fn target_and_numbers_of(
     alloc: Global,
     names: &mut Names,
     args: Option<&[u8]>,
+    most: u32,
 ) -> Result<(u32, Vec<u32>), Unread>
+    requires few { length names.old ≤ most }
     ensures reads { (form : Text → List Text → commands.Command Text) → Reads
         (λ p. (form (text_at names.new p.0) (map (text_at names.new) p.1.items), names.new))
-        result (names_form_in form names.old (words_after args.entry)) }
+        result (names_form_in most form names.old (words_after args.entry)) }
     ensures within { IfOk result (λ p. AllBelow (length names.new) (p.0 ∷ p.1.items)) }
-    ensures left { IfErr result (LeavesSome names.old (words_after args.entry) names.new) }
+    ensures left { IfErr result (LeavesSome most names.old (words_after args.entry) names.new) }
     ensures kept { Extends names.old names.new }
 {
     names.are_names();
@@ -118,5 +123,5 @@ pub(crate) fn target_and_numbers_of(
         return Ok(known);
     }
     let words = words(alloc, args)?;
-    target_and_numbers_in(alloc, names, &words)
+    target_and_numbers_in(alloc, names, &words, most)
 }

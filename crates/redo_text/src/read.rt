@@ -1,4 +1,4 @@
-ghost use Rattle.std.specs.Prelude.{◌≡◌, ◌⊎◌, ◌∷◌, [], List, length, IfOk, IsOkAnd, IfErr, IfSome, true};
+ghost use Rattle.std.specs.Prelude.{◌≡◌, ◌≤◌, ◌⊎◌, ◌∷◌, [], List, length, IfOk, IsOkAnd, IfErr, IfSome, true};
 ghost use Rattle.std.specs.Option.{option_map};
 ghost use Rattle.redo_names.specs.Inside.Names.{Extends};
 ghost use Rattle.redo_model.specs.Names.{Text};
@@ -14,7 +14,7 @@ ghost use Rattle.redo_text.specs.Inside.Reading.{Reads, LeavesWords, line_in, sc
 use crate::fault::{LineFault, ReadFault, Unread, at_line};
 use crate::forms::form_of;
 use crate::words::has_bad_byte;
-use redo_names::Names;
+use redo_names::{MOST_NAMES, Names};
 use redo_terms::{Command, Item};
 use std::alloc::Global;
 
@@ -26,21 +26,22 @@ pub const MOST_COMMANDS: usize = 4096;
 
 /// The command of a line without its LF.
 #[tactic(auto, using(crate::proofs::Added::extends_same), unfolding(crate::specs::Inside::Reading::line_in))]
-fn line_of(alloc: Global, line: &[u8], names: &mut Names) -> Result<Command, Unread>
+fn line_of(alloc: Global, line: &[u8], names: &mut Names, most: u32) -> Result<Command, Unread>
+    requires few { length names.old ≤ most }
     ensures reads { Reads (λ command. (command_at names.new command, names.new)) result
-        (line_in names.old line.now) }
+        (line_in most names.old line.now) }
     ensures too_long { ¬ (IsShort line.now) → result ≡ Err (Unread.Fault LineFault.LineTooLong) }
     ensures bad_byte { IsShort line.now → bad_byte_test line.now ≡ true
         → result ≡ Err (Unread.Fault LineFault.BadByte) }
     ensures within { IfOk result (λ command. IsBelow (length names.new) (command_of command)) }
-    ensures left { IfErr result (LeavesWords names.old line.now names.new) }
+    ensures left { IfErr result (LeavesWords most names.old line.now names.new) }
     ensures kept { Extends names.old names.new }
 {
     if line.len() > LONGEST_LINE {
         return Err(Unread::Fault(LineFault::LineTooLong));
     }
     names.are_names();
-    match form_of(alloc, names, line) {
+    match form_of(alloc, names, line, most) {
         Ok(command) => Ok(command),
         Err(_) if has_bad_byte(line) => Err(Unread::Fault(LineFault::BadByte)),
         Err(unread) => Err(unread),
@@ -50,28 +51,34 @@ fn line_of(alloc: Global, line: &[u8], names: &mut Names) -> Result<Command, Unr
 /// Reads the command of a line without its LF. Faults have line 1.
 ///
 /// After a fault of the line the names are as before, unless its own would be too many.
-pub fn read_command(alloc: Global, line: &[u8], names: &mut Names) -> Result<Command, ReadFault>
+pub fn read_command(
+    alloc: Global,
+    line: &[u8],
+    names: &mut Names,
+    most: u32,
+) -> Result<Command, ReadFault>
+    requires few { length names.old ≤ most }
     // What is read is a command line, and its names are added.
     ensures read { IfOk result (λ command. IsCommandLine line.now (command_at names.new command)
-        × AddsNames names.old (command_at names.new command ∷ []) names.new) }
+        × AddsNames most names.old (command_at names.new command ∷ []) names.new) }
     // A command line whose names fit is read, unless memory runs out.
     ensures only { (command : CommandOf Text) (after : List Text) → IsCommandLine line.now command
-        → AddsNames names.old (command ∷ []) after
+        → AddsNames most names.old (command ∷ []) after
         → (result ≡ Err ReadFault.Memory)
         ⊎ IsOkAnd result (λ read. (command_at names.new read ≡ command) × (names.new ≡ after)) }
     // A fault is that of the first question about the line that is answered by "yes".
-    ensures fault { IfErr result (IsLineFault names.old line.now) }
+    ensures fault { IfErr result (IsLineFault most names.old line.now) }
     // These two come before `Memory`.
     ensures too_long { ¬ (IsShort line.now)
         → result ≡ Err (ReadFault.Line 1 LineFault.LineTooLong) }
     ensures bad_byte { IsShort line.now → bad_byte_test line.now ≡ true
         → result ≡ Err (ReadFault.Line 1 LineFault.BadByte) }
     ensures within { IfOk result (λ command. IsBelow (length names.new) (command_of command)) }
-    ensures left { IfErr result (LeavesNames names.old line.now names.new) }
+    ensures left { IfErr result (LeavesNames most names.old line.now names.new) }
     ensures kept { Extends names.old names.new }
 {
     names.are_names();
-    match line_of(alloc, line, names) {
+    match line_of(alloc, line, names, most) {
         Ok(command) => Ok(command),
         Err(unread) => Err(at_line(1, unread)),
     }
@@ -105,6 +112,7 @@ pub(crate) fn read_script_line(
     count: usize,
     names: &mut Names,
 ) -> Result<Option<Item>, Unread>
+    requires few { length names.old ≤ 65536 }
     ensures reads { Reads (λ read. (option_map (item_at names.new) read, names.new)) result
         (script_line_in count names.old line.now) }
     ensures within { IfOk result
@@ -121,6 +129,6 @@ pub(crate) fn read_script_line(
         return Err(Unread::Fault(LineFault::TooManyLines));
     }
     let (guarded, text) = cut_guard(line);
-    let command = line_of(alloc, text, names)?;
+    let command = line_of(alloc, text, names, MOST_NAMES)?;
     Ok(Some(Item { guarded, command }))
 }

@@ -18,10 +18,10 @@ use std::alloc::Global;
 
 /// The reply of a text by its first word.
 #[tactic(auto, using(crate::proofs::Added::extends_same, crate::proofs::ReplyNames::none_added), unfolding(crate::specs::Inside::ReplyReading::reply_in, crate::specs::Inside::ReplyReading::reply_args_in))]
-fn reply_of_words(alloc: Global, text: &[u8], names: &mut Names) -> Result<Reply, Unread>
-    requires { length names.old ≤ 65536 }
+fn reply_of_words(alloc: Global, text: &[u8], names: &mut Names, most: u32) -> Result<Reply, Unread>
+    requires { length names.old ≤ most }
     ensures reads { Reads (λ reply. (reply_at names.new reply, names.new)) result
-        (reply_in names.old text.now) }
+        (reply_in most names.old text.now) }
     ensures within { IfOk result (λ reply. IsReplyBelow (length names.new) (reply_of reply)) }
     ensures kept { Extends names.old names.new }
 {
@@ -35,21 +35,21 @@ fn reply_of_words(alloc: Global, text: &[u8], names: &mut Names) -> Result<Reply
         }
         ReplyKind::Granted => Ok(Reply::Granted(grant_of(args)?)),
         ReplyKind::Busy => Ok(Reply::Busy(grant_of(args)?)),
-        ReplyKind::Stale => Ok(Reply::Stale(some_listed_of(alloc, names, args)?)),
+        ReplyKind::Stale => Ok(Reply::Stale(some_listed_of(alloc, names, args, most)?)),
         ReplyKind::Stamped => Ok(Reply::Stamped(Digest::new(digest_of_word(args)?))),
-        ReplyKind::Ood => Ok(Reply::Ood(listed_of(alloc, names, args)?)),
-        ReplyKind::Targets => Ok(Reply::Targets(listed_of(alloc, names, args)?)),
-        ReplyKind::Sources => Ok(Reply::Sources(listed_of(alloc, names, args)?)),
-        ReplyKind::Refused => Ok(Reply::Refused(refusal_of_words(names, args)?)),
+        ReplyKind::Ood => Ok(Reply::Ood(listed_of(alloc, names, args, most)?)),
+        ReplyKind::Targets => Ok(Reply::Targets(listed_of(alloc, names, args, most)?)),
+        ReplyKind::Sources => Ok(Reply::Sources(listed_of(alloc, names, args, most)?)),
+        ReplyKind::Refused => Ok(Reply::Refused(refusal_of_words(names, args, most)?)),
     }
 }
 
 /// The reply of a text, without LF.
 #[tactic(auto, using(crate::proofs::Added::extends_same))]
-fn text_read(alloc: Global, text: &[u8], names: &mut Names) -> Result<Reply, Unread>
-    requires { length names.old ≤ 65536 }
+fn text_read(alloc: Global, text: &[u8], names: &mut Names, most: u32) -> Result<Reply, Unread>
+    requires { length names.old ≤ most }
     ensures reads { Reads (λ reply. (reply_at names.new reply, names.new)) result
-        (reply_in names.old text.now) }
+        (reply_in most names.old text.now) }
     ensures within { IfOk result (λ reply. IsReplyBelow (length names.new) (reply_of reply)) }
     ensures kept { Extends names.old names.new }
 {
@@ -57,24 +57,30 @@ fn text_read(alloc: Global, text: &[u8], names: &mut Names) -> Result<Reply, Unr
     if text == b"ok".as_slice() {
         return Ok(Reply::Okay);
     }
-    reply_of_words(alloc, text, names)
+    reply_of_words(alloc, text, names, most)
 }
 
 /// Reads the reply of a text, without LF. After a fault the old names are a prefix of the names.
-pub fn read_reply(alloc: Global, text: &[u8], names: &mut Names) -> Result<Reply, ReplyFault>
+pub fn read_reply(
+    alloc: Global,
+    text: &[u8],
+    names: &mut Names,
+    most: u32,
+) -> Result<Reply, ReplyFault>
+    requires { length names.old ≤ most }
     // What is read is a reply's text, and its names are added.
     ensures read { IfOk result (λ reply. IsReplyText text.now (reply_at names.new reply)
-        × AddsReplyNames names.old (reply_at names.new reply) names.new) }
+        × AddsReplyNames most names.old (reply_at names.new reply) names.new) }
     // A reply's text whose names fit is read, unless memory runs out.
     ensures only { (reply : ReplyOf Text) (after : List Text) → IsReplyText text.now reply
-        → AddsReplyNames names.old reply after
+        → AddsReplyNames most names.old reply after
         → (result ≡ Err ReplyFault.Memory)
         ⊎ IsOkAnd result (λ read. (reply_at names.new read ≡ reply) × (names.new ≡ after)) }
     ensures within { IfOk result (λ reply. IsReplyBelow (length names.new) (reply_of reply)) }
     ensures kept { Extends names.old names.new }
 {
     names.are_names();
-    match text_read(alloc, text, names) {
+    match text_read(alloc, text, names, most) {
         Ok(reply) => Ok(reply),
         Err(Unread::Memory) => Err(ReplyFault::Memory),
         Err(Unread::Fault(_)) => Err(ReplyFault::BadReply),

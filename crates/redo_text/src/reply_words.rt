@@ -75,10 +75,11 @@ pub(crate) fn listed_of(
     alloc: Global,
     names: &mut Names,
     args: Option<&[u8]>,
+    most: u32,
 ) -> Result<Vec<u32>, Unread>
-    requires { length names.old ≤ 65536 }
+    requires { length names.old ≤ most }
     ensures reads { Reads (λ numbers. (map (text_at names.new) numbers.items, names.new)) result
-        (with_its_names (λ ns. ns) names.old (names_in_words (words_after args.entry))) }
+        (with_its_names most (λ ns. ns) names.old (names_in_words (words_after args.entry))) }
     ensures within { IfOk result (λ numbers. AllBelow (length names.new) numbers.items) }
     ensures kept { Extends names.old names.new }
 {
@@ -91,7 +92,7 @@ pub(crate) fn listed_of(
     if !are_names(&words) {
         return Err(Unread::Fault(LineFault::BadName));
     }
-    numbers_of(alloc, names, &words)
+    numbers_of(alloc, names, &words, most)
 }
 
 /// The same for at least one name.
@@ -99,15 +100,16 @@ pub(crate) fn some_listed_of(
     alloc: Global,
     names: &mut Names,
     args: Option<&[u8]>,
+    most: u32,
 ) -> Result<Vec<u32>, Unread>
-    requires { length names.old ≤ 65536 }
+    requires { length names.old ≤ most }
     ensures reads { Reads (λ numbers. (map (text_at names.new) numbers.items, names.new)) result
-        (with_its_names (λ ns. ns) names.old (some_names_in_words (words_after args.entry))) }
+        (with_its_names most (λ ns. ns) names.old (some_names_in_words (words_after args.entry))) }
     ensures within { IfOk result (λ numbers. AllBelow (length names.new) numbers.items) }
     ensures kept { Extends names.old names.new }
 {
     match args {
-        Some(_) => listed_of(alloc, names, args),
+        Some(_) => listed_of(alloc, names, args, most),
         None => Err(Unread::Fault(LineFault::WrongWords)),
     }
 }
@@ -115,9 +117,9 @@ pub(crate) fn some_listed_of(
 /// The refusal of one word alone.
 #[tactic(auto, using(crate::proofs::ReplyNames::none_added))]
 fn plain_refusal_of(word: &[u8]) -> Result<Refusal, Unread>
-    ensures reads { (names : List Text) → length names ≤ 65536
+    ensures reads { (most : ℕ) (names : List Text) → length names ≤ most
         → Reads (λ refusal. (named_refusal (text_at names) (refusal_of refusal), names)) result
-        (with_its_names names_in_refusal names (plain_refusal_in word.now)) }
+        (with_its_names most names_in_refusal names (plain_refusal_in word.now)) }
     ensures within { (n : ℕ)
         → IfOk result (λ refusal. IsReplyBelow n (Refused (refusal_of refusal))) }
 {
@@ -136,12 +138,16 @@ fn plain_refusal_of(word: &[u8]) -> Result<Refusal, Unread>
 
 /// The refusal of words.
 #[tactic(auto, using(crate::proofs::Added::extends_same, crate::proofs::ReplyNames::none_added, crate::proofs::ReplyNames::one_all_added))]
-pub(crate) fn refusal_of_words(names: &mut Names, args: Option<&[u8]>) -> Result<Refusal, Unread>
-    requires { length names.old ≤ 65536 }
+pub(crate) fn refusal_of_words(
+    names: &mut Names,
+    args: Option<&[u8]>,
+    most: u32,
+) -> Result<Refusal, Unread>
+    requires { length names.old ≤ most }
     ensures reads { Reads
         (λ refusal. (named_refusal (text_at names.new) (refusal_of refusal), names.new))
         result
-        (with_its_names names_in_refusal names.old (refusal_in_words (words_after args.entry))) }
+        (with_its_names most names_in_refusal names.old (refusal_in_words (words_after args.entry))) }
     ensures within { IfOk result
         (λ refusal. IsReplyBelow (length names.new) (Refused (refusal_of refusal))) }
     ensures kept { Extends names.old names.new }
@@ -156,5 +162,5 @@ pub(crate) fn refusal_of_words(names: &mut Names, args: Option<&[u8]>) -> Result
         return Err(Unread::Fault(LineFault::WrongWords));
     }
     let known = known_name(names, name)?;
-    Ok(Refusal::Exists(number_of(names, known, name)?))
+    Ok(Refusal::Exists(number_of(names, known, name, most)?))
 }

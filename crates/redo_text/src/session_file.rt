@@ -1,4 +1,4 @@
-ghost use Rattle.std.specs.Prelude.{◌≡◌, ◌⊎◌, ◌<◌, List, [], ◌∷◌, ◌++◌, map, length, MatchOption, IfOk, IsOkAnd, IfErr, OnOk};
+ghost use Rattle.std.specs.Prelude.{◌≡◌, ◌⊎◌, ◌<◌, ◌≤◌, List, [], ◌∷◌, ◌++◌, map, length, MatchOption, IfOk, IsOkAnd, IfErr, OnOk};
 ghost use Rattle.std.specs.List.{AllByRecursion};
 ghost use Rattle.redo_names.specs.Inside.Names.{Extends};
 ghost use Rattle.redo_model.specs.Names.{Text};
@@ -47,7 +47,8 @@ fn take_line(
     items: &mut Vec<Item>,
     names: &mut Names,
 ) -> Result<(), Unread>
-    requires { AllByRecursion
+    requires few { length names.old ≤ 65536 }
+    requires within { AllByRecursion
         (λ item. IsBelow (length names.old) (command_of item.command)) items.old.items }
     // The lines that were read before are read with this line.
     ensures taken { (start before : List Text)
@@ -68,6 +69,7 @@ fn take_line(
 
 /// Reads the lines of a session file. After a fault the old names are a prefix of the names.
 pub fn read_script(alloc: Global, text: &[u8], names: &mut Names) -> Result<Script, ReadFault>
+    requires few { length names.old ≤ 65536 }
     // What is read is a script, and its names are added.
     ensures read { IfOk result
         (λ script. IsScript names.old text.now (map (item_at names.new) script) names.new) }

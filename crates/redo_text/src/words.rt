@@ -1,4 +1,4 @@
-ghost use Rattle.std.specs.Prelude.{◌≡◌, ◌∷◌, [], ◌<◌, length, IfOk, IfSome, OnErr, true};
+ghost use Rattle.std.specs.Prelude.{◌≡◌, ◌∷◌, [], ◌<◌, length, IfOk, IfSome, OnErr, true, ◌≤◌};
 ghost use Rattle.redo_names.specs.Names.{is_name as name_test};
 ghost use Rattle.redo_names.specs.Inside.Names.{Extends};
 ghost use Rattle.redo_model.specs.Names.{Text, text_at};
@@ -91,10 +91,16 @@ pub(crate) fn known_name(names: &Names, word: &[u8]) -> Result<Option<u32>, Unre
 
 /// The number of a name, which is added if it is new.
 #[inline]
-pub(crate) fn number_of(names: &mut Names, known: Option<u32>, name: &[u8]) -> Result<u32, Unread>
+pub(crate) fn number_of(
+    names: &mut Names,
+    known: Option<u32>,
+    name: &[u8],
+    most: u32,
+) -> Result<u32, Unread>
+    requires few { length names.old ≤ most }
     requires name { name_test name.now ≡ true }
     requires known { IfSome known (IsNumbered names.old name.now) }
-    ensures reads { Reads (λ _. names.new) result (added names.old name.now) }
+    ensures reads { Reads (λ _. names.new) result (added most names.old name.now) }
     ensures number { IfOk result (λ n. text_at names.new n ≡ name.now) }
     ensures within { IfOk result (λ n. n < length names.new) }
     ensures left { OnErr result (names.new ≡ names.old) }
@@ -104,7 +110,7 @@ pub(crate) fn number_of(names: &mut Names, known: Option<u32>, name: &[u8]) -> R
         names.remember(number);
         return Ok(number);
     }
-    match names.add(name) {
+    match names.add(name, most) {
         Ok(number) => Ok(number),
         Err(NamesFault::Full) => Err(Unread::Fault(LineFault::TooManyNames)),
         Err(NamesFault::Memory) => Err(Unread::Memory),

@@ -1,5 +1,5 @@
 -- The value of the database's fields, and their invariant.
-use Rattle.std.specs.Prelude.{◌≡◌, ℕ, ◌+◌, ◌*◌, ◌^◌, ◌<◌, List, IsSome, Contains, length, nat_eq}
+use Rattle.std.specs.Prelude.{◌≡◌, ℕ, ◌+◌, ◌*◌, ◌^◌, ◌≤◌, ◌<◌, List, IsSome, Contains, length, nat_eq}
 use Rattle.std.specs.List.{IsDistinct}
 use Rattle.redo_model.specs.Names.{Text, texts}
 use Rattle.redo_model.specs.State.{State, Locks, empty}
@@ -32,5 +32,6 @@ pub record IsKept (names : List Text) (st : State ℕ) (calls : ℕ) : Type 0 wh
       → calls + 2 * length ts < 2 ^ 32
 
 pub record KeepsLive (inside : Inside) : Type 0 where
+  pub few : length inside.names ≤ 16777216
   pub state : IsKept inside.names (state_of inside.redo) (calls_of inside.redo)
   pub numbers : inside.numbers ≡ tables_count inside.redo

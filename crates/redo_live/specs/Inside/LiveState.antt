@@ -1,5 +1,5 @@
 -- The value of a conversation's database.
-use Rattle.std.specs.Prelude.{◌≡◌, ℕ, ◌<◌, List, length}
+use Rattle.std.specs.Prelude.{◌≡◌, ℕ, ◌+◌, ◌*◌, ◌^◌, ◌<◌, List, length}
 use Rattle.redo_model.specs.Names.{Text, text_at}
 use Rattle.redo_model.specs.State.{State}
 use Rattle.redo_model.specs.Inside.Renaming.{named_state, numbering}
@@ -17,6 +17,10 @@ state_in live = named_state (numbering live.names) (state_of live.tables)
 -- how many commands were answered
 abbrev pub calls_in : LiveState → ℕ
 calls_in live = calls_of live.tables
+
+-- one more command can be counted, and then two for each name: closing takes no more
+abbrev pub HasCallsLeft : LiveState → Type 0
+HasCallsLeft live = calls_in live + 1 + 2 * length live.names < 2 ^ 32
 
 -- the name has this number, which the database knows
 pub record IsNumberOf (live : LiveState) (name : Text) (n : ℕ) : Type 0 where

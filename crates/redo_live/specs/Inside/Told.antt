@@ -1,5 +1,5 @@
 -- The contracts of the database's inner calls.
-use Rattle.std.specs.Prelude.{◌≡◌, ℕ, ◌+◌, ◌≤◌, ◌<◌, List, ◌++◌, Some, length, true, ⊤}
+use Rattle.std.specs.Prelude.{◌≡◌, ℕ, ◌+◌, ◌*◌, ◌^◌, ◌≤◌, List, ◌++◌, Some, length, true, ⊤}
 use Rattle.std.specs.List.{flat_map}
 use Rattle.redo_names.specs.Inside.Names.{AreNames}
 use Rattle.redo_model.specs.Names.{Text, texts, text_at}
@@ -19,7 +19,7 @@ use Rattle.redo_store.specs.Inside.Tables.{tables_naming}
 use Rattle.redo_history.specs.Histories.{line_text_of}
 use Rattle.redo_live.specs.Inside.Answered.{IsAnswered, logged_text}
 use Rattle.redo_live.specs.Inside.Ended.{IsEnded, end_text}
-use Rattle.redo_live.specs.Inside.LiveState.{LiveState, state_in, calls_in}
+use Rattle.redo_live.specs.Inside.LiveState.{LiveState, HasCallsLeft, state_in, calls_in}
 use Rattle.redo_live.specs.Inside.Ordered.{IsSortedReply}
 use Rattle.redo_live.specs.declared.fault.Unanswered.{Unanswered}
 use Rattle.redo_live.specs.declared.fault.Unanswered.TheVariants.{Memory, Worn, Fault}
@@ -29,17 +29,22 @@ abbrev pub unread : ReadFault → Unanswered
 unread read.Memory = Memory
 unread (read.Line number fault) = Fault fault
 
+-- too few calls are left for one more command, which may name 65 new names, and for closing then
+abbrev pub IsWorn : LiveState → Type 0
+IsWorn live = 2 ^ 32 ≤ calls_in live + 1 + 2 * (length live.names + 65)
+
 -- the cause: the line's fault, or that fewer calls are left than closing may take
 abbrev pub IsUnansweredFor : LiveState → Text → Unanswered → Type 0
 IsUnansweredFor live text Memory = ⊤
-IsUnansweredFor live text Worn = 4294836223 ≤ calls_in live
-IsUnansweredFor live text (Fault fault) = line_fault live.names text ≡ Some fault
+IsUnansweredFor live text Worn = IsWorn live
+IsUnansweredFor live text (Fault fault) = line_fault 16777216 live.names text ≡ Some fault
 
 -- the reply is the database's to the line's command, and the line has it with its names in the
 -- order of their texts; a call is left for the command, and memory is reserved for its change
 pub record IsDue (live : LiveState) (line : LineOfNumbers) (reply : ReplyOfNumbers) : Type 0 where
   pub names : AreNames live.names
-  pub calls : calls_in live < 4294836223
+  pub few_names : length live.names ≤ 16777216
+  pub calls : HasCallsLeft live
   pub count : length live.names ≤ tables_count live.tables
   pub below : IsBelow (length live.names) (command_of line.command)
   pub room : has_room_for live.tables.store (command_of line.command) ≡ true

@@ -37,7 +37,7 @@ pub record WouldAnswer (live : LiveState) (session : ℕ) (text : Text) (size : 
   pub session_is : line.session ≡ session
   pub said : IsCommandLine text line.command
   pub names_after : List Text
-  pub named : AddsNames live.names (line.command ∷ []) names_after
+  pub named : AddsNames 16777216 live.names (line.command ∷ []) names_after
   pub answers : Answers texts (state_in live) session line.command line.reply
   pub size_is : size ≡ length (line_text_of line)
 

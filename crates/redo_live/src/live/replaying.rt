@@ -1,5 +1,5 @@
 //! How the lines of a history are read, and their commands done again.
-ghost use Rattle.std.specs.Prelude.{◌≡◌, ◌+◌, ◌<◌, length, IfOk, IfErr, OnOk, OnErr};
+ghost use Rattle.std.specs.Prelude.{◌≡◌, ◌+◌, ◌≤◌, length, IfOk, IfErr, OnOk, OnErr};
 ghost use Rattle.redo_names.specs.Inside.Names.{Extends};
 ghost use Rattle.redo_model.specs.Names.{texts, text_at};
 ghost use Rattle.redo_model.specs.Step.{Answers, after};
@@ -8,7 +8,7 @@ ghost use Rattle.redo_terms.specs.Meaning.{command_of, line_of, line_at, reply_o
 ghost use Rattle.redo_history.specs.HistoryTexts.{IsHistoryLine};
 ghost use Rattle.redo_history.specs.Inside.HistoryTexts.{AddsLineNames};
 ghost use Rattle.redo_history.specs.Inside.HistoryFaults.{IsLineCause};
-ghost use Rattle.redo_live.specs.Inside.LiveState.{state_in, calls_in, IsAsKnown};
+ghost use Rattle.redo_live.specs.Inside.LiveState.{state_in, calls_in, HasCallsLeft, IsAsKnown};
 
 use crate::live::Live;
 use crate::ordering::{ascending, list_of, ordered_guessed};
@@ -26,13 +26,14 @@ impl Live {
     }
 
     /// Reads the line of this number of a history: its names become known, and nothing is done. On
-    /// a fault, some of its names may stay.
+    /// a fault no more names are known than before.
     pub fn read_line(
         &mut self,
         alloc: Global,
         number: usize,
         text: &[u8],
     ) -> Result<Line, HistoryFault>
+        requires few { length self.old.names ≤ 65536 }
         ensures read { IfOk result
             (λ line. IsHistoryLine text.now (line_at self.new.names line)) }
         ensures named { IfOk result (λ line.
@@ -41,13 +42,23 @@ impl Live {
             (λ line. IsLineBelow (length self.new.names) (line_of line)) }
         ensures fault { IfErr result (IsLineCause self.old.names number text.now) }
         ensures kept { Extends self.old.names self.new.names }
+        ensures names { OnErr result (self.new.names ≡ self.old.names) }
         ensures state { state_in self.new ≡ state_in self.old }
         ensures calls { calls_in self.new ≡ calls_in self.old }
     {
         self.names.are_names();
-        let line = read_line(alloc, number, text, &mut self.names);
-        self.names.are_names();
-        line
+        let count = self.names.len();
+        match read_line(alloc, number, text, &mut self.names) {
+            Ok(line) => {
+                self.names.are_names();
+                Ok(line)
+            }
+            Err(fault) => {
+                self.names.keep_first(count);
+                self.names.are_names();
+                Err(fault)
+            }
+        }
     }
 
     /// Does a session's command, and gives its reply; an error changes nothing. Callers pass
@@ -60,7 +71,7 @@ impl Live {
         guess: &Reply,
     ) -> Result<Reply, AllocError>
         requires below { IsBelow (length self.old.names) (command_of command.now) }
-        requires calls { calls_in self.old < 4294836223 }
+        requires calls { HasCallsLeft self.old }
         ensures answers { IfOk result (λ reply. Answers texts (state_in self.old) session
             (named_command (text_at self.old.names) (command_of command.now))
             (reply_at self.old.names reply)) }

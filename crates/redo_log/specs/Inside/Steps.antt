@@ -21,7 +21,7 @@ AsksFor text session said =
 pub record CanFollow (live : LiveState) (line : Line Text) : Type 0 where
   pub said : IsLineSaid line
   pub names : List Text
-  pub named : AddsNames live.names (line.command ∷ []) names
+  pub named : AddsNames 16777216 live.names (line.command ∷ []) names
   pub answers : Answers texts (state_in live) line.session line.command line.reply
 
 -- no line that can be the next one is at the beginning
@@ -33,7 +33,7 @@ NothingFollows live left =
 pub record DoesNext (old new : LiveState) (left rest : Text) : Type 0 where
   pub line : Line Text
   pub said : IsLineSaid line
-  pub named : AddsNames old.names (line.command ∷ []) new.names
+  pub named : AddsNames 16777216 old.names (line.command ∷ []) new.names
   pub answers : Answers texts (state_in old) line.session line.command line.reply
   pub after_is : state_in new ≡ after texts (state_in old) line.session line.command
   pub calls : calls_in new ≡ calls_in old + 1

@@ -1,5 +1,5 @@
 -- The invariant of a list of names, and how it grows.
-use Rattle.std.specs.Prelude.{◌≡◌, ◌↔◌, ℕ, ◌≤◌, List, ◌++◌, length, take, bytes_eq, Some, slice_get, String}
+use Rattle.std.specs.Prelude.{◌≡◌, ◌↔◌, ℕ, ◌<◌, ◌≤◌, ◌^◌, List, ◌++◌, length, take, bytes_eq, Some, slice_get, String}
 use Rattle.std.specs.Global.{Global}
 use Rattle.std.specs.HashMap.{HashMap, get_by_text}
 use Rattle.std.specs.List.{IsDistinct}
@@ -10,9 +10,9 @@ pub record Extends (old new : List (List ℕ)) : Type 0 where
   pub more : List (List ℕ)
   pub is : new ≡ old ++ more
 
--- at most 65,536 texts, no two of them equal, and each of them a name
+-- fewer than 2^32 texts, no two of them equal, and each of them a name
 pub record AreNames (names : List (List ℕ)) : Type 0 where
-  pub few : length names ≤ 65536
+  pub few : length names < 2 ^ 32
   pub distinct : IsDistinct bytes_eq names
   pub each : AreAllNames names
 

@@ -17,7 +17,7 @@ refusal_word_of (Fault fault) = fault_word_of fault
 abbrev pub IsRefusedFor : List Text → Text → Unanswered → Type 0
 IsRefusedFor names text Memory = ⊤
 IsRefusedFor names text Worn = ⊤
-IsRefusedFor names text (Fault fault) = asked_fault names text ≡ Some fault
+IsRefusedFor names text (Fault fault) = asked_fault 16777216 names text ≡ Some fault
 
 -- a prefix of `logged` was written to the log and, if that was whole, a prefix of `said` to the
 -- output

@@ -34,7 +34,7 @@ pub record Answering (old new : Known) (round : Round) : Type 0 where
   pub asks : Asks round.heard line.session text
   pub says : IsCommandLine text line.command
   pub names_are : new.names ≡ with_names old.names (names_in line.command)
-  pub few_names : length new.names ≤ 65536
+  pub few_names : length new.names ≤ 16777216
   pub answers : Answers texts old.state line.session line.command line.reply
   pub state_is : new.state ≡ after texts old.state line.session line.command
   pub lines_are : round.lines ≡ line ∷ []

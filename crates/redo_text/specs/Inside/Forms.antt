@@ -1,5 +1,5 @@
 -- What follows the word of a command, and the command that it gives.
-use Rattle.std.specs.Prelude.{List}
+use Rattle.std.specs.Prelude.{List, ℕ}
 use Rattle.redo_model.specs.Names.{Text}
 use Rattle.redo_model.specs.Command.{Command, Gone, Lock, Unlock, Start, IfChange, IfCreate, Always, Failed, Ood, Targets, Sources}
 use Rattle.redo_text.specs.declared.form.Bare.{Bare}
@@ -33,10 +33,10 @@ about_nothing bare.Targets = Targets
 about_nothing bare.Sources = Sources
 
 -- the reading of the words of a form
-abbrev pub words_read : Form → List Text → List Text → Reading
-words_read (forms.OneName form) names args = one_name_in (about_name form) names args
-words_read (forms.Listing form) names args = names_form_in (about_names form) names args
-words_read (forms.Bare form) names args = no_words_in (about_nothing form) names args
-words_read forms.File names args = file_in names args
-words_read forms.Stamp names args = stamp_in names args
-words_read forms.Done names args = done_in names args
+abbrev pub words_read : ℕ → Form → List Text → List Text → Reading
+words_read most (forms.OneName form) names args = one_name_in most (about_name form) names args
+words_read most (forms.Listing form) names args = names_form_in most (about_names form) names args
+words_read most (forms.Bare form) names args = no_words_in (about_nothing form) names args
+words_read most forms.File names args = file_in most names args
+words_read most forms.Stamp names args = stamp_in most names args
+words_read most forms.Done names args = done_in most names args

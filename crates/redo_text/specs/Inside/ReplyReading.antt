@@ -108,13 +108,13 @@ reply_words_in [] = Err WrongWords
 reply_words_in (word ∷ args) = reply_args_in (reply_kind_named word) args
 
 -- what was read, and the names with its names
-abbrev pub with_its_names : {X : Type 0} → (X → List Text) → List Text → Result X LineFault
+abbrev pub with_its_names : {X : Type 0} → ℕ → (X → List Text) → List Text → Result X LineFault
     → Result (X × List Text) LineFault
-with_its_names own names reading = do
+with_its_names most own names reading = do
   x ← reading
-  after ← all_added names (own x)
+  after ← all_added most names (own x)
   Ok (x, after)
 
 -- a text without LF
-unfoldable pub reply_in : List Text → Text → Result (Reply Text × List Text) LineFault
-reply_in names text = with_its_names names_in_reply names (reply_words_in (words_of text))
+unfoldable pub reply_in : ℕ → List Text → Text → Result (Reply Text × List Text) LineFault
+reply_in most names text = with_its_names most names_in_reply names (reply_words_in (words_of text))

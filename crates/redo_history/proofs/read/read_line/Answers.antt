@@ -85,7 +85,8 @@ returns-clause-named c =
           c.in-Ok.command;
       reply = c.in-Ok-read_reply.reply;
     })
-    (subst (λ (command : commands.Command Text). AddsNames c.args.names.now (command ∷ []) mid)
+    (subst (λ (command : commands.Command Text). AddsNames 65536 c.args.names.now
+    (command ∷ []) mid)
     (sym said) c.in-Ok.ensures.read.1) c.in-Ok-read_reply.ensures.read.1
 
 pub returns-clause-below : goal.returns-clause-below

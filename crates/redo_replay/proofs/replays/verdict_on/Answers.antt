@@ -1,4 +1,4 @@
-use Rattle.std.proofs.Common.{◌≡◌, ◌++◌, length, arith}
+use Rattle.std.proofs.Common.{◌≡◌, ◌++◌, length, ap, arith}
 use Rattle.std.proofs.lemmas.Result.{err_from_is_err_and}
 use Rattle.redo_history.specs.Histories.{header_of}
 use Rattle.redo_history.proofs.HistorySteps.{all_read, read_up_to, read_before, line_fails}
@@ -34,6 +34,7 @@ lines-preserved c = record {
       c.lines.invariant.so_far c.in-Some.ensures.0 c.in_ok-line.ensures.read
       c.in_ok-line.ensures.named c.read_line.ensures.kept c.read_line.ensures.state
       c.judge.ensures.names c.in_ok-judge.ensures.judged;
+  few = omega (arith, c.in_ok-line.ensures.named.1, ap length c.judge.ensures.names);
   calls = omega (
     arith,
     c.in_ok-judge.ensures.calls,

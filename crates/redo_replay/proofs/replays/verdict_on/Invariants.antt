@@ -1,4 +1,4 @@
-use Rattle.std.proofs.Common.{◌<◌, ◌++◌}
+use Rattle.std.proofs.Common.{◌<◌, ◌≤◌, ◌++◌, length}
 use Rattle.redo_history.specs.Histories.{header_of}
 use Rattle.redo_live.specs.Inside.LiveState.{calls_in}
 use Rattle.redo_replay.proofs.Judged.{IsReplayedSoFar}
@@ -8,5 +8,6 @@ abbrev pub invariant-lines : goal.invariant-lines
 invariant-lines l = record {
   so_far : IsReplayedSoFar (header_of l.count ++ l.fn.rest) l.count l.number l.live l.left
       l.verdict;
+  few : length l.live.names ≤ 65536;
   calls : calls_in l.live < l.number;
 }

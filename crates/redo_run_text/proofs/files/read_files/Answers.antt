@@ -52,6 +52,7 @@ loop-at-preserved g c =
     record {
       accepted = rw c.in_ok-push.ensures.items accepted;
       below = rw c.in_ok-push.ensures.items below;
+      few = c.in_ok-script.ensures.few;
       later = λ k after. shown_after (λ file. g.R.Read.remaining (inner_of file)) c.loop-at.files at
           k c.read_file.new.file (omega arith) ∙ c.loop-at.invariant.later k (omega arith);
       counts = map-set_same (λ file. failures_of file) c.loop-at.files c.loop-at.at

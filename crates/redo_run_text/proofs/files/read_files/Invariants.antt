@@ -1,4 +1,4 @@
-use Rattle.std.proofs.Common.{◌≡◌, ◌≤◌, ℕ, None, [], take, get_or}
+use Rattle.std.proofs.Common.{◌≡◌, ◌≤◌, ℕ, None, [], length, take, get_or}
 use Rattle.redo_run_text.specs.Files.{AreAccepted}
 use Rattle.redo_run_text.specs.Files.{bytes_of_files, failures_of_files}
 use Rattle.redo_run_text.specs.Inside.Files.{AreScriptsBelow, scripts_at}
@@ -11,6 +11,7 @@ invariant-loop-at g l =
     record {
       accepted : AreAccepted [] (take l.at all) (scripts_at l.names l.scripts.items) l.names;
       below : AreScriptsBelow l.names l.scripts.items;
+      few : length l.names ≤ 65536;
       later : (k : ℕ) → l.at ≤ k → get_or here k None ≡ get_or all k None;
       counts : failures_of_files l.files ≡ failures_of_files l.initial.files;
     }

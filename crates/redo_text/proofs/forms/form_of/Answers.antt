@@ -10,7 +10,7 @@ returns-in_err-target-in-Listing-clause-left c =
     err_from_is_err_and c.from_residual-in_err-target-in-Listing.result
     c.from_residual-in_err-target-in-Listing.ensures.1 in
     rw (p.1, p.2)
-    (words_left c.args.names.now c.args.text.now _ (words_after c.in-Some.args)
+    (words_left _ c.args.names.now c.args.text.now _ (words_after c.in-Some.args)
     c.target_and_numbers_of.new.names c.in_err-target-in-Listing.field-0.0
     c.in-Some.ensures.words c.in_err-target-in-Listing.ensures.left)
 

@@ -25,7 +25,7 @@ returns-in_err-number-clause-reads c =
     let lt : i < length (texts_of words) = omega (arith, length-texts words) in
     let p = err_from_is_err_and c.from_residual.result c.from_residual.ensures.1 in
     let none =
-    rest_none c.args.names.now c.loop-word.names (texts_of words) i _ lt
+    rest_none _ c.args.names.now c.loop-word.names (texts_of words) i _ lt
     (text_of words i _ refl) c.loop-word.invariant.rest in
     rw (p.1, p.2) (fails_alike {X = ℕ} {Y = Vec ℕ Global} (λ n. c.number_of.new.names) (λ numbers.
     c.number_of.new.names) c.in_err-number.field-0.0 _ _ none c.in_err-number.ensures.reads)
@@ -35,7 +35,7 @@ returns-in_err-number-clause-left c =
     let words = c.args.words.now in
     let p = err_from_is_err_and c.from_residual.result c.from_residual.ensures.1 in
     rw (p.1, p.2)
-    (prefix_left c.args.names.now c.loop-word.names c.number_of.new.names (texts_of words)
+    (prefix_left _ c.args.names.now c.loop-word.names c.number_of.new.names (texts_of words)
     c.loop-word.word-index _ c.in_err-number.field-0.0 c.loop-word.invariant.prefix
     c.in_err-number.ensures.left c.in_err-number.ensures.reads)
 
@@ -49,7 +49,7 @@ returns-in_err-push-clause-left c =
     err_from_is_err_and c.from_residual-in_err-push.result
     c.from_residual-in_err-push.ensures.1 in
     rw (p.1, p.2)
-    (prefix_kept c.args.names.now c.number_of.new.names (texts_of words) (i + 1)
+    (prefix_kept c.args.most c.args.names.now c.number_of.new.names (texts_of words) (i + 1)
     (prefix_more c.args.names.now c.loop-word.names c.number_of.new.names (texts_of words) i _
     so_far.few lt (text_of words i _ refl) c.in_ok-number.ensures.reads so_far.prefix))
 
@@ -88,7 +88,9 @@ returns-clause-reads c =
     (texts_of words) c.loop-word.word-index le c.loop-word.invariant.few c.loop-word.invariant.rest
 
 pub returns-in_err-push-clause-kept : goal.returns-in_err-push-clause-kept
-returns-in_err-push-clause-kept c = grind (arith, common_steps)
+returns-in_err-push-clause-kept c =
+    extends_then c.args.names.now c.loop-word.names c.number_of.new.names
+    c.loop-word.invariant.kept c.in_ok-number.ensures.kept
 
 pub returns-clause-numbers : goal.returns-clause-numbers
 returns-clause-numbers c = grind (arith, common_steps)

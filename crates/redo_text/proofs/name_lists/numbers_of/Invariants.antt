@@ -10,7 +10,7 @@ invariant-loop-word l = record {
   rest : with_names l.fn.names (map (λ w. w.now) l.words)
       ≡ with_names l.names (drop l.word-index (map (λ w. w.now) l.words));
   prefix : l.names ≡ with_names l.fn.names (take l.word-index (map (λ w. w.now) l.words));
-  few : length l.names ≤ 65536;
+  few : length l.names ≤ l.most;
   numbers : map (text_at l.names) l.numbers.items ≡ take l.word-index (map (λ w. w.now) l.words);
   within : AllBelow (length l.names) l.numbers.items;
   kept : Extends l.fn.names l.names;

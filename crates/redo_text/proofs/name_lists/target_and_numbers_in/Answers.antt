@@ -15,7 +15,7 @@ returns-in_err-number-clause-reads c form =
     err_from_is_err_and c.from_residual-in_err-number.result
     c.from_residual-in_err-number.ensures.1 in
     let none =
-    form_without_target form c.args.names.now (texts_of c.args.words.now) _ _
+    form_without_target _ form c.args.names.now (texts_of c.args.words.now) _ _
     c.in_ok-target.ensures.reads in
     rw (p.1, p.2)
     (fails_alike {X = ℕ} {Y = ℕ × Vec ℕ Global} (λ n. names)
@@ -30,7 +30,7 @@ returns-in_err-numbers-clause-reads c form =
     c.from_residual-in_err-numbers.ensures.1 in
     let none =
     form_without_names form c.args.names.now (texts_of c.args.words.now) _ _
-    c.number_of.new.names c.are_names.ensures.few c.in_ok-target.ensures.reads
+    c.number_of.new.names c.requires.few c.in_ok-target.ensures.reads
     c.in_ok-number.ensures.reads in
     rw (p.1, p.2)
     (fails_alike {X = Vec ℕ Global} {Y = ℕ × Vec ℕ Global} (λ numbers. names)
@@ -46,7 +46,7 @@ returns-clause-reads c form =
     let ts = c.in_ok-numbers.ensures.numbers in
     rw (t, ts)
     (form_with_names form c.args.names.now (texts_of c.args.words.now) _ _
-    c.number_of.new.names new c.are_names.ensures.few c.in_ok-target.ensures.reads
+    c.number_of.new.names new c.requires.few c.in_ok-target.ensures.reads
     c.in_ok-number.ensures.reads c.in_ok-numbers.ensures.reads)
 
 pub returns-in_err-numbers-clause-left : goal.returns-in_err-numbers-clause-left
@@ -56,7 +56,7 @@ returns-in_err-numbers-clause-left c =
     c.from_residual-in_err-numbers.ensures.1 in
     rw (p.1, p.2)
     (some_left c.args.names.now c.number_of.new.names c.numbers_of.new.names
-    (texts_of c.args.words.now) _ _ c.in_err-numbers.field-0.0 c.are_names.ensures.few
+    (texts_of c.args.words.now) _ _ c.in_err-numbers.field-0.0 c.requires.few
     c.in_ok-target.ensures.reads c.in_ok-number.ensures.reads c.in_err-numbers.ensures.left)
 
 pub returns-clause-within : goal.returns-clause-within

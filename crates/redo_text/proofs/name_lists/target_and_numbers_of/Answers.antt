@@ -7,5 +7,5 @@ returns-in-Some-clause-reads c form =
     let below = rw c.in-Some.is at c.in_ok-known.ensures.below in
     let count = rw c.in-Some.is at c.in_ok-known.ensures.count in
     rw (c.remember.ensures, c.in_ok-known.ensures.kept)
-    (form_known form c.args.names.now _ c.in-Some.known.0 c.in-Some.known.1.items
-    c.are_names.ensures below count.0 count.1 words)
+    (form_known _ form c.args.names.now _ c.in-Some.known.0 c.in-Some.known.1.items
+    c.are_names.ensures c.requires.few below count.0 count.1 words)

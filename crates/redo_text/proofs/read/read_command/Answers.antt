@@ -16,13 +16,13 @@ use Rattle.redo_text.proofs.read.read_command.Goals as goal
 
 pub returns-in-Ok-clause-read : goal.returns-in-Ok-clause-read
 returns-in-Ok-clause-read c =
-    line_found c.args.names.now c.args.line.now _ _ c.are_names.ensures.few c.in-Ok.ensures.reads
+    line_found c.args.names.now c.args.line.now _ _ c.requires.few c.in-Ok.ensures.reads
 
 pub returns-in-Ok-clause-only : goal.returns-in-Ok-clause-only
 returns-in-Ok-clause-only c command after is adds =
     let same =
     same_given _ _ (sym c.in-Ok.ensures.reads
-    ∙ line_only c.args.names.now c.args.line.now command after c.are_names.ensures.few is adds) in
+    ∙ line_only c.args.names.now c.args.line.now command after c.requires.few is adds) in
     inr (
       ap (λ (x : Command Text × List Text). x.0) same,
       ap (λ (x : Command Text × List Text). x.1) same,
@@ -38,11 +38,11 @@ memory_alone names (unread.Fault fault) given reading x reads ok same = absurd c
 
 pub returns-in-Err-clause-only : goal.returns-in-Err-clause-only
 returns-in-Err-clause-only c command after is adds =
-    let reads : line_in c.args.names.now c.args.line.now ≡ Ok (command, after) =
-    line_only c.args.names.now c.args.line.now command after c.are_names.ensures.few is adds in
+    let reads : line_in c.args.most c.args.names.now c.args.line.now ≡ Ok (command, after) =
+    line_only c.args.names.now c.args.line.now command after c.requires.few is adds in
     let memory =
     memory_alone c.line_of.new.names c.in-Err.unread c.at_line.result
-    (line_in c.args.names.now c.args.line.now) (
+    (line_in c.args.most c.args.names.now c.args.line.now) (
       command,
       after,
     ) c.in-Err.ensures.reads reads c.at_line.ensures.memory in
@@ -52,10 +52,10 @@ pub returns-in-Err-clause-fault : goal.returns-in-Err-clause-fault
 returns-in-Err-clause-fault c =
     unread_fault
     (λ (read : numbered.Command). (command_at c.line_of.new.names read, c.line_of.new.names))
-    c.args.names.now c.args.line.now c.in-Err.unread c.at_line.result c.are_names.ensures.few
+    c.args.names.now c.args.line.now c.in-Err.unread c.at_line.result c.requires.few
     c.in-Err.ensures.reads c.at_line.ensures.memory.1 c.at_line.ensures.fault
 
 pub returns-in-Err-clause-left : goal.returns-in-Err-clause-left
 returns-in-Err-clause-left c =
-    names_left c.args.names.now c.args.line.now c.line_of.new.names c.in-Err.unread
+    names_left _ c.args.names.now c.args.line.now c.line_of.new.names c.in-Err.unread
     c.at_line.result c.in-Err.ensures.left c.at_line.ensures.memory.1 c.at_line.ensures.fault

@@ -22,7 +22,8 @@ returns-in-Ok-clause-only c reply after is adds =
 
 pub returns-in-Err-Fault-clause-only : goal.returns-in-Err-Fault-clause-only
 returns-in-Err-Fault-clause-only c reply after is adds =
-    let fails : reply_in c.args.names.now c.args.text.now ≡ Err c.in-Err-Fault.field-0-0 =
+    let fails : reply_in c.args.most c.args.names.now c.args.text.now
+    ≡ Err c.in-Err-Fault.field-0-0 =
     search rules in
     absurd (reply_has_no_fault c.args.names.now c.args.text.now reply after c.in-Err-Fault.field-0-0
     is adds fails)

@@ -16,13 +16,14 @@ returns-in_ok-push-clause-taken c start before script =
     )) count (rw c.in-Some.is at c.in_ok-item.ensures.reads) in
     rw c.in_ok-push.ensures.items
     (line_more start before c.args.names.now c.read_script_line.new.names c.args.items.now.items
-    c.args.line.now (Some c.in-Some.item) c.read_script_line.ensures.kept c.requires script read)
+    c.args.line.now
+    (Some c.in-Some.item) c.read_script_line.ensures.kept c.requires.within script read)
 
 pub returns-in_ok-push-clause-within : goal.returns-in_ok-push-clause-within
 returns-in_ok-push-clause-within c =
     let before =
     AreBelow-Extends c.args.names.now c.read_script_line.new.names c.args.items.now.items
-    c.read_script_line.ensures.kept c.requires in
+    c.read_script_line.ensures.kept c.requires.within in
     rw c.in_ok-push.ensures.items
     (AreBelow-push (length c.read_script_line.new.names) c.args.items.now.items c.in-Some.item
     before (rw c.in-Some.is at c.in_ok-item.ensures.within))
@@ -35,9 +36,9 @@ returns-in_default-clause-taken c start before script =
     (option_map (item_at c.read_script_line.new.names) None, c.read_script_line.new.names)) count
     (rw c.in_default.is at c.in_ok-item.ensures.reads) in
     line_more start before c.args.names.now c.read_script_line.new.names c.args.items.now.items
-    c.args.line.now None c.read_script_line.ensures.kept c.requires script read
+    c.args.line.now None c.read_script_line.ensures.kept c.requires.within script read
 
 pub returns-in_default-clause-within : goal.returns-in_default-clause-within
 returns-in_default-clause-within c =
     AreBelow-Extends c.args.names.now c.read_script_line.new.names c.args.items.now.items
-    c.read_script_line.ensures.kept c.requires
+    c.read_script_line.ensures.kept c.requires.within

@@ -6,7 +6,7 @@ use Rattle.redo_text.proofs.words.number_of.Goals as goal
 pub returns-in-Some-clause-reads : goal.returns-in-Some-clause-reads
 returns-in-Some-clause-reads c =
     rw c.remember.ensures
-    (added_known c.args.names.now _ c.in-Some.number (rw c.in-Some.is at c.requires.known))
+    (added_known _ c.args.names.now _ c.in-Some.number (rw c.in-Some.is at c.requires.known))
 
 pub returns-in-Some-clause-number : goal.returns-in-Some-clause-number
 returns-in-Some-clause-number c =

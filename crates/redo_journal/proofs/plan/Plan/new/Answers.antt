@@ -17,4 +17,5 @@ invariant_of-result c =
           c.deref-script-items.ensures.value c.loop-script-test.false c.loop-script.invariant;
       below = below_at (length c.args.names) scripts c.requires.below;
       names = c.are_names.ensures;
+      few_names = c.requires.few;
     }

@@ -1,4 +1,4 @@
-use Rattle.std.proofs.Common.{◌≡◌, ◌∙◌, ℕ, ◌<◌, List, length, take, ap, subst, arith}
+use Rattle.std.proofs.Common.{◌≡◌, ◌∙◌, ℕ, List, length, take, ap, subst, arith}
 use Rattle.std.proofs.Math.Seq.{take-append_seam}
 use Rattle.redo_names.specs.Inside.Names.{Extends}
 use Rattle.redo_model.specs.Names.{Text}
@@ -9,11 +9,6 @@ use Rattle.redo_live.specs.Inside.Kept.{IsKept, live_of}
 use Rattle.redo_live.specs.Inside.LiveState.{LiveState, IsAsKnown, IsSameDatabase, calls_in}
 use Rattle.redo_live.specs.declared.live.Live.TheInside.{Inside}
 use Rattle.redo_live.proofs.live.Live.answer_within.Goals as goal
-
-pub hear-requires-clause-calls : goal.hear-requires-clause-calls
-hear-requires-clause-calls c =
-    subst (λ (l : LiveState). calls_in l < 4294836223) c.self.view_is
-    (omega (arith, c.if-calls-ge-MOST_CALLS.false, c.calls.ensures))
 
 pub returns-in-Ok-clause-fits : goal.returns-in-Ok-clause-fits
 returns-in-Ok-clause-fits c = c.in-Ok.ensures.fits
@@ -53,6 +48,12 @@ invariant_of-self c =
     let state = ap (λ (l : LiveState). state_of l.tables) c.self-2.view_is
     ∙ c.in-Err.ensures.known.state in
     record {
+      few = omega (
+        arith,
+        ap length known.names,
+        ap (λ (l : LiveState). length l.names) c.self.view_is,
+        c.self.invariant.few,
+      );
       state = rw (known.names, state, known.calls)
           (subst (λ (l : LiveState). IsKept l.names (state_of l.tables) (calls_of l.tables))
           c.self.view_is c.self.invariant.state);

@@ -16,6 +16,7 @@ invariant_of-self-2 c =
     c.ordered_guessed.ensures c.in_ok-reply.ensures.after
     c.requires.calls c.in_ok-reply.ensures.calls in
     record {
+      few = c.self-2.invariant.few;
       state = kept;
       numbers = c.self-2.invariant.numbers ∙ sym c.call.ensures.count;
     }

@@ -94,6 +94,7 @@ invariant_of-self c =
     (live_of c.self.inside) c.self.view_is in
     let is = told (live_of c.self.inside) line reply text due c.in_ok-text.ensures in
     record {
+      few = c.self.invariant.few;
       state = kept_after names due.names tables c.self.invariant.state line.session
           (command_of line.command) due.below line reply text is c.change.new.self
           c.change.ensures.after c.change.ensures.calls due.calls;

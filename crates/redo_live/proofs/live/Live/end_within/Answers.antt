@@ -81,6 +81,7 @@ invariant_of-self c =
     subst (λ (l : LiveState). AreClosing l c.args.session (map line_of lines))
     (sym c.self.view_is) c.in_ok-lines.ensures in
     record {
+      few = c.self.invariant.few;
       state = kept_end c.self.inside.names c.are_names.ensures tables c.self.invariant.state
           c.args.session lines closing c.close.new.redo
           (c.close.ensures.left

@@ -1,4 +1,4 @@
-use Rattle.std.proofs.Common.{ℕ, sym, ap, ◌∙◌, subst}
+use Rattle.std.proofs.Common.{ℕ, length, arith, sym, ap, ◌∙◌, subst}
 use Rattle.redo_model.specs.State.{State, empty}
 use Rattle.redo_model.specs.Inside.Renaming.{named_state, numbering}
 use Rattle.redo_model.proofs.HistoriesByName.{empty_by_name}
@@ -11,6 +11,7 @@ pub invariant_of-result : goal.invariant_of-result
 invariant_of-result c =
     let names = c.new.result in
     record {
+      few = omega (arith, ap length c.new.ensures);
       state = subst (λ (st : State ℕ). IsKept names st (calls_of c.in_ok-redo.redo))
           (sym c.in_ok-redo.ensures.empty)
           (subst (IsKept names empty) (sym c.in_ok-redo.ensures.calls) (IsKept-empty names));

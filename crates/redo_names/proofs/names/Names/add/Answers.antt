@@ -1,4 +1,4 @@
-use Rattle.std.proofs.Common.{◌≡◌, ◌∙◌, ℕ, List, [], ◌∷◌, ◌++◌, length, take, Some, false, sym, ap, subst, arith}
+use Rattle.std.proofs.Common.{rules, ◌≡◌, ◌∙◌, ◌<◌, ◌+◌, ◌^◌, ℕ, List, [], ◌∷◌, ◌++◌, length, take, Some, false, sym, ap, subst, arith}
 use Rattle.std.proofs.lemmas.Map.Text.{hash_map_updates_text}
 use Rattle.std.specs.HashMap.{get_by_text}
 use Rattle.std.specs.Map.{update}
@@ -21,8 +21,9 @@ invariant_of-self-2 c =
     let absent : has (take old.count old.texts) text ≡ false =
     subst (λ (names : List (List ℕ)). has names text ≡ false) (sym c.self.view_is)
     (sym c.in_default.ensures.there) in
+    let few : old.count + 1 < 2 ^ 32 = search rules in
     AreNumbered-more old.numbers c.insert.new.self old.count old.texts c.put.new.self text
-    c.self.invariant c.requires absent c.if-number-eq-MOST_NAMES.false c.in_ok-put.ensures.put
+    c.self.invariant c.requires absent few c.in_ok-put.ensures.put
     (subst
     (λ (key : List ℕ). (n : List ℕ) → get_by_text c.insert.new.self n
     ≡ update bytes_eq (λ (m : List ℕ). get_by_text old.numbers m) key (Some old.count) n)
@@ -36,6 +37,7 @@ returns-clause-names c =
     let text = c.args.text.now in
     let names : List (List ℕ) = c.args.self.now in
     let are : AreNames names = subst AreNames c.self.view_is c.self.invariant.are in
+    let few : old.count + 1 < 2 ^ 32 = search rules in
     let counted : length names ≡ old.count =
     sym (ap length c.self.view_is) ∙ length-taken old.count old.texts c.self.invariant.long in
     let more : c.remember-2.new.self ≡ names ++ text ∷ [] =
@@ -45,4 +47,4 @@ returns-clause-names c =
     ∙ ap (λ (all : List (List ℕ)). all ++ text ∷ []) c.self.view_is in
     subst AreNames (sym more)
     (AreNames-push names text are c.requires (sym c.in_default.ensures.there)
-    (omega (arith, counted, are.few, c.if-number-eq-MOST_NAMES.false)))
+    (omega (arith, counted, few)))
