@@ -27,7 +27,7 @@ extern "C" {
 #define REDODB_MOST_NAMES 65536
 
 /* Sessions are numbered from 1 to this number. */
-#define REDODB_MOST_SESSIONS 64
+#define REDODB_MOST_SESSIONS 65535
 
 /* What a call returns. All but the first two leave the database as it was. */
 enum redodb_status {

@@ -81,8 +81,8 @@ cut_at_space line = elim (cut_at_byte 32 line) [
 ]
 
 pub session_of : (word : Text)
-    → ((session : ℕ) × IsSessionWord word session)
-    ⊎ ((session : ℕ) → ¬ (IsSessionWord word session))
+    → ((session : ℕ) × IsSessionWord 64 word session)
+    ⊎ ((session : ℕ) → ¬ (IsSessionWord 64 word session))
 session_of word =
     elim (first_below (λ n. word ≡ decimal (n + 1)) (λ n. is_it word (decimal (n + 1))) 64) [
       | inl h ↦ inl (h.0, (h.1, h.2))

@@ -36,7 +36,7 @@ Fails names number text =
 
 -- after its session
 line_read : (names : List Text) (number : ℕ) (text word rest : Text) (session : ℕ)
-    → IsCutAtSpace text word rest → IsSessionWord word session
+    → IsCutAtSpace text word rest → IsSessionWord 64 word session
     → IsRead names text ⊎ Fails names number text
 line_read names number text word rest session cut is = elim (cut_at_arrow rest) [
   | inr none ↦ inr (BadReply number, λ e. absurd cc, (refl, (rest, begins, inl none)))

@@ -23,21 +23,41 @@ regroup : (d c a r : Text) → d ++ codes " " ++ c ++ a ++ r ≡ d ++ 32 ∷ (c 
 regroup d c a r = ap (λ (t : Text). t ++ r) (append_assoc (d ++ codes " ") c a)
     ∙ append_assoc (d ++ codes " ") (c ++ a) r ∙ append_assoc d (codes " ") (c ++ a ++ r)
 
+-- the text, without its LF, is that of a line of a history or of a log
+pub record IsLineText (text : Text) (line : Line Text) : Type 0 where
+  pub session : line.session < 65535
+  pub command : Text
+  pub reply : Text
+  pub parts : text ≡ decimal (line.session + 1) ++ codes " " ++ command ++ codes " => " ++ reply
+  pub said : IsCommandLine command line.command
+  pub answered : IsReplyText reply line.reply
+
+abbrev pub of_history : (text : Text) (line : Line Text) → IsHistoryLine text line
+    → IsLineText text line
+of_history text line is = record {
+  session = let few = is.session in omega arith;
+  command = is.command;
+  reply = is.reply;
+  parts = is.parts;
+  said = is.said;
+  answered = is.answered;
+}
+
 -- the line's text, cut at its first space
-pub line_parts : (text : Text) (line : Line Text) (is : IsHistoryLine text line)
+pub line_parts : (text : Text) (line : Line Text) (is : IsLineText text line)
     → text ≡ decimal (line.session + 1) ++ 32 ∷ (is.command ++ arrow ++ is.reply)
 line_parts text line is = is.parts ∙ regroup (decimal (line.session + 1)) is.command arrow is.reply
 
-small : (session : ℕ) → session < 64 → session + 1 < 2 ^ 64
+small : (session : ℕ) → session < 65535 → session + 1 < 2 ^ 64
 small session few = omega arith
 
 pub session_is_without : (b : ℕ) (text : Text) (line : Line Text) → is_visible b ≡ false
-    → IsHistoryLine text line → Without b (decimal (line.session + 1))
+    → IsLineText text line → Without b (decimal (line.session + 1))
 session_is_without b text line unseen is = number_is_without b (line.session + 1) unseen
     (small line.session is.session)
 
 -- it has no line feed
-pub line_is_one : (text : Text) (line : Line Text) → IsHistoryLine text line → Without 10 text
+pub line_is_one : (text : Text) (line : Line Text) → IsLineText text line → Without 10 text
 line_is_one text line is =
     let command = command_is_one_line is.command line.command is.said in
     let reply = reply_is_one_line is.reply line.reply is.answered in
@@ -59,7 +79,7 @@ command_cut text command reply is =
     (cut_after words.word words.args reply words.first words.others)
 
 -- a text is the text of at most one line
-pub one_line : (text : Text) (a b : Line Text) → IsHistoryLine text a → IsHistoryLine text b → a ≡ b
+pub one_line : (text : Text) (a b : Line Text) → IsLineText text a → IsLineText text b → a ≡ b
 one_line text a b p q =
     let cut = first_cut 32 (decimal (a.session + 1)) (decimal (b.session + 1))
     (p.command ++ arrow ++ p.reply) (q.command ++ arrow ++ q.reply)
@@ -127,11 +147,14 @@ lines_prefix (text ∷ texts) more (line ∷ lines) [] left rest p q few e = abs
 lines_prefix (text ∷ texts) [] (line ∷ lines) (next ∷ all) left rest p q few e = absurd q
 lines_prefix (text ∷ texts) (other ∷ more) (line ∷ lines) (next ∷ all) left rest p q few e =
     let end = one_end text other (flat_map ended texts ++ left) (flat_map ended more ++ rest)
-    (line_is_one text line p.0) (line_is_one other next q.0)
+    (line_is_one text line (of_history text line p.0))
+    (line_is_one other next (of_history other next q.0))
     (sym (append_assoc (ended text) (flat_map ended texts) left) ∙ e
     ∙ append_assoc (ended other) (flat_map ended more) rest) in
     let same : next ≡ line =
-    one_line text next line (subst (λ (t : Text). IsHistoryLine t next) (sym end.0) q.0) p.0 in
+    one_line text next line
+    (subst (λ (t : Text). IsLineText t next) (sym end.0) (of_history other next q.0))
+    (of_history text line p.0) in
     let prefix = lines_prefix texts more lines all left rest p.1 q.1 (omega arith) end.1 in
     record {
       texts = prefix.texts;

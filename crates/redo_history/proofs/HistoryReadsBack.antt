@@ -1,5 +1,5 @@
 -- The text of lines is a history of them.
-use Rattle.std.proofs.Common.{◌≡◌, ◌+◌, ◌≤◌, arith, List, [], ◌∷◌, ◌++◌, length, map, refl, sym, ap, ◌∙◌, append_assoc}
+use Rattle.std.proofs.Common.{◌≡◌, ℕ, ◌+◌, ◌≤◌, arith, List, [], ◌∷◌, ◌++◌, length, map, refl, sym, ap, ◌∙◌, append_assoc}
 use Rattle.std.specs.Prelude.{codes, decimal}
 use Rattle.std.specs.List.{AllByRecursion, flat_map}
 use Rattle.redo_model.specs.Names.{Text, texts}
@@ -10,6 +10,7 @@ use Rattle.redo_history.specs.Histories.{ended, answer_text_of, line_text_of, he
 use Rattle.redo_text.proofs.LineLaws.{text_is_spelled}
 use Rattle.redo_history.specs.HistoryTexts.{IsHistoryLine, AreHistoryLines, AreNamesOf, IsHistory}
 use Rattle.redo_history.specs.Inside.HistoryTexts.{HasLineForm, IsLineSaid}
+use Rattle.redo_history.proofs.HistoryLines.{IsLineText}
 use Rattle.redo_history.proofs.LinesFit.{legal_lines_fit}
 
 -- without its LF
@@ -20,9 +21,10 @@ regroup : (s c a r : Text) → s ++ (c ++ a ++ r) ≡ s ++ c ++ a ++ r
 regroup s c a r = sym (append_assoc s (c ++ a) r)
     ∙ ap (λ (t : Text). t ++ r) (sym (append_assoc s c a))
 
-pub line_reads_back : (line : Line Text) → HasLineForm line → IsHistoryLine (own_text_of line) line
-line_reads_back line form = record {
-  session = form.session;
+pub own_text_is : (most : ℕ) (line : Line Text) → most ≤ 65535 → HasLineForm most line
+    → IsLineText (own_text_of line) line
+own_text_is most line small form = record {
+  session = let few = form.session in omega arith;
   command = command_text_of line.command;
   reply = reply_text_of line.reply;
   parts = regroup (decimal (line.session + 1) ++ codes " ") (command_text_of line.command)
@@ -31,7 +33,20 @@ line_reads_back line form = record {
   answered = (form.reply, refl);
 }
 
-lines_read_back : (lines : List (Line Text)) → AllByRecursion HasLineForm lines
+line_reads_back : (line : Line Text) → HasLineForm 64 line
+    → IsHistoryLine (own_text_of line) line
+line_reads_back line form =
+    let is = own_text_is 64 line (omega arith) form in
+    record {
+      session = form.session;
+      command = is.command;
+      reply = is.reply;
+      parts = is.parts;
+      said = is.said;
+      answered = is.answered;
+    }
+
+lines_read_back : (lines : List (Line Text)) → AllByRecursion (HasLineForm 64) lines
     → AreHistoryLines (map own_text_of lines) lines
 lines_read_back [] forms = tt
 lines_read_back (line ∷ lines) forms = (line_reads_back line forms.0, lines_read_back lines forms.1)
@@ -42,7 +57,7 @@ all_ended [] = refl
 all_ended (line ∷ lines) = ap (λ (t : Text). line_text_of line ++ t) (all_ended lines)
 
 pub history_reads_back : (lines : List (Line Text)) (names : List Text) (rest : Text)
-    → AllByRecursion HasLineForm lines → length lines ≤ 1048576 → AreNamesOf lines names
+    → AllByRecursion (HasLineForm 64) lines → length lines ≤ 1048576 → AreNamesOf lines names
     → IsHistory (history_text_of lines ++ rest) names lines
 history_reads_back lines names rest forms few named = record {
   few = few;
@@ -53,9 +68,9 @@ history_reads_back lines names rest forms few named = record {
 }
 
 pub legal_history_reads_back : (lines : List (Line Text)) (names : List Text) (rest : Text)
-    → Legal texts lines → AllByRecursion IsLineSaid lines → length lines ≤ 1048576
+    → Legal texts lines → AllByRecursion (IsLineSaid 64) lines → length lines ≤ 1048576
     → AddsNames 65536 [] (map (λ line. line.command) lines) names
     → IsHistory (history_text_of lines ++ rest) names lines
 legal_history_reads_back lines names rest legal said few adds =
-    let fit = legal_lines_fit lines legal said (omega arith) in
+    let fit = legal_lines_fit 64 lines legal said (omega arith) in
     history_reads_back lines names rest fit.forms few (adds.0 ∙ sym fit.same_names, adds.1)

@@ -10,7 +10,7 @@ use Rattle.redo_history.specs.Inside.HistoryTexts.{AddsLineNames}
 use Rattle.redo_history.specs.HistoryFaults.{arrow, IsCutAtSpace, IsCutAtArrow, IsSessionWord}
 
 pub line_parts : (text word rest command reply : Text) (session : ℕ) → IsCutAtSpace text word rest
-    → IsSessionWord word session → IsCutAtArrow rest command reply
+    → IsSessionWord 64 word session → IsCutAtArrow rest command reply
     → text ≡ decimal (session + 1) ++ codes " " ++ command ++ codes " => " ++ reply
 line_parts text word rest command reply session cut is at_arrow = by cut.parts
   where

@@ -28,11 +28,11 @@ more_known : (names ts : List Text) (st : State Text) → AreFilesKnown names st
     → AreFilesKnown (with_names names ts) st.records
 more_known names ts st known n h = known-with_names names ts n (known n h)
 
-reached_after : (names : List Text) (count : ℕ) (st : State Text) (line : Line Text)
-    → IsReached names count st → IsLineSaid line
+reached_after : (most : ℕ) (names : List Text) (count : ℕ) (st : State Text) (line : Line Text)
+    → IsReached names count st → IsLineSaid most line
     → IsReached (with_names names (names_in line.command)) (count + 1)
     (after texts st line.session line.command)
-reached_after names count st line reached is =
+reached_after most names count st line reached is =
     let own = names_in line.command in
     record {
       each = each-with_names names own reached.each (form_has_names line.command is.said.0);
@@ -44,11 +44,11 @@ reached_after names count st line reached is =
     }
 
 -- the names of a line's reply are known from commands
-line_fits : (names : List Text) (count : ℕ) (st : State Text) (line : Line Text)
-    → IsReached names count st → IsLineSaid line → count + 1 ≤ 4294967295
+line_fits : (most : ℕ) (names : List Text) (count : ℕ) (st : State Text) (line : Line Text)
+    → IsReached names count st → IsLineSaid most line → count + 1 ≤ 4294967295
     → LegalFrom texts st (line ∷ [])
     → IsFitting (with_names names (names_in line.command)) line.reply
-line_fits names count st line reached is room legal =
+line_fits most names count st line reached is room legal =
     let own = names_in line.command in
     reply_fits (with_names names own)
     (each-with_names names own reached.each (form_has_names line.command is.said.0)) st
@@ -56,8 +56,8 @@ line_fits names count st line reached is room legal =
     (more_known names own st reached.files) reached.grants room (added_are_known names own) legal.0
 
 -- what a legal history's lines have, if they are few
-pub record AreFitting (names : List Text) (lines : List (Line Text)) : Type 0 where
-  pub forms : AllByRecursion HasLineForm lines
+pub record AreFitting (most : ℕ) (names : List Text) (lines : List (Line Text)) : Type 0 where
+  pub forms : AllByRecursion (HasLineForm most) lines
   pub same_names : with_names names (flat_map names_in_line lines) ≡ with_names names
       (flat_map names_in (map (λ line. line.command) lines))
 
@@ -70,17 +70,18 @@ reply_adds_none names own told others more known same =
     (with_names-append names own told ∙ with_names-known (with_names names own) told known)
     ∙ same ∙ sym (with_names-append names own more)
 
-pub lines_fit : (names : List Text) (count : ℕ) (st : State Text) (lines : List (Line Text))
-    → IsReached names count st → AllByRecursion IsLineSaid lines → count + length lines ≤ 4294967295
-    → LegalFrom texts st lines → AreFitting names lines
-lines_fit names count st [] reached said room legal = record { forms = tt; same_names = refl }
-lines_fit names count st (line ∷ lines) reached said room legal =
+pub lines_fit : (most : ℕ) (names : List Text) (count : ℕ) (st : State Text)
+    (lines : List (Line Text)) → IsReached names count st
+    → AllByRecursion (IsLineSaid most) lines → count + length lines ≤ 4294967295
+    → LegalFrom texts st lines → AreFitting most names lines
+lines_fit most names count st [] reached said room legal = record { forms = tt; same_names = refl }
+lines_fit most names count st (line ∷ lines) reached said room legal =
     let own = names_in line.command in
-    let fits = line_fits names count st line reached said.0 (omega arith) (legal.0, tt) in
-    let rest = lines_fit (with_names names own) (count + 1)
+    let fits = line_fits most names count st line reached said.0 (omega arith) (legal.0, tt) in
+    let rest = lines_fit most (with_names names own) (count + 1)
     (after texts st line.session line.command) lines
-    (reached_after names count st line reached said.0) said.1 (omega arith) legal.1 in
-    let form : HasLineForm line = record {
+    (reached_after most names count st line reached said.0) said.1 (omega arith) legal.1 in
+    let form : HasLineForm most line = record {
       session = said.0.session;
       command = said.0.said.0;
       short = said.0.said.1;
@@ -94,9 +95,9 @@ lines_fit names count st (line ∷ lines) reached said room legal =
     }
 
 -- from the empty state
-pub legal_lines_fit : (lines : List (Line Text)) → Legal texts lines
-    → AllByRecursion IsLineSaid lines → length lines < 2 ^ 32 → AreFitting [] lines
-legal_lines_fit lines legal said few =
-    lines_fit [] 0 empty lines
+pub legal_lines_fit : (most : ℕ) (lines : List (Line Text)) → Legal texts lines
+    → AllByRecursion (IsLineSaid most) lines → length lines < 2 ^ 32 → AreFitting most [] lines
+legal_lines_fit most lines legal said few =
+    lines_fit most [] 0 empty lines
     (record { each = tt; files = files_known_at_first []; grants = few_at_first }) said
     (omega arith) legal

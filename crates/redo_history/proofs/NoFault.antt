@@ -19,7 +19,7 @@ use Rattle.redo_history.specs.declared.fault.HistoryFault.{HistoryFault}
 use Rattle.redo_history.specs.declared.fault.HistoryFault.TheVariants.{Memory, BadHeader, Cut, BadSession, BadLine, BadReply}
 use Rattle.redo_history.proofs.CutOnce.{without_from, one_cut_at_space, one_cut_at_arrow}
 use Rattle.redo_history.proofs.HistorySteps.{texts_count}
-use Rattle.redo_history.proofs.HistoryLines.{line_parts, session_is_without, line_is_one, command_cut, one_end, one_header, lines_prefix, IsPrefix}
+use Rattle.redo_history.proofs.HistoryLines.{of_history, line_parts, session_is_without, line_is_one, command_cut, one_end, one_header, lines_prefix, IsPrefix}
 
 -- what is left of a history begins with a line, whose names fit
 record IsNext (names : List Text) (left : Text) : Type 0 where
@@ -104,7 +104,8 @@ good_line : (input : Text) (names : List Text) (lines : List (Line Text)) (numbe
     → IsReadBefore input number before text → IsGood before text
 good_line input names lines number before text is up =
     let next = next_line input names lines number before (ended text ++ up.1.0) is up.1.1 in
-    let end = one_end next.text text next.more up.1.0 (line_is_one next.text next.line next.is)
+    let end = one_end next.text text next.more up.1.0
+    (line_is_one next.text next.line (of_history next.text next.line next.is))
     (without_from 10 text up.0) (sym next.parts) in
     record {
       line = next.line;
@@ -127,7 +128,8 @@ no_bad_session : (names : List Text) (text : Text) → IsGood names text → ¬ 
 no_bad_session names text good bad =
     let cut = one_cut_at_space text (decimal (good.line.session + 1))
     (good.is.command ++ arrow ++ good.is.reply) bad.0 bad.1
-    (session_is_without 32 text good.line refl good.is) (line_parts text good.line good.is)
+    (session_is_without 32 text good.line refl (of_history text good.line good.is))
+    (line_parts text good.line (of_history text good.line good.is))
     bad.2 in
     bad.3 good.line.session (good.is.session, cut.0)
 
@@ -137,7 +139,8 @@ rest_of : (names : List Text) (text rest : Text) (good : IsGood names text) → 
 rest_of names text rest good has =
     (one_cut_at_space text (decimal (good.line.session + 1))
     (good.is.command ++ arrow ++ good.is.reply) has.0 rest
-    (session_is_without 32 text good.line refl good.is) (line_parts text good.line good.is)
+    (session_is_without 32 text good.line refl (of_history text good.line good.is))
+    (line_parts text good.line (of_history text good.line good.is))
     has.2).1
 
 -- the parts of the rest

@@ -36,7 +36,7 @@ one_word line f r g s p q = elim q.parts [
 
 no_session : (line rest : Text) → HasBadSession line → HasSession line rest → ⊥
 no_session line rest bad has =
-    bad.3 has.1 (subst (λ (w : Text). IsSessionWord w has.1)
+    bad.3 has.1 (subst (λ (w : Text). IsSessionWord 64 w has.1)
     (sym (one_word line bad.0 bad.1 has.0 rest bad.2 has.2).0) has.3)
 
 one_rest : (line a b : Text) → HasSession line a → HasSession line b → a ≡ b

@@ -30,19 +30,21 @@ pub record IsCutAtArrow (rest command reply : Text) : Type 0 where
 abbrev pub HasNoArrow : Text → Type 0
 HasNoArrow rest = (prefix back : Text) → rest ≢ prefix ++ arrow ++ back
 
-abbrev pub IsSessionWord : Text → ℕ → Type 0
-IsSessionWord word session = (session < 64) × (word ≡ decimal (session + 1))
+-- the number of one of that many sessions
+abbrev pub IsSessionWord : ℕ → Text → ℕ → Type 0
+IsSessionWord most word session = (session < most) × (word ≡ decimal (session + 1))
 
 -- the line's first word is no session's number
 abbrev pub HasBadSession : Text → Type 0
 HasBadSession line =
     (prefix : Text) × (rest : Text) × IsCutAtSpace line prefix rest
-    × ((session : ℕ) → ¬ (IsSessionWord prefix session))
+    × ((session : ℕ) → ¬ (IsSessionWord 64 prefix session))
 
 -- the line begins with a session's number, and this is the rest
 abbrev pub HasSession : Text → Text → Type 0
 HasSession line rest =
-    (prefix : Text) × (session : ℕ) × IsCutAtSpace line prefix rest × IsSessionWord prefix session
+    (prefix : Text) × (session : ℕ) × IsCutAtSpace line prefix rest
+    × IsSessionWord 64 prefix session
 
 -- the text is no reply's, or its names don't fit
 abbrev pub IsNoReply : List Text → Text → Type 0

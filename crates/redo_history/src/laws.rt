@@ -1,6 +1,6 @@
 //! Laws of the texts of histories.
 
-ghost use Rattle.std.specs.Prelude.{◌≡◌, ◌≢◌, ◌⊎◌, ◌<◌, ◌≤◌, ◌^◌, ◌++◌, List, [], length, map};
+ghost use Rattle.std.specs.Prelude.{◌≡◌, ◌≢◌, ◌⊎◌, ℕ, ◌<◌, ◌≤◌, ◌^◌, ◌++◌, List, [], length, map};
 ghost use Rattle.std.specs.List.{AllByRecursion, flat_map};
 ghost use Rattle.redo_model.specs.Names.{Text, texts};
 ghost use Rattle.redo_model.specs.Command.{names_in};
@@ -16,18 +16,18 @@ ghost use Rattle.redo_history.specs.declared.fault.HistoryFault.{HistoryFault};
 /// names fit.
 pub fn history_reads_back()
     ensures { (lines : List (Line Text)) (names : List Text) (rest : Text) →
-        AllByRecursion HasLineForm lines → length lines ≤ 1048576 → AreNamesOf lines names →
+        AllByRecursion (HasLineForm 64) lines → length lines ≤ 1048576 → AreNamesOf lines names →
         IsHistory (history_text_of lines ++ rest) names lines }
 {}
 
 /// If sessions say the commands of legal lines, each line has the form of a history's, and the
 /// replies add no names to those of the commands.
 pub fn legal_lines_fit()
-    ensures form { (lines : List (Line Text)) → Legal texts lines
-        → AllByRecursion IsLineSaid lines → length lines < 2 ^ 32
-        → AllByRecursion HasLineForm lines }
-    ensures names { (lines : List (Line Text)) → Legal texts lines
-        → AllByRecursion IsLineSaid lines → length lines < 2 ^ 32
+    ensures form { (most : ℕ) (lines : List (Line Text)) → Legal texts lines
+        → AllByRecursion (IsLineSaid most) lines → length lines < 2 ^ 32
+        → AllByRecursion (HasLineForm most) lines }
+    ensures names { (most : ℕ) (lines : List (Line Text)) → Legal texts lines
+        → AllByRecursion (IsLineSaid most) lines → length lines < 2 ^ 32
         → with_names [] (flat_map names_in_line lines)
         ≡ with_names [] (flat_map names_in (map (λ line. line.command) lines)) }
 {}
@@ -36,7 +36,7 @@ pub fn legal_lines_fit()
 /// commands, and neither lines nor the commands' names are too many.
 pub fn legal_history_reads_back()
     ensures { (lines : List (Line Text)) (names : List Text) (rest : Text) → Legal texts lines
-        → AllByRecursion IsLineSaid lines → length lines ≤ 1048576
+        → AllByRecursion (IsLineSaid 64) lines → length lines ≤ 1048576
         → AddsNames 65536 [] (map (λ line. line.command) lines) names
         → IsHistory (history_text_of lines ++ rest) names lines }
 {}

@@ -18,7 +18,7 @@ pub fn put_number(text: &mut Vec<u8>, n: usize) -> Result<(), AllocError>
 }
 
 /// Writes a session's number, with a space after it.
-pub fn put_session(text: &mut Vec<u8>, session: u8) -> Result<(), AllocError>
+pub fn put_session(text: &mut Vec<u8>, session: u16) -> Result<(), AllocError>
     ensures { OnOk result (text.new.items ≡ text.old.items ++ decimal (session + 1) ++ codes " ") }
 {
     put_number(text, session as usize + 1)?;

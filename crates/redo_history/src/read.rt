@@ -25,16 +25,16 @@ use std::alloc::Global;
 /// A line of a history has at least this many bytes with its LF: `1 ood => ok`.
 const SHORTEST_LINE: usize = 12;
 
-/// The session, counted from 0, with this word as its number.
-pub fn session_of(word: &[u8]) -> Option<u8>
-    ensures { MatchOption result ((session : ℕ) → ¬ (IsSessionWord word.now session))
-        (IsSessionWord word.now) }
+/// The session, counted from 0, with this word as its number, if there are that many sessions.
+pub fn session_of(word: &[u8], most: u16) -> Option<u16>
+    ensures { MatchOption result ((session : ℕ) → ¬ (IsSessionWord most word.now session))
+        (IsSessionWord most word.now) }
 {
     let number = read_number(word)?;
-    if number == 0 || number > MOST_SESSIONS as u32 {
+    if number == 0 || number > most as u32 {
         return None;
     }
-    Some(number as u8 - 1)
+    Some(number as u16 - 1)
 }
 
 /// How many lines the header counts, and what follows it.
@@ -97,7 +97,7 @@ pub fn read_line(
     ensures fault { IfErr result (IsLineCause names.old number text.now) }
 {
     let (word, rest) = cut_at_space(text);
-    let Some(session) = session_of(word) else {
+    let Some(session) = session_of(word, MOST_SESSIONS as u16) else {
         return Err(HistoryFault::BadSession(number));
     };
     let Some((command, reply)) = cut_at_arrow(rest) else {

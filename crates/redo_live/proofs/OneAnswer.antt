@@ -37,7 +37,7 @@ same_number : (m n : ℕ) → m ≤ 4294967295 → n ≤ 4294967295 → decimal 
 same_number m n first second e =
     decimal_injective m n (omega (arith, first)) (omega (arith, second)) e
 
-same_session : (m n : ℕ) → m < 256 → n < 256 → decimal (m + 1) ≡ decimal (n + 1) → m ≡ n
+same_session : (m n : ℕ) → m < 65536 → n < 65536 → decimal (m + 1) ≡ decimal (n + 1) → m ≡ n
 same_session m n first second e =
     omega (arith, same_number (m + 1) (n + 1) (omega (arith, first)) (omega (arith, second)) e)
 
@@ -143,7 +143,7 @@ same_stage a (Building r) rest more form other same e =
 same_stage a b rest more form other same e =
     (ap (λ ws. stage_for (first_of ws)) e, ap (drop 1) e)
 
-same_holder : (a b : Option ℕ) → IfSome a (λ s. s < 256) → IfSome b (λ s. s < 256)
+same_holder : (a b : Option ℕ) → IfSome a (λ s. s < 65536) → IfSome b (λ s. s < 65536)
     → holder_word a ≡ holder_word b → a ≡ b
 same_holder None None form other e = refl
 same_holder None (Some r) form other e =
@@ -238,7 +238,8 @@ stage_visible (Building s) form = (refl, (number_is_visible (s + 1) (omega (arit
 stage_visible Built form = (refl, tt)
 stage_visible Failed form = (refl, tt)
 
-holder_visible : (holder : Option ℕ) → IfSome holder (λ s. s < 256) → IsVisible (holder_word holder)
+holder_visible : (holder : Option ℕ) → IfSome holder (λ s. s < 65536)
+    → IsVisible (holder_word holder)
 holder_visible None form = refl
 holder_visible (Some s) form = number_is_visible (s + 1) (omega (arith, form))
 
@@ -280,7 +281,7 @@ abbrev words_after : Text → Answer → List Text
 words_after name answer =
     inquiry_word (inquiry_of answer) ∷ name ∷ codes "=>" ∷ answer_words name answer
 
-words_in : (session : ℕ) (name : Text) (answer : Answer) → session < 256 → is_name name ≡ true
+words_in : (session : ℕ) (name : Text) (answer : Answer) → session < 65536 → is_name name ≡ true
     → HasAnswerForm answer
     → words_of (spaced (decimal (session + 1)) (words_after name answer))
     ≡ decimal (session + 1) ∷ words_after name answer
@@ -292,7 +293,7 @@ words_in session name answer below is form =
 
 -- a line gives at most one answer about at most one name to at most one session
 pub one_answer : (session other_session : ℕ) (name other_name : Text) (answer other : Answer)
-    → session < 256 → other_session < 256 → is_name name ≡ true → is_name other_name ≡ true
+    → session < 65536 → other_session < 65536 → is_name name ≡ true → is_name other_name ≡ true
     → HasAnswerForm answer → HasAnswerForm other
     → answer_line session name answer ≡ answer_line other_session other_name other
     → (session ≡ other_session) × (name ≡ other_name) × (answer ≡ other)

@@ -139,7 +139,7 @@ pub(crate) fn put_deps(out: &mut Vec<u8>, names: &Names, deps: &Deps) -> Result<
 }
 
 /// Writes the number of a session, counted from 1.
-fn put_session(out: &mut Vec<u8>, session: u8) -> Result<(), AllocError>
+fn put_session(out: &mut Vec<u8>, session: u16) -> Result<(), AllocError>
     ensures { OnOk result (out.new.items ≡ out.old.items ++ after_space (decimal (session + 1))) }
 {
     put_count(out, session as usize + 1)
@@ -161,10 +161,10 @@ fn put_stage(out: &mut Vec<u8>, state: State) -> Result<(), AllocError>
     }
 }
 
-fn put_holder(out: &mut Vec<u8>, holder: Option<u8>) -> Result<(), AllocError>
+fn put_holder(out: &mut Vec<u8>, holder: Option<u16>) -> Result<(), AllocError>
     ensures word { OnOk result (out.new.items
         ≡ out.old.items ++ after_space (holder_word holder)) }
-    ensures form { IfSome holder (λ session. session < 256) }
+    ensures form { IfSome holder (λ session. session < 65536) }
 {
     match holder {
         None => put_word(out, b"-"),
@@ -185,7 +185,7 @@ fn is_stamped(file: &Option<FileStamp>)
 pub(crate) fn put_state(
     out: &mut Vec<u8>,
     state: State,
-    holder: Option<u8>,
+    holder: Option<u16>,
     file: Option<FileStamp>,
 ) -> Result<(), AllocError>
     ensures words { OnOk result (out.new.items ≡ out.old.items

@@ -83,7 +83,7 @@ impl Live {
     pub fn answer(
         &mut self,
         alloc: Global,
-        session: u8,
+        session: u16,
         text: &[u8],
         said: &mut Vec<u8>,
         logged: &mut Vec<u8>,
@@ -112,7 +112,7 @@ impl Live {
     pub fn answer_within(
         &mut self,
         alloc: Global,
-        session: u8,
+        session: u16,
         text: &[u8],
         most: usize,
         said: &mut Vec<u8>,
@@ -187,7 +187,7 @@ impl Live {
     fn hear(
         &mut self,
         alloc: Global,
-        session: u8,
+        session: u16,
         text: &[u8],
         most: usize,
         said: &mut Vec<u8>,
@@ -214,7 +214,7 @@ impl Live {
     fn obey(
         &mut self,
         alloc: Global,
-        session: u8,
+        session: u16,
         command: Command,
         most: usize,
         said: &mut Vec<u8>,
@@ -281,7 +281,7 @@ impl Live {
     fn reply_in_room(
         &mut self,
         alloc: Global,
-        session: u8,
+        session: u16,
         command: &Command,
     ) -> Result<Reply, AllocError>
         requires below { IsBelow (length self.old.names) (command_of command.now) }

@@ -24,7 +24,7 @@ pub(crate) fn text_if(wanted: bool, text: &[u8]) -> &[u8]
 /// The line of a command that got this reply; its list of names is in the order of their texts.
 pub(crate) fn answered(
     alloc: Global,
-    session: u8,
+    session: u16,
     command: Command,
     reply: &Reply,
     names: &Names,

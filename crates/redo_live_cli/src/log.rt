@@ -11,7 +11,7 @@ use std::io;
 use std::io::{ErrorKind, Read, Seek, SeekFrom, Write};
 use std::os::unix::fs::FileExt;
 
-const SESSIONS: u8 = 64;
+const SESSIONS: u16 = 65_535;
 
 /// What was restored of the log at the start of a conversation, and where the log goes on.
 #[derive(Drop)]
@@ -156,6 +156,7 @@ fn restore_log(rt: &HostRuntime, asked: &LogFile, file: &File) -> Result<Restore
 fn close_all(alloc: Global, live: &mut Live, logged: &mut Vec<u8>) -> Result<(), AllocError> {
     let mut said = Vec::new(alloc);
     for session in 0..SESSIONS {
+        said.clear();
         if live.end(alloc, session, &mut said, logged).is_err() {
             return Err(AllocError);
         }

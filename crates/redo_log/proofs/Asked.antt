@@ -37,7 +37,7 @@ free_prefix b (c ∷ prefix) (d ∷ text) rest more p q e =
 abbrev prefix_of : Line Text → Text
 prefix_of line = decimal (line.session + 1) ++ 32 ∷ (command_text_of line.command ++ arrow)
 
-prefix_is_one : (line : Line Text) → IsLineSaid line → Without 10 (prefix_of line)
+prefix_is_one : (line : Line Text) → IsLineSaid 65535 line → Without 10 (prefix_of line)
 prefix_is_one line is =
     let command = command_is_one_line (command_text_of line.command) line.command
     (line_said line.command is.said) in
@@ -55,7 +55,8 @@ regroup : (d c r rest : Text) → (d ++ codes " " ++ (c ++ codes " => " ++ r) ++
 regroup d c r rest = simp append_assoc
 
 -- the text of the first line of what is left, if that begins with the text of a line
-pub asks_for : (text more rest : Text) (line : Line Text) → IsLineSaid line → ¬ (Contains text 10)
+pub asks_for : (text more rest : Text) (line : Line Text) → IsLineSaid 65535 line
+    → ¬ (Contains text 10)
     → text ++ 10 ∷ more ≡ line_text_of line ++ rest
     → AsksFor text line.session (command_text_of line.command)
 asks_for text more rest line is free e =
@@ -66,17 +67,17 @@ asks_for text more rest line is free e =
     (without_from 10 text free) (e ∙ regroup d c r rest) in
     (end.0, end.1 ∙ append_assoc d (32 ∷ (c ++ arrow)) end.0)
 
-module _ (text word rest said : Text) (session : ℕ) (few : session < 64)
+module _ (text word rest said : Text) (session : ℕ) (few : session < 65535)
     (cut : IsCutAtSpace text word rest) (asks : AsksFor text session said)
   where
     at_space : (word ≡ decimal (session + 1)) × (rest ≡ said ++ arrow ++ asks.0)
     at_space = one_cut_at_space text (decimal (session + 1)) (said ++ arrow ++ asks.0) word rest
         (number_is_without 32 (session + 1) refl (omega arith)) asks.1 cut
 
-    pub is_session_word : IsSessionWord word session
+    pub is_session_word : IsSessionWord 65535 word session
     is_session_word = (few, at_space.0)
 
-    pub same_session : (found : ℕ) → IsSessionWord word found → found ≡ session
+    pub same_session : (found : ℕ) → IsSessionWord 65535 word found → found ≡ session
     same_session found is =
         let same : found + 1 ≡ session + 1 =
         decimal_injective (found + 1) (session + 1) (let low = is.0 in omega arith) (omega arith)

@@ -1,5 +1,5 @@
 -- Any beginning of a log is a log of a prefix of its lines, or not even a header.
-use Rattle.std.proofs.Common.{◌≡◌, ℕ, ◌<◌, ◌^◌, List, [], ◌∷◌, ◌++◌, length, refl, sym, ap, ◌∙◌, subst, append-nil, inl, inr}
+use Rattle.std.proofs.Common.{◌≡◌, ℕ, ◌<◌, ◌^◌, List, [], ◌∷◌, ◌++◌, length, refl, sym, ap, ◌∙◌, subst, append-nil, inl, inr, arith}
 use Rattle.std.specs.Prelude.{◌⊎◌}
 use Rattle.std.specs.List.{AllByRecursion}
 use Rattle.std.proofs.lemmas.List.{append_cancel_left}
@@ -13,8 +13,8 @@ use Rattle.redo_log.specs.Logs.{header_words, log_header, AreLogged, IsLogOf, Is
 use Rattle.redo_log.proofs.Grown.{logged_prefix}
 
 forms_of : (lines : List (Line Text)) → AreLogged lines → length lines < 2 ^ 32
-    → AllByRecursion HasLineForm lines
-forms_of lines is few = (legal_lines_fit lines is.legal is.said few).forms
+    → AllByRecursion (HasLineForm 65535) lines
+forms_of lines is few = (legal_lines_fit 65535 lines is.legal is.said few).forms
 
 -- of two ways to cut a text one comes first
 first_of : (a b c d : Text) → a ++ b ≡ c ++ d
@@ -41,7 +41,7 @@ cut_behind : (cut more rest : Text) (lines : List (Line Text)) → AreLogged lin
     → lines_text_of lines ≡ more ++ rest → IsCutLog cut lines
 cut_behind cut more rest lines is few whole e =
     let (prefix, back, torn, parts, found, free) =
-    cuts.cut_lines lines more rest (forms_of lines is few) e in (
+    cuts.cut_lines 65535 lines more rest (omega arith) (forms_of lines is few) e in (
       prefix,
       back,
       torn,
@@ -79,5 +79,6 @@ pub one_log : (bytes : Text) (a b : List (Line Text)) (r s : Text) → IsLogOf b
 one_log bytes a b r s p q few other =
     let same : log_header ++ (lines_text_of a ++ r) ≡ log_header ++ (lines_text_of b ++ s) =
     sym p.parts ∙ q.parts in
-    cuts.one_cut a b r s (forms_of a p.logged few) (forms_of b q.logged other) p.free q.free
+    cuts.one_cut 65535 a b r s (omega arith) (forms_of a p.logged few) (forms_of b q.logged other)
+    p.free q.free
     (append_cancel_left log_header (lines_text_of a ++ r) (lines_text_of b ++ s) same)

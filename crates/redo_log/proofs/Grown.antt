@@ -49,15 +49,15 @@ legal_parts st (line ∷ lines) more h =
 pub logged_prefix : (lines more : List (Line Text)) → AreLogged (lines ++ more) → AreLogged lines
 logged_prefix lines more is = record {
   legal = (legal_parts empty lines more is.legal).0;
-  said = (all_parts IsLineSaid lines more is.said).0;
+  said = (all_parts (IsLineSaid 65535) lines more is.said).0;
   few_names = let fewer = fewer_names lines more in
       let few = is.few_names in omega arith;
 }
 
 -- one line more after logged lines, and the database that answered it
 pub logged_more : (lines : List (Line Text)) (line : Line Text) (names : List Text)
-    → AreLogged lines → IsLineSaid line
-        → AddsNames 16777216 (names_after lines) (line.command ∷ []) names
+    → AreLogged lines → IsLineSaid 65535 line
+    → AddsNames 16777216 (names_after lines) (line.command ∷ []) names
     → Answers texts (left_by texts empty lines) line.session line.command line.reply
     → AreLogged (lines ++ line ∷ []) × (names ≡ names_after (lines ++ line ∷ []))
 logged_more lines line names is said named answers =
@@ -65,7 +65,7 @@ logged_more lines line names is said named answers =
     named.0 ∙ sym (names_after-append lines (line ∷ [])) in (
       record {
         legal = legal_more texts empty lines line is.legal answers;
-        said = all_more IsLineSaid lines line is.said said;
+        said = all_more (IsLineSaid 65535) lines line is.said said;
         few_names = subst (λ (ns : List Text). length ns ≤ 16777216) same named.1;
       },
       same,
@@ -88,7 +88,7 @@ can_follow lines others line live left is =
     let same : length (names_after (lines ++ line ∷ others))
     ≡ length (with_names added (flat_map own_names others)) = ap length more in
     record {
-      said = (all_parts IsLineSaid lines (line ∷ others) is.said).1.0;
+      said = (all_parts (IsLineSaid 65535) lines (line ∷ others) is.said).1.0;
       names = added;
       named = (
         ap (λ (ns : List Text). with_names ns (own_names line ++ [])) (sym left.names),

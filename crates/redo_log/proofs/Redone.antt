@@ -37,7 +37,7 @@ faulty live left said session fault asked is line rest follows e =
     absurd (let some = ap (line_fault 16777216 live.names) (sym same) ∙ is in cc)
 
 module _ (old new : LiveState) (left own said logged logged_after : Text) (session : ℕ)
-    (few : session < 64) (is : AnswersText old new session own [] said logged logged_after)
+    (few : session < 65535) (is : AnswersText old new session own [] said logged logged_after)
     (asked : IsAskedBy old left session own)
   where
     -- the line that was answered is the only one that can follow
@@ -62,7 +62,7 @@ module _ (old new : LiveState) (left own said logged logged_after : Text) (sessi
     does_next rest e = record {
       line = is.line;
       said = record {
-        session = subst (λ (s : ℕ). s < 64) (sym is.is.session_is) few;
+        session = subst (λ (s : ℕ). s < 65535) (sym is.is.session_is) few;
         said = command_said own is.line.command is.is.said;
       };
       named = is.is.named;

@@ -17,7 +17,7 @@ log_header = ended header_words
 -- sessions' commands with the database's replies, whose names are not too many
 pub record AreLogged (lines : List (Line Text)) : Type 0 where
   pub legal : Legal texts lines
-  pub said : AllByRecursion IsLineSaid lines
+  pub said : AllByRecursion (IsLineSaid 65535) lines
   pub few_names : length (names_after lines) ≤ 16777216
 
 -- the bytes are a log of the lines, and then a rest without an LF

@@ -19,6 +19,9 @@ use thiserror::Error;
 /// The first line of a log.
 pub const LOG_HEADER: &[u8] = b"redodb-log 1\n";
 
+/// How many sessions a log has at most.
+const MOST_SESSIONS: u16 = 65_535;
+
 /// A database in the state after a log's lines.
 #[derive(Drop)]
 pub struct Restored {
@@ -59,14 +62,14 @@ impl From<AllocError> for RestoreFault {
 }
 
 /// The session and the text of the command that a line begins with.
-fn asked(text: &[u8]) -> Option<(u8, &[u8])>
-    ensures session { IfSome result (λ asked. asked.0 < 64) }
-    ensures found { (session : ℕ) (said : Text) (command : Command Text) → session < 64
+fn asked(text: &[u8]) -> Option<(u16, &[u8])>
+    ensures session { IfSome result (λ asked. asked.0 < 65535) }
+    ensures found { (session : ℕ) (said : Text) (command : Command Text) → session < 65535
         → IsCommandLine said command → AsksFor text.now session said
         → IsSomeAnd result (λ asked. (asked.0 ≡ session) × (asked.1.now ≡ said)) }
 {
     let (word, rest) = cut_at_space(text);
-    let session = session_of(word)?;
+    let session = session_of(word, MOST_SESSIONS)?;
     let (command, _) = cut_at_arrow(rest)?;
     Some((session, command))
 }

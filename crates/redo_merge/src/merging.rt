@@ -99,7 +99,7 @@ fn told(alloc: Global, session: u8, script: &Script, entry: &Entry) -> Result<Li
     };
     let reply = entry.reply.copy(alloc)?;
     Ok(Line {
-        session,
+        session: session as u16,
         command,
         reply,
     })

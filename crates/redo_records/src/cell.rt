@@ -6,6 +6,7 @@ ghost use Rattle.redo_records.specs.Meaning.{row_mark_of, target_state_of};
 ghost use Rattle.redo_records.specs.Cells.{IsBuiltAndEdited};
 ghost use Rattle.redo_records.specs.Refusals.{refusal_by_target};
 
+use crate::kept_state::KeptState;
 use crate::mark::Mark;
 use crate::state::State;
 use redo_terms::{FileStamp, Kind, Refusal};
@@ -17,7 +18,7 @@ use std::mem::size_of;
 pub struct Cell {
     // what most marks are of comes first, in one line of the cache
     builds: u32,
-    state: State,
+    state: KeptState,
     file: Option<FileStamp>,
     done: Option<FileStamp>,
     digest: Option<[u8; 20]>,
@@ -57,7 +58,7 @@ impl Cell {
     {
         Cell {
             builds: 0,
-            state: State::Idle,
+            state: KeptState::Idle,
             file: None,
             done: None,
             digest: None,
@@ -87,7 +88,7 @@ impl Cell {
     pub fn state(&self) -> State
         ensures { target_state_of result ≡ self.now.state }
     {
-        self.state
+        self.state.state()
     }
 
     pub fn builds(&self) -> u32
@@ -101,10 +102,10 @@ impl Cell {
         ensures { row_mark_of result ≡ mark_in self.now.state self.now }
     {
         match self.state {
-            State::Idle => Mark::of_file(self.file),
-            State::Building(_) => Mark::Pending,
-            State::Built => Mark::of_build(self.digest, self.builds),
-            State::Failed => Mark::Pending,
+            KeptState::Idle => Mark::of_file(self.file),
+            KeptState::Building(_) => Mark::Pending,
+            KeptState::Built => Mark::of_build(self.digest, self.builds),
+            KeptState::Failed => Mark::Pending,
         }
     }
 
@@ -114,7 +115,7 @@ impl Cell {
             ↔ (mark_in self.now.state self.now ≡ states.Digest digest.now) }
     {
         match (self.state, &self.digest) {
-            (State::Built, Some(own)) => own == digest,
+            (KeptState::Built, Some(own)) => own == digest,
             _ => false,
         }
     }
@@ -124,7 +125,7 @@ impl Cell {
         ensures { IsTrue result ↔ (mark_in self.now.state self.now ≡ states.Builds builds) }
     {
         match (self.state, &self.digest) {
-            (State::Built, None) => self.builds == builds,
+            (KeptState::Built, None) => self.builds == builds,
             _ => false,
         }
     }
@@ -134,7 +135,7 @@ impl Cell {
         ensures { IsTrue result ↔ (mark_in self.now.state self.now ≡ states.File stamp.now) }
     {
         match (self.state, &self.file) {
-            (State::Idle, Some(own)) => own.bytes() == stamp.bytes(),
+            (KeptState::Idle, Some(own)) => own.bytes() == stamp.bytes(),
             _ => false,
         }
     }
@@ -144,8 +145,8 @@ impl Cell {
         ensures { IsTrue result ↔ (mark_in self.now.state self.now ≡ states.Pending) }
     {
         match self.state {
-            State::Building(_) | State::Failed => true,
-            State::Idle | State::Built => false,
+            KeptState::Building(_) | KeptState::Failed => true,
+            KeptState::Idle | KeptState::Built => false,
         }
     }
 
@@ -154,7 +155,7 @@ impl Cell {
         ensures { IsTrue result ↔ (mark_in self.now.state self.now ≡ states.Absent) }
     {
         match (self.state, &self.file) {
-            (State::Idle, None) => true,
+            (KeptState::Idle, None) => true,
             _ => false,
         }
     }
@@ -164,17 +165,17 @@ impl Cell {
         ensures { IsTrue result ↔ IsBuiltAndEdited self.now }
     {
         match self.state {
-            State::Built => !is_same_stamp(&self.file, &self.done),
+            KeptState::Built => !is_same_stamp(&self.file, &self.done),
             _ => false,
         }
     }
 
     /// The first refusal that applies, by the target's state and by whether the session holds its lock. It doesn't test
     /// the names after the target.
-    pub fn refusal(&self, s: u8, kind: Kind, holds: bool) -> Option<Refusal>
+    pub fn refusal(&self, s: u16, kind: Kind, holds: bool) -> Option<Refusal>
         ensures { option_map refusal_of result ≡ refusal_by_target self.now.state s holds kind }
     {
-        self.state.refusal(s, kind, holds)
+        self.state.state().refusal(s, kind, holds)
     }
 
     pub fn set_file(&mut self, file: Option<FileStamp>)
@@ -184,10 +185,10 @@ impl Cell {
     }
 
     /// The session starts a build, without a digest so far.
-    pub fn start(&mut self, s: u8)
+    pub fn start(&mut self, s: u16)
         ensures { self.new ≡ record self.old { state = states.Building s; digest = None } }
     {
-        self.state = State::Building(s);
+        self.state = KeptState::building(s);
         self.digest = None;
     }
 
@@ -210,7 +211,7 @@ impl Cell {
         let file = stamp;
         *self = Cell {
             builds: self.builds + 1,
-            state: State::Built,
+            state: KeptState::Built,
             file,
             done: stamp,
             digest: self.digest,
@@ -220,6 +221,6 @@ impl Cell {
     pub fn failed(&mut self)
         ensures { self.new ≡ record self.old { state = states.Failed } }
     {
-        self.state = State::Failed;
+        self.state = KeptState::Failed;
     }
 }

@@ -7,6 +7,7 @@ mod cell;
 mod digest;
 mod inverse;
 mod kept_mark;
+mod kept_state;
 mod laws;
 mod lists;
 mod made;

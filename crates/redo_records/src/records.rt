@@ -106,7 +106,7 @@ impl Records {
 
     /// The first refusal that applies to a session's command on `t` whatever the names after `t` are. `holds`: whether
     /// the session holds the lock of `t`.
-    pub fn verdict(&self, s: u8, kind: Kind, t: u32, holds: bool) -> Option<Refusal>
+    pub fn verdict(&self, s: u16, kind: Kind, t: u32, holds: bool) -> Option<Refusal>
         requires { t < length self.now }
         ensures { option_map refusal_of result
             ≡ refusal_by_target (cell_at self.now t).state s holds kind }
@@ -123,7 +123,7 @@ impl Records {
     }
 
     /// The session builds it from now on.
-    pub fn start(&mut self, s: u8, t: u32)
+    pub fn start(&mut self, s: u16, t: u32)
         requires number { t < length self.old }
         requires free { IsFalse (is_building (cell_at self.old t).state) }
         ensures { self.new ≡ with_cell_at self.old t

@@ -52,7 +52,7 @@ macro_rules! first_refusal {
 impl State {
     /// The first refusal that applies to a command on a target with this state, by whether the session holds its lock.
     /// It doesn't test the names after the target.
-    pub fn refusal(&self, s: u8, kind: Kind, holds: bool) -> Option<Refusal>
+    pub fn refusal(&self, s: u16, kind: Kind, holds: bool) -> Option<Refusal>
         ensures { option_map refusal_of result
             ≡ refusal_by_target (target_state_of self.now) s holds kind }
     {
@@ -68,7 +68,7 @@ impl State {
         }
     }
 
-    fn is_built_by(&self, s: u8) -> bool
+    fn is_built_by(&self, s: u16) -> bool
         ensures { result ≡ is_built_by s (target_state_of self.now) }
     {
         match self {

@@ -3,7 +3,7 @@
 pub enum State {
     Idle,
     /// This session is building it.
-    Building(u8),
+    Building(u16),
     Built,
     Failed,
 }

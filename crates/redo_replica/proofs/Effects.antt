@@ -11,7 +11,7 @@ use Rattle.redo_model.specs.Command.{Command}
 use Rattle.redo_model.specs.Command as commands
 use Rattle.redo_model.specs.Step.{effect_of, with_cell}
 use Rattle.redo_records.specs.Rows.{by_number}
-use Rattle.redo_records.specs.declared.state.State.TheVariants as coded
+use Rattle.redo_replica.specs.declared.state.CompactState.TheVariants as coded
 use Rattle.redo_records.proofs.Effects.{set_is_put}
 use Rattle.redo_model.proofs.MorePlaces.{same_everywhere}
 use Rattle.redo_graph.specs.declared.step.Step.TheVariants as steps

@@ -8,7 +8,6 @@ use Rattle.redo_model.specs.Names.{Text}
 use Rattle.redo_model.specs.Renaming.{AllBelow, IsBelow}
 use Rattle.redo_model.specs.State.{has_file, mark_in, mark_of}
 use Rattle.redo_model.specs.Step.{effect_of}
-use Rattle.redo_records.specs.Meaning.{target_state_of}
 use Rattle.redo_records.specs.Rows.{by_number}
 use Rattle.redo_records.proofs.Effects.{change_more, created_more}
 use Rattle.redo_graph.specs.Pairs.{AreAscending}
@@ -19,7 +18,7 @@ use Rattle.redo_graph.specs.Steps.{TablesOf, AreListed, Means}
 use Rattle.redo_replica.specs.declared.mark.Mark.{Mark}
 use Rattle.redo_replica.specs.declared.rows.Row.{Row}
 use Rattle.redo_replica.specs.declared.cell.CompactCell.{CompactCell}
-use Rattle.redo_replica.specs.CompactCells.{cell_of, entry_of, mark_for, cell_at}
+use Rattle.redo_replica.specs.CompactCells.{cell_of, entry_of, mark_for, cell_at, compact_state_of}
 use Rattle.redo_replica.specs.PairRows.{IsChanged, IsMade, IsPut, rows_of}
 use Rattle.redo_replica.specs.Replicas.{IsStepBelow, records_in}
 use Rattle.redo_replica.specs.Inside.Changes.{ArePlacesOf, AreRowsAfter, HavePlaces, IsListReady, IsReady, places_in}
@@ -107,7 +106,7 @@ module _ (tables : TablesOf) (t : ℕ) (ns places : List ℕ)
         ≡ effect_of by_number (records_in tables cells old) s (commands.IfChange t (take i ns))
         → p ≡ get_or tables.pairs.items (get_or places i 0) (0, 0)
         → ((stamps digests : List Text) → mark_for stamps digests mark
-        ≡ mark_in (target_state_of (cell_at cells p.1).state)
+        ≡ mark_in (compact_state_of (cell_at cells p.1).state)
         (cell_of stamps digests (cell_at cells p.1)))
         → IsPut (get_or places i 0) (IsChanged mark) before now
         → records_in tables cells now ≡ effect_of by_number (records_in tables cells old) s

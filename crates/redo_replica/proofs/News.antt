@@ -4,13 +4,12 @@ use Rattle.std.specs.Prelude.{option_map}
 use Rattle.std.proofs.lemmas.Bool.{false≢true}
 use Rattle.redo_model.specs.State as states
 use Rattle.redo_model.specs.State.{mark_in}
-use Rattle.redo_records.specs.Meaning.{target_state_of}
 use Rattle.redo_graph.specs.Graphs.{IsOnce}
 use Rattle.redo_graph.specs.Steps.{TablesOf}
 use Rattle.redo_replica.specs.declared.mark.Mark.{Mark}
 use Rattle.redo_replica.specs.declared.rows.Row.{Row}
 use Rattle.redo_replica.specs.declared.cell.CompactCell.{CompactCell}
-use Rattle.redo_replica.specs.CompactCells.{HasEntry, HasEntries, cell_of, entry_of, mark_for}
+use Rattle.redo_replica.specs.CompactCells.{HasEntry, HasEntries, cell_of, entry_of, mark_for, compact_state_of}
 use Rattle.redo_replica.specs.PairRows.{bare, change_of}
 use Rattle.redo_replica.specs.Inside.Entries.{HasMark}
 use Rattle.redo_replica.specs.Inside.News.{HasChanged, IsNews}
@@ -28,7 +27,7 @@ module _ (tables : TablesOf) (row : Row) (cell : CompactCell) (one_stamp : IsOnc
   stood mark = mark_for tables.stamps tables.digests mark
 
   abbrev now_of : states.Mark
-  now_of = mark_in (target_state_of cell.state) (cell_of tables.stamps tables.digests cell)
+  now_of = mark_in (compact_state_of cell.state) (cell_of tables.stamps tables.digests cell)
 
   module _ (now : Mark) (is : stood now ≡ now_of)
       (entry : HasEntry tables.stamps tables.digests now) where

@@ -2,8 +2,8 @@
 use Rattle.std.specs.Prelude.{ℕ, ◌<◌, false, List, [], None, ⊤, IfSome, option_map, length, slice_index_or}
 use Rattle.redo_model.specs.Names.{Text}
 use Rattle.redo_model.specs.State as states
-use Rattle.redo_records.specs.Meaning.{target_state_of}
-use Rattle.redo_records.specs.declared.state.State.TheVariants as coded
+use Rattle.redo_replica.specs.declared.state.CompactState.{CompactState}
+use Rattle.redo_replica.specs.declared.state.CompactState.TheVariants as coded
 use Rattle.redo_replica.specs.declared.mark.Mark.{Mark}
 use Rattle.redo_replica.specs.declared.mark.Mark.TheVariants.{Absent, Pending, File, Digest, Builds}
 use Rattle.redo_replica.specs.declared.cell.CompactCell.{CompactCell}
@@ -12,11 +12,18 @@ use Rattle.redo_replica.specs.declared.cell.CompactCell.{CompactCell}
 abbrev pub entry_of : List Text → ℕ → Text
 entry_of table i = slice_index_or table i []
 
+-- what the state stands for
+abbrev pub compact_state_of : CompactState → states.TargetState
+compact_state_of coded.Idle = states.Idle
+compact_state_of (coded.Building session) = states.Building session
+compact_state_of coded.Built = states.Built
+compact_state_of coded.Failed = states.Failed
+
 -- what the cell says of its name
 abbrev pub cell_of : List Text → List Text → CompactCell → states.Cell
 cell_of stamps digests cell = record {
   file = option_map (entry_of stamps) cell.file;
-  state = target_state_of cell.state;
+  state = compact_state_of cell.state;
   builds = cell.builds;
   done = option_map (entry_of stamps) cell.done;
   digest = option_map (entry_of digests) cell.digest;

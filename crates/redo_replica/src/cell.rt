@@ -3,13 +3,12 @@ ghost use Rattle.redo_model.specs.Names.{Text};
 ghost use Rattle.redo_model.specs.State as states;
 ghost use Rattle.redo_model.specs.State.{mark_in};
 ghost use Rattle.redo_terms.specs.Meaning.{refusal_of};
-ghost use Rattle.redo_records.specs.Meaning.{target_state_of};
-ghost use Rattle.redo_records.specs.declared.state.State.TheVariants as coded;
+ghost use Rattle.redo_replica.specs.declared.state.CompactState.TheVariants as coded;
 ghost use Rattle.redo_records.specs.Refusals.{refusal_by_target};
-ghost use Rattle.redo_replica.specs.CompactCells.{HasEntry, HasEntries, cell_of, entry_of, idle_cell, mark_for};
+ghost use Rattle.redo_replica.specs.CompactCells.{HasEntry, HasEntries, cell_of, entry_of, idle_cell, mark_for, compact_state_of};
 
 use crate::mark::Mark;
-use redo_records::State;
+use crate::state::CompactState;
 use redo_terms::{Kind, Refusal};
 use std::mem::size_of;
 
@@ -20,7 +19,7 @@ pub struct CompactCell {
     pub done: Option<u32>,
     pub digest: Option<u32>,
     pub builds: u32,
-    pub state: State,
+    pub state: CompactState,
     pub always: bool,
 }
 
@@ -61,7 +60,7 @@ impl CompactCell {
             done: None,
             digest: None,
             builds: 0,
-            state: State::Idle,
+            state: CompactState::Idle,
             always: false,
         }
     }
@@ -69,15 +68,15 @@ impl CompactCell {
     /// The mark that a change row on the name gets now.
     pub fn mark(&self) -> Mark
         ensures mark { (stamps : List Text) (digests : List Text) → mark_for stamps digests result
-            ≡ mark_in (target_state_of self.now.state) (cell_of stamps digests self.now) }
+            ≡ mark_in (compact_state_of self.now.state) (cell_of stamps digests self.now) }
         ensures entry { (stamps : List Text) (digests : List Text)
             → HasEntries stamps digests self.now → HasEntry stamps digests result }
     {
         match self.state {
-            State::Idle => mark_of_file(self.file),
-            State::Building(_) => Mark::Pending,
-            State::Built => mark_of_build(self.digest, self.builds),
-            State::Failed => Mark::Pending,
+            CompactState::Idle => mark_of_file(self.file),
+            CompactState::Building(_) => Mark::Pending,
+            CompactState::Built => mark_of_build(self.digest, self.builds),
+            CompactState::Failed => Mark::Pending,
         }
     }
 
@@ -85,9 +84,9 @@ impl CompactCell {
     /// the names after the target.
     pub fn refusal(&self, s: u8, kind: Kind, holds: bool) -> Option<Refusal>
         ensures { option_map refusal_of result
-            ≡ refusal_by_target (target_state_of self.now.state) s holds kind }
+            ≡ refusal_by_target (compact_state_of self.now.state) s holds kind }
     {
-        self.state.refusal(s, kind, holds)
+        self.state.state().refusal(s as u16, kind, holds)
     }
 
     pub fn set_file(&mut self, file: Option<u32>)
@@ -104,7 +103,7 @@ impl CompactCell {
           always = false;
         } }
     {
-        self.state = State::Building(s);
+        self.state = CompactState::Building(s);
         self.digest = None;
         self.always = false;
     }
@@ -127,14 +126,14 @@ impl CompactCell {
     {
         self.file = stamp;
         self.done = stamp;
-        self.state = State::Built;
+        self.state = CompactState::Built;
         self.builds += 1;
     }
 
     pub fn failed(&mut self)
         ensures { self.new ≡ record self.old { state = coded.Failed } }
     {
-        self.state = State::Failed;
+        self.state = CompactState::Failed;
     }
 
     pub fn set_always(&mut self)

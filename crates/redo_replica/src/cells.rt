@@ -1,5 +1,5 @@
 ghost use Rattle.std.specs.Prelude.{◌≡◌, ◌+◌, ◌<◌, ◌^◌, true, Some, None, false, length, replicate, slice_set, IfOk};
-ghost use Rattle.redo_records.specs.declared.state.State.TheVariants as coded;
+ghost use Rattle.redo_replica.specs.declared.state.CompactState.TheVariants as coded;
 ghost use Rattle.redo_replica.specs.CompactCells.{idle_cell, cell_at};
 
 use crate::cell::CompactCell;

@@ -15,6 +15,7 @@ mod replica;
 mod replies;
 mod rows;
 mod seed;
+mod state;
 mod verdict;
 
 pub use cell::CompactCell;
@@ -22,3 +23,4 @@ pub use laws::{block_cleared, row_put, same_mark};
 pub use mark::Mark;
 pub use replica::Replica;
 pub use rows::{Row, RowKind};
+pub use state::CompactState;

@@ -19,10 +19,10 @@ ghost use Rattle.redo_replica.specs.Inside.Lists.{HasFileIn, IsIdleIn, IsLaidOut
 use crate::cells::CompactCells;
 use crate::laws::pairs_are_once;
 use crate::rows::{PairRows, Row};
+use crate::state::CompactState;
 use redo_graph::Graph;
 use redo_marks::{Bits, NameSet};
 use redo_order::{in_order, names_at};
-use redo_records::State;
 use std::alloc::{AllocError, Global};
 
 fn push_if(names: &mut Vec<u32>, n: u32, is_due: bool) -> Result<(), AllocError>
@@ -55,7 +55,7 @@ fn is_idle(cells: &CompactCells, n: u32) -> bool
     requires { n < length cells.now }
     ensures { IsTrue result ↔ IsIdleIn cells.now n }
 {
-    matches!(cells.get(n).state, State::Idle)
+    matches!(cells.get(n).state, CompactState::Idle)
 }
 
 /// Whether it is an idle name without a file.

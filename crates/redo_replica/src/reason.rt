@@ -15,8 +15,8 @@ use crate::cell::CompactCell;
 use crate::cells::CompactCells;
 use crate::mark::Mark;
 use crate::rows::{PairRows, Row};
+use crate::state::CompactState;
 use redo_graph::Graph;
-use redo_records::State;
 
 /// Whether there is a change row, with another mark than this one.
 fn is_other(change: Option<Mark>, now: Mark) -> bool
@@ -69,9 +69,11 @@ pub(crate) fn has_reason(graph: &Graph, cells: &CompactCells, rows: &PairRows, t
 {
     let cell = cells.get(t);
     match cell.state {
-        State::Idle => false,
-        State::Building(_) => true,
-        State::Built => cell.file != cell.done || cell.always || has_news(graph, cells, rows, t),
-        State::Failed => true,
+        CompactState::Idle => false,
+        CompactState::Building(_) => true,
+        CompactState::Built => cell.file != cell.done
+            || cell.always
+            || has_news(graph, cells, rows, t),
+        CompactState::Failed => true,
     }
 }

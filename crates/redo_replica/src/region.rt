@@ -6,26 +6,25 @@ ghost use Rattle.redo_model.specs.OutOfDate.{IsTarget, Depends, HasRow};
 ghost use Rattle.redo_model.specs.Inside.OutOfDate.{TouchesSeed, InRegion};
 ghost use Rattle.redo_model.specs.Renaming.{AllBelow};
 ghost use Rattle.redo_model.specs.State as states;
-ghost use Rattle.redo_records.specs.Meaning.{target_state_of};
 ghost use Rattle.redo_marks.specs.NameSet.{IsMarked, IsQueued, Enters, size_of};
 ghost use Rattle.redo_marks.specs.Inside.NameSet.{MarksOnly};
 ghost use Rattle.redo_marks.specs.Inside.Regions.{Spreads, IsClosed};
-ghost use Rattle.redo_replica.specs.CompactCells.{cell_at};
+ghost use Rattle.redo_replica.specs.CompactCells.{cell_at, compact_state_of};
 ghost use Rattle.redo_replica.specs.PairRows.{change_of, row_at};
 ghost use Rattle.redo_replica.specs.Replicas.{records_in};
 ghost use Rattle.redo_replica.specs.Inside.Fits.{IsFit};
 
 use crate::cells::CompactCells;
 use crate::rows::{PairRows, Row};
+use crate::state::CompactState;
 use redo_graph::Graph;
 use redo_marks::NameSet;
-use redo_records::State;
 
 pub(crate) fn is_target(cells: &CompactCells, t: u32) -> bool
     requires { t < length cells.now }
-    ensures { IsTrue result ↔ (target_state_of (cell_at cells.now t).state ≢ states.Idle) }
+    ensures { IsTrue result ↔ (compact_state_of (cell_at cells.now t).state ≢ states.Idle) }
 {
-    !matches!(cells.get(t).state, State::Idle)
+    !matches!(cells.get(t).state, CompactState::Idle)
 }
 
 /// Whether there is a change row.
@@ -38,7 +37,7 @@ pub(crate) fn has_change(row: &Row) -> bool
 /// Whether it is a target, and there is a change row.
 fn is_dependent(cells: &CompactCells, t: u32, row: &Row) -> bool
     requires { t < length cells.now }
-    ensures { IsTrue result ↔ ((target_state_of (cell_at cells.now t).state ≢ states.Idle)
+    ensures { IsTrue result ↔ ((compact_state_of (cell_at cells.now t).state ≢ states.Idle)
         × IsSome (change_of row.now)) }
 {
     is_target(cells, t) && has_change(row)
@@ -47,7 +46,7 @@ fn is_dependent(cells: &CompactCells, t: u32, row: &Row) -> bool
 /// Whether it is a target, and there is a change row or a created row.
 fn is_holder(cells: &CompactCells, t: u32, row: &Row) -> bool
     requires { t < length cells.now }
-    ensures { IsTrue result ↔ ((target_state_of (cell_at cells.now t).state ≢ states.Idle)
+    ensures { IsTrue result ↔ ((compact_state_of (cell_at cells.now t).state ≢ states.Idle)
         × (IsSome (change_of row.now) ⊎ IsTrue row.now.created)) }
 {
     is_target(cells, t) && (row.created || has_change(row))

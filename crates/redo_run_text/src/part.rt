@@ -111,7 +111,7 @@ fn put_header(text: &mut Vec<u8>, session: u8, count: usize) -> Result<(), Alloc
     ensures { OnOk result (text.new.items ≡ text.old.items ++ session_header_of session count) }
 {
     text.extend_from_slice(b"session ")?;
-    put_session(text, session)?;
+    put_session(text, session as u16)?;
     put_number(text, count)?;
     text.push(b'\n')?;
     Ok(())

@@ -27,7 +27,7 @@ module _ (names : List Text) (scripts : List (List (Item Text))) (few : length s
     (room : length names ≤ 65536) (asked : AllByRecursion (AreAsked names) scripts)
     (lines : List (Line Text)) (run : IsRun scripts lines) where
   lines_said : (ls : List (Line Text)) → AllByRecursion (λ line. line.session < length scripts) ls
-      → AllByRecursion (λ line. IsAsked names line.command) ls → AllByRecursion IsLineSaid ls
+      → AllByRecursion (λ line. IsAsked names line.command) ls → AllByRecursion (IsLineSaid 64) ls
   lines_said [] below all = tt
   lines_said (line ∷ ls) below all = (
     record { session = let less = below.0 in omega arith; said = all.0.said },

@@ -21,7 +21,7 @@ mod steps;
 #[derive(Drop)]
 pub struct Redo {
     store: Store,
-    holders: Vec<Option<u8>>,
+    holders: Vec<Option<u16>>,
     grants: Vec<u32>,
     calls: u32,
 }
@@ -66,7 +66,7 @@ impl Redo {
     pub fn call(
         &mut self,
         alloc: Global,
-        session: u8,
+        session: u16,
         command: &Command,
     ) -> Result<Reply, AllocError>
         requires numbers { IsBelow (tables_count self.old) (command_of command.now) }

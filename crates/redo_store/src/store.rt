@@ -103,7 +103,7 @@ impl Store {
     pub fn reply(
         &self,
         alloc: Global,
-        s: u8,
+        s: u16,
         command: &Command,
         holds: bool,
     ) -> Result<Reply, AllocError>
@@ -124,7 +124,7 @@ impl Store {
 
     /// Makes the change of a session's command, which is no lock. Reserves memory first, if it isn't reserved: an error
     /// changes nothing but reserved memory.
-    pub fn apply(&mut self, s: u8, command: &Command, holds: bool) -> Result<(), AllocError>
+    pub fn apply(&mut self, s: u16, command: &Command, holds: bool) -> Result<(), AllocError>
         requires numbers { IsBelow (count_of self.old) (command_of command.now) }
         requires no_lock { asked_lock (command_of command.now) ≡ None }
         requires applied { applied_of self.old + 1 < 2 ^ 32 }
@@ -151,7 +151,7 @@ impl Store {
     }
 
     /// Makes the change of a session's accepted command, for which memory is reserved. Allocates nothing.
-    pub(crate) fn apply_accepted(&mut self, s: u8, command: &Command)
+    pub(crate) fn apply_accepted(&mut self, s: u16, command: &Command)
         requires numbers { IsBelow (count_of self.old) (command_of command.now) }
         requires applied { applied_of self.old + 1 < 2 ^ 32 }
         requires accepted { verdict_of (naming_of self.old) (records_of self.old) s true
@@ -174,7 +174,7 @@ impl Store {
     }
 
     /// The first refusal that applies.
-    fn refusal(&self, s: u8, command: &Command, holds: bool) -> Option<Refusal>
+    fn refusal(&self, s: u16, command: &Command, holds: bool) -> Option<Refusal>
         requires { IsBelow (count_of self.now) (command_of command.now) }
         ensures { option_map refusal_of result ≡ verdict_of (naming_of self.now)
             (records_of self.now) s holds (command_of command.now) }
@@ -207,7 +207,7 @@ impl Store {
     }
 
     /// Makes the change of an accepted command, which is counted already.
-    fn obey(&mut self, s: u8, command: &Command)
+    fn obey(&mut self, s: u16, command: &Command)
         requires numbers { IsBelow (count_of self.old) (command_of command.now) }
         requires accepted { verdict_of (naming_of self.old) (records_of self.old) s true
             (command_of command.now) ≡ None }

@@ -19,7 +19,7 @@ no_space_no_session line free s text asks =
     (has_lf (decimal (s + 1)) text 32))
 
 pub no_number_no_session : (line word rest : Text) → IsCutAt 32 line word rest
-    → ((s : ℕ) → ¬ (IsSessionWord word s)) → HasNoSession line
+    → ((s : ℕ) → ¬ (IsSessionWord 65535 word s)) → HasNoSession line
 no_number_no_session line word rest (parts, free) none s text asks =
     let few = asks.0 in
     let same = one_cut word (decimal (s + 1)) rest text 32 free
@@ -28,7 +28,7 @@ no_number_no_session line word rest (parts, free) none s text asks =
     none s (few, same.0)
 
 pub asks_by_cut : (line word text : Text) (s : ℕ) → IsCutAt 32 line word text
-    → IsSessionWord word s → Asks line s text
+    → IsSessionWord 65535 word s → Asks line s text
 asks_by_cut line word text s (parts, free) (few, is) = (
   few,
   parts ∙ ap (λ w. w ++ 32 ∷ text) is

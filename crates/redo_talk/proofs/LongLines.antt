@@ -15,37 +15,37 @@ use Rattle.redo_talk.specs.Inside.KeptLines.{kept_of, IsHeardOf}
 abbrev prefix_of : ℕ → Text
 prefix_of s = decimal (s + 1) ++ codes " "
 
-prefix_is_short : (s : ℕ) → s < 64 → length (prefix_of s) ≤ 3
+prefix_is_short : (s : ℕ) → s < 65535 → length (prefix_of s) ≤ 6
 prefix_is_short s few =
     omega (
       arith,
       length-append (decimal (s + 1)) (codes " "),
-      length-decimal-le 2 (s + 1) (omega arith) (omega arith) (omega arith),
+      length-decimal-le 5 (s + 1) (omega arith) (omega arith) (omega arith),
     )
 
 -- what is kept of a line has the line's session, with a prefix of its text
 asks_in_prefix : (whole : Text) (s : ℕ) (text : Text) → Asks whole s text
-    → Asks (kept_of whole) s (take (8196 - length (prefix_of s)) text)
+    → Asks (kept_of whole) s (take (8199 - length (prefix_of s)) text)
 asks_in_prefix whole s text (few, parts) =
     let d = prefix_of s in
-    let split : 8196 ≡ length d + (8196 - length d) = omega (arith, prefix_is_short s few) in (
+    let split : 8199 ≡ length d + (8199 - length d) = omega (arith, prefix_is_short s few) in (
       few,
-      ap (take 8196) parts ∙ ap (λ n. take n (d ++ text)) split
-          ∙ take-append-add d text (8196 - length d),
+      ap (take 8199) parts ∙ ap (λ n. take n (d ++ text)) split
+          ∙ take-append-add d text (8199 - length d),
     )
 
 -- and the line has the session of what is kept, with more text
 asks_with_more : (whole : Text) (s : ℕ) (text : Text) → Asks (kept_of whole) s text
-    → Asks whole s (text ++ drop 8196 whole)
+    → Asks whole s (text ++ drop 8199 whole)
 asks_with_more whole s text (few, parts) =
-    let rest = drop 8196 whole in (
+    let rest = drop 8199 whole in (
       few,
-      sym (take-append-drop 8196 whole) ∙ ap (λ t. t ++ rest) parts
+      sym (take-append-drop 8199 whole) ∙ ap (λ t. t ++ rest) parts
           ∙ append_assoc (prefix_of s) text rest,
     )
 
 asked_length : (heard : Text) (s : ℕ) (text : Text) → Asks heard s text
-    → length heard ≤ 3 + length text
+    → length heard ≤ 6 + length text
 asked_length heard s text (few, parts) =
     omega (arith, ap length parts, length-append (prefix_of s) text, prefix_is_short s few)
 
@@ -64,7 +64,7 @@ fault_of_more names text more word long (inr want) = inr want
 
 module _ (old new : Known) (round : Round) (whole : Text) (heard : round.heard ≡ kept_of whole)
   where
-    module _ (long : length round.heard ≡ 8196) where
+    module _ (long : length round.heard ≡ 8199) where
       refusing_whole : Refusing old new round → Refusing old new (record round { heard = whole })
       refusing_whole step = record {
         same_names = step.same_names;
@@ -85,18 +85,18 @@ module _ (old new : Known) (round : Round) (whole : Text) (heard : round.heard �
               × (round.said ≡ fault_text_of (decimal (s + 1)) word))
           cause (inl (none, said)) =
               inl (
-                (λ s text asks. none s (take (8196 - length (prefix_of s)) text)
-                    (subst (λ h. Asks h s (take (8196 - length (prefix_of s)) text)) (sym heard)
+                (λ s text asks. none s (take (8199 - length (prefix_of s)) text)
+                    (subst (λ h. Asks h s (take (8199 - length (prefix_of s)) text)) (sym heard)
                     (asks_in_prefix whole s text asks))),
                 said,
               )
           cause (inr (s, text, word, asks, is, said)) =
               inr (
                 s,
-                text ++ drop 8196 whole,
+                text ++ drop 8199 whole,
                 word,
                 asks_with_more whole s text (subst (λ h. Asks h s text) heard asks),
-                fault_of_more old.names text (drop 8196 whole) word
+                fault_of_more old.names text (drop 8199 whole) word
                     (omega (arith, asked_length round.heard s text asks, long)) is,
                 said,
               )
@@ -123,10 +123,10 @@ module _ (old new : Known) (round : Round) (whole : Text) (heard : round.heard �
 
     -- the answer to what is kept of a line is the answer to the line
     step_of_kept : IsStep old new round → IsStep old new (record round { heard = whole })
-    step_of_kept step = elim (cases_lt (length whole) 8196) [
+    step_of_kept step = elim (cases_lt (length whole) 8199) [
       | inl short ↦ subst (λ h. IsStep old new (record round { heard = h }))
-          (heard ∙ take_all 8196 whole (omega arith)) step
-      | inr long ↦ long_step (ap length heard ∙ length-take-le 8196 whole long) step
+          (heard ∙ take_all 8199 whole (omega arith)) step
+      | inr long ↦ long_step (ap length heard ∙ length-take-le 8199 whole long) step
     ]
 
 pub step_of_whole : (old new : Known) (round : Round) (whole : Text)

@@ -17,22 +17,22 @@ no_end_both a b x y is = elim (Contains-append_cases a b 10 is) [
 ]
 
 -- after a prefix, so much of what comes fits
-pub kept_behind : (prefix more : Text) → length prefix ≤ 8196
-    → prefix ++ take (8196 - length prefix) more ≡ kept_of (prefix ++ more)
+pub kept_behind : (prefix more : Text) → length prefix ≤ 8199
+    → prefix ++ take (8199 - length prefix) more ≡ kept_of (prefix ++ more)
 kept_behind prefix more few =
-    let split : length prefix + (8196 - length prefix) ≡ 8196 = omega arith in
-    sym (take-append-add prefix more (8196 - length prefix))
+    let split : length prefix + (8199 - length prefix) ≡ 8199 = omega arith in
+    sym (take-append-add prefix more (8199 - length prefix))
     ∙ ap (λ n. take n (prefix ++ more)) split
 
 -- of a line of which so much is kept, more is kept only after a short prefix
 pub kept_more : (whole more : Text) → kept_of (kept_of whole ++ more) ≡ kept_of (whole ++ more)
-kept_more whole more = elim (cases_lt (length whole) 8196) [
-  | inl short ↦ ap (λ t. kept_of (t ++ more)) (take_all 8196 whole (omega arith))
+kept_more whole more = elim (cases_lt (length whole) 8199) [
+  | inl short ↦ ap (λ t. kept_of (t ++ more)) (take_all 8199 whole (omega arith))
   | inr long ↦
-      let full : length (kept_of whole) ≡ 8196 = length-take-le 8196 whole long in
-      take-append-le 8196 (kept_of whole) more (omega (arith, full))
-      ∙ take_all 8196 (kept_of whole) (omega (arith, full))
-      ∙ sym (take-append-le 8196 whole more long)
+      let full : length (kept_of whole) ≡ 8199 = length-take-le 8199 whole long in
+      take-append-le 8199 (kept_of whole) more (omega (arith, full))
+      ∙ take_all 8199 (kept_of whole) (omega (arith, full))
+      ∙ sym (take-append-le 8199 whole more long)
 ]
 
 pub prefix_of_none : (prefix : Text) → prefix ≡ [] → IsPrefixOf [] prefix

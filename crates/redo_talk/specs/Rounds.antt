@@ -24,7 +24,7 @@ pub record Round : Type 0 where
 
 -- the line gives the session, whose number it counts from 1, this text
 abbrev pub Asks : Text → ℕ → Text → Type 0
-Asks heard s text = (s < 64) × (heard ≡ decimal (s + 1) ++ codes " " ++ text)
+Asks heard s text = (s < 65535) × (heard ≡ decimal (s + 1) ++ codes " " ++ text)
 
 -- the line has a command whose names fit: the database's reply is the answer
 pub record IsAnswered (before : List (Line Text)) (round : Round) : Type 0 where

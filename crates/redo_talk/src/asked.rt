@@ -3,12 +3,15 @@ ghost use Rattle.redo_talk.specs.Rounds.{Asks, HasNoSession};
 
 use redo_history::{cut_at, session_of};
 
+/// How many sessions a conversation has at most.
+const MOST_SESSIONS: u16 = 65_535;
+
 /// The session, counted from 0, and the text of a line.
-pub(crate) fn asked(line: &[u8]) -> Option<(u8, &[u8])>
+pub(crate) fn asked(line: &[u8]) -> Option<(u16, &[u8])>
     ensures { MatchOption result (HasNoSession line.now)
         (λ parts. Asks line.now parts.0 parts.1.now) }
 {
     let (word, text) = cut_at(line, b' ')?;
-    let session = session_of(word)?;
+    let session = session_of(word, MOST_SESSIONS)?;
     Some((session, text))
 }

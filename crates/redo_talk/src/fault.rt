@@ -45,7 +45,7 @@ impl From<WriteFault> for TalkFault {
 /// The fault of a line: the session's number in the answer, 0 if the line has none, and its word.
 #[derive(Clone, Copy)]
 pub(crate) struct Refusal {
-    pub number: u8,
+    pub number: u16,
     pub word: &'static str,
 }
 
@@ -65,8 +65,8 @@ impl Refusal {
     }
 
     /// Why a session was not answered.
-    pub fn of(session: u8, why: Unanswered) -> Refusal
-        requires { session < 64 }
+    pub fn of(session: u16, why: Unanswered) -> Refusal
+        requires { session < 65535 }
         ensures number { result.number ≡ session + 1 }
         ensures word { result.word.now ≡ refusal_word_of why }
         ensures short { length result.word.now ≤ 20 }

@@ -19,7 +19,7 @@ use std::alloc::Global;
 use std::io::Write;
 
 /// This many bytes of a line are kept: one more than a session's number, a space and the longest command have.
-pub(crate) const MOST_KEPT: usize = 8196;
+pub(crate) const MOST_KEPT: usize = 8199;
 
 /// The first bytes, this many at most.
 fn first(bytes: &[u8], most: usize) -> &[u8]

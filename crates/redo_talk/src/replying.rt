@@ -28,7 +28,7 @@ pub enum Replied {
 fn tell_within(
     alloc: Global,
     live: &mut Live,
-    session: u8,
+    session: u16,
     inquiry: Inquiry,
     name: &[u8],
     most: usize,
@@ -58,7 +58,7 @@ fn tell_within(
 fn heed_within(
     alloc: Global,
     live: &mut Live,
-    session: u8,
+    session: u16,
     text: &[u8],
     most: usize,
     said: &mut Vec<u8>,
@@ -85,7 +85,7 @@ fn heed_within(
 pub(crate) fn respond_within(
     alloc: Global,
     live: &mut Live,
-    session: u8,
+    session: u16,
     text: &[u8],
     most: usize,
     said: &mut Vec<u8>,

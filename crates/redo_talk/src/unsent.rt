@@ -11,8 +11,8 @@ use redo_whole::{Watched, WriteFault, write_whole};
 use std::alloc::Global;
 use std::io::Write;
 
-/// The line of a fault: a number of two digits, ` fault `, the longest word and an LF fit in it.
-pub(crate) type FaultLine = ArrayVec<u8, 32>;
+/// The line of a fault: a number of five digits, ` fault `, the longest word and an LF fit in it.
+pub(crate) type FaultLine = ArrayVec<u8, 40>;
 
 /// More bytes than these are sent without waiting for more.
 const MANY: usize = 65_536;
@@ -85,7 +85,7 @@ pub(crate) fn send<L: Write, W: Write>(
 
 /// Appends the bytes. Allocates nothing.
 fn add(line: &mut FaultLine, bytes: &[u8])
-    requires { length line.old.items + length bytes.now ≤ 32 }
+    requires { length line.old.items + length bytes.now ≤ 40 }
     ensures { line.new.items ≡ line.old.items ++ bytes.now }
 {
     let _ = line.try_extend_from_slice(bytes);

@@ -89,7 +89,7 @@ impl Reply {
 /// A line of a history. Sessions are counted from 0.
 #[derive(Debug, Drop)]
 pub struct Line {
-    pub session: u8,
+    pub session: u16,
     pub command: Command,
     pub reply: Reply,
 }

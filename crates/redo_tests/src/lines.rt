@@ -12,12 +12,12 @@ fn written(rt: HostRuntime) -> Result<(), Fail> {
     let mut names = Names::new(alloc);
     let command = read_command(alloc, b"lock a", &mut names, MOST_NAMES)?;
     let line = Line {
-        session: 11,
+        session: 65_534,
         command,
         reply: Reply::Granted(3),
     };
     put_line(alloc, &mut text, &line, &names)?;
-    assert!(rt; text.as_slice() == b">12 lock a => granted 3\n".as_slice());
+    assert!(rt; text.as_slice() == b">65535 lock a => granted 3\n".as_slice());
     Ok(())
 }
 
@@ -30,7 +30,7 @@ fn cut(rt: HostRuntime) -> Result<(), Fail> {
     assert!(rt; torn == b"1 o".as_slice());
     assert!(rt; cut_at(torn, b'\n').is_none());
     let (word, rest) = cut_at_space(line);
-    assert!(rt; session_of(word) == Some(11));
+    assert!(rt; session_of(word, 64) == Some(11));
     assert!(rt; rest == b"lock a => granted 3".as_slice());
     let Some((command, reply)) = cut_at_arrow(rest) else {
         panic!(rt; "no arrow");
@@ -44,14 +44,24 @@ fn cut(rt: HostRuntime) -> Result<(), Fail> {
 
 #[test]
 fn sessions(rt: HostRuntime) -> Result<(), Fail> {
-    for (word, want) in [
-        ("1", Some(0)),
-        ("64", Some(63)),
-        ("0", None),
-        ("65", None),
-        ("01", None),
+    for (word, most, want) in [
+        ("1", 64, Some(0)),
+        ("64", 64, Some(63)),
+        ("0", 64, None),
+        ("65", 64, None),
+        ("257", 64, None),
+        ("65537", 64, None),
+        ("01", 64, None),
+        ("0", 65_535, None),
+        ("64", 65_535, Some(63)),
+        ("65", 65_535, Some(64)),
+        ("255", 65_535, Some(254)),
+        ("256", 65_535, Some(255)),
+        ("65535", 65_535, Some(65_534)),
+        ("65536", 65_535, None),
+        ("65537", 65_535, None),
     ] {
-        assert!(rt; session_of(word.as_bytes()) == want, "{word}");
+        assert!(rt; session_of(word.as_bytes(), most) == want, "{word}");
     }
     Ok(())
 }

@@ -37,7 +37,7 @@ use Ask::{Answer, Deps, End, EndWithin, Gone, State, Why, Within};
 use Told::{Ended, Fault, Logged, Nothing, Said, TooLong};
 
 /// The session, counted from 0, what it asks for, and what it is answered.
-type Step = (u8, Ask, Told);
+type Step = (u16, Ask, Told);
 
 const COMMON_PATH: &[Step] = &[
     (0, Answer("file a.c 10"), Logged("1 file a.c 10 => ok\n")),
@@ -212,7 +212,7 @@ fn withheld(answer: Result<(), Unanswered>) -> Result<(), Withheld> {
 fn inquire(
     alloc: Global,
     live: &mut Live,
-    session: u8,
+    session: u16,
     asked: (Inquiry, &str),
     said: &mut Vec<u8>,
 ) -> Result<(), Withheld> {
@@ -223,7 +223,7 @@ fn inquire(
 fn answer_to(
     alloc: Global,
     live: &mut Live,
-    session: u8,
+    session: u16,
     asked: Ask,
     said: &mut Vec<u8>,
     logged: &mut Vec<u8>,

@@ -36,6 +36,13 @@ const LOGS: &[(&str, &str, Result<(usize, usize), RestoreFault>)] = &[
     ("", "", Ok((0, 0))),
     ("", "r", Ok((0, 0))),
     ("", "redodb-log 1", Ok((0, 0))),
+    // Sessions have numbers of up to five digits.
+    (
+        ONE_LINE,
+        "64 lock a => granted 1\n65 lock b => granted 1\n255 lock c => granted 1\n\
+        256 lock d => granted 1\n65535 lock e => granted 1\n65535 unlock e => ok\n",
+        Ok((7, 174)),
+    ),
     // A line that isn't the database's answer is a fault, whatever follows.
     (
         ONE_LINE,
@@ -61,7 +68,12 @@ const LOGS: &[(&str, &str, Result<(usize, usize), RestoreFault>)] = &[
     (ONE_LINE, "1 end => ok\n1 gone a.c => ok\n", OTHER_LINE),
     (
         ONE_LINE,
-        "65 lock a.c => granted 1\n1 gone a.c => ok\n",
+        "65536 lock a.c => granted 1\n1 gone a.c => ok\n",
+        OTHER_LINE,
+    ),
+    (
+        ONE_LINE,
+        "0 lock a.c => granted 1\n1 gone a.c => ok\n",
         OTHER_LINE,
     ),
     (

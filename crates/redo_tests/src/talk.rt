@@ -23,12 +23,36 @@ const COMMON_PATH: Talk = (
 
 /// A line that is no command is answered by its first fault. A rest without LF gets no answer.
 const FAULTS: Talk = (
-    "\n0 ood\n65 ood\nood\n1 end now\n1 \n3 lock\n3 lock -\n64 ? ood\n2 file a -\n1 ood",
+    "\n0 ood\n65536 ood\nood\n1 end now\n1 \n3 lock\n3 lock -\n64 ? ood\n2 file a -\n1 ood",
     "0 fault bad-session\n0 fault bad-session\n0 fault bad-session\n0 fault bad-session\n\
     1 fault unknown-command\n1 fault unknown-command\n3 fault wrong-words\n3 fault bad-name\n\
     64 fault unknown-command\n2 fault bad-stamp\n",
     "",
 );
+
+/// Sessions at the limits of one byte and of two, and numbers of none.
+const SESSIONS: Talk = (
+    "64 lock a\n65 lock a\n255 lock b\n256 start b\n255 start b\n256 state b\n65535 lock c\n\
+    65535 start c\n1 state c\n65536 lock c\n0 lock c\n65535 end\n256 lock c\n255 end\n1 state b\n",
+    "64 lock a => granted 1\n65 lock a => busy 1\n255 lock b => granted 1\n\
+    256 start b => refused not-locked\n255 start b => ok\n\
+    256 state b => building 255 lock 255 file -\n65535 lock c => granted 1\n\
+    65535 start c => ok\n1 state c => building 65535 lock 65535 file -\n0 fault bad-session\n\
+    0 fault bad-session\n65535 failed c => ok\n65535 unlock c => ok\n65535 end => ok\n\
+    256 lock c => granted 2\n255 failed b => ok\n255 unlock b => ok\n255 end => ok\n\
+    1 state b => failed lock - file -\n",
+    "64 lock a => granted 1\n255 lock b => granted 1\n255 start b => ok\n\
+    65535 lock c => granted 1\n65535 start c => ok\n65535 failed c => ok\n65535 unlock c => ok\n\
+    256 lock c => granted 2\n255 failed b => ok\n255 unlock b => ok\n",
+);
+
+/// A line of each fault but the longest lines, and a text that the last is to go on with.
+const FAULTY: &str = "65535 lock a\r\n65535 now\n65535 lock\n65535 lock -\n65535 file a -\n\
+    65535 stamp a 6\n65535 ifchange t";
+
+const LONGEST_FAULTS: &str = "65535 fault bad-byte\n65535 fault unknown-command\n\
+    65535 fault wrong-words\n65535 fault bad-name\n65535 fault bad-stamp\n65535 fault bad-hex\n\
+    65535 fault too-many-names\n";
 
 /// Questions about names are answered and not logged. A name that isn't known is idle.
 const QUESTIONS: Talk = (
@@ -76,11 +100,11 @@ fn check_talk(
     Ok(())
 }
 
-/// Lines of session 64, each with this many bytes after the number and its space.
+/// Lines of session 65535, each with this many bytes after the number and its space.
 fn lines_of(alloc: Global, lengths: &[usize]) -> Result<Vec<u8>, AllocError> {
     let mut bytes = Vec::new(alloc);
     for length in lengths {
-        bytes.extend_from_slice(b"64 gone ")?;
+        bytes.extend_from_slice(b"65535 gone ")?;
         for _ in 5..*length {
             bytes.push(b'a')?;
         }
@@ -90,15 +114,27 @@ fn lines_of(alloc: Global, lengths: &[usize]) -> Result<Vec<u8>, AllocError> {
 }
 
 /// A line of more than 8,192 bytes is still one line, and gets one answer.
-const TOO_LONG: &str = "64 fault bad-name\n64 fault line-too-long\n64 fault line-too-long\n";
+const TOO_LONG: &str =
+    "65535 fault bad-name\n65535 fault line-too-long\n65535 fault line-too-long\n";
 
 #[test]
 fn talks(rt: HostRuntime) -> Result<(), AllocError> {
-    for (bytes, said, logged) in [COMMON_PATH, FAULTS, QUESTIONS] {
+    for (bytes, said, logged) in [COMMON_PATH, FAULTS, SESSIONS, QUESTIONS] {
         check_talk(&rt, rt.alloc(), bytes.as_bytes(), (said, logged))?;
     }
     let long = lines_of(rt.alloc(), &[8192, 8193, 200_000])?;
     check_talk(&rt, rt.alloc(), &long, (TOO_LONG, ""))
+}
+
+/// The longest line of each fault.
+#[test]
+fn longest_faults(rt: HostRuntime) -> Result<(), AllocError> {
+    let mut bytes = Vec::from_slice(rt.alloc(), FAULTY.as_bytes())?;
+    for _ in 0..65 {
+        bytes.extend_from_slice(b" a")?;
+    }
+    bytes.push(b'\n')?;
+    check_talk(&rt, rt.alloc(), &bytes, (LONGEST_FAULTS, ""))
 }
 
 /// A line that changes something isn't answered if the log takes no byte.

@@ -32,7 +32,7 @@ impl Database {
         &mut self,
         rt: &impl Abort,
         alloc: Global,
-        session: u8,
+        session: u16,
         command: &Command,
     ) -> Result<Reply, AllocError>
         requires { IsBelow 2 (command_of command.now) }
@@ -47,7 +47,7 @@ impl Database {
         &mut self,
         rt: &impl Abort,
         alloc: Global,
-        session: u8,
+        session: u16,
         command: &Command,
     ) -> Result<Reply, AllocError>
         requires { IsBelow 2 (command_of command.now) }

@@ -13,7 +13,7 @@ use std::process::Abort;
 use std::test::Fail;
 
 /// A session, its command and the reply.
-pub(crate) type Line = (u8, &'static str, &'static str);
+pub(crate) type Line = (u16, &'static str, &'static str);
 
 /// Refusals, in the order of the rules.
 pub(crate) const REFUSALS: &[Line] = &[
@@ -104,7 +104,12 @@ fn add_names(
 {
     for text in texts {
         assert!(rt; is_name(text.as_bytes()));
-        again!(rt, alloc, NamesFault::Memory, names.add(text.as_bytes(), MOST_NAMES));
+        again!(
+            rt,
+            alloc,
+            NamesFault::Memory,
+            names.add(text.as_bytes(), MOST_NAMES)
+        );
     }
     assert!(rt; names.len() == 2);
     Ok(())

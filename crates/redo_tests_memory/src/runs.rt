@@ -74,7 +74,7 @@ const OTHER_TEXT: &str = "history 5\n1 targets => ok\n2 ood => ok\n1 ood => ok\n
     1 sources => ok\n1 ood => ok\nsession 1 4\nood => ok\n? targets => ok\nsources => ok\n\
     ood => ok\n";
 
-fn line(session: u8, command: Command) -> Line
+fn line(session: u16, command: Command) -> Line
     ensures command { result.command ≡ command }
     ensures reply { result.reply ≡ Reply.Okay }
 {

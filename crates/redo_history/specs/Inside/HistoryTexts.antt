@@ -1,5 +1,5 @@
 -- What is required of a line so that its text is read again.
-use Rattle.std.specs.Prelude.{◌≡◌, ◌<◌, ◌≤◌, List, length}
+use Rattle.std.specs.Prelude.{◌≡◌, ℕ, ◌<◌, ◌≤◌, List, length}
 use Rattle.redo_model.specs.Names.{Text}
 use Rattle.redo_model.specs.Command.{Command}
 use Rattle.redo_model.specs.History.{Line}
@@ -12,14 +12,14 @@ use Rattle.redo_history.specs.HistoryTexts.{names_in_line}
 abbrev pub IsSaid : Command Text → Type 0
 IsSaid command = HasForm command × IsShort (command_text_of command)
 
--- one of the sessions says the command
-pub record IsLineSaid (line : Line Text) : Type 0 where
-  pub session : line.session < 64
+-- one of that many sessions says the command
+pub record IsLineSaid (most : ℕ) (line : Line Text) : Type 0 where
+  pub session : line.session < most
   pub said : IsSaid line.command
 
--- what is required of a line so that its text is a line of a history
-pub record HasLineForm (line : Line Text) : Type 0 where
-  pub session : line.session < 64
+-- what is required of a line so that its text is read again, where there are that many sessions
+pub record HasLineForm (most : ℕ) (line : Line Text) : Type 0 where
+  pub session : line.session < most
   pub command : HasForm line.command
   pub short : IsShort (command_text_of line.command)
   pub reply : HasReplyForm line.reply

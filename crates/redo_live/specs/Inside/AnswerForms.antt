@@ -26,7 +26,7 @@ AreCountedNames names = AreAllNames names × (length names ≤ 4294967295)
 
 abbrev pub HasStateForm : TargetState → Type 0
 HasStateForm Idle = ⊤
-HasStateForm (Building session) = session < 256
+HasStateForm (Building session) = session < 65536
 HasStateForm Built = ⊤
 HasStateForm Failed = ⊤
 
@@ -34,7 +34,7 @@ abbrev pub HasAnswerForm : Answer → Type 0
 HasAnswerForm (Cause found) = IfSome found HasWhyForm
 HasAnswerForm (Rows deps) = AreCountedNames deps.change × AreCountedNames deps.created
 HasAnswerForm (Standing state holder file) = HasStateForm state
-    × IfSome holder (λ session. session < 256) × IfSome file (λ stamp. is_stamp stamp ≡ true)
+    × IfSome holder (λ session. session < 65536) × IfSome file (λ stamp. is_stamp stamp ≡ true)
 
 -- the line is a true answer to the session's question, and determines the answer
 pub record AnswersInForm (st : State Text) (session : ℕ) (inquiry : Inquiry) (name line : Text)

@@ -34,7 +34,7 @@ impl Live {
     pub fn ask(
         &mut self,
         alloc: Global,
-        session: u8,
+        session: u16,
         inquiry: Inquiry,
         name: &[u8],
         said: &mut Vec<u8>,
@@ -56,7 +56,7 @@ impl Live {
     fn line_told(
         &mut self,
         alloc: Global,
-        session: u8,
+        session: u16,
         inquiry: Inquiry,
         name: &[u8],
         mut line: Vec<u8>,

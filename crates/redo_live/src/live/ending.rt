@@ -23,7 +23,7 @@ use redo_store::Redo;
 use redo_terms::{Command, Line, Reply};
 use std::alloc::{AllocError, Global};
 
-fn okay_line(session: u8, command: Command) -> Line
+fn okay_line(session: u16, command: Command) -> Line
     ensures { line_of result ≡ okay_line session (command_of command) }
 {
     Line {
@@ -36,7 +36,7 @@ fn okay_line(session: u8, command: Command) -> Line
 /// Appends the closing lines of a target, which is building or not.
 fn push_letting(
     lines: &mut Vec<Line>,
-    session: u8,
+    session: u16,
     t: u32,
     is_building: bool,
 ) -> Result<(), AllocError>
@@ -64,7 +64,7 @@ fn lines_text(alloc: Global, lines: &[Line], names: &Names) -> Result<Vec<u8>, A
 }
 
 /// The answer to a session's end with these lines.
-fn with_end(alloc: Global, session: u8, lines: &[u8]) -> Result<Vec<u8>, AllocError>
+fn with_end(alloc: Global, session: u16, lines: &[u8]) -> Result<Vec<u8>, AllocError>
     ensures { IfOk result (λ text. text.items ≡ lines.now ++ end_text session) }
 {
     let mut text = Vec::from_slice(alloc, lines)?;
@@ -103,7 +103,7 @@ impl Live {
     pub fn end(
         &mut self,
         alloc: Global,
-        session: u8,
+        session: u16,
         said: &mut Vec<u8>,
         logged: &mut Vec<u8>,
     ) -> Result<(), Unanswered>
@@ -125,7 +125,7 @@ impl Live {
     pub fn end_within(
         &mut self,
         alloc: Global,
-        session: u8,
+        session: u16,
         most: usize,
         said: &mut Vec<u8>,
         logged: &mut Vec<u8>,
@@ -153,7 +153,7 @@ impl Live {
     }
 
     /// The closing lines of all that a session holds, in the order of the texts.
-    fn closing_lines(&self, alloc: Global, session: u8) -> Result<Vec<Line>, AllocError>
+    fn closing_lines(&self, alloc: Global, session: u16) -> Result<Vec<Line>, AllocError>
         ensures { IfOk result (λ lines. AreClosing self.now session (map line_of lines.items)) }
     {
         self.names.are_names();

@@ -66,7 +66,7 @@ impl Live {
     pub fn call(
         &mut self,
         alloc: Global,
-        session: u8,
+        session: u16,
         command: &Command,
         guess: &Reply,
     ) -> Result<Reply, AllocError>

@@ -19,7 +19,7 @@ AsksFor text session said =
 
 -- the line can be the next one: it is the database's answer, and its names fit
 pub record CanFollow (live : LiveState) (line : Line Text) : Type 0 where
-  pub said : IsLineSaid line
+  pub said : IsLineSaid 65535 line
   pub names : List Text
   pub named : AddsNames 16777216 live.names (line.command ∷ []) names
   pub answers : Answers texts (state_in live) line.session line.command line.reply
@@ -32,7 +32,7 @@ NothingFollows live left =
 -- the line at the beginning was done, and this is left; no other one can be the next
 pub record DoesNext (old new : LiveState) (left rest : Text) : Type 0 where
   pub line : Line Text
-  pub said : IsLineSaid line
+  pub said : IsLineSaid 65535 line
   pub named : AddsNames 16777216 old.names (line.command ∷ []) new.names
   pub answers : Answers texts (state_in old) line.session line.command line.reply
   pub after_is : state_in new ≡ after texts (state_in old) line.session line.command

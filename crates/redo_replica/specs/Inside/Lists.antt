@@ -1,14 +1,13 @@
 -- Which names a reply lists, by cells and marks.
 use Rattle.std.specs.Prelude.{◌≡◌, ◌≢◌, ◌⊎◌, ◌↔◌, ◌<◌, ◌^◌, ℕ, Bool, List, IsNone, IsSome, IsTrue, Contains, is_some, length, map, slice_index_or}
 use Rattle.redo_model.specs.State.{Idle}
-use Rattle.redo_records.specs.Meaning.{target_state_of}
 use Rattle.redo_marks.specs.Bits.{IsSet}
 use Rattle.redo_order.specs.Orders.{AreRanks}
 use Rattle.redo_order.specs.Inside.Orders.{IsOrderOf}
 use Rattle.redo_graph.specs.Graphs.{GraphOf, IsOn}
 use Rattle.redo_replica.specs.declared.cell.CompactCell.{CompactCell}
 use Rattle.redo_replica.specs.declared.rows.Row.{Row}
-use Rattle.redo_replica.specs.CompactCells.{cell_at}
+use Rattle.redo_replica.specs.CompactCells.{cell_at, compact_state_of}
 use Rattle.redo_replica.specs.PairRows.{change_of, row_at}
 
 -- the graph has the order of the names below the count, and the pairs on each of them
@@ -27,10 +26,10 @@ abbrev pub HasFileIn : List CompactCell → ℕ → Type 0
 HasFileIn cells n = IsTrue (is_some (cell_at cells n).file)
 
 abbrev pub IsIdleIn : List CompactCell → ℕ → Type 0
-IsIdleIn cells n = target_state_of (cell_at cells n).state ≡ Idle
+IsIdleIn cells n = compact_state_of (cell_at cells n).state ≡ Idle
 
 abbrev pub IsTargetIn : List CompactCell → ℕ → Type 0
-IsTargetIn cells n = target_state_of (cell_at cells n).state ≢ Idle
+IsTargetIn cells n = compact_state_of (cell_at cells n).state ≢ Idle
 
 -- it is marked, or idle without a file
 abbrev pub IsStaleIn : List CompactCell → List Bool → ℕ → Type 0

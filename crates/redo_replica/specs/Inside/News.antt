@@ -2,11 +2,10 @@
 use Rattle.std.specs.Prelude.{◌≡◌, ◌≢◌, ◌⊎◌, ℕ, List, Some, IsSome, IsTrue, option_map}
 use Rattle.redo_model.specs.State as states
 use Rattle.redo_model.specs.State.{mark_in}
-use Rattle.redo_records.specs.Meaning.{target_state_of}
 use Rattle.redo_graph.specs.Steps.{TablesOf}
 use Rattle.redo_replica.specs.declared.rows.Row.{Row}
 use Rattle.redo_replica.specs.declared.cell.CompactCell.{CompactCell}
-use Rattle.redo_replica.specs.CompactCells.{cell_of, mark_for, cell_at}
+use Rattle.redo_replica.specs.CompactCells.{cell_of, mark_for, cell_at, compact_state_of}
 use Rattle.redo_replica.specs.PairRows.{change_of, pair_place, row_at}
 
 -- there is a created row, and the name has a file
@@ -18,7 +17,7 @@ HasAppeared tables row cell =
 abbrev pub HasChanged : TablesOf → Row → CompactCell → Type 0
 HasChanged tables row cell = (mark : states.Mark)
     × (option_map (mark_for tables.stamps tables.digests) (change_of row) ≡ Some mark)
-    × (mark ≢ mark_in (target_state_of cell.state) (cell_of tables.stamps tables.digests cell))
+    × (mark ≢ mark_in (compact_state_of cell.state) (cell_of tables.stamps tables.digests cell))
 
 -- the rows on the name are a reason to build their target again
 abbrev pub IsNews : TablesOf → Row → CompactCell → Type 0

@@ -67,7 +67,7 @@ impl Redo {
     }
 
     /// The session that holds its lock.
-    pub fn holder(&self, n: u32) -> Option<u8>
+    pub fn holder(&self, n: u32) -> Option<u16>
         requires { n < tables_count self.now }
         ensures { result ≡ (locks_of self.now).holder n }
     {
@@ -83,7 +83,7 @@ impl Redo {
     }
 
     /// The targets that the session holds, in the order of their numbers.
-    pub fn held_by(&self, alloc: Global, session: u8) -> Result<Vec<u32>, AllocError>
+    pub fn held_by(&self, alloc: Global, session: u16) -> Result<Vec<u32>, AllocError>
         ensures held { IfOk result (λ held. (t : ℕ) → Contains held.items t
             ↔ ((locks_of self.now).holder t ≡ Some session)) }
         ensures below { IfOk result (λ held. AllBelow (tables_count self.now) held.items) }

@@ -37,7 +37,7 @@ fn freed_by(command: &Command, reply: &Reply) -> Option<u32>
 
 impl Redo {
     /// The reply that `call` gives, without its change. A lock and a refusal allocate nothing.
-    pub fn reply(&self, alloc: Global, session: u8, command: &Command) -> Result<Reply, AllocError>
+    pub fn reply(&self, alloc: Global, session: u16, command: &Command) -> Result<Reply, AllocError>
         requires numbers { IsBelow (tables_count self.now) (command_of command.now) }
         requires calls { calls_of self.now + 1 < 2 ^ 32 }
         ensures answers { IfOk result (λ reply. Answers (numbers (tables_order self.now))
@@ -71,7 +71,7 @@ impl Redo {
     }
 
     /// The change of a session's command with this reply. Allocates nothing.
-    pub fn change(&mut self, session: u8, command: &Command, reply: &Reply)
+    pub fn change(&mut self, session: u16, command: &Command, reply: &Reply)
         requires numbers { IsBelow (tables_count self.old) (command_of command.now) }
         requires calls { calls_of self.old + 1 < 2 ^ 32 }
         requires room { has_room_for self.old.store (command_of command.now) ≡ true }
@@ -111,7 +111,7 @@ impl Redo {
         }
     }
 
-    fn holds_target(&self, session: u8, command: &Command) -> bool
+    fn holds_target(&self, session: u16, command: &Command) -> bool
         requires { IsBelow (tables_count self.now) (command_of command.now) }
         ensures { result ≡ holds_target (locks_of self.now) session (command_of command.now) }
     {
@@ -121,7 +121,7 @@ impl Redo {
         }
     }
 
-    pub(super) fn holds(&self, session: u8, t: u32) -> bool
+    pub(super) fn holds(&self, session: u16, t: u32) -> bool
         requires { t < tables_count self.now }
         ensures { result ≡ is_held_by session ((locks_of self.now).holder t) }
     {
@@ -132,7 +132,7 @@ impl Redo {
     }
 
     /// The change of a command that isn't refused, after the call was counted.
-    fn obey(&mut self, session: u8, command: &Command, reply: &Reply)
+    fn obey(&mut self, session: u16, command: &Command, reply: &Reply)
         requires numbers { IsBelow (tables_count self.old) (command_of command.now) }
         requires room { has_room_for self.old.store (command_of command.now) ≡ true }
         requires left { HasCallsLeft self.old }
@@ -157,7 +157,7 @@ impl Redo {
     }
 
     /// Grants a free lock.
-    fn grant(&mut self, session: u8, t: u32)
+    fn grant(&mut self, session: u16, t: u32)
         requires number { t < tables_count self.old }
         requires free { (locks_of self.old).holder t ≡ None }
         requires left { HasCallsLeft self.old }

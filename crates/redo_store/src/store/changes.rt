@@ -84,7 +84,7 @@ impl Store {
         refresh(&mut self.memo, &self.records, &self.rows, n);
     }
 
-    pub(crate) fn start(&mut self, s: u8, t: u32)
+    pub(crate) fn start(&mut self, s: u16, t: u32)
         requires number { t < count_of self.old }
         requires free { IsFalse (is_building (target_state (records_of self.old) t)) }
         ensures after { HasEffect self.old self.new s (commands.Start t) }

@@ -5,7 +5,7 @@ use Rattle.redo_talk.specs.Logs.{HasNoEnd}
 
 -- so much of a line is kept that its fault is known
 abbrev pub kept_of : Text → Text
-kept_of line = take 8196 line
+kept_of line = take 8199 line
 
 -- the line itself, or what is kept of it
 abbrev pub IsHeardOf : Text → Text → Type 0

@@ -93,7 +93,7 @@ pub(crate) type Wanted = (u8, Kind, u32, Answer);
 /// Whether the line is this one.
 fn is_wanted(line: &Line, want: Wanted) -> bool {
     let (session, kind, target, answer) = want;
-    line.session == session
+    line.session == session as u16
         && line.command.kind() == kind
         && is_about(&line.command, target)
         && line.reply.is_same(&reply_of(answer))
@@ -116,7 +116,7 @@ pub(crate) fn are_wanted(lines: &[Line], want: &[Wanted]) -> bool {
 fn is_line(plan: &Plan, session: u8, number: usize, told: Told, line: &Line) -> bool {
     match command_at(plan, session as usize, number) {
         Some(command) => {
-            line.session == session
+            line.session == session as u16
                 && is_same(&line.command, command)
                 && line.reply.is_same(&reply_of(told.answer))
         }

@@ -1,6 +1,6 @@
 use Rattle.std.proofs.Common.{◌≡◌, ◌+◌, ◌∙◌, sym, arith}
 use Rattle.std.proofs.lemmas.Fmt.{decimal_injective}
-use Rattle.redo_history.proofs.read.session_of.Goals.{then-number-eq0-via-then-number-eq0, then-number-eq0-via-else-number-eq0+then-number}
+use Rattle.redo_history.proofs.read.session_of.Goals.{then-number-eq0-via-then-number-eq0, then-number-eq0-via-else-number-eq0+then-number-most}
 use Rattle.redo_history.proofs.read.session_of.Goals as goal
 
 pub returns-then-number-eq0 : goal.returns-then-number-eq0
@@ -10,5 +10,5 @@ returns-then-number-eq0 c session is =
     (sym c.in_ok-number.ensures ∙ is.1) in
     elim c.then-number-eq0.branch [
       | then-number-eq0-via-then-number-eq0 w ↦ omega arith
-      | then-number-eq0-via-else-number-eq0+then-number w ↦ omega arith
+      | then-number-eq0-via-else-number-eq0+then-number-most w ↦ omega arith
     ]

@@ -1,8 +1,7 @@
 use Rattle.std.proofs.Common.{◌∙◌, ◌<◌, ℕ, List, length, get_or, sym, ap, subst, arith}
 use Rattle.redo_model.specs.State.{mark_in}
-use Rattle.redo_records.specs.Meaning.{target_state_of}
 use Rattle.redo_replica.specs.declared.cell.CompactCell.{CompactCell}
-use Rattle.redo_replica.specs.CompactCells.{HasEntries, cell_of}
+use Rattle.redo_replica.specs.CompactCells.{HasEntries, cell_of, compact_state_of}
 use Rattle.redo_replica.specs.PairRows.{IsChanged}
 use Rattle.redo_replica.proofs.Fitting.{changed_marks}
 use Rattle.redo_replica.proofs.Listed.{changed_all, changed_more, place_inside, put_sized}
@@ -24,7 +23,7 @@ loop-place-preserved c =
           (ap (λ (pairs : List (ℕ × ℕ)). get_or pairs place (0, 0)) c.pairs-pairs.ensures.pairs)
           (λ stamps digests.
           c.mark.ensures.mark stamps digests
-          ∙ ap (λ (x : CompactCell). mark_in (target_state_of x.state) (cell_of stamps digests x))
+          ∙ ap (λ (x : CompactCell). mark_in (compact_state_of x.state) (cell_of stamps digests x))
           c.get.ensures)
           c.put_change.ensures;
       count =

@@ -1,13 +1,12 @@
 use Rattle.std.proofs.Common.{◌≡◌, ◌∙◌, ℕ, Bool, true, not, nat_eq, List, sym, ap, subst, inl, inr}
 use Rattle.std.specs.Option.{option_eq}
 use Rattle.redo_model.specs.OutOfDate.{HasReason, ReasonIn}
-use Rattle.redo_records.specs.Meaning.{target_state_of}
-use Rattle.redo_records.specs.declared.state.State.{State}
-use Rattle.redo_records.specs.declared.state.State.TheVariants.{Built}
+use Rattle.redo_replica.specs.declared.state.CompactState.{CompactState}
+use Rattle.redo_replica.specs.declared.state.CompactState.TheVariants.{Built}
 use Rattle.redo_graph.specs.Graphs.{GraphOf}
 use Rattle.redo_replica.specs.declared.rows.Row.{Row}
 use Rattle.redo_replica.specs.declared.cell.CompactCell.{CompactCell}
-use Rattle.redo_replica.specs.CompactCells.{cell_at}
+use Rattle.redo_replica.specs.CompactCells.{cell_at, compact_state_of}
 use Rattle.redo_replica.specs.Replicas.{records_in}
 use Rattle.redo_replica.specs.Inside.Fits.{IsFit}
 use Rattle.redo_replica.proofs.Marks.{others_differ}
@@ -17,8 +16,8 @@ use Rattle.redo_replica.proofs.reason.has_reason.Goals.{then-ne, else-ne}
 module _ (graph : GraphOf) (cells : List CompactCell) (rows : List Row) (t : ℕ)
     (fit : IsFit graph cells rows) (cell : CompactCell) (read : cell ≡ cell_at cells t)
     (built : cell.state ≡ Built) where
-  abbrev Reason : State → Type 0
-  Reason s = ReasonIn (target_state_of s) (records_in graph.tables cells rows) t
+  abbrev Reason : CompactState → Type 0
+  Reason s = ReasonIn (compact_state_of s) (records_in graph.tables cells rows) t
 
   abbrev is_other : CompactCell → Bool
   is_other c = not (option_eq nat_eq c.file c.done)

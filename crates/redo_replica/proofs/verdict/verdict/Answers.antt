@@ -1,9 +1,9 @@
 use Rattle.std.proofs.Common.{◌∙◌, Some, None, option_map, refl, ap}
 use Rattle.redo_terms.specs.Meaning.{refusal_of}
 use Rattle.redo_terms.specs.declared.kind.Kind.{Kind}
-use Rattle.redo_records.specs.Meaning.{target_state_of}
 use Rattle.redo_records.specs.Refusals.{refusal_by_target}
 use Rattle.redo_replica.specs.declared.cell.CompactCell.{CompactCell}
+use Rattle.redo_replica.specs.CompactCells.{compact_state_of}
 use Rattle.redo_replica.specs.Replicas.{records_in}
 use Rattle.redo_replica.proofs.Verdicts.{verdict_by_parts}
 use Rattle.redo_replica.proofs.verdict.verdict.Goals as goal
@@ -15,7 +15,7 @@ returns-in-Some-refusal c = λ rows x means.
     c.args.step.now x c.in-Some.t (Some (refusal_of c.in-Some-refusal.refusal)) _ means
     c.in-Some.ensures
     (c.in-Some-refusal.ensures
-    ∙ ap (λ (y : CompactCell). refusal_by_target (target_state_of y.state) c.args.s c.args.holds
+    ∙ ap (λ (y : CompactCell). refusal_by_target (compact_state_of y.state) c.args.s c.args.holds
     c.kind_of.result) c.get.ensures
     ∙ ap (λ (k : Kind). refusal_by_target ((records_in c.args.graph.now.tables c.args.cells.now
     rows).cell c.in-Some.t).state c.args.s c.args.holds k) c.kind_of.ensures)
@@ -28,7 +28,7 @@ returns-in-None-refusal c = λ rows x means.
     c.args.step.now x c.in-Some.t None (option_map refusal_of c.refusal_by_names.result) means
     c.in-Some.ensures
     (c.in-None-refusal.ensures
-    ∙ ap (λ (y : CompactCell). refusal_by_target (target_state_of y.state) c.args.s c.args.holds
+    ∙ ap (λ (y : CompactCell). refusal_by_target (compact_state_of y.state) c.args.s c.args.holds
     c.kind_of.result) c.get.ensures
     ∙ ap (λ (k : Kind). refusal_by_target ((records_in c.args.graph.now.tables c.args.cells.now
     rows).cell c.in-Some.t).state c.args.s c.args.holds k) c.kind_of.ensures)

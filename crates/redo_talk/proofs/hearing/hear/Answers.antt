@@ -55,7 +55,7 @@ lines-smaller g c =
 pub lines-preserved : goal.lines-preserved
 lines-preserved g c = record {
   room = c.respond_to_piece.ensures.room;
-  few = subst (λ t. length t ≤ 8196) (sym c.in_ok-respond_to_piece.ensures.none) (omega arith);
+  few = subst (λ t. length t ≤ 8199) (sym c.in_ok-respond_to_piece.ensures.none) (omega arith);
   talk = λ begun is first left talk.
       let (line, prefix, at) = c.lines.invariant.talk begun is first left talk in
       let place = as_place c.lines.live (g.L.Write.contents (inner_of c.lines.log))

@@ -7,8 +7,8 @@ use Rattle.redo_talk.proofs.hearing.hear.Given as goal
 
 abbrev pub invariant-lines : goal.invariant-lines
 invariant-lines g l = record {
-  room : 8196 ≤ vec_capacity l.prefix;
-  few : length l.prefix.items ≤ 8196;
+  room : 8199 ≤ vec_capacity l.prefix;
+  few : length l.prefix.items ≤ 8199;
   talk : (begun : Text) → IsPrefixOf begun l.initial.prefix.items → GoesOnInLine
       (as_place l.initial.live (g.L.Write.contents (inner_of l.initial.log))
       (g.W.Write.contents (inner_of l.initial.out)) l.initial.unsent)

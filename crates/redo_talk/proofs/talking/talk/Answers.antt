@@ -33,7 +33,7 @@ reads-init g c =
     let none : c.in_ok-prefix.prefix.items ≡ [] = c.in_ok-prefix.ensures.items in
     record {
       room = omega (arith, c.in_ok-prefix.ensures.exact);
-      few = subst (λ t. length t ≤ 8196) (sym none) (omega arith);
+      few = subst (λ t. length t ≤ 8199) (sym none) (omega arith);
       chunk = grind (arith, common_steps);
       none_said = c.new-unsent.ensures.said;
       none_logged = c.new-unsent.ensures.logged;

@@ -7,8 +7,8 @@ use Rattle.redo_talk.proofs.talking.talk.Given as goal
 
 abbrev pub invariant-reads : goal.invariant-reads
 invariant-reads g l = record {
-  room : 8196 ≤ vec_capacity l.prefix;
-  few : length l.prefix.items ≤ 8196;
+  room : 8199 ≤ vec_capacity l.prefix;
+  few : length l.prefix.items ≤ 8199;
   chunk : 0 < length l.chunk.items;
   none_said : l.unsent.said.items ≡ [];
   none_logged : l.unsent.logged.items ≡ [];
