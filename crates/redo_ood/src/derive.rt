@@ -7,6 +7,7 @@ ghost use Rattle.redo_records.specs.Rows.{with_rows, rows_of, rows_count};
 ghost use Rattle.redo_marks.specs.NameSet.{IsMarked, size_of};
 ghost use Rattle.redo_marks.specs.Inside.Regions.{IsDue, IsClosed, EntersDue};
 
+use crate::hints::Hints;
 use crate::reason::has_reason;
 use crate::region::{is_target, spread};
 use redo_marks::NameSet;
@@ -47,24 +48,24 @@ fn depends_on_marked(records: &Records, rows: &DepRows, marks: &NameSet, t: u32)
 }
 
 // Whether it is a target that has a reason of its own, or depends on a marked name.
-fn is_due(records: &Records, rows: &DepRows, marks: &NameSet, t: u32) -> bool
+fn is_due(records: &Records, rows: &DepRows, marks: &NameSet, t: u32, hints: &mut Hints) -> bool
     requires target { t < rows_count rows.now }
     requires records { length records.now ≡ rows_count rows.now }
     requires sized { size_of marks.now ≡ rows_count rows.now }
     ensures { IsTrue result ↔ IsDue (with_rows records.now rows.now) marks.now t }
 {
-    has_reason(records, rows, t) || depends_on_marked(records, rows, marks, t)
+    has_reason(records, rows, t, hints) || depends_on_marked(records, rows, marks, t)
 }
 
 // Marks the target if it is due, and all that depend on it.
-fn enter_due(records: &Records, rows: &DepRows, t: u32, marks: &mut NameSet)
+fn enter_due(records: &Records, rows: &DepRows, t: u32, marks: &mut NameSet, hints: &mut Hints)
     requires target { t < rows_count rows.now }
     requires records { length records.now ≡ rows_count rows.now }
     requires sized { size_of marks.old ≡ rows_count rows.now }
     requires closed { IsClosed (with_rows records.now rows.now) marks.old.queue marks.old }
     ensures { EntersDue (with_rows records.now rows.now) (t ∷ []) marks.old marks.new }
 {
-    if !marks.contains(t) && is_due(records, rows, marks, t) {
+    if !marks.contains(t) && is_due(records, rows, marks, t, hints) {
         let next = marks.queue_len();
         marks.enter(t);
         spread(records, rows, next, marks);
@@ -72,7 +73,13 @@ fn enter_due(records: &Records, rows: &DepRows, t: u32, marks: &mut NameSet)
 }
 
 /// Marks those of the names that are due, and all that depend on them.
-pub(crate) fn derive(records: &Records, rows: &DepRows, names: &[u32], marks: &mut NameSet)
+pub(crate) fn derive(
+    records: &Records,
+    rows: &DepRows,
+    names: &[u32],
+    marks: &mut NameSet,
+    hints: &mut Hints,
+)
     requires names { AllBelow (size_of marks.old) names.now }
     requires records { length records.now ≡ rows_count rows.now }
     requires sized { size_of marks.old ≡ rows_count rows.now }
@@ -80,6 +87,6 @@ pub(crate) fn derive(records: &Records, rows: &DepRows, names: &[u32], marks: &m
     ensures { EntersDue (with_rows records.now rows.now) names.now marks.old marks.new }
 {
     for &t in names {
-        enter_due(records, rows, t, marks);
+        enter_due(records, rows, t, marks, hints);
     }
 }

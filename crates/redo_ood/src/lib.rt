@@ -2,6 +2,7 @@
 #![tactic(auto)]
 
 mod derive;
+mod hints;
 mod ood;
 mod reason;
 mod region;

@@ -11,6 +11,7 @@ ghost use Rattle.redo_ood.specs.Meaning.{why_of};
 ghost use Rattle.redo_marks.specs.Memo.{memo_count, is_out, IsRight, WasRight, HasCount};
 
 use crate::derive::derive;
+use crate::hints::Hints;
 use crate::region::{enter_marked, find_region};
 use crate::why::{Why, search};
 use redo_marks::NameSet;
@@ -26,6 +27,8 @@ pub struct Ood {
     // nothing is marked in these between two calls
     region: NameSet,
     outdated: NameSet,
+    // where a reason is looked for first
+    hints: Hints,
 }
 
 impl Model for Ood {
@@ -49,10 +52,12 @@ impl Ood {
         let out = NameSet::new(alloc, names)?;
         let region = NameSet::new(alloc, names)?;
         let outdated = NameSet::new(alloc, names)?;
+        let hints = Hints::new(alloc, names)?;
         Ok(Ood {
             out,
             region,
             outdated,
+            hints,
         })
     }
 
@@ -65,10 +70,12 @@ impl Ood {
         let out = self.out.grown(alloc, names)?;
         let region = NameSet::new(alloc, names)?;
         let outdated = NameSet::new(alloc, names)?;
+        let hints = Hints::new(alloc, names)?;
         Ok(Ood {
             out,
             region,
             outdated,
+            hints,
         })
     }
 
@@ -89,8 +96,14 @@ impl Ood {
         enter_marked(&self.out, others, &mut self.outdated);
         self.out.unmark(region);
         // the others can be out of date by their own rows only if they were before
-        derive(records, rows, touched, &mut self.out);
-        derive(records, rows, self.outdated.queue(), &mut self.out);
+        derive(records, rows, touched, &mut self.out, &mut self.hints);
+        derive(
+            records,
+            rows,
+            self.outdated.queue(),
+            &mut self.out,
+            &mut self.hints,
+        );
         let size = region.len() as u32;
         self.outdated.unmark_queue();
         self.region.unmark_queue();

@@ -9,6 +9,7 @@ ghost use Rattle.redo_records.specs.Cells.{cell_at};
 ghost use Rattle.redo_records.specs.Rows.{with_rows, rows_count};
 ghost use Rattle.redo_ood.specs.Meaning.{reason_of};
 
+use crate::hints::Hints;
 use redo_records::{DepRows, News, Records, State};
 
 /// A reason of its own by which a target has to be built again.
@@ -68,32 +69,48 @@ pub(crate) fn own_reason(records: &Records, rows: &DepRows, t: u32) -> Option<Re
     }
 }
 
-// Whether it has a row on a name that has appeared or changed.
-fn has_news(records: &Records, rows: &DepRows, t: u32) -> bool
+// Whether it has a row on a name that has appeared or changed, which is noted.
+fn finds_news(records: &Records, rows: &DepRows, t: u32, hints: &mut Hints) -> bool
     requires target { t < rows_count rows.now }
     requires names { length records.now ≡ rows_count rows.now }
     ensures { IsTrue result ↔ (SomeAppeared (with_rows records.now rows.now) t
         ⊎ SomeChanged (with_rows records.now rows.now) t) }
 {
     match rows.news(records, t) {
-        Some(News::Appeared(_)) => true,
-        Some(News::Changed(_)) => true,
+        Some(News::Appeared(n)) => {
+            hints.note(t, n);
+            true
+        }
+        Some(News::Changed(n)) => {
+            hints.note(t, n);
+            true
+        }
         None => false,
     }
 }
 
+// The same. The name that was noted last is looked at first.
+fn has_news(records: &Records, rows: &DepRows, t: u32, hints: &mut Hints) -> bool
+    requires target { t < rows_count rows.now }
+    requires names { length records.now ≡ rows_count rows.now }
+    ensures { IsTrue result ↔ (SomeAppeared (with_rows records.now rows.now) t
+        ⊎ SomeChanged (with_rows records.now rows.now) t) }
+{
+    rows.has_news_on(records, t, hints.of(t)) || finds_news(records, rows, t, hints)
+}
+
 // Whether a built target has a reason. Rows come first, since most reasons are theirs.
-fn built_has_reason(records: &Records, rows: &DepRows, t: u32) -> bool
+fn built_has_reason(records: &Records, rows: &DepRows, t: u32, hints: &mut Hints) -> bool
     requires target { t < rows_count rows.now }
     requires names { length records.now ≡ rows_count rows.now }
     requires built { (cell_at records.now t).state ≡ states.Built }
     ensures { IsTrue result ↔ HasReason (with_rows records.now rows.now) t }
 {
-    has_news(records, rows, t) || rows.always(t) || records.changed(t)
+    has_news(records, rows, t, hints) || rows.always(t) || records.changed(t)
 }
 
 /// Whether it is a target with a reason of its own.
-pub(crate) fn has_reason(records: &Records, rows: &DepRows, t: u32) -> bool
+pub(crate) fn has_reason(records: &Records, rows: &DepRows, t: u32, hints: &mut Hints) -> bool
     requires target { t < rows_count rows.now }
     requires names { length records.now ≡ rows_count rows.now }
     ensures { IsTrue result ↔ HasReason (with_rows records.now rows.now) t }
@@ -101,7 +118,7 @@ pub(crate) fn has_reason(records: &Records, rows: &DepRows, t: u32) -> bool
     match records.state(t) {
         State::Idle => false,
         State::Building(_) => true,
-        State::Built => built_has_reason(records, rows, t),
+        State::Built => built_has_reason(records, rows, t, hints),
         State::Failed => true,
     }
 }

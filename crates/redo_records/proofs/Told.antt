@@ -7,13 +7,13 @@ use Rattle.redo_model.specs.OutOfDate.{SomeAppeared, SomeChanged}
 use Rattle.redo_records.specs.Rows.{Slot, TargetRows, slot_at, has_slot, target_at, with_rows}
 use Rattle.redo_records.specs.Target.{Ascending}
 use Rattle.redo_records.specs.Inside.Target.{blank}
-use Rattle.redo_records.specs.News.{name_of, IsNews}
+use Rattle.redo_records.specs.News.{name_of, HasNewsOn, IsNews}
 use Rattle.redo_records.specs.Inside.News.{known, HasAppeared, HasChanged, HasNews, SomeNews, IsNewsOf, IsNewsIn}
 use Rattle.redo_records.specs.declared.news.News.{News}
 use Rattle.redo_records.specs.declared.news.News.TheVariants.{Appeared, Changed}
 use Rattle.redo_records.specs.Inside.Kept.{has_change, has_created}
 use Rattle.redo_records.proofs.Inverses.{slotted_row}
-use Rattle.redo_records.proofs.Slots.{slot_found, slot_there, nothing_stands}
+use Rattle.redo_records.proofs.Slots.{slot_found, slot_there, slot_named, nothing_stands}
 
 -- the name of a slot has one
 pub named_slot : (slots : List Slot) (i : ℕ) (d : Slot) → Ascending slots → i < length slots
@@ -109,3 +109,13 @@ pub news_below : (r : Records ℕ) (slots : List Slot) (count : ℕ) (found : Op
 news_below r slots count None below told = tt
 news_below r slots count (Some news) below told =
     below (name_of news) (news_slotted r slots news told)
+
+-- the news of a slot are those of the rows on its name
+pub news_on : (cells : List Cell) (targets : List TargetRows) (t n : ℕ) (slot : Slot)
+    (told : Bool) → slot ≡ slot_at (target_at targets t).slots n
+    → IsTrue told ↔ HasNews (known cells) slot slot.name
+    → IsTrue told ↔ HasNewsOn (with_rows cells targets) t n
+news_on cells targets t n slot told same is =
+    let slots : List Slot = (target_at targets t).slots in
+    subst (λ m. IsTrue told ↔ HasNews (known cells) (slot_at slots n) m) (slot_named slots n)
+    (subst (λ s. IsTrue told ↔ HasNews (known cells) s s.name) same is)

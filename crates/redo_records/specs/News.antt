@@ -1,5 +1,5 @@
 -- What the rows of a target say of the names that they are on.
-use Rattle.std.specs.Prelude.{◌≡◌, ◌≢◌, ℕ, Some}
+use Rattle.std.specs.Prelude.{◌≡◌, ◌≢◌, ◌⊎◌, ℕ, Some}
 use Rattle.redo_model.specs.State.{Mark, Records, mark_of}
 use Rattle.redo_model.specs.OutOfDate.{HasFile, HasCreatedRow}
 use Rattle.redo_records.specs.declared.news.News.{News}
@@ -15,3 +15,9 @@ name_of (Changed n) = n
 abbrev pub IsNews : Records ℕ → ℕ → News → Type 0
 IsNews r t (Appeared n) = HasCreatedRow r t n × HasFile r n
 IsNews r t (Changed n) = (mark : Mark) × (r.rows.change t n ≡ Some mark) × (mark ≢ mark_of r n)
+
+-- t has a created row on n, which has a file now, or a change row with another mark than n has now
+abbrev pub HasNewsOn : Records ℕ → ℕ → ℕ → Type 0
+HasNewsOn r t n =
+    (HasCreatedRow r t n × HasFile r n)
+    ⊎ ((mark : Mark) × (r.rows.change t n ≡ Some mark) × (mark ≢ mark_of r n))

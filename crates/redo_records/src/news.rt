@@ -33,6 +33,14 @@ fn has_changed(records: &Records, slot: &Slot) -> bool
     slot.has_changed(records.cell(slot.name()))
 }
 
+/// Whether the name has appeared or changed.
+pub(crate) fn has_news(records: &Records, slot: &Slot) -> bool
+    requires { slot.now.name < length records.now }
+    ensures { IsTrue result ↔ HasNews (known records.now) slot.now slot.now.name }
+{
+    has_appeared(records, slot) || has_changed(records, slot)
+}
+
 // Whether the name has appeared or changed, and which of the two.
 fn news_of(records: &Records, slot: &Slot) -> Option<News>
     requires { slot.now.name < length records.now }

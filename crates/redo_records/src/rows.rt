@@ -4,14 +4,14 @@ ghost use Rattle.redo_model.specs.OutOfDate.{SomeAppeared, SomeChanged};
 ghost use Rattle.redo_model.specs.State.{mark_in, no_rows};
 ghost use Rattle.redo_model.specs.Renaming.{AllBelow};
 ghost use Rattle.redo_records.specs.Meaning.{row_mark_of};
-ghost use Rattle.redo_records.specs.News.{IsNews, name_of};
+ghost use Rattle.redo_records.specs.News.{HasNewsOn, IsNews, name_of};
 ghost use Rattle.redo_records.specs.Numbers.{numbers_there};
 ghost use Rattle.redo_records.specs.Target.{Ascending};
 ghost use Rattle.redo_records.specs.Rows.{rows_count, rows_of, room_of, target_at, has_slot, with_change, with_created, with_always, without_rows, HasChangeRowOn, HasCreatedRowOn, by_number, with_rows};
 
 use crate::cell::Cell;
 use crate::mark::Mark;
-use crate::news::{News, first_news};
+use crate::news::{News, first_news, has_news};
 use crate::numbers::{Numbers, Place};
 use crate::records::Records;
 use crate::target::{Slot, Target};
@@ -232,6 +232,18 @@ impl DepRows {
         ensures below { IfSome result (λ news. name_of news < rows_count self.now) }
     {
         first_news(records, self.slots_of(t))
+    }
+
+    /// Whether `n` has a file now and `t` a created row on it, or another mark now than the change row of `t` on it.
+    pub fn has_news_on(&self, records: &Records, t: u32, n: u32) -> bool
+        requires target { t < rows_count self.now }
+        requires names { length records.now ≡ rows_count self.now }
+        ensures { IsTrue result ↔ HasNewsOn (with_rows records.now self.now) t n }
+    {
+        match self.targets[t as usize].find(n, 0) {
+            Some(slot) => has_news(records, slot),
+            None => false,
+        }
     }
 
     /// Whether some target has a change row on `n`.

@@ -218,7 +218,7 @@ impl Target {
     }
 
     /// The name's slot. Callers pass `guess`: the place where it may be.
-    fn find(&self, n: u32, guess: usize) -> Option<&Slot>
+    pub fn find(&self, n: u32, guess: usize) -> Option<&Slot>
         ensures there { is_some result ≡ has_slot self.now.slots n }
         ensures slot { MatchOption result (slot_at self.now.slots n ≡ blank n)
             (λ slot. slot.now ≡ slot_at self.now.slots n) }

@@ -109,6 +109,27 @@ const ENDS: &[Step] = &[
     (0, Answer("lock c"), Said("1 lock c => busy 1\n")),
 ];
 
+/// A target stays out of date while any name has changed, whichever was found to have changed before.
+const CHANGES: &[Step] = &[
+    (0, Answer("file a 1"), Logged("1 file a 1 => ok\n")),
+    (0, Answer("file b 1"), Logged("1 file b 1 => ok\n")),
+    (0, Answer("lock t"), Logged("1 lock t => granted 1\n")),
+    (0, Answer("start t"), Logged("1 start t => ok\n")),
+    (
+        0,
+        Answer("ifchange t a b"),
+        Logged("1 ifchange t a b => ok\n"),
+    ),
+    (0, Answer("done t 5"), Logged("1 done t 5 => ok\n")),
+    (0, Answer("file b 2"), Logged("1 file b 2 => ok\n")),
+    (0, Answer("ood"), Said("1 ood => ood t\n")),
+    (0, Answer("file a 2"), Logged("1 file a 2 => ok\n")),
+    (0, Answer("file b 1"), Logged("1 file b 1 => ok\n")),
+    (0, Answer("ood"), Said("1 ood => ood t\n")),
+    (0, Answer("file a 1"), Logged("1 file a 1 => ok\n")),
+    (0, Answer("ood"), Said("1 ood => ood\n")),
+];
+
 /// If an answer is over the limit, nothing is done, and a greater limit can be tried.
 const TOO_LONG: &[Step] = &[
     (0, Within("lock a", 0), TooLong(22)),
@@ -297,6 +318,7 @@ fn steps(rt: HostRuntime) -> Result<(), AllocError> {
         MANY_NAMES,
         FAULTS,
         ENDS,
+        CHANGES,
         TOO_LONG,
         QUESTIONS,
     ] {

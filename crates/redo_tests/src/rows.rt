@@ -3,7 +3,8 @@ ghost use Rattle.std.specs.Prelude.{◌≡◌, ◌<◌, IfOk};
 ghost use Rattle.redo_model.specs.Renaming.{AllBelow};
 ghost use Rattle.redo_records.specs.Rows.{rows_count};
 
-use redo_records::{Cell, DepRows, Mark, Place, Slot};
+use redo_records::{Cell, DepRows, Mark, Place, Records, Slot};
+use redo_terms::FileStamp;
 use std::alloc::{AllocError, Global};
 use std::process::Abort;
 
@@ -164,5 +165,22 @@ fn inverse_rows(rt: HostRuntime) -> Result<(), AllocError> {
     put_again(&rt, &mut rows);
     rows.clear(0);
     check_rest(&rt, &rows);
+    Ok(())
+}
+
+/// A row tells news once its name has another mark, or a file; a name without a row tells none.
+#[test]
+fn news_on_a_name(rt: HostRuntime) -> Result<(), AllocError> {
+    let mut records = Records::new(rt.alloc(), NAMES)?;
+    let mut rows = DepRows::new(rt.alloc(), NAMES)?;
+    put_rows(&rt, &mut rows)?;
+    assert!(rt; !rows.has_news_on(&records, 0, 1) && !rows.has_news_on(&records, 0, 2));
+    records.set_file(1, FileStamp::new(b"7"));
+    assert!(rt; rows.has_news_on(&records, 0, 1) && !rows.has_news_on(&records, 0, 2));
+    records.set_file(1, None);
+    records.set_file(2, FileStamp::new(b"7"));
+    records.set_file(3, FileStamp::new(b"7"));
+    assert!(rt; !rows.has_news_on(&records, 0, 1) && rows.has_news_on(&records, 0, 2));
+    assert!(rt; !rows.has_news_on(&records, 0, 3) && !rows.has_news_on(&records, 2, 1));
     Ok(())
 }
