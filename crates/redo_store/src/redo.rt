@@ -8,6 +8,7 @@ ghost use Rattle.redo_model.specs.Inside.Renaming.{OrdersAlike, numbering};
 ghost use Rattle.redo_terms.specs.Meaning.{command_of, reply_of};
 
 use crate::store::Store;
+use redo_marks::Bits;
 use redo_names::Names;
 use redo_terms::{Command, Reply};
 use std::alloc::{AllocError, Global};
@@ -22,6 +23,8 @@ mod steps;
 pub struct Redo {
     store: Store,
     holders: Vec<Option<u16>>,
+    /// The names that have a holder.
+    held: Bits,
     grants: Vec<u32>,
     calls: u32,
 }
@@ -49,13 +52,15 @@ impl Redo {
             (λ redo. OrdersAlike (numbering names.now) texts (tables_order redo)) }
         ensures calls { IfOk result (λ redo. calls_of redo ≡ 0) }
     {
-        let count = names.len() as usize;
-        let holders = vec![in alloc; None; count]?;
-        let grants = vec![in alloc; 0; count]?;
+        let count = names.len();
+        let holders = vec![in alloc; None; count as usize]?;
+        let held = Bits::new(alloc, count)?;
+        let grants = vec![in alloc; 0; count as usize]?;
         let store = Store::new(alloc, names)?;
         Ok(Redo {
             store,
             holders,
+            held,
             grants,
             calls: 0,
         })

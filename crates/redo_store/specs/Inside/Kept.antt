@@ -1,4 +1,6 @@
 -- The value of the database's fields, and their invariant.
+use Rattle.std.specs.Prelude.{◌≡◌, ◌↔◌, ℕ, Bool, List, Option, None, IsSome, length, slice_index_or}
+use Rattle.redo_marks.specs.Bits.{IsSet}
 use Rattle.redo_store.specs.Tables.{Tables}
 use Rattle.redo_store.specs.Inside.Tables.{AreTables}
 use Rattle.redo_store.specs.declared.redo.Redo.TheInside.{Inside}
@@ -11,5 +13,12 @@ tables_of inside = record {
   calls = inside.calls;
 }
 
-abbrev pub KeepsTables : Inside → Type 0
-KeepsTables inside = AreTables (tables_of inside)
+-- these are exactly the names that have a holder
+abbrev pub AreHolderNames : List (Option ℕ) → List Bool → Type 0
+AreHolderNames holders held = (n : ℕ) → IsSet held n ↔ IsSome (slice_index_or holders n None)
+
+-- the fields are a database's, and the set has exactly the names that have a holder
+pub record KeepsTables (inside : Inside) : Type 0 where
+  pub tables : AreTables (tables_of inside)
+  pub held_for_each : length inside.held ≡ length inside.holders.items
+  pub held_right : AreHolderNames inside.holders.items inside.held

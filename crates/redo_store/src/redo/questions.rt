@@ -1,5 +1,5 @@
 //! Questions about the database.
-ghost use Rattle.std.specs.Prelude.{◌≡◌, ℕ, ◌<◌, ◌≤◌, ◌↔◌, Some, Contains, IfOk, IfSome, IsOk, option_map};
+ghost use Rattle.std.specs.Prelude.{◌≡◌, ℕ, ◌<◌, ◌≤◌, ◌↔◌, ◌++◌, Some, Contains, IfOk, IfSome, IsOk, OnOk, option_map, option_to_list, filter_map};
 ghost use Rattle.std.specs.List.Sorted.{IsStrictlyIncreasing};
 ghost use Rattle.redo_model.specs.Changes.{changes};
 ghost use Rattle.redo_model.specs.Deps.{AreDeps};
@@ -24,6 +24,15 @@ use redo_ood::Why;
 use redo_records::State;
 use redo_terms::{Command, FileStamp, Reply};
 use std::alloc::{AllocError, Global};
+
+fn push_holder(sessions: &mut Vec<u8>, holder: Option<u8>) -> Result<(), AllocError>
+    ensures { OnOk result (sessions.new.items ≡ sessions.old.items ++ option_to_list holder) }
+{
+    if let Some(session) = holder {
+        sessions.push(session)?;
+    }
+    Ok(())
+}
 
 impl Redo {
     /// Why the target is out of date, if it is. Changes nothing. Looks at names that a chain of change rows leads to,
@@ -89,12 +98,39 @@ impl Redo {
         ensures below { IfOk result (λ held. AllBelow (tables_count self.now) held.items) }
         ensures distinct { IfOk result (λ held. IsStrictlyIncreasing held.items) }
     {
+        let names = self.held.list(alloc)?;
         let mut held = Vec::new(alloc);
-        for t in 0..self.store.count() {
+        for &t in &names {
             let is_held = self.holds(session, t);
             push_if(&mut held, t, is_held)?;
         }
         Ok(held)
+    }
+
+    /// The sessions that hold something, ascending.
+    pub fn holders(&self, alloc: Global) -> Result<Vec<u8>, AllocError>
+        ensures holders { IfOk result (λ sessions. (s : ℕ) → Contains sessions.items s
+            ↔ ((t : ℕ) × ((locks_of self.now).holder t ≡ Some s))) }
+        ensures distinct { IfOk result (λ sessions. IsStrictlyIncreasing sessions.items) }
+    {
+        let names = self.held.list(alloc)?;
+        let mut sessions = self.holders_of(alloc, &names)?;
+        sessions.sort_unstable();
+        sessions.dedup();
+        Ok(sessions)
+    }
+
+    /// The holders of these names, as often as they hold one.
+    fn holders_of(&self, alloc: Global, names: &[u32]) -> Result<Vec<u8>, AllocError>
+        requires { AllBelow (tables_count self.now) names.now }
+        ensures { IfOk result (λ sessions. sessions.items
+            ≡ filter_map (locks_of self.now).holder names.now) }
+    {
+        let mut sessions = Vec::new(alloc);
+        for &t in names {
+            push_holder(&mut sessions, self.holder(t))?;
+        }
+        Ok(sessions)
     }
 
     /// Whether it is being built.

@@ -7,6 +7,7 @@ ghost use Rattle.redo_store.specs.Tables.{state_of, tables_order, tables_count, 
 
 use crate::redo::Redo;
 use crate::store::Store;
+use redo_marks::Bits;
 use redo_records::extended;
 use std::alloc::{AllocError, Global};
 
@@ -19,11 +20,13 @@ impl Redo {
         ensures calls { IfOk result (λ redo. calls_of redo ≡ 0) }
     {
         let holders = vec![in alloc; None; numbers as usize]?;
+        let held = Bits::new(alloc, numbers)?;
         let grants = vec![in alloc; 0; numbers as usize]?;
         let store = Store::blank(alloc, numbers)?;
         Ok(Redo {
             store,
             holders,
+            held,
             grants,
             calls: 0,
         })
@@ -41,9 +44,11 @@ impl Redo {
         let alloc = *self.holders.allocator();
         let count = numbers as usize;
         let holders = extended(alloc, &self.holders, count, None)?;
+        let held = self.held.grown(alloc, numbers)?;
         let grants = extended(alloc, &self.grants, count, 0)?;
         self.store.grow(numbers)?;
         self.holders = holders;
+        self.held = held;
         self.grants = grants;
         Ok(())
     }

@@ -169,6 +169,7 @@ impl Redo {
     {
         let at = t as usize;
         self.holders[at] = Some(session);
+        self.held.insert(t);
         self.grants[at] += 1;
     }
 
@@ -177,5 +178,6 @@ impl Redo {
         ensures { self.new ≡ record self.old { holders = slice_set self.old.holders t None } }
     {
         self.holders[t as usize] = None;
+        self.held.remove(t);
     }
 }

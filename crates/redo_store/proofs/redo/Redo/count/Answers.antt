@@ -9,4 +9,4 @@ pub returns-clause-others : goal.returns-clause-others
 returns-clause-others c =
     subst (λ (tables : Tables). (n : ℕ) → tables_count tables ≤ n → IsUnknown (state_of tables) n)
     c.self.view_is
-    (unknown_past (tables_of c.self.inside) c.count.ensures.stored c.self.invariant)
+    (unknown_past (tables_of c.self.inside) c.count.ensures.stored c.self.invariant.tables)

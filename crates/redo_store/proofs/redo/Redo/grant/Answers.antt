@@ -9,8 +9,9 @@ returns-clause-after c =
     let t : Tables = tables_of c.self.inside in
     let below : c.args.t < tables_count t =
     subst (λ (u : Tables). c.args.t < tables_count u) (sym c.self.view_is) c.requires.number in
-    let held : c.args.t < length t.holders = omega (arith, c.self.invariant.holder_for_each) in
-    let counted : c.args.t < length t.grants = omega (arith, c.self.invariant.grants_for_each) in
+    let are = c.self.invariant.tables in
+    let held : c.args.t < length t.holders = omega (arith, are.holder_for_each) in
+    let counted : c.args.t < length t.grants = omega (arith, are.grants_for_each) in
     let free : get_or t.holders c.args.t None ≡ None =
     subst (λ (u : Tables). (locks_of u).holder c.args.t ≡ None) (sym c.self.view_is)
     c.requires.free in

@@ -1,33 +1,61 @@
-use Rattle.std.proofs.Common.{◌≡◌, ◌+◌, ◌<◌, ◌↔◌, ℕ, IsTrue, length, subst, sym, ◌∙◌, arith}
-use Rattle.std.proofs.lemmas.Grind.{common_steps}
-use Rattle.redo_model.specs.Names.{IsListed, by_number}
-use Rattle.redo_model.proofs.Listing.{listed_more, each_below}
+use Rattle.std.proofs.Common.{◌≡◌, ◌∙◌, ◌<◌, ◌↔◌, ℕ, Bool, cond, List, [], ◌∷◌, ◌++◌, length, get_or, ap, subst, sym}
+use Rattle.std.specs.List.{Contains, filter}
+use Rattle.std.specs.List.Sorted.{IsStrictlyIncreasing}
+use Rattle.std.proofs.lemmas.List.Kept.{IsStrictlyIncreasing-filter}
+use Rattle.redo_model.specs.Step.{is_held_by}
+use Rattle.redo_model.proofs.Listing.{at_take_all, each_below}
+use Rattle.redo_store.specs.Inside.Kept.{AreHolderNames}
 use Rattle.redo_store.specs.Tables.{Tables, tables_count, locks_of}
-use Rattle.redo_store.proofs.Holding.{HeldBy, held_is, held_below, rising}
+use Rattle.redo_store.proofs.Holding.{HeldBy, filter_more, held_below, held_members, rising}
 use Rattle.redo_store.proofs.redo.Redo.held_by.Goals as goal
+use Rattle.redo_store.proofs.redo.Redo.held_by.Goals.{After-drop-names-2}
 
 pub loop-t-preserved : goal.loop-t-preserved
 loop-t-preserved c =
-    let Held : ℕ → Type 0 = HeldBy c.args.self.now c.args.session in
-    let k = c.loop-t.t in
-    let test = held_is c.args.session ((locks_of c.args.self.now).holder k) in
-    let is : IsTrue c.holds-is_held.result ↔ Held k =
-    (λ h. test.0 (sym c.holds-is_held.ensures ∙ h), λ h. c.holds-is_held.ensures ∙ test.1 h) in
-    subst (IsListed by_number (λ t. (t < k + 1) × Held t)) (sym c.in_ok-push_if.ensures)
-    (listed_more Held k c.loop-t.held.items c.holds-is_held.result is c.loop-t.invariant)
+    let p : ℕ → Bool =
+    λ t. is_held_by c.args.session ((locks_of c.args.self.now).holder t) in
+    let names = c.deref-t-items.result.now in
+    let n = get_or names c.loop-t.t-index 0 in
+    c.in_ok-push_if.ensures
+    ∙ ap (λ (b : Bool). c.loop-t.held.items ++ cond b (n ∷ []) []) c.holds-is_held.ensures
+    ∙ ap (λ (ts : List ℕ). ts ++ cond (p n) (n ∷ []) []) c.loop-t.invariant
+    ∙ sym (filter_more p names c.loop-t.t-index 0 c.loop-t-test.true)
+
+-- the list has all names that the session holds
+all_tested : (c : After-drop-names-2) → c.loop-t.held.items
+    ≡ filter (λ t. is_held_by c.args.session ((locks_of c.args.self.now).holder t))
+    c.in_ok-names.names.items
+all_tested c =
+    let p : ℕ → Bool =
+    λ t. is_held_by c.args.session ((locks_of c.args.self.now).holder t) in
+    at_take_all (λ ts. c.loop-t.held.items ≡ filter p ts) c.deref-t-items.result.now
+    c.loop-t.t-index c.loop-t-test.false c.loop-t.invariant
+    ∙ ap (filter p) c.deref-t-items.ensures.value
+
+members : (c : After-drop-names-2) → (t : ℕ) → Contains c.loop-t.held.items t
+    ↔ HeldBy c.args.self.now c.args.session t
+members c =
+    held_members c.args.self.now c.self.inside.held c.in_ok-names.names.items
+    (subst (λ (tables : Tables). AreHolderNames tables.holders c.self.inside.held) c.self.view_is
+    c.self.invariant.held_right)
+    c.in_ok-names.ensures.listed c.args.session c.loop-t.held.items (all_tested c)
+
+pub returns-clause-held : goal.returns-clause-held
+returns-clause-held c = members c
 
 pub returns-clause-below : goal.returns-clause-below
 returns-clause-below c =
     let tables : Tables = c.args.self.now in
     let each : length tables.holders ≡ tables_count tables =
     subst (λ (t : Tables). length t.holders ≡ tables_count t) c.self.view_is
-    c.self.invariant.holder_for_each in
+    c.self.invariant.tables.holder_for_each in
     each_below (tables_count tables) c.loop-t.held.items (λ t h.
-    subst (λ n. t < n) each
-    (held_below tables c.args.session t ((c.loop-t.invariant.1 t).0 h).1))
+    subst (λ n. t < n) each (held_below tables c.args.session t ((members c t).0 h)))
 
 pub returns-clause-distinct : goal.returns-clause-distinct
-returns-clause-distinct c = rising c.loop-t.held.items c.loop-t.invariant
-
-pub returns-clause-held : goal.returns-clause-held
-returns-clause-held c = grind (arith, common_steps)
+returns-clause-distinct c =
+    let names = c.in_ok-names.names.items in
+    subst IsStrictlyIncreasing (sym (all_tested c))
+    (IsStrictlyIncreasing-filter
+    (λ t. is_held_by c.args.session ((locks_of c.args.self.now).holder t)) names
+    (rising names c.in_ok-names.ensures.listed))

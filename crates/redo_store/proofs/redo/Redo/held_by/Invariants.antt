@@ -1,7 +1,10 @@
-use Rattle.std.proofs.Common.{◌<◌}
-use Rattle.redo_model.specs.Names.{IsListed, by_number}
-use Rattle.redo_store.proofs.Holding.{HeldBy}
+use Rattle.std.proofs.Common.{◌≡◌, take}
+use Rattle.std.specs.List.{filter}
+use Rattle.redo_model.specs.Step.{is_held_by}
+use Rattle.redo_store.specs.Tables.{locks_of}
 use Rattle.redo_store.proofs.redo.Redo.held_by.Given as goal
 
 abbrev pub invariant-loop-t : goal.invariant-loop-t
-invariant-loop-t l = IsListed by_number (λ t. (t < l.t) × HeldBy l.self l.session t) l.held.items
+invariant-loop-t l =
+    l.held.items
+    ≡ filter (λ t. is_held_by l.session ((locks_of l.self).holder t)) (take l.t-index l.t-items)
