@@ -15,15 +15,17 @@ use Rattle.std.proofs.lemmas.List.Sorted.{Contains-permutation, IsPermutation-sy
 use Rattle.std.proofs.lemmas.Simd.{map-map}
 use Rattle.redo_names.specs.Inside.Names.{AreNames}
 use Rattle.redo_model.specs.Names.{Text, texts, text_at}
-use Rattle.redo_model.specs.State.{State}
+use Rattle.redo_model.specs.State.{State, Building, empty, target_state}
 use Rattle.redo_model.specs.Reply as replies
 use Rattle.redo_model.specs.History.{LegalFrom, left_by}
 use Rattle.redo_model.specs.History as histories
 use Rattle.redo_model.specs.Renaming.{AllBelow, IsBelow, IsLineBelow, named_line}
 use Rattle.redo_model.specs.Inside.Ending.{AreHeld, closing_lines_of}
 use Rattle.redo_model.specs.Inside.Renaming.{named_state, numbering, value_at}
+use Rattle.redo_model.proofs.Held.{BuildersHold, builders_hold, builders_hold_at_first}
 use Rattle.redo_model.proofs.RecordsByName.{value_at_name}
 use Rattle.redo_model.proofs.RepliesByName.{Carries, listing}
+use Rattle.redo_model.proofs.Texts.{texts_are_names}
 use Rattle.redo_terms.specs.Meaning.{by_text, command_of, line_of, line_at}
 use Rattle.redo_terms.specs.declared.reply.Line.{Line}
 use Rattle.redo_store.specs.Tables.{Tables, state_of, tables_count, tables_order, calls_of}
@@ -32,7 +34,7 @@ use Rattle.redo_history.specs.Histories.{line_text_of}
 use Rattle.redo_history.specs.Recorded.{AreLinesBelow}
 use Rattle.redo_live.specs.Inside.Ended.{end_text}
 use Rattle.redo_live.specs.Inside.ClosingLines.{AreClosing, TakesNoRoom}
-use Rattle.redo_live.specs.Inside.Kept.{IsKept}
+use Rattle.redo_live.specs.Inside.Kept.{IsKept, IsReached}
 use Rattle.redo_live.specs.Inside.Ordered.{AreSortedAgain}
 use Rattle.redo_live.specs.Inside.Told.{EndsSession}
 use Rattle.redo_live.specs.Inside.Withheld.{WouldEnd}
@@ -67,6 +69,28 @@ module _ (names : List Text) (are : AreNames names) (st : State ℕ)
     mine_below : (t : ℕ) → st.locks.holder t ≡ Some s → t < length names
     mine_below t e =
         taken_below (length names) st.locks t within.holder (ap (λ (o : Option ℕ). is_some o) e)
+
+    -- it holds a number exactly if it holds a name
+    pub held_named : ((t : ℕ) × (st.locks.holder t ≡ Some s))
+        ↔ ((t : Text) × ((named_state (numbering names) st).locks.holder t ≡ Some s))
+    held_named = (
+      λ h. (
+        text_at names h.0,
+        value_at_name (renaming names are) None st.locks.holder h.0 (mine_below h.0 h.1) ∙ h.1,
+      ),
+      λ h. (let number = numbered_by st.locks.holder s ((numbering names).number h.0) h.1 in
+          (number.0, sym (ap (value_at None st.locks.holder) number.1) ∙ h.1)),
+    )
+
+    -- what it builds, it holds
+    pub builder_holds : IsReached (named_state (numbering names) st) → (t : Text)
+        → target_state (named_state (numbering names) st).records t ≡ Building s
+        → (named_state (numbering names) st).locks.holder t ≡ Some s
+    builder_holds reached t is =
+        let hold : BuildersHold (named_state (numbering names) st) =
+        subst BuildersHold (sym reached.left)
+        (builders_hold texts_are_names empty reached.lines builders_hold_at_first) in
+        hold.held t s is
 
     -- the numbers of what a session holds, put into the order of their texts
     pub held_sorted : (ns ms : List ℕ) → IsStrictlyIncreasing ns

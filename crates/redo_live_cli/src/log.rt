@@ -11,8 +11,6 @@ use std::io;
 use std::io::{ErrorKind, Read, Seek, SeekFrom, Write};
 use std::os::unix::fs::FileExt;
 
-const SESSIONS: u16 = 65_535;
-
 /// What was restored of the log at the start of a conversation, and where the log goes on.
 #[derive(Drop)]
 pub struct Begun {
@@ -154,8 +152,9 @@ fn restore_log(rt: &HostRuntime, asked: &LogFile, file: &File) -> Result<Restore
 
 /// Closes the sessions of the former run; `logged` gets the lines for the log.
 fn close_all(alloc: Global, live: &mut Live, logged: &mut Vec<u8>) -> Result<(), AllocError> {
+    let sessions = live.holders(alloc)?;
     let mut said = Vec::new(alloc);
-    for session in 0..SESSIONS {
+    for &session in &sessions {
         said.clear();
         if live.end(alloc, session, &mut said, logged).is_err() {
             return Err(AllocError);

@@ -13,6 +13,8 @@ mod digests;
 #[cfg(test)]
 mod finish;
 #[cfg(test)]
+mod holders;
+#[cfg(test)]
 mod lines;
 #[cfg(test)]
 mod live;

@@ -1,6 +1,9 @@
 //! How a session ends.
-ghost use Rattle.std.specs.Prelude.{◌≡◌, ℕ, ◌+◌, ◌^◌, ◌<◌, ◌≤◌, ◌++◌, [], cond, length, map, IfOk, IfErr, OnOk, OnErr};
+ghost use Rattle.std.specs.Prelude.{◌≡◌, ◌↔◌, ℕ, ◌+◌, ◌^◌, ◌<◌, ◌≤◌, ◌++◌, [], Some, Contains, cond, length, map, IfOk, IfErr, OnOk, OnErr};
 ghost use Rattle.std.specs.List.{AllByRecursion, flat_map};
+ghost use Rattle.std.specs.List.Sorted.{IsStrictlyIncreasing};
+ghost use Rattle.redo_model.specs.Names.{Text};
+ghost use Rattle.redo_model.specs.State.{Building, target_state};
 ghost use Rattle.redo_model.specs.Command as commands;
 ghost use Rattle.redo_model.specs.History.{LegalFrom, left_by};
 ghost use Rattle.redo_model.specs.Inside.Ending.{okay_line};
@@ -92,7 +95,7 @@ fn close(redo: &mut Redo, lines: &[Line])
 }
 
 impl Live {
-    ghost use Rattle.redo_live.specs.Inside.LiveState.{IsAsKnown};
+    ghost use Rattle.redo_live.specs.Inside.LiveState.{state_in, IsAsKnown};
     ghost use Rattle.redo_live.specs.Inside.ClosingLines.{AreClosing};
     ghost use Rattle.redo_live.specs.Inside.Told.{EndsSession, TellsNothing};
     ghost use Rattle.redo_live.specs.Inside.Withheld.{IsUnendedFor};
@@ -150,6 +153,20 @@ impl Live {
         tell(said, &text, logged, &kept)?;
         close(&mut self.redo, &lines);
         Ok(())
+    }
+
+    /// The sessions that hold something, ascending. A session that builds is among them.
+    pub fn holders(&self, alloc: Global) -> Result<Vec<u16>, AllocError>
+        ensures holders { IfOk result (λ sessions. (s : ℕ) → Contains sessions.items s
+            ↔ ((t : Text) × ((state_in self.now).locks.holder t ≡ Some s))) }
+        ensures distinct { IfOk result (λ sessions. IsStrictlyIncreasing sessions.items) }
+        ensures builders { IfOk result (λ sessions. (t : Text) (s : ℕ)
+            → target_state (state_in self.now).records t ≡ Building s
+            → Contains sessions.items s) }
+    {
+        self.names.are_names();
+        let sessions = self.redo.holders(alloc)?;
+        Ok(sessions)
     }
 
     /// The closing lines of all that a session holds, in the order of the texts.
