@@ -1,4 +1,4 @@
-ghost use Rattle.std.specs.Prelude.{◌≡◌, ◌↔◌, ◌≤◌, ◌+◌, [], ◌∷◌, None, length, IfOk, IfErr, OnOk, OnErr, true};
+ghost use Rattle.std.specs.Prelude.{◌≡◌, ◌↔◌, ◌≤◌, ◌<◌, ◌+◌, ◌^◌, [], ◌∷◌, None, length, IfOk, IfErr, OnOk, OnErr, true};
 ghost use Rattle.redo_names.specs.Inside.Names.{Extends, AreNames};
 ghost use Rattle.redo_model.specs.State.{empty};
 ghost use Rattle.redo_model.specs.Renaming.{IsBelow};
@@ -33,6 +33,21 @@ const MOST_NAMES: u32 = 16_777_216;
 
 /// How many names a line has at most.
 const NAMES_OF_A_LINE: u32 = 65;
+
+/// From this many on, a growth doesn't double them.
+const MANY_NUMBERS: u32 = 65_536;
+
+/// How many numbers there are after a growth.
+fn grown(numbers: u32) -> u32
+    requires { numbers < 2 ^ 31 }
+    ensures { numbers ≤ result }
+{
+    if numbers < MANY_NUMBERS {
+        2 * numbers
+    } else {
+        numbers + numbers / 4
+    }
+}
 
 /// A database over names that become known with the commands.
 #[derive(Drop)]
@@ -322,7 +337,7 @@ impl Live {
     {
         let count = self.names.len();
         if count > self.numbers {
-            let numbers = (2 * self.numbers).max(count).min(MOST_NAMES);
+            let numbers = grown(self.numbers).max(count).min(MOST_NAMES);
             self.redo.grow(numbers)?;
             self.numbers = numbers;
         }

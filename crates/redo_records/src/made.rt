@@ -69,7 +69,7 @@ fn empty_lists(alloc: Global, count: usize) -> Result<Vec<Numbers>, AllocError>
     Ok(lists)
 }
 
-/// Reserves memory for that many more of each.
+/// Reserves memory for exactly that many more of each.
 pub(crate) fn reserve_each(
     targets: &mut Vec<Target>,
     needed: &mut Vec<Numbers>,
@@ -86,7 +86,7 @@ pub(crate) fn reserve_each(
     ensures awaited_room { OnOk result
         (length awaited.new.items + more ≤ vec_capacity awaited.new) }
 {
-    targets.reserve(more)?;
-    needed.reserve(more)?;
-    awaited.reserve(more)
+    targets.reserve_exact(more)?;
+    needed.reserve_exact(more)?;
+    awaited.reserve_exact(more)
 }

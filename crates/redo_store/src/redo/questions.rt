@@ -25,7 +25,7 @@ use redo_records::State;
 use redo_terms::{Command, FileStamp, Reply};
 use std::alloc::{AllocError, Global};
 
-fn push_holder(sessions: &mut Vec<u8>, holder: Option<u8>) -> Result<(), AllocError>
+fn push_holder(sessions: &mut Vec<u16>, holder: Option<u16>) -> Result<(), AllocError>
     ensures { OnOk result (sessions.new.items ≡ sessions.old.items ++ option_to_list holder) }
 {
     if let Some(session) = holder {
@@ -108,7 +108,7 @@ impl Redo {
     }
 
     /// The sessions that hold something, ascending.
-    pub fn holders(&self, alloc: Global) -> Result<Vec<u8>, AllocError>
+    pub fn holders(&self, alloc: Global) -> Result<Vec<u16>, AllocError>
         ensures holders { IfOk result (λ sessions. (s : ℕ) → Contains sessions.items s
             ↔ ((t : ℕ) × ((locks_of self.now).holder t ≡ Some s))) }
         ensures distinct { IfOk result (λ sessions. IsStrictlyIncreasing sessions.items) }
@@ -121,7 +121,7 @@ impl Redo {
     }
 
     /// The holders of these names, as often as they hold one.
-    fn holders_of(&self, alloc: Global, names: &[u32]) -> Result<Vec<u8>, AllocError>
+    fn holders_of(&self, alloc: Global, names: &[u32]) -> Result<Vec<u16>, AllocError>
         requires { AllBelow (tables_count self.now) names.now }
         ensures { IfOk result (λ sessions. sessions.items
             ≡ filter_map (locks_of self.now).holder names.now) }
