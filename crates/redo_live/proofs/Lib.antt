@@ -11,5 +11,6 @@ pub mod Obeying
 pub mod Lines
 pub mod Closing
 pub mod Ending
+pub mod EndingAll
 pub mod OneAnswer
 pub mod Forms

@@ -9,5 +9,5 @@ mod ordering;
 mod told;
 
 pub use fault::{Unanswered, Withheld};
-pub use laws::one_answer_a_line;
+pub use laws::{ended_leave_nothing, one_answer_a_line};
 pub use live::Live;

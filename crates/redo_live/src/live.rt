@@ -37,7 +37,7 @@ const NAMES_OF_A_LINE: u32 = 65;
 /// From this many on, a growth doesn't double them.
 const MANY_NUMBERS: u32 = 65_536;
 
-/// How many numbers there are after a growth.
+/// How many numbers there are after a growth: of many, more by a quarter of the last power of two.
 fn grown(numbers: u32) -> u32
     requires { numbers < 2 ^ 31 }
     ensures { numbers ≤ result }
@@ -45,7 +45,7 @@ fn grown(numbers: u32) -> u32
     if numbers < MANY_NUMBERS {
         2 * numbers
     } else {
-        numbers + numbers / 4
+        numbers + (numbers + 1).next_power_of_two() / 8
     }
 }
 

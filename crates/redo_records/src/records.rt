@@ -1,4 +1,4 @@
-ghost use Rattle.std.specs.Prelude.{◌≡◌, ℕ, ◌+◌, ◌^◌, ◌<◌, ◌≤◌, ◌↔◌, IsTrue, IsFalse, List, length, replicate, option_map, IfOk};
+ghost use Rattle.std.specs.Prelude.{◌≡◌, ℕ, ◌+◌, ◌-◌, ◌^◌, ◌<◌, ◌≤◌, ◌↔◌, ◌++◌, IsTrue, IsFalse, List, length, replicate, take, option_map, IfOk, OnOk, OnErr};
 ghost use Rattle.redo_model.specs.State as states;
 ghost use Rattle.redo_model.specs.State.{idle, mark_in, is_building};
 ghost use Rattle.redo_terms.specs.Meaning.{refusal_of};
@@ -7,7 +7,6 @@ ghost use Rattle.redo_records.specs.Cells.{cell_at, with_cell_at, IsBuiltAndEdit
 ghost use Rattle.redo_records.specs.Refusals.{refusal_by_target};
 
 use crate::cell::Cell;
-use crate::lists::extended;
 use crate::mark::Mark;
 use crate::state::State;
 use redo_terms::{FileStamp, Kind, Refusal};
@@ -30,7 +29,7 @@ impl Model for Records {
 }
 
 impl Records {
-    /// Records in which nothing is known. But for `grown`, no other call allocates.
+    /// Records in which nothing is known. But for `grow`, no other call allocates.
     pub fn new(alloc: Global, names: u32) -> Result<Records, AllocError>
         ensures { IfOk result (λ records. records ≡ replicate names idle) }
     {
@@ -38,15 +37,23 @@ impl Records {
         Ok(Records { cells })
     }
 
-    /// The same records with more names, of which nothing is known.
-    pub fn grown(&self, alloc: Global, names: u32) -> Result<Records, AllocError>
-        requires { length self.now ≤ names }
-        ensures count { IfOk result (λ records. length records ≡ names) }
-        ensures same { IfOk result
-            (λ records. (n : ℕ) → cell_at records n ≡ cell_at self.now n) }
+    /// More names, of which nothing is known. The cells stay where they are, if the system can.
+    pub fn grow(&mut self, names: u32) -> Result<(), AllocError>
+        requires { length self.old ≤ names }
+        ensures grown { OnOk result
+            (self.new ≡ self.old ++ replicate (names - length self.old) idle) }
+        ensures err { OnErr result (self.new ≡ self.old) }
     {
-        let cells = extended(alloc, &self.cells, names as usize, Cell::idle())?;
-        Ok(Records { cells })
+        let more = names as usize - self.cells.len();
+        self.cells.reserve_exact(more)?;
+        self.cells.resize(names as usize, Cell::idle())
+    }
+
+    /// The first names alone.
+    pub fn keep_first(&mut self, names: u32)
+        ensures { self.new ≡ take names self.old }
+    {
+        self.cells.truncate(names as usize);
     }
 
     /// How many names there are.

@@ -32,6 +32,20 @@ fn marks(rt: HostRuntime) -> Result<(), Fail> {
     Ok(())
 }
 
+/// Names that are added are idle, and go again.
+#[test]
+fn growth(rt: HostRuntime) -> Result<(), Fail> {
+    let mut records = Records::new(rt.alloc(), 1)?;
+    let stamp = FileStamp::new(b"7").ok_or("a stamp")?;
+    records.set_file(0, Some(stamp));
+    records.grow(3)?;
+    assert!(rt; records.count() == 3);
+    assert!(rt; records.file(0) == Some(stamp) && records.file(2).is_none());
+    records.keep_first(1);
+    assert!(rt; records.count() == 1 && records.file(0) == Some(stamp));
+    Ok(())
+}
+
 /// A stamp is 64 bytes and their number, and an optional one has no padding.
 #[test]
 fn size_of_a_stamp(rt: HostRuntime) -> Result<(), Fail> {

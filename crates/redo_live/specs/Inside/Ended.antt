@@ -1,9 +1,9 @@
 -- How a session ends.
-use Rattle.std.specs.Prelude.{◌≡◌, ℕ, ◌+◌, List, ◌++◌, codes, decimal}
+use Rattle.std.specs.Prelude.{◌≡◌, ℕ, ◌+◌, List, [], ◌∷◌, ◌++◌, codes, decimal}
 use Rattle.redo_model.specs.Names.{Text, texts}
 use Rattle.redo_model.specs.State.{State}
 use Rattle.redo_model.specs.History.{Line, left_by}
-use Rattle.redo_model.specs.Inside.Ending.{AreHeld, closing_lines_of}
+use Rattle.redo_model.specs.Inside.Ending.{AreHeld, closing_lines_of, state_without}
 use Rattle.redo_history.specs.Histories.{ended}
 
 -- these lines close all that the session holds, in the order of the texts, and the new state is the
@@ -17,3 +17,8 @@ pub record IsEnded (old new : State Text) (session : ℕ) (lines : List (Line Te
 -- the end of the answer
 abbrev pub end_text : ℕ → Text
 end_text session = ended (decimal (session + 1) ++ codes " end => ok")
+
+-- the state when each of these sessions has ended
+abbrev pub without_each : List ℕ → State Text → State Text
+without_each [] st = st
+without_each (s ∷ sessions) st = without_each sessions (state_without s st)

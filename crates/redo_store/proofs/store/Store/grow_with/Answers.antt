@@ -11,20 +11,20 @@ pub invariant_of-self-2 : goal.invariant_of-self-2
 invariant_of-self-2 c =
     let numbers = c.args.numbers in
     let old = c.self.inside in
-    let cells = c.in_ok-records.records in
-    let rows = c.grow.new.self in
+    let cells = c.grow_both.new.records in
+    let rows = c.grow_both.new.rows in
     let sorted = c.in_ok-sorted.sorted.items in
     let stored : Stored =
     record { cells = cells; rows = rows; sorted = sorted; applied = old.applied } in
-    let made = c.in_ok-records.ensures in
+    let made = c.in_ok-grow_both.ensures in
     let same =
-    same_records old.records cells old.rows rows made.same c.grow.ensures.rows
+    same_records old.records cells old.rows rows c.grow_both.ensures.cells c.grow_both.ensures.rows
     ∙ ap records_of c.self.view_is in
     rw c.swap.ensures.x_after (record {
       stored =
           IsStored-by_number stored numbers c.in_ok-sorted.ensures made.count
-          c.in_ok-grow.ensures.count
-          (λ n. subst (λ (x : Cell). x.builds ≤ old.applied) (sym (made.same n))
+          made.counted
+          (λ n. subst (λ (x : Cell). x.builds ≤ old.applied) (sym (c.grow_both.ensures.cells n))
           (c.self.invariant.stored.few_builds n))
           (omega arith);
       ranked = ranked_by_number numbers sorted c.in_ok-ranks.ranks.items c.in_ok-sorted.ensures
@@ -36,19 +36,16 @@ invariant_of-self-2 c =
 pub returns-clause-records : goal.returns-clause-records
 returns-clause-records c =
     let old = c.self.inside in
-    same_records old.records c.in_ok-records.records old.rows c.grow.new.self
-    c.in_ok-records.ensures.same c.grow.ensures.rows
+    same_records old.records c.grow_both.new.records old.rows c.grow_both.new.rows
+    c.grow_both.ensures.cells c.grow_both.ensures.rows
     ∙ ap records_of c.self.view_is
 
 pub returns-clause-applied : goal.returns-clause-applied
 returns-clause-applied c = ap applied_of c.self.view_is
 
 pub returns-clause-count : goal.returns-clause-count
-returns-clause-count c = c.in_ok-records.ensures.count
+returns-clause-count c = c.in_ok-grow_both.ensures.count
 
 pub returns-clause-order : goal.returns-clause-order
 returns-clause-order c =
     ordered_by_number c.args.numbers c.in_ok-sorted.sorted.items c.in_ok-sorted.ensures
-
-pub invariant_of-self : goal.invariant_of-self
-invariant_of-self c = rw c.in_err-grow.ensures.err c.self.invariant
