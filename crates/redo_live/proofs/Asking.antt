@@ -15,12 +15,16 @@ use Rattle.redo_model.specs.OutOfDate.{HasChangeRow, HasCreatedRow}
 use Rattle.redo_model.specs.Deps as model
 use Rattle.redo_model.specs.Deps.{AreDeps}
 use Rattle.redo_model.specs.Inside.Deps.{AreDepsBelow, named_deps}
+use Rattle.redo_model.specs.Users as users
+use Rattle.redo_model.specs.Users.{AreUsers}
+use Rattle.redo_model.specs.Inside.Users.{AreUsersBelow, IsUnused, named_users}
 use Rattle.redo_model.specs.Inside.Renaming.{named_state, numbering}
 use Rattle.redo_model.specs.Inside.Unknown.{IsUnknown}
 use Rattle.redo_model.specs.Why.{TellsWhy, end_of}
 use Rattle.redo_model.specs.Inside.Why.{IsWhyBelow}
 use Rattle.redo_model.proofs.RecordsByName.{cell_at_name, value_at_name}
 use Rattle.redo_model.proofs.WhyByName.{why_below, tells_why_by_name, deps_by_name, unknown_by_name, unknown_without_number}
+use Rattle.redo_model.proofs.UsersByName.{users_by_name, unused_by_name, unused_without_number}
 use Rattle.redo_ood.specs.Meaning.{why_of}
 use Rattle.redo_ood.specs.declared.why.Why.{Why}
 use Rattle.redo_terms.specs.Meaning.{by_text}
@@ -66,6 +70,18 @@ module _ (names : List Text) (are : AreNames names) (st : State ℕ)
     unknown_number n name found unknown =
         subst (IsUnknown here) (get_or_from_slice_get names n name [] found)
         (unknown_by_name (renaming names are) st n (slice_get_within names n name found) unknown)
+
+    pub unused_name : (name : Text) → has names name ≡ false → IsUnused here.records name
+    unused_name name out =
+        unused_without_number (renaming names are) st.records name
+        (no_number names name (position (bytes_eq name) names) refl out)
+
+    pub unused_number : (n : ℕ) (name : Text) → slice_get names n ≡ Some name
+        → IsUnused st.records n → IsUnused here.records name
+    unused_number n name found unused =
+        subst (IsUnused here.records) (get_or_from_slice_get names n name [] found)
+        (unused_by_name (renaming names are) st.records n (slice_get_within names n name found)
+        unused)
 
     pub told_why : (n : ℕ) (name : Text) → n < length names → text_at names n ≡ name
         → (found : Option Why) → TellsWhy st.records n (option_map why_of found)
@@ -118,6 +134,39 @@ module _ (names : List Text) (are : AreNames names) (st : State ℕ)
     told_deps n below deps are_deps =
         deps_by_name (renaming names are) st.records within.records texts (by_text names).order
         (alike names are) n below deps are_deps
+
+    pub sorted_users : (n : ℕ) (users : users.Users ℕ) (change created : List ℕ)
+        → AreUsers by_number st.records n users
+        → AreSortedAgain (by_text names).order users.change change
+        → AreSortedAgain (by_text names).order users.created created
+        → AreUsers (by_text names) st.records n
+        (record { change = change; created = created })
+    sorted_users n users change created are_users changes createds =
+        let others = orders names are nat_cmp number_is_strict in
+        record {
+          change = listed_again (length names) nat_cmp (by_text names).order others
+              {P = λ t. HasChangeRow st.records t n} users.change change
+              (λ t row. (within.records.changes t n row).0) are_users.change changes;
+          created = listed_again (length names) nat_cmp (by_text names).order others
+              {P = λ t. HasCreatedRow st.records t n} users.created created
+              (λ t row. (within.records.createds t n row).0) are_users.created createds;
+        }
+
+    pub users_below : (n : ℕ) (users : users.Users ℕ) → AreUsers (by_text names) st.records n users
+        → AreUsersBelow (length names) users
+    users_below n users are_users = record {
+      change = all_of (λ m. m < length names) users.change
+          (λ t there. (within.records.changes t n ((are_users.change.1 t).0 there)).0);
+      created = all_of (λ m. m < length names) users.created
+          (λ t there. (within.records.createds t n ((are_users.created.1 t).0 there)).0);
+    }
+
+    pub told_users : (n : ℕ) → n < length names → (users : users.Users ℕ)
+        → AreUsers (by_text names) st.records n users
+        → AreUsers texts here.records (text_at names n) (named_users (text_at names) users)
+    told_users n below users are_users =
+        users_by_name (renaming names are) st.records within.records texts (by_text names).order
+        (alike names are) n below users are_users
 
     pub told_state : (n : ℕ) (name : Text) → n < length names → text_at names n ≡ name
         → (state : TargetState) (holder : Option ℕ) (file : Option Text)

@@ -11,6 +11,9 @@ use Rattle.redo_model.specs.Names.{Text, Ascending, text_at}
 use Rattle.redo_model.specs.Deps as model
 use Rattle.redo_model.specs.Deps.{AreDeps}
 use Rattle.redo_model.specs.Inside.Deps.{named_deps}
+use Rattle.redo_model.specs.Users as users
+use Rattle.redo_model.specs.Users.{AreUsers}
+use Rattle.redo_model.specs.Inside.Users.{named_users}
 use Rattle.redo_model.specs.Renaming.{AllBelow}
 use Rattle.redo_model.specs.State.{State}
 use Rattle.redo_model.specs.Why.{Reason, Building, Failed, Edited, Always, Appeared, Changed}
@@ -19,11 +22,11 @@ use Rattle.redo_ood.specs.Meaning.{why_of}
 use Rattle.redo_ood.specs.declared.why.Why.{Why}
 use Rattle.redo_terms.specs.Meaning.{by_text}
 use Rattle.redo_text.specs.declared.inquiries.Inquiry.{Inquiry}
-use Rattle.redo_live.specs.Answers.{Answer, IsAnswer, Rows, answer_line, inquiry_of}
+use Rattle.redo_live.specs.Answers.{Answer, IsAnswer, Rows, Uses, answer_line, inquiry_of}
 use Rattle.redo_live.specs.Inside.AnswerForms.{AnswersInForm, AreCountedNames, HasAnswerForm, HasReasonForm, HasWhyForm}
 use Rattle.redo_live.specs.Inside.Asked.{why_at}
 use Rattle.redo_live.specs.Inside.Within.{IsStateWithin}
-use Rattle.redo_live.proofs.Asking.{deps_below}
+use Rattle.redo_live.proofs.Asking.{deps_below, users_below}
 use Rattle.redo_live.proofs.Ending.{text_is_strict}
 use Rattle.redo_live.proofs.Reordered.{ascending_once}
 
@@ -76,6 +79,15 @@ module _ (names : List Text) (are : AreNames names) where
       let below = deps_below names are st within n deps are_deps in (
         counted_form deps.change below.change are_deps.change.0,
         counted_form deps.created below.created are_deps.created.0,
+      )
+
+  pub users_form : (st : State ℕ) → IsStateWithin (length names) st
+      → (n : ℕ) (users : users.Users ℕ) → AreUsers (by_text names) st.records n users
+      → HasAnswerForm (Uses (named_users (text_at names) users))
+  users_form st within n users are_users =
+      let below = users_below names are st within n users are_users in (
+        counted_form users.change below.change are_users.change.0,
+        counted_form users.created below.created are_users.created.0,
       )
 
 pub line_in_form : (st : State Text) (session : ℕ) (inquiry : Inquiry) (name line : Text)

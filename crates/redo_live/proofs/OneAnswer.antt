@@ -9,6 +9,7 @@ use Rattle.redo_names.specs.Names.{is_name, AreAllNames}
 use Rattle.redo_model.specs.Names.{Text, is_visible}
 use Rattle.redo_model.specs.State.{TargetState, Idle, Building, Built, Failed}
 use Rattle.redo_model.specs.Deps as model
+use Rattle.redo_model.specs.Users.{Users}
 use Rattle.redo_model.specs.Why as whys
 use Rattle.redo_model.specs.Why.{Reason, end_of}
 use Rattle.redo_terms.specs.Stamp.{is_stamp}
@@ -21,7 +22,7 @@ use Rattle.redo_text.proofs.Numerals.{printed_digits}
 use Rattle.redo_text.proofs.ReplyWords.{grant_is_visible}
 use Rattle.redo_text.proofs.Spaced.{IsVisible, name_is_visible, stamp_is_visible, stamp_is_no_dash, words_of-spaced}
 use Rattle.redo_history.proofs.CutOnce.{same_prefix}
-use Rattle.redo_live.specs.Answers.{Answer, Cause, Rows, Standing, inquiry_of, answer_words, answer_line, reason_word, reason_name, why_words, counted, flag_word, deps_words, stage_words, holder_word}
+use Rattle.redo_live.specs.Answers.{Answer, Cause, Rows, Uses, Standing, inquiry_of, answer_words, answer_line, reason_word, reason_name, why_words, counted, flag_word, deps_words, users_words, stage_words, holder_word}
 use Rattle.redo_live.specs.Inside.AnswerForms.{HasReasonForm, AreCountedNames, HasStateForm, HasAnswerForm}
 
 abbrev first_of : List Text → Text
@@ -123,6 +124,15 @@ same_deps deps other change created other_change other_created e =
         sym (append_assoc (counted deps.change) (codes "created" ∷ counted deps.created)
         (tail deps.always))
 
+same_users : (users other : Users Text) → AreCountedNames users.change
+    → AreCountedNames other.change → users_words users ≡ users_words other → users ≡ other
+same_users users other change other_change e =
+    let changes = same_counted users.change other.change
+    (codes "created" ∷ counted users.created) (codes "created" ∷ counted other.created)
+    change.1 other_change.1 (ap (drop 1) e) in
+    let createds : users.created ≡ other.created = ap (drop 2) changes.1 in
+    λ i. record { change = changes.0 i; created = createds i }
+
 -- states
 
 abbrev stage_for : Text → TargetState
@@ -176,6 +186,8 @@ same_answer name (Cause found) (Cause other) form other_form asked e =
     ap Cause (same_why name found other e)
 same_answer name (Rows deps) (Rows other) form other_form asked e =
     ap Rows (same_deps deps other form.0 form.1 other_form.0 other_form.1 e)
+same_answer name (Uses users) (Uses other) form other_form asked e =
+    ap Uses (same_users users other form.0 other_form.0 e)
 same_answer name (Standing a holder file) (Standing b other_holder other_file)
     form other_form asked e =
     let stage = same_stage a b
@@ -187,6 +199,10 @@ same_answer name (Standing a holder file) (Standing b other_holder other_file)
     let files = same_file file other_file form.2 other_form.2
     (ap (λ ws. get_or ws 3 []) stage.1) in
     λ i. Standing (stage.0 i) (holders i) (files i)
+same_answer name (Uses users) (Standing state holder file) form other_form asked e =
+    absurd (omega (arith, ap (λ w. get_or w 0 0) asked))
+same_answer name (Standing state holder file) (Uses users) form other_form asked e =
+    absurd (omega (arith, ap (λ w. get_or w 0 0) asked))
 same_answer name answer other form other_form asked e = absurd (omega (arith, ap length asked))
 
 -- their words are visible
@@ -265,6 +281,10 @@ answer_visible name (Rows deps) is form =
     (joined_visible (codes "change" ∷ counted deps.change) (codes "created" ∷ counted deps.created)
     (refl, counted_visible deps.change form.0) (refl, counted_visible deps.created form.1))
     (refl, (flag_visible deps.always, tt))
+answer_visible name (Uses users) is form =
+    joined_visible (codes "change" ∷ counted users.change)
+    (codes "created" ∷ counted users.created)
+    (refl, counted_visible users.change form.0) (refl, counted_visible users.created form.1)
 answer_visible name (Standing state holder file) is form =
     joined_visible (stage_words state)
     (codes "lock" ∷ holder_word holder ∷ codes "file" ∷ stamp_word file ∷ [])
@@ -274,6 +294,7 @@ answer_visible name (Standing state holder file) is form =
 asked_visible : (inquiry : Inquiry) → IsVisible (inquiry_word inquiry)
 asked_visible inquiries.Why = refl
 asked_visible inquiries.Deps = refl
+asked_visible inquiries.Users = refl
 asked_visible inquiries.State = refl
 
 -- a line's words, after the session

@@ -4,6 +4,7 @@ use Rattle.redo_model.specs.Names.{Text, texts}
 use Rattle.redo_model.specs.State.{State, TargetState, Idle, Building, Built, Failed, target_state}
 use Rattle.redo_model.specs.Deps as model
 use Rattle.redo_model.specs.Deps.{AreDeps}
+use Rattle.redo_model.specs.Users.{Users, AreUsers}
 use Rattle.redo_model.specs.Why as whys
 use Rattle.redo_model.specs.Why.{Reason, TellsWhy, end_of}
 use Rattle.redo_text.specs.Texts.{spaced, stamp_word}
@@ -50,6 +51,10 @@ deps_words deps =
     ++ codes "created" ∷ counted deps.created
     ++ codes "always" ∷ flag_word deps.always ∷ []
 
+abbrev pub users_words : Users Text → List Text
+users_words users =
+    codes "change" ∷ counted users.change ++ codes "created" ∷ counted users.created
+
 -- sessions are printed plus one
 abbrev pub stage_words : TargetState → List Text
 stage_words Idle = codes "idle" ∷ []
@@ -66,28 +71,32 @@ abbrev pub state_words : TargetState → Option ℕ → Option Text → List Tex
 state_words state holder file =
     stage_words state ++ codes "lock" ∷ holder_word holder ∷ codes "file" ∷ stamp_word file ∷ []
 
--- the answer about a name: why it is out of date, if it is; its rows; its state, the holder of its lock, and the stamp
--- of its file
+-- the answer about a name: why it is out of date, if it is; its rows; the targets with rows on it; its state, the
+-- holder of its lock, and the stamp of its file
 pub data Answer : Type 0 where
   Cause : Option (whys.Why Text) → Answer
   Rows : model.Deps Text → Answer
+  Uses : Users Text → Answer
   Standing : TargetState → Option ℕ → Option Text → Answer
 
 -- the question that the answer answers
 abbrev pub inquiry_of : Answer → Inquiry
 inquiry_of (Cause found) = inquiries.Why
 inquiry_of (Rows deps) = inquiries.Deps
+inquiry_of (Uses users) = inquiries.Users
 inquiry_of (Standing state holder file) = inquiries.State
 
 abbrev pub answer_words : Text → Answer → List Text
 answer_words name (Cause found) = why_words name found
 answer_words name (Rows deps) = deps_words deps
+answer_words name (Uses users) = users_words users
 answer_words name (Standing state holder file) = state_words state holder file
 
 -- the answer is true of the name
 abbrev pub IsAnswer : State Text → Text → Answer → Type 0
 IsAnswer st name (Cause found) = TellsWhy st.records name found
 IsAnswer st name (Rows deps) = AreDeps texts st.records name deps
+IsAnswer st name (Uses users) = AreUsers texts st.records name users
 IsAnswer st name (Standing state holder file) = (state ≡ target_state st.records name)
     × (holder ≡ st.locks.holder name) × (file ≡ (st.records.cell name).file)
 

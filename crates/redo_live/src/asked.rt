@@ -3,24 +3,25 @@ ghost use Rattle.std.specs.Prelude.{◌≡◌, ◌+◌, ◌<◌, ◌++◌, Some,
 ghost use Rattle.std.specs.List.{flat_map};
 ghost use Rattle.redo_model.specs.Names.{text_at};
 ghost use Rattle.redo_model.specs.Inside.Deps.{AreDepsBelow};
+ghost use Rattle.redo_model.specs.Inside.Users.{AreUsersBelow};
 ghost use Rattle.redo_model.specs.Why.{end_of};
 ghost use Rattle.redo_model.specs.Inside.Why.{IsReasonBelow, IsWhyBelow, named_reason};
 ghost use Rattle.redo_model.specs.Renaming.{AllBelow};
 ghost use Rattle.redo_ood.specs.Meaning.{reason_of, why_of};
 ghost use Rattle.redo_records.specs.Meaning.{target_state_of};
-ghost use Rattle.redo_store.specs.Meaning.{deps_of};
+ghost use Rattle.redo_store.specs.Meaning.{deps_of, users_of};
 ghost use Rattle.redo_terms.specs.Stamp.{is_stamp};
 ghost use Rattle.redo_text.specs.Texts.{after_space};
 ghost use Rattle.redo_text.specs.Inquiries.{inquiry_word};
-ghost use Rattle.redo_live.specs.Answers.{Standing, counted, deps_words, flag_word, holder_word, reason_name, reason_word, stage_words, state_words, why_words};
+ghost use Rattle.redo_live.specs.Answers.{Standing, counted, deps_words, flag_word, holder_word, reason_name, reason_word, stage_words, state_words, users_words, why_words};
 ghost use Rattle.redo_live.specs.Inside.AnswerForms.{HasAnswerForm, HasStateForm};
-ghost use Rattle.redo_live.specs.Inside.Asked.{deps_at, why_at};
+ghost use Rattle.redo_live.specs.Inside.Asked.{deps_at, users_at, why_at};
 
 use redo_history::put_number;
 use redo_names::Names;
 use redo_ood::{Reason, Why};
 use redo_records::State;
-use redo_store::Deps;
+use redo_store::{Deps, Users};
 use redo_terms::FileStamp;
 use redo_text::{Inquiry, put_names, put_stamp_or_none, put_word};
 use std::alloc::AllocError;
@@ -32,6 +33,7 @@ pub(crate) fn inquiry_word(inquiry: Inquiry) -> &'static [u8]
     match inquiry {
         Inquiry::Why => b"why",
         Inquiry::Deps => b"deps",
+        Inquiry::Users => b"users",
         Inquiry::State => b"state",
     }
 }
@@ -136,6 +138,18 @@ pub(crate) fn put_deps(out: &mut Vec<u8>, names: &Names, deps: &Deps) -> Result<
     put_counted(out, names, &deps.created)?;
     put_word(out, b"always")?;
     put_word(out, flag_word(deps.always))
+}
+
+/// Writes which targets have rows on a name.
+pub(crate) fn put_users(out: &mut Vec<u8>, names: &Names, users: &Users) -> Result<(), AllocError>
+    requires { AreUsersBelow (length names.now) (users_of users.now) }
+    ensures { OnOk result (out.new.items ≡ out.old.items
+        ++ flat_map after_space (users_words (users_at names.now users.now))) }
+{
+    put_word(out, b"change")?;
+    put_counted(out, names, &users.change)?;
+    put_word(out, b"created")?;
+    put_counted(out, names, &users.created)
 }
 
 /// Writes the number of a session, counted from 1.

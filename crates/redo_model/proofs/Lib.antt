@@ -29,6 +29,7 @@ pub mod Texts
 pub mod Unchanging
 pub mod Unique
 pub mod UpToDate
+pub mod UsersByName
 pub mod VerdictsByName
 pub mod WhyByName
 pub mod Within

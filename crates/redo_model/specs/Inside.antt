@@ -4,6 +4,7 @@ pub mod Ending
 pub mod OutOfDate
 pub mod Why
 pub mod Deps
+pub mod Users
 pub mod Unknown
 pub mod Placed
 pub mod Journals

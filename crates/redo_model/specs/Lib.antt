@@ -14,4 +14,5 @@ pub mod Seen
 pub mod Renaming
 pub mod Why
 pub mod Deps
+pub mod Users
 pub mod Inside

@@ -78,8 +78,15 @@ impl Cell {
         self.file.as_ref()
     }
 
-    /// The digest of its last build, in place.
-    pub(crate) fn digest_ref(&self) -> Option<&[u8; 20]>
+    /// The stamp that its last done gave.
+    pub fn last_done(&self) -> Option<FileStamp>
+        ensures { result ≡ self.now.done }
+    {
+        self.done
+    }
+
+    /// The digest of its present build, in place.
+    pub fn digest_ref(&self) -> Option<&[u8; 20]>
         ensures { option_map (λ digest. digest.now) result ≡ self.now.digest }
     {
         self.digest.as_ref()

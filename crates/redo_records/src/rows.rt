@@ -80,6 +80,16 @@ impl DepRows {
         Ok(())
     }
 
+    /// A law of rows: they are on names alone.
+    pub fn are_on_names(&self)
+        ensures change { (t n : ℕ) → HasChangeRowOn (rows_of self.now) t n
+            → n < rows_count self.now }
+        ensures created { (t n : ℕ) → HasCreatedRowOn (rows_of self.now) t n
+            → n < rows_count self.now }
+    {
+        let _ = self.targets.len();
+    }
+
     /// Reserves memory for rows of `t` on these names, and changes no row. What was reserved stays, also if memory runs
     /// out.
     pub fn reserve(&mut self, t: u32, names: &[u32]) -> Result<(), AllocError>

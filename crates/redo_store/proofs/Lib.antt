@@ -6,5 +6,6 @@ pub mod Rooms
 pub mod Refusals
 pub mod Obeyed
 pub mod Holding
+pub mod Places
 pub mod Slots
 pub mod Unknown

@@ -1,11 +1,12 @@
 -- Nothing is known of numbers past the end.
-use Rattle.std.proofs.Common.{◌≡◌, ℕ, ◌<◌, ◌≤◌, ◌∙◌, None, is_some, sym, ap, subst, inl, inr}
-use Rattle.std.proofs.lemmas.Bool.{cases_lt, false≢true}
+use Rattle.std.proofs.Common.{◌≡◌, ℕ, ◌<◌, ◌≤◌, ◌∙◌, true, Option, Some, None, is_some, refl, sym, ap, subst, inl, inr, arith}
+use Rattle.std.proofs.lemmas.Bool.{cases_lt, false≢true, false_from_ne_true}
 use Rattle.std.proofs.lemmas.List.{get_or_past}
 use Rattle.redo_model.specs.Inside.Unknown.{IsUnknown}
+use Rattle.redo_model.specs.Inside.Users.{IsUnused}
 use Rattle.redo_model.specs.OutOfDate.{HasFile}
-use Rattle.redo_model.specs.State.{idle}
-use Rattle.redo_records.specs.Rows.{TargetRows, bare, slot_at, target_at}
+use Rattle.redo_model.specs.State.{Mark, idle}
+use Rattle.redo_records.specs.Rows.{TargetRows, HasChangeRowOn, HasCreatedRowOn, bare, rows_count, rows_of, slot_at, target_at}
 use Rattle.redo_store.specs.Inside.Stored.{IsStored}
 use Rattle.redo_store.specs.Stored.{Stored, count_of, records_of}
 use Rattle.redo_store.specs.Tables.{Tables, state_of, tables_count}
@@ -32,4 +33,21 @@ unknown_past tables stored are n past =
       always = ap (λ (t : TargetRows). t.always) bare_there;
       holder = get_or_past tables.holders n None
           (subst (λ k. k ≤ n) (sym are.holder_for_each) past);
+    }
+
+none_there : (mark : Option Mark) → (is_some mark ≡ true → ⊥) → mark ≡ None
+none_there None off = refl
+none_there (Some mark) off = absurd (off refl)
+
+-- no row is on a number past the end, if each is on one below it
+pub unused_past : (s : Stored) → rows_count s.rows ≡ count_of s
+    → ((t n : ℕ) → HasChangeRowOn (rows_of s.rows) t n → n < rows_count s.rows)
+    → ((t n : ℕ) → HasCreatedRowOn (rows_of s.rows) t n → n < rows_count s.rows) → (n : ℕ)
+    → count_of s ≤ n → IsUnused (records_of s) n
+unused_past s sized changes createds n past =
+    let rows = rows_of s.rows in
+    record {
+      change = λ t. none_there (rows.change t n) (λ row. omega (arith, sized, changes t n row, past));
+      created = λ t. false_from_ne_true (rows.created t n)
+          (λ row. omega (arith, sized, createds t n row, past));
     }

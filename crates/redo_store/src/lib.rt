@@ -5,7 +5,9 @@ mod deps;
 mod redo;
 mod store;
 mod table;
+mod users;
 
 pub use deps::Deps;
 pub use redo::Redo;
 pub use store::Store;
+pub use users::Users;

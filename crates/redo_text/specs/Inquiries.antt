@@ -4,7 +4,7 @@ use Rattle.redo_model.specs.Names.{Text}
 use Rattle.redo_text.specs.declared.fault.LineFault.{LineFault}
 use Rattle.redo_text.specs.declared.fault.LineFault.TheVariants.{LineTooLong, BadByte, WrongWords}
 use Rattle.redo_text.specs.declared.inquiries.Inquiry.{Inquiry}
-use Rattle.redo_text.specs.declared.inquiries.Inquiry.TheVariants.{Why, Deps, State}
+use Rattle.redo_text.specs.declared.inquiries.Inquiry.TheVariants.{Why, Deps, Users, State}
 use Rattle.redo_text.specs.Texts.{spaced}
 use Rattle.redo_text.specs.Questions.{first_yes, is_too_long, has_bad_byte, words_of, word_questions, a_name, line_fault}
 
@@ -12,6 +12,7 @@ use Rattle.redo_text.specs.Questions.{first_yes, is_too_long, has_bad_byte, word
 abbrev pub inquiry_word : Inquiry → Text
 inquiry_word Why = codes "why"
 inquiry_word Deps = codes "deps"
+inquiry_word Users = codes "users"
 inquiry_word State = codes "state"
 
 -- that word, a space and the name
@@ -21,7 +22,7 @@ inquiry_text_of inquiry name = spaced (inquiry_word inquiry) (name ∷ [])
 -- the question of a word
 abbrev pub inquiry_named : Text → Option Inquiry
 inquiry_named word =
-    find (λ inquiry. bytes_eq word (inquiry_word inquiry)) (Why ∷ Deps ∷ State ∷ [])
+    find (λ inquiry. bytes_eq word (inquiry_word inquiry)) (Why ∷ Deps ∷ Users ∷ State ∷ [])
 
 -- the question of words, by the first of them
 abbrev pub inquiry_in : List Text → Option Inquiry

@@ -19,6 +19,8 @@ pub enum Inquiry {
     Why,
     /// On which names it has rows.
     Deps,
+    /// Which targets have rows on it.
+    Users,
     /// Its state, who holds its lock, and the stamp of its file.
     State,
 }
@@ -32,6 +34,8 @@ fn inquiry_of_word(word: &[u8]) -> Option<Inquiry>
         Some(Inquiry::Why)
     } else if word == b"deps".as_slice() {
         Some(Inquiry::Deps)
+    } else if word == b"users".as_slice() {
+        Some(Inquiry::Users)
     } else if word == b"state".as_slice() {
         Some(Inquiry::State)
     } else {

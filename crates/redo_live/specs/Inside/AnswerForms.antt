@@ -7,7 +7,7 @@ use Rattle.redo_model.specs.Why as whys
 use Rattle.redo_model.specs.Why.{Reason}
 use Rattle.redo_terms.specs.Stamp.{is_stamp}
 use Rattle.redo_text.specs.declared.inquiries.Inquiry.{Inquiry}
-use Rattle.redo_live.specs.Answers.{Answer, AnswersInquiry, Cause, Rows, Standing}
+use Rattle.redo_live.specs.Answers.{Answer, AnswersInquiry, Cause, Rows, Uses, Standing}
 
 abbrev pub HasReasonForm : Reason Text → Type 0
 HasReasonForm whys.Building = ⊤
@@ -33,6 +33,7 @@ HasStateForm Failed = ⊤
 abbrev pub HasAnswerForm : Answer → Type 0
 HasAnswerForm (Cause found) = IfSome found HasWhyForm
 HasAnswerForm (Rows deps) = AreCountedNames deps.change × AreCountedNames deps.created
+HasAnswerForm (Uses users) = AreCountedNames users.change × AreCountedNames users.created
 HasAnswerForm (Standing state holder file) = HasStateForm state
     × IfSome holder (λ session. session < 65536) × IfSome file (λ stamp. is_stamp stamp ≡ true)
 

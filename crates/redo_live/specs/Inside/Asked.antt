@@ -4,14 +4,20 @@ use Rattle.redo_model.specs.Names.{Text, text_at}
 use Rattle.redo_model.specs.Deps as model
 use Rattle.redo_model.specs.Why as whys
 use Rattle.redo_model.specs.Inside.Deps.{named_deps}
+use Rattle.redo_model.specs.Users as users
+use Rattle.redo_model.specs.Inside.Users.{named_users}
 use Rattle.redo_model.specs.Inside.Why.{named_why}
 use Rattle.redo_ood.specs.Meaning.{why_of}
 use Rattle.redo_ood.specs.declared.why.Why.{Why}
-use Rattle.redo_store.specs.Meaning.{deps_of}
+use Rattle.redo_store.specs.Meaning.{deps_of, users_of}
 use Rattle.redo_store.specs.declared.deps.Deps.{Deps}
+use Rattle.redo_store.specs.declared.users.Users.{Users}
 
 abbrev pub why_at : List Text → Why → whys.Why Text
 why_at names why = named_why (text_at names) (why_of why)
 
 abbrev pub deps_at : List Text → Deps → model.Deps Text
 deps_at names deps = named_deps (text_at names) (deps_of deps)
+
+abbrev pub users_at : List Text → Users → users.Users Text
+users_at names users = named_users (text_at names) (users_of users)

@@ -5,27 +5,29 @@ ghost use Rattle.redo_names.specs.Inside.Names.{AreNames};
 ghost use Rattle.redo_model.specs.Deps.{AreDeps};
 ghost use Rattle.redo_model.specs.Inside.Deps.{AreDepsBelow};
 ghost use Rattle.redo_model.specs.Inside.Unknown.{IsUnknown};
+ghost use Rattle.redo_model.specs.Users.{AreUsers};
+ghost use Rattle.redo_model.specs.Inside.Users.{AreUsersBelow, IsUnused};
 ghost use Rattle.redo_model.specs.Why.{TellsWhy};
 ghost use Rattle.redo_model.specs.Inside.Why.{IsWhyBelow};
 ghost use Rattle.redo_model.specs.Names.{Text, texts, text_at};
 ghost use Rattle.redo_model.specs.State.{target_state};
 ghost use Rattle.redo_ood.specs.Meaning.{why_of};
-ghost use Rattle.redo_store.specs.Meaning.{deps_of};
+ghost use Rattle.redo_store.specs.Meaning.{deps_of, users_of};
 ghost use Rattle.redo_store.specs.Tables.{tables_count};
 ghost use Rattle.redo_text.specs.Texts.{after_space};
 ghost use Rattle.redo_text.specs.Inquiries.{inquiry_word};
-ghost use Rattle.redo_live.specs.Answers.{Answer, IsAnswer, Rows, Standing, answer_words, inquiry_of, state_words};
+ghost use Rattle.redo_live.specs.Answers.{Answer, IsAnswer, Rows, Standing, Uses, answer_words, inquiry_of, state_words};
 ghost use Rattle.redo_live.specs.Inside.AnswerForms.{AnswersInForm, HasAnswerForm, HasWhyForm};
-ghost use Rattle.redo_live.specs.Inside.Asked.{deps_at, why_at};
+ghost use Rattle.redo_live.specs.Inside.Asked.{deps_at, users_at, why_at};
 ghost use Rattle.redo_live.specs.Inside.LiveState.{IsNumberOf, state_in};
 
-use crate::asked::{inquiry_word, put_deps, put_state, put_why};
+use crate::asked::{inquiry_word, put_deps, put_state, put_users, put_why};
 use crate::live::Live;
 use crate::ordering::sort;
 use redo_history::put_number;
 use redo_ood::Why;
 use redo_records::State;
-use redo_store::Deps;
+use redo_store::{Deps, Users};
 use redo_text::{Inquiry, put_word};
 use std::alloc::{AllocError, Global};
 
@@ -79,6 +81,7 @@ impl Live {
     fn known_number(&self, name: &[u8]) -> Option<u32>
         ensures known { IfSome result (IsNumberOf self.now name.now) }
         ensures unknown { IsNone result → IsUnknown (state_in self.now) name.now }
+        ensures unused { IsNone result → IsUnused (state_in self.now).records name.now }
         ensures names { AreNames self.now.names }
     {
         self.names.are_names();
@@ -112,6 +115,10 @@ impl Live {
             Inquiry::Deps => {
                 let deps = self.deps(alloc, name)?;
                 put_deps(line, &self.names, &deps)
+            }
+            Inquiry::Users => {
+                let users = self.users(alloc, name)?;
+                put_users(line, &self.names, &users)
             }
             Inquiry::State => self.put_state(name, line),
         }
@@ -166,6 +173,42 @@ impl Live {
                 change: Vec::new(alloc),
                 created: Vec::new(alloc),
                 always: false,
+            }),
+        }
+    }
+
+    /// Which targets have rows on the name with this number, in the order of their texts.
+    fn sorted_users(&self, alloc: Global, n: u32) -> Result<Users, AllocError>
+        requires name { n < length self.now.names }
+        requires number { n < tables_count self.now.tables }
+        requires names { AreNames self.now.names }
+        ensures users { IfOk result (λ users. AreUsers texts (state_in self.now).records
+            (text_at self.now.names n) (users_at self.now.names users)) }
+        ensures below { IfOk result
+            (λ users. AreUsersBelow (length self.now.names) (users_of users)) }
+        ensures form { IfOk result
+            (λ users. HasAnswerForm (Uses (users_at self.now.names users))) }
+    {
+        let mut users = self.redo.users(alloc, n)?;
+        sort(&self.names, &mut users.change);
+        sort(&self.names, &mut users.created);
+        Ok(users)
+    }
+
+    /// Which targets have rows on it.
+    fn users(&self, alloc: Global, name: &[u8]) -> Result<Users, AllocError>
+        ensures users { IfOk result (λ users. AreUsers texts (state_in self.now).records name.now
+            (users_at self.now.names users)) }
+        ensures below { IfOk result
+            (λ users. AreUsersBelow (length self.now.names) (users_of users)) }
+        ensures form { IfOk result
+            (λ users. HasAnswerForm (Uses (users_at self.now.names users))) }
+    {
+        match self.known_number(name) {
+            Some(n) => self.sorted_users(alloc, n),
+            None => Ok(Users {
+                change: Vec::new(alloc),
+                created: Vec::new(alloc),
             }),
         }
     }

@@ -4,6 +4,8 @@ ghost use Rattle.std.specs.List.Sorted.{IsStrictlyIncreasing};
 ghost use Rattle.redo_model.specs.Changes.{changes};
 ghost use Rattle.redo_model.specs.Deps.{AreDeps};
 ghost use Rattle.redo_model.specs.Inside.Deps.{AreDepsBelow};
+ghost use Rattle.redo_model.specs.Users.{AreUsers};
+ghost use Rattle.redo_model.specs.Inside.Users.{AreUsersBelow, IsUnused};
 ghost use Rattle.redo_model.specs.Inside.Unknown.{IsUnknown};
 ghost use Rattle.redo_model.specs.Why.{TellsWhy};
 ghost use Rattle.redo_model.specs.Inside.Why.{IsWhyBelow};
@@ -14,14 +16,15 @@ ghost use Rattle.redo_ood.specs.Meaning.{why_of};
 ghost use Rattle.redo_records.specs.Meaning.{target_state_of};
 ghost use Rattle.redo_model.specs.Names.{by_number};
 ghost use Rattle.redo_terms.specs.Meaning.{command_of, reply_of};
-ghost use Rattle.redo_store.specs.Meaning.{deps_of};
+ghost use Rattle.redo_store.specs.Meaning.{deps_of, users_of};
 ghost use Rattle.redo_store.specs.Tables.{state_of, tables_records, locks_of, tables_count};
 
 use crate::deps::Deps;
 use crate::redo::Redo;
 use crate::store::lists::push_if;
+use crate::users::Users;
 use redo_ood::Why;
-use redo_records::State;
+use redo_records::{Cell, State};
 use redo_terms::{Command, FileStamp, Reply};
 use std::alloc::{AllocError, Global};
 
@@ -59,6 +62,25 @@ impl Redo {
         self.store.deps(alloc, t)
     }
 
+    /// Which targets have rows on it.
+    pub fn users(&self, alloc: Global, n: u32) -> Result<Users, AllocError>
+        requires { n < tables_count self.now }
+        ensures users { IfOk result
+            (λ users. AreUsers by_number (tables_records self.now) n (users_of users)) }
+        ensures below { IfOk result
+            (λ users. AreUsersBelow (tables_count self.now) (users_of users)) }
+    {
+        self.store.users(alloc, n)
+    }
+
+    /// All that is known of it but rows and locks.
+    pub fn cell(&self, n: u32) -> &Cell
+        requires { n < tables_count self.now }
+        ensures { result.now ≡ (tables_records self.now).cell n }
+    {
+        self.store.cell(n)
+    }
+
     /// Its state.
     pub fn state(&self, n: u32) -> State
         requires { n < tables_count self.now }
@@ -87,7 +109,10 @@ impl Redo {
     pub fn count(&self) -> u32
         ensures count { result ≡ tables_count self.now }
         ensures others { (n : ℕ) → tables_count self.now ≤ n → IsUnknown (state_of self.now) n }
+        ensures unused { (n : ℕ) → tables_count self.now ≤ n
+            → IsUnused (tables_records self.now) n }
     {
+        self.store.uses_its_names();
         self.store.count()
     }
 

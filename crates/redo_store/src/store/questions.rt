@@ -1,7 +1,9 @@
 //! Questions about the store.
-ghost use Rattle.std.specs.Prelude.{◌≡◌, ◌<◌, IfOk, IfSome, IsOk, option_map};
+ghost use Rattle.std.specs.Prelude.{◌≡◌, ℕ, ◌<◌, ◌≤◌, IfOk, IfSome, IsOk, option_map};
 ghost use Rattle.redo_model.specs.Deps.{AreDeps};
 ghost use Rattle.redo_model.specs.Inside.Deps.{AreDepsBelow};
+ghost use Rattle.redo_model.specs.Users.{AreUsers};
+ghost use Rattle.redo_model.specs.Inside.Users.{AreUsersBelow, IsUnused};
 ghost use Rattle.redo_model.specs.Why.{TellsWhy};
 ghost use Rattle.redo_model.specs.Inside.Why.{IsWhyBelow};
 ghost use Rattle.redo_model.specs.Names.{IsListed, by_number};
@@ -10,14 +12,15 @@ ghost use Rattle.redo_model.specs.Renaming.{AllBelow};
 ghost use Rattle.redo_model.specs.State.{target_state};
 ghost use Rattle.redo_ood.specs.Meaning.{why_of};
 ghost use Rattle.redo_records.specs.Meaning.{target_state_of};
-ghost use Rattle.redo_store.specs.Meaning.{deps_of};
+ghost use Rattle.redo_store.specs.Meaning.{deps_of, users_of};
 ghost use Rattle.redo_store.specs.Stored.{count_of, records_of};
 
 use crate::deps::Deps;
 use crate::store::Store;
 use crate::store::lists::push_if;
+use crate::users::{Users, numbers_at};
 use redo_ood::Why;
-use redo_records::State;
+use redo_records::{Cell, State};
 use redo_terms::FileStamp;
 use std::alloc::{AllocError, Global};
 
@@ -48,6 +51,35 @@ impl Store {
             created: self.created_names(alloc, t)?,
             always: self.rows.always(t),
         })
+    }
+
+    /// Which targets have rows on it.
+    pub fn users(&self, alloc: Global, n: u32) -> Result<Users, AllocError>
+        requires { n < count_of self.now }
+        ensures users { IfOk result
+            (λ users. AreUsers by_number (records_of self.now) n (users_of users)) }
+        ensures below { IfOk result
+            (λ users. AreUsersBelow (count_of self.now) (users_of users)) }
+    {
+        Ok(Users {
+            change: self.change_users(alloc, n)?,
+            created: self.created_users(alloc, n)?,
+        })
+    }
+
+    /// A law of stores: rows are on their names alone.
+    pub(crate) fn uses_its_names(&self)
+        ensures { (n : ℕ) → count_of self.now ≤ n → IsUnused (records_of self.now) n }
+    {
+        self.rows.are_on_names();
+    }
+
+    /// All that is known of it but rows.
+    pub fn cell(&self, n: u32) -> &Cell
+        requires { n < count_of self.now }
+        ensures { result.now ≡ (records_of self.now).cell n }
+    {
+        self.records.cell(n)
     }
 
     /// Its state.
@@ -92,5 +124,25 @@ impl Store {
             push_if(&mut names, slot.name(), slot.created())?;
         }
         Ok(names)
+    }
+
+    /// The targets with a change row on it.
+    fn change_users(&self, alloc: Global, n: u32) -> Result<Vec<u32>, AllocError>
+        requires { n < count_of self.now }
+        ensures listed { IfOk result (λ users. IsListed by_number
+            (λ t. HasChangeRow (records_of self.now) t n) users.items) }
+        ensures below { IfOk result (λ users. AllBelow (count_of self.now) users.items) }
+    {
+        numbers_at(alloc, self.rows.needed_by(n))
+    }
+
+    /// The targets with a created row on it.
+    fn created_users(&self, alloc: Global, n: u32) -> Result<Vec<u32>, AllocError>
+        requires { n < count_of self.now }
+        ensures listed { IfOk result (λ users. IsListed by_number
+            (λ t. HasCreatedRow (records_of self.now) t n) users.items) }
+        ensures below { IfOk result (λ users. AllBelow (count_of self.now) users.items) }
+    {
+        numbers_at(alloc, self.rows.awaited_by(n))
     }
 }

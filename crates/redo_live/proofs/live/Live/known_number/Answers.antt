@@ -1,10 +1,11 @@
 use Rattle.std.proofs.Common.{[], sym, subst, arith}
 use Rattle.std.proofs.lemmas.Option.{slice_get_within, get_or_from_slice_get}
 use Rattle.redo_model.specs.Inside.Unknown.{IsUnknown}
+use Rattle.redo_model.specs.Inside.Users.{IsUnused}
 use Rattle.redo_store.specs.Tables.{state_of}
 use Rattle.redo_live.specs.Inside.Kept.{live_of}
 use Rattle.redo_live.specs.Inside.LiveState.{LiveState, IsNumberOf, state_in}
-use Rattle.redo_live.proofs.Asking.{unknown_name, unknown_number}
+use Rattle.redo_live.proofs.Asking.{unknown_name, unknown_number, unused_name, unused_number}
 use Rattle.redo_live.proofs.live.Live.known_number.Goals as goal
 
 pub returns-in_err-number-clause-unknown : goal.returns-in_err-number-clause-unknown
@@ -31,3 +32,17 @@ returns-else-number-count-clause-unknown c = λ _.
     (unknown_number c.self.inside.names c.are_names.ensures (state_of c.self.inside.redo)
     c.self.invariant.state.within n c.args.name.now c.in_ok-number.ensures.found
     (c.count.ensures.others n (omega (arith, c.if-number-count.false, c.count.ensures.count))))
+
+pub returns-in_err-number-clause-unused : goal.returns-in_err-number-clause-unused
+returns-in_err-number-clause-unused c = λ _.
+    subst (λ (l : LiveState). IsUnused (state_in l).records c.args.name.now) c.self.view_is
+    (unused_name c.self.inside.names c.are_names.ensures (state_of c.self.inside.redo)
+    c.self.invariant.state.within c.args.name.now (sym c.in_err-number.ensures.there))
+
+pub returns-else-number-count-clause-unused : goal.returns-else-number-count-clause-unused
+returns-else-number-count-clause-unused c = λ _.
+    let n = c.in_ok-number.number in
+    subst (λ (l : LiveState). IsUnused (state_in l).records c.args.name.now) c.self.view_is
+    (unused_number c.self.inside.names c.are_names.ensures (state_of c.self.inside.redo)
+    c.self.invariant.state.within n c.args.name.now c.in_ok-number.ensures.found
+    (c.count.ensures.unused n (omega (arith, c.if-number-count.false, c.count.ensures.count))))

@@ -4,8 +4,8 @@ use Rattle.std.specs.List.{flat_map}
 use Rattle.std.proofs.lemmas.Result.{on_ok_weaker}
 use Rattle.redo_model.specs.State.{target_state}
 use Rattle.redo_text.specs.Texts.{after_space}
-use Rattle.redo_live.specs.Answers.{Cause, Rows, Standing, deps_words, why_words}
-use Rattle.redo_live.specs.Inside.Asked.{deps_at, why_at}
+use Rattle.redo_live.specs.Answers.{Cause, Rows, Standing, Uses, deps_words, users_words, why_words}
+use Rattle.redo_live.specs.Inside.Asked.{deps_at, users_at, why_at}
 use Rattle.redo_live.specs.Inside.LiveState.{LiveState, state_in}
 use Rattle.redo_live.proofs.live.Live.put_answer.Goals as goal
 
@@ -46,6 +46,23 @@ returns-in_ok-deps-in-Deps-clause-answer c =
       sym c.in-Deps.is,
       c.in_ok-deps-in-Deps.ensures.deps,
       c.in_ok-deps-in-Deps.ensures.form,
+      e,
+    )) told
+
+pub returns-in_ok-users-in-Users-clause-answer : goal.returns-in_ok-users-in-Users-clause-answer
+returns-in_ok-users-in-Users-clause-answer c =
+    let live : LiveState = c.args.self.now in
+    let old = c.args.line.now.items in
+    let new = c.put_users.new.out.items in
+    let users = c.in_ok-users-in-Users.users in
+    let told = subst (λ (l : LiveState). OnOk c.put_users.result
+    (new ≡ old ++ flat_map after_space (users_words (users_at l.names users))))
+    c.self-in-Users.view_is c.put_users.ensures in
+    on_ok_weaker c.put_users.result (λ e. (
+      Uses (users_at live.names users),
+      sym c.in-Users.is,
+      c.in_ok-users-in-Users.ensures.users,
+      c.in_ok-users-in-Users.ensures.form,
       e,
     )) told
 

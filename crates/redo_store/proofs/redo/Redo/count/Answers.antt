@@ -1,7 +1,8 @@
 use Rattle.std.proofs.Common.{ℕ, ◌≤◌, subst}
 use Rattle.redo_model.specs.Inside.Unknown.{IsUnknown}
+use Rattle.redo_model.specs.Inside.Users.{IsUnused}
 use Rattle.redo_store.specs.Inside.Kept.{tables_of}
-use Rattle.redo_store.specs.Tables.{Tables, state_of, tables_count}
+use Rattle.redo_store.specs.Tables.{Tables, state_of, tables_count, tables_records}
 use Rattle.redo_store.proofs.Unknown.{unknown_past}
 use Rattle.redo_store.proofs.redo.Redo.count.Goals as goal
 
@@ -10,3 +11,8 @@ returns-clause-others c =
     subst (λ (tables : Tables). (n : ℕ) → tables_count tables ≤ n → IsUnknown (state_of tables) n)
     c.self.view_is
     (unknown_past (tables_of c.self.inside) c.count.ensures.stored c.self.invariant.tables)
+
+pub returns-clause-unused : goal.returns-clause-unused
+returns-clause-unused c =
+    subst (λ (tables : Tables). (n : ℕ) → tables_count tables ≤ n
+    → IsUnused (tables_records tables) n) c.self.view_is c.uses_its_names.ensures
