@@ -123,6 +123,10 @@ impl Database {
                 self.close(session, answers);
                 answers.said.extend_from_slice(format!("{session} end => ok\n").as_bytes());
             }
+            Some((_, b"names")) => {
+                answers.said.extend_from_slice(line);
+                self.tell_all(&mut answers.said);
+            }
             Some((session, text)) => match Question::of(text) {
                 Some(Ok(question)) => {
                     answers.said.extend_from_slice(line);

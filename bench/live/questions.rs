@@ -1,5 +1,5 @@
-// The three questions: why a target is out of date, what it depends on, and what is known of a
-// name. They change nothing, and a name that isn't known is idle.
+// The questions: why a target is out of date, what it depends on, what depends on a name, and what
+// is known of a name, or of all. They change nothing, and a name that isn't known is idle.
 use crate::database::Database;
 use crate::graph::{Graph, State, UNKNOWN};
 use crate::printing::Printer;
@@ -11,6 +11,7 @@ use crate::store::Store;
 enum Kind {
     Why,
     Deps,
+    Users,
     State,
 }
 
@@ -24,13 +25,14 @@ fn kind_of(keyword: &[u8]) -> Option<Kind> {
     Some(match keyword {
         b"why" => Kind::Why,
         b"deps" => Kind::Deps,
+        b"users" => Kind::Users,
         b"state" => Kind::State,
         _ => return None,
     })
 }
 
 impl Question<'_> {
-    // The question that a text asks, or its fault; none if it asks none of the three.
+    // The question about a name that a text asks, or its fault; none if it asks none.
     pub fn of(text: &[u8]) -> Option<Result<Question<'_>, Fault>> {
         let mut words = text.split(|byte| *byte == b' ');
         let kind = kind_of(words.next()?)?;
@@ -179,6 +181,48 @@ fn put_deps(graph: &Graph, t: Option<u32>, printer: &mut Printer) {
     printer.put(format!(" always {}", u8::from(has_always)));
 }
 
+// the targets that have a row on a name, counted and sorted by their bytes
+fn put_users<M>(word: &str, rows: &Rows<M>, n: Option<u32>, printer: &mut Printer) {
+    let rows = n.map_or(&[][..], |n| rows.on(n));
+    let mut users: Vec<u32> = rows.iter().map(|row| row.target).collect();
+    let texts = printer.names;
+    users.sort_unstable_by_key(|t| texts[*t as usize]);
+    printer.put_names(&format!("{word} {}", users.len()), &users);
+}
+
+fn put_digest(digest: Option<u32>, printer: &mut Printer) {
+    const DIGITS: &[u8; 16] = b"0123456789abcdef";
+    let bytes = match digest {
+        Some(digest) => printer.digests[digest as usize],
+        None => return printer.put(" -"),
+    };
+    printer.text.push(b' ');
+    for byte in bytes {
+        printer.text.push(DIGITS[usize::from(byte >> 4)]);
+        printer.text.push(DIGITS[usize::from(byte & 15)]);
+    }
+}
+
+// six words for each name: itself, its file, state, builds, the file of its last build, its digest
+fn put_all(graph: &Graph, printer: &mut Printer) {
+    let names = printer.names;
+    printer.put(format!("{}", names.len()));
+    for (name, cell) in names.iter().zip(&graph.cells) {
+        printer.text.push(b' ');
+        printer.text.extend_from_slice(name);
+        printer.put_stamp(cell.file);
+        printer.put(match cell.state {
+            State::Idle => " idle",
+            State::Building(_) => " building",
+            State::Built => " built",
+            State::Failed => " failed",
+        });
+        printer.put(format!(" {}", cell.builds));
+        printer.put_stamp(cell.done);
+        put_digest(cell.digest, printer);
+    }
+}
+
 fn put_state(graph: &Graph, n: Option<u32>, printer: &mut Printer) {
     let cell = n.map_or(&UNKNOWN, |n| graph.cell(n));
     match cell.state {
@@ -203,8 +247,23 @@ impl Database {
         match question.kind {
             Kind::Why => put_why(&self.store, &mut self.search, number, &mut printer),
             Kind::Deps => put_deps(graph, number, &mut printer),
+            Kind::Users => {
+                put_users("change", &graph.changes, number, &mut printer);
+                put_users(" created", &graph.created, number, &mut printer);
+            }
             Kind::State => put_state(graph, number, &mut printer),
         }
+        printer.put("\n");
+        *said = printer.text;
+    }
+
+    // Prints what is known of all names.
+    pub fn tell_all(&mut self, said: &mut Vec<u8>) {
+        let graph = &self.store.graph;
+        let (names, stamps, digests) = (&self.names.texts, &graph.text, &graph.digests);
+        let mut printer = Printer { names, stamps, digests, text: std::mem::take(said) };
+        printer.put(" => ");
+        put_all(graph, &mut printer);
         printer.put("\n");
         *said = printer.text;
     }
