@@ -3,7 +3,7 @@ names of its own, so one program can be given many."""
 import random
 from typing import Iterable
 
-QUESTIONS = ("why", "deps", "state")
+QUESTIONS = ("why", "deps", "users", "state")
 STEMS = ["a", "a!", "a.b", "a/b", "a~", "A", "b", "-x", "0", "10", "9", "src/m.c", "src/m.h", "m.o",
          "lib/m.o", "lib"]
 CONTENTS = ["-", "61", "6162"]
@@ -124,7 +124,7 @@ class Database:
             self.stranger(name)
 
     def ask_all(self) -> None:
-        """The three questions about all names, and about one that nobody spoke of."""
+        """Each question about each name, and about one that nobody spoke of."""
         for name in [*self.names, f"new-{self.names[0]}"]:
             for question in QUESTIONS:
                 self.say(self.any_session(), f"{question} {name}")

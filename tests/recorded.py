@@ -180,6 +180,12 @@ class Database:
         created = " ".join(["created", str(len(cell.created)), *sorted(cell.created)])
         return f"{change} {created} always {int(cell.always)}"
 
+    def users(self, name: str) -> str:
+        cells = self.cells.items()
+        change = sorted(target for target, cell in cells if name in cell.changes)
+        created = sorted(target for target, cell in cells if name in cell.created)
+        return " ".join(["change", str(len(change)), *change, "created", str(len(created)), *created])
+
     def state(self, name: str) -> str:
         cell = self.known(name)
         builder = f" {cell.builder}" if cell.state is State.BUILDING else ""
@@ -188,7 +194,8 @@ class Database:
         return f"{cell.state.value}{builder} lock {holder} file {file}"
 
     def is_right(self, question: str, name: str, answer: str) -> bool:
-        """Whether this is an answer to one of the three questions."""
+        """Whether this is an answer to one of the questions about a name."""
         if question == "why":
             return self.is_why(name, answer)
-        return answer == (self.deps(name) if question == "deps" else self.state(name))
+        told = {"deps": self.deps, "users": self.users, "state": self.state}
+        return answer == told[question](name)

@@ -14,6 +14,8 @@ WORKED = """
     1 why a => clean
     > 1 deps a
     1 deps a => change 0 created 0 always 0
+    > 1 users a
+    1 users a => change 0 created 0
     > 1 state a
     1 state a => idle lock - file -
     > 1 file a 7
@@ -36,8 +38,12 @@ WORKED = """
     2 ifchange a z b => stale b z
     > 1 deps a
     1 deps a => change 2 b z created 0 always 0
+    > 1 users z
+    1 users z => change 1 a created 0
     > 2 failed a
     2 failed a => ok
+    > 1 users b
+    1 users b => change 1 a created 0
     > 1 state a
     1 state a => failed lock 2 file 7
     > 1 why a
@@ -46,12 +52,20 @@ WORKED = """
     2 start a => ok
     > 1 deps a
     1 deps a => change 0 created 0 always 0
+    > 1 users b
+    1 users b => change 0 created 0
     > 2 ifcreate a c b! b
     2 ifcreate a c b! b => ok
     > 2 ifchange a d c
     2 ifchange a d c => stale c d
     > 1 deps a
     1 deps a => change 2 c d created 3 b b! c always 0
+    > 1 users c
+    1 users c => change 1 a created 1 a
+    > 1 users b!
+    1 users b! => change 0 created 1 a
+    > 1 users d
+    1 users d => change 1 a created 0
     > 2 done a #
     2 done a # => ok
     > 2 unlock a
@@ -142,6 +156,12 @@ WORKED = """
     1 done f 6 => ok
     > 2 why f
     2 why f => appeared b! f a
+    > 2 users a
+    2 users a => change 2 e f created 0
+    > 2 users e
+    2 users e => change 1 f created 0
+    > 2 users f
+    2 users f => change 0 created 0
     > 2 gone b!
     2 gone b! => ok
     > 2 why f
@@ -167,23 +187,30 @@ WORKED = """
     1 why end => clean
     > 1 deps why
     1 deps why => change 0 created 0 always 0
+    > 1 users users
+    1 users users => change 0 created 0
     > 1 state state
     1 state state => idle lock - file -
 """
 # what follows the session's number, by its fault
 FAULTS = {
-    "line-too-long": ["why " + "a" * 8189, "deps" + " " * 8189, "state a" + "\r" * 8190],
-    "bad-byte": ["why a\r", "deps a\x7f", "state \xe9", "why\ta", "state\r", "why - -\0"],
-    "unknown-command": ["Why a", "whys a", "DEPS a", "state: a", " why a", "? why a", "why=a"],
+    "line-too-long": ["why " + "a" * 8189, "deps" + " " * 8189, "state a" + "\r" * 8190,
+                      "users " + "a" * 8187],
+    "bad-byte": ["why a\r", "deps a\x7f", "state \xe9", "why\ta", "state\r", "why - -\0",
+                 "users a\t"],
+    "unknown-command": ["Why a", "whys a", "DEPS a", "state: a", " why a", "? why a", "why=a",
+                        "user a", "Users a"],
     "wrong-words": ["why", "deps", "state", "why a b", "deps a b", "state a b", "why a ",
-                    "deps  a", "state a -", "why - -", "deps #a =>", "state a b c"],
+                    "deps  a", "state a -", "why - -", "deps #a =>", "state a b c", "users", "users a b",
+                    "users a "],
     "bad-name": ["why -", "deps =>", "state #", "why ", "deps #a", "state " + "a" * 256,
-                 "why =>", "deps ", "state -", "why " + "a" * 8188],
+                 "why =>", "deps ", "state -", "why " + "a" * 8188, "users -", "users =>", "users "],
 }
 # what the questions are answered about a name that nobody spoke of, and some names
-UNKNOWN = {"why": "clean", "deps": "change 0 created 0 always 0", "state": "idle lock - file -"}
+UNKNOWN = {"why": "clean", "deps": "change 0 created 0 always 0", "users": "change 0 created 0",
+           "state": "idle lock - file -"}
 NEW = ["new", "other", "n0", "n65533", *(f"new{at}" for at in range(20))]
-QUESTION = re.compile(r"\d+ (why|deps|state) ")
+QUESTION = re.compile(r"\d+ (why|deps|users|state) ")
 
 
 def is_question(line: str) -> bool:

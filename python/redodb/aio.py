@@ -11,7 +11,7 @@ from .client import top_or_nearest
 from .errors import ServerError
 from .lines import Lines
 from .places import Places
-from .replies import Busy, Deps, Forgotten, Granted, Names, NameState, Ring, Why
+from .replies import Busy, Deps, Forgotten, Granted, Names, NameState, Ring, Users, Why
 from .requests import TOP_LEVEL, Answer, Name, Request
 from .wire import Wire
 
@@ -152,6 +152,10 @@ class AsyncClient:
     async def deps(self, target: Name) -> Deps:
         """Return the rows of a target."""
         return await self._do(requests.deps(target))
+
+    async def users(self, name: Name) -> Users:
+        """Return the targets with rows on a name."""
+        return await self._do(requests.users(name))
 
     async def state(self, name: Name) -> NameState:
         """Return the state of a name."""

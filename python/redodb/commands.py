@@ -5,7 +5,7 @@ from abc import ABC, abstractmethod
 from collections.abc import Iterable
 
 from . import requests
-from .replies import Busy, Deps, Granted, Names, NameState, Why
+from .replies import Busy, Deps, Granted, Names, NameState, Users, Why
 from .requests import Answer, Name, Request
 
 
@@ -176,6 +176,14 @@ class Commands(ABC):
         Deps(changed=(), created=(), always=False)
         """
         return self._do(requests.deps(target))
+
+    def users(self, name: Name) -> Users:
+        """Return the targets with rows on a name.
+
+        >>> client.users("a.c")
+        Users(changed=(), created=())
+        """
+        return self._do(requests.users(name))
 
     def state(self, name: Name) -> NameState:
         """Return the state of a name.

@@ -126,6 +126,14 @@ class Deps:
 
 
 @dataclass(frozen=True, slots=True)
+class Users:
+    """The targets with rows on a name: those that were built of it, and those that it wasn't there for."""
+
+    changed: tuple[bytes, ...]
+    created: tuple[bytes, ...]
+
+
+@dataclass(frozen=True, slots=True)
 class NameState:
     """A name's state, the sessions that build it and hold its lock, and its file stamp."""
 
@@ -223,6 +231,18 @@ def read_deps(answer: bytes, request: bytes) -> Deps:
     ):
         _raise(answer, request)
     return Deps(tuple(words[2:after]), tuple(words[after + 2 : -2]), words[-1] == b"1")
+
+
+def read_users(answer: bytes, request: bytes) -> Users:
+    """Read the answer to `users`."""
+    words = answer.split(b" ")
+    if words[0] != b"change" or len(words) < 4:
+        _raise(answer, request)
+    after = 2 + _number(words[1], answer)
+    created = words[after + 2 :]
+    if words[after : after + 2] != [b"created", b"%d" % len(created)]:
+        _raise(answer, request)
+    return Users(tuple(words[2:after]), tuple(created))
 
 
 def read_state(answer: bytes, request: bytes) -> NameState:

@@ -8,7 +8,7 @@ from typing import Generic, TypeVar
 from . import replies
 from .errors import BadName
 from .names import is_name
-from .replies import Busy, Deps, Forgotten, Granted, Names, NameState, Ring, Why
+from .replies import Busy, Deps, Forgotten, Granted, Names, NameState, Ring, Users, Why
 
 Name = bytes | str
 Answer = TypeVar("Answer")
@@ -111,6 +111,10 @@ def why(target: Name) -> Request[Why | None]:
 
 def deps(target: Name) -> Request[Deps]:
     return _one(b"deps " + _name(target), replies.read_deps)
+
+
+def users(name: Name) -> Request[Users]:
+    return _one(b"users " + _name(name), replies.read_users)
 
 
 def state(name: Name) -> Request[NameState]:

@@ -26,6 +26,7 @@ from redodb.replies import (
     Refusal,
     Ring,
     State,
+    Users,
     Why,
 )
 from served import PATIENCE, ServedTree, eventually, is_free, program_or_skip
@@ -57,6 +58,7 @@ COMMANDS = (
     "sources",
     "why",
     "deps",
+    "users",
     "state",
     "wait",
     "forget",
@@ -116,6 +118,7 @@ class Commands(ServedTree):
         self.assertEqual(two.why("app"), Why(Reason.CHANGED, b"util.h", (b"app", b"util.o")))
         self.assertIsNone(two.why("util.h"))
         self.assertEqual(two.deps("util.o"), Deps((b"util.h",), (), False))
+        self.assertEqual(two.users("util.o"), Users((b"app",), ()))
         self.assertEqual(two.state("app"), NameState(State.BUILT, None, one.session, "3"))
         self.assertEqual(list(two.ood()), [b"app", b"util.o"])
         self.assertEqual(list(two.targets()), [b"app", b"util.o"])

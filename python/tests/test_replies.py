@@ -16,6 +16,7 @@ from redodb.replies import (
     Refusal,
     Ring,
     State,
+    Users,
     Why,
 )
 
@@ -57,6 +58,16 @@ class Replies(unittest.TestCase):
             Deps((b"created", b"always"), (b"0", b"1", b"always"), True),
         )
 
+    def test_users(self) -> None:
+        self.assertEqual(
+            replies.read_users(b"change 2 app lib created 0", b"users util.o"),
+            Users((b"app", b"lib"), ()),
+        )
+        self.assertEqual(
+            replies.read_users(b"change 1 created created 2 0 created", b"users x"),
+            Users((b"created",), (b"0", b"created")),
+        )
+
     def test_state(self) -> None:
         self.assertEqual(
             replies.read_state(b"built lock 1 file 3", b"state app"),
@@ -85,6 +96,7 @@ class Replies(unittest.TestCase):
                 replies.read_lock,
                 replies.read_why,
                 replies.read_deps,
+                replies.read_users,
                 replies.read_state,
                 replies.read_ok,
             ):
@@ -111,6 +123,7 @@ class Replies(unittest.TestCase):
                 replies.read_wait,
                 replies.read_why,
                 replies.read_deps,
+                replies.read_users,
                 replies.read_state,
                 replies.read_ok,
                 replies.read_count,

@@ -14,6 +14,7 @@ enum Ask {
     EndWithin(usize),
     Why(&'static str),
     Deps(&'static str),
+    Users(&'static str),
     State(&'static str),
     /// The command `gone` of this many names: `n0`, `n1` and so on.
     Gone(u32),
@@ -33,7 +34,7 @@ enum Told {
     Fault(LineFault),
 }
 
-use Ask::{Answer, Deps, End, EndWithin, Gone, State, Why, Within};
+use Ask::{Answer, Deps, End, EndWithin, Gone, State, Users, Why, Within};
 use Told::{Ended, Fault, Logged, Nothing, Said, TooLong};
 
 /// The session, counted from 0, what it asks for, and what it is answered.
@@ -149,7 +150,7 @@ const TOO_LONG: &[Step] = &[
     ),
 ];
 
-/// Questions during a build of `t`, and after a build of `top`, which depends on `t`.
+/// Questions during a build of `t`, after a build of `top`, which depends on `t`, and during one of `b`.
 const QUESTIONS: &[Step] = &[
     (0, Answer("file z.h 1"), Logged("1 file z.h 1 => ok\n")),
     (0, Answer("file a.h 1"), Logged("1 file a.h 1 => ok\n")),
@@ -211,6 +212,33 @@ const QUESTIONS: &[Step] = &[
         State("nobody"),
         Said("2 state nobody => idle lock - file -\n"),
     ),
+    (0, Answer("lock b"), Logged("1 lock b => granted 1\n")),
+    (0, Answer("start b"), Logged("1 start b => ok\n")),
+    (
+        0,
+        Answer("ifchange b z.h"),
+        Logged("1 ifchange b z.h => ok\n"),
+    ),
+    (
+        1,
+        Users("z.h"),
+        Said("2 users z.h => change 2 b t created 0\n"),
+    ),
+    (
+        1,
+        Users("t"),
+        Said("2 users t => change 1 top created 0\n"),
+    ),
+    (
+        1,
+        Users("new.h"),
+        Said("2 users new.h => change 0 created 1 t\n"),
+    ),
+    (
+        1,
+        Users("nobody"),
+        Said("2 users nobody => change 0 created 0\n"),
+    ),
 ];
 
 /// Sends `gone` of this many names, `n0`, `n1` and so on.
@@ -258,6 +286,7 @@ fn answer_to(
         EndWithin(most) => live.end_within(alloc, session, most, said, logged),
         Why(name) => inquire(alloc, live, session, (Inquiry::Why, name), said),
         Deps(name) => inquire(alloc, live, session, (Inquiry::Deps, name), said),
+        Users(name) => inquire(alloc, live, session, (Inquiry::Users, name), said),
         State(name) => inquire(alloc, live, session, (Inquiry::State, name), said),
         Gone(count) => withheld(tell_gone(alloc, live, count)),
     }
@@ -286,7 +315,9 @@ fn is_joined(text: &[u8], first: &str, second: &str) -> bool {
 /// What a failed test prints of a step.
 fn named(asked: Ask) -> &'static str {
     match asked {
-        Answer(text) | Within(text, _) | Why(text) | Deps(text) | State(text) => text,
+        Answer(text) | Within(text, _) | Why(text) | Deps(text) | Users(text) | State(text) => {
+            text
+        }
         End | EndWithin(_) => "end",
         Gone(_) => "gone",
     }
