@@ -124,10 +124,11 @@ class Database:
             self.stranger(name)
 
     def ask_all(self) -> None:
-        """Each question about each name, and about one that nobody spoke of."""
+        """Each question about each name, and about one that nobody spoke of; and then about all names."""
         for name in [*self.names, f"new-{self.names[0]}"]:
             for question in QUESTIONS:
                 self.say(self.any_session(), f"{question} {name}")
+        self.say(self.any_session(), "names")
 
 
 def mixed(choose: random.Random, number: int) -> Database:

@@ -78,6 +78,8 @@ class Database:
 
     def __init__(self, lines: Iterable[str] = ()) -> None:
         self.cells: dict[str, Cell] = {}
+        # the names in commands, in the order in which they came
+        self.named: dict[str, None] = {}
         # the steps, if they were counted since the last change
         self.counted: dict[str, int] | None = None
         for line in lines:
@@ -90,6 +92,7 @@ class Database:
         """Does a line of a history, unless its reply says that it changes nothing."""
         said, _, reply = line.partition(" => ")
         session, word, *names = said.split(" ")
+        self.named.update(dict.fromkeys(names if word in ("ifchange", "ifcreate") else names[:1]))
         is_list = word in ("ood", "targets", "sources")
         if is_list or reply.startswith(("refused ", "busy ")):
             return
@@ -192,6 +195,15 @@ class Database:
         holder = "-" if cell.holder is None else cell.holder
         file = "-" if cell.file is None else cell.file
         return f"{cell.state.value}{builder} lock {holder} file {file}"
+
+    def names(self) -> str:
+        return " ".join([str(len(self.named)), *(self.told_of(name) for name in self.named)])
+
+    def told_of(self, name: str) -> str:
+        """The six words about a name in the answer about all."""
+        cell = self.known(name)
+        words = [cell.file, cell.state.value, str(cell.builds), cell.done, cell.digest]
+        return " ".join([name, *("-" if word is None else word for word in words)])
 
     def is_right(self, question: str, name: str, answer: str) -> bool:
         """Whether this is an answer to one of the questions about a name."""

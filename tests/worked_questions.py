@@ -10,6 +10,8 @@ from talks import (HEADER, TOP, Checks, changing, ended, fault, greeting, line_b
 
 # each reason if it is the only one, chains of two lengths, and questions around an `end`
 WORKED = """
+    > 1 names
+    1 names => 0
     > 1 why a
     1 why a => clean
     > 1 deps a
@@ -20,6 +22,8 @@ WORKED = """
     1 state a => idle lock - file -
     > 1 file a 7
     1 file a 7 => ok
+    > 1 names
+    1 names => 1 a 7 idle 0 - -
     > 1 state a
     1 state a => idle lock - file 7
     > 1 why a
@@ -36,6 +40,8 @@ WORKED = """
     1 why a => building a a
     > 2 ifchange a z b
     2 ifchange a z b => stale b z
+    > 64 names
+    64 names => 3 a 7 building 0 - - z - idle 0 - - b - idle 0 - -
     > 1 deps a
     1 deps a => change 2 b z created 0 always 0
     > 1 users z
@@ -124,6 +130,9 @@ WORKED = """
     1 ifchange e a => ok
     > 1 stamp e 61
     1 stamp e 61 => stamped 86f7e437faa5a7fce15d1ddcb9eaeaea377667b8
+    > 1 names
+    1 names => 7 a # built 1 # - z - idle 0 - - b - idle 0 - - c - idle 0 - - b! - idle 0 - - d - idle 0 - - \
+e - building 1 - 86f7e437faa5a7fce15d1ddcb9eaeaea377667b8
     > 1 done e 5
     1 done e 5 => ok
     > 1 why e
@@ -175,6 +184,9 @@ WORKED = """
     1 failed f => ok
     1 unlock f => ok
     1 end => ok
+    > 1 names
+    1 names => 8 a # built 1 # - z - idle 0 - - b - idle 0 - - c - idle 0 - - b! - idle 0 - - d - idle 0 - - \
+e 5 built 2 5 86f7e437faa5a7fce15d1ddcb9eaeaea377667b8 f 6 failed 2 6 -
     > 1 state f
     1 state f => failed lock - file 6
     > 1 why f
@@ -199,7 +211,8 @@ FAULTS = {
     "bad-byte": ["why a\r", "deps a\x7f", "state \xe9", "why\ta", "state\r", "why - -\0",
                  "users a\t"],
     "unknown-command": ["Why a", "whys a", "DEPS a", "state: a", " why a", "? why a", "why=a",
-                        "user a", "Users a"],
+                        "user a", "Users a", "names ", "names a", "Names",
+                        "name"],
     "wrong-words": ["why", "deps", "state", "why a b", "deps a b", "state a b", "why a ",
                     "deps  a", "state a -", "why - -", "deps #a =>", "state a b c", "users", "users a b",
                     "users a "],
@@ -210,7 +223,7 @@ FAULTS = {
 UNKNOWN = {"why": "clean", "deps": "change 0 created 0 always 0", "users": "change 0 created 0",
            "state": "idle lock - file -"}
 NEW = ["new", "other", "n0", "n65533", *(f"new{at}" for at in range(20))]
-QUESTION = re.compile(r"\d+ (why|deps|users|state) ")
+QUESTION = re.compile(r"\d+ (?:(?:why|deps|users|state) |names(?: =>|$))")
 
 
 def is_question(line: str) -> bool:

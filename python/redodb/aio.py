@@ -11,7 +11,7 @@ from .client import top_or_nearest
 from .errors import ServerError
 from .lines import Lines
 from .places import Places
-from .replies import Busy, Deps, Forgotten, Granted, Names, NameState, Ring, Users, Why
+from .replies import Busy, Deps, Forgotten, Granted, Known, Names, NameState, Ring, Users, Why
 from .requests import TOP_LEVEL, Answer, Name, Request
 from .wire import Wire
 
@@ -160,6 +160,10 @@ class AsyncClient:
     async def state(self, name: Name) -> NameState:
         """Return the state of a name."""
         return await self._do(requests.state(name))
+
+    async def names(self) -> tuple[Known, ...]:
+        """Return what is known of all names, in the order in which they became known."""
+        return await self._do(requests.names())
 
     async def wait(
         self, target: Name, parent: Name = TOP_LEVEL, timeout: float | None = None

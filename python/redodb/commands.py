@@ -5,7 +5,7 @@ from abc import ABC, abstractmethod
 from collections.abc import Iterable
 
 from . import requests
-from .replies import Busy, Deps, Granted, Names, NameState, Users, Why
+from .replies import Busy, Deps, Granted, Known, Names, NameState, Users, Why
 from .requests import Answer, Name, Request
 
 
@@ -192,6 +192,15 @@ class Commands(ABC):
         NameState(state=<State.IDLE: 'idle'>, builder=None, holder=None, stamp=None)
         """
         return self._do(requests.state(name))
+
+    def names(self) -> tuple[Known, ...]:
+        """Return what is known of all names, in the order in which they became known.
+
+        >>> client.file("a.c", "1")
+        >>> client.names()[-1]
+        Known(name=b'a.c', state=<State.IDLE: 'idle'>, stamp='1', builds=0, done=None, digest=None)
+        """
+        return self._do(requests.names())
 
     def end(self) -> None:
         """Fail what this session builds, and release what it holds. The session goes on.

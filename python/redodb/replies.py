@@ -127,7 +127,7 @@ class Deps:
 
 @dataclass(frozen=True, slots=True)
 class Users:
-    """The targets with rows on a name: those that were built of it, and those that it wasn't there for."""
+    """The targets with rows on a name: built of it, or while it wasn't there."""
 
     changed: tuple[bytes, ...]
     created: tuple[bytes, ...]
@@ -141,6 +141,19 @@ class NameState:
     builder: int | None
     holder: int | None
     stamp: str | None
+
+
+@dataclass(frozen=True, slots=True)
+class Known:
+    """A name, its state and file stamp, how often it was built, the stamp that its last done gave,
+    and the digest of its present build."""
+
+    name: bytes
+    state: State
+    stamp: str | None
+    builds: int
+    done: str | None
+    digest: str | None
 
 
 _NO_NAMES = Names(())
@@ -257,6 +270,23 @@ def read_state(answer: bytes, request: bytes) -> NameState:
         _raise(answer, request)
     holder = None if words[2] == b"-" else _number(words[2], answer)
     return NameState(state, builder, holder, None if words[4] == b"-" else words[4].decode())
+
+
+def read_known(answer: bytes, request: bytes) -> tuple[Known, ...]:
+    """Read the answer to `names`."""
+    count, *words = answer.split(b" ")
+    if not count.isdigit() or len(words) != 6 * int(count):
+        _raise(answer, request)
+    try:
+        return tuple(_known(words[at : at + 6]) for at in range(0, len(words), 6))
+    except ValueError:
+        _raise(answer, request)
+
+
+def _known(words: list[bytes]) -> Known:
+    name, stamp, state, builds, done, digest = words
+    stamps = [None if word == b"-" else word.decode() for word in (stamp, done, digest)]
+    return Known(name, State(state.decode()), stamps[0], int(builds), stamps[1], stamps[2])
 
 
 def _rest(answer: bytes, word: bytes, request: bytes) -> bytes:

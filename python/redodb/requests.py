@@ -8,7 +8,7 @@ from typing import Generic, TypeVar
 from . import replies
 from .errors import BadName
 from .names import is_name
-from .replies import Busy, Deps, Forgotten, Granted, Names, NameState, Ring, Users, Why
+from .replies import Busy, Deps, Forgotten, Granted, Known, Names, NameState, Ring, Users, Why
 
 Name = bytes | str
 Answer = TypeVar("Answer")
@@ -119,6 +119,10 @@ def users(name: Name) -> Request[Users]:
 
 def state(name: Name) -> Request[NameState]:
     return _one(b"state " + _name(name), replies.read_state)
+
+
+def names() -> Request[tuple[Known, ...]]:
+    return _one(b"names", replies.read_known)
 
 
 def wait(target: Name, parent: Name) -> Request[Granted | Ring | Forgotten]:

@@ -60,6 +60,7 @@ COMMANDS = (
     "deps",
     "users",
     "state",
+    "names",
     "wait",
     "forget",
     "look",

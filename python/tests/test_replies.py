@@ -10,6 +10,7 @@ from redodb.replies import (
     FaultWord,
     Forgotten,
     Granted,
+    Known,
     Names,
     NameState,
     Reason,
@@ -68,6 +69,17 @@ class Replies(unittest.TestCase):
             Users((b"created",), (b"0", b"created")),
         )
 
+    def test_names(self) -> None:
+        self.assertEqual(replies.read_known(b"0", b"names"), ())
+        digest = "86f7e437faa5a7fce15d1ddcb9eaeaea377667b8"
+        self.assertEqual(
+            replies.read_known(f"2 a.c 7 idle 0 - - a.o - failed 3 5 {digest}".encode(), b"names"),
+            (
+                Known(b"a.c", State.IDLE, "7", 0, None, None),
+                Known(b"a.o", State.FAILED, None, 3, "5", digest),
+            ),
+        )
+
     def test_state(self) -> None:
         self.assertEqual(
             replies.read_state(b"built lock 1 file 3", b"state app"),
@@ -98,6 +110,7 @@ class Replies(unittest.TestCase):
                 replies.read_deps,
                 replies.read_users,
                 replies.read_state,
+                replies.read_known,
                 replies.read_ok,
             ):
                 with self.assertRaises(FaultError) as caught:
@@ -117,6 +130,9 @@ class Replies(unittest.TestCase):
             b"asleep lock - file -",
             b"changed",
             b"never a a",
+            b"1 a - idle 0 -",
+            b"1 a - asleep 0 - -",
+            b"1 a - idle x - -",
         ):
             for read in (
                 replies.read_lock,
@@ -125,6 +141,7 @@ class Replies(unittest.TestCase):
                 replies.read_deps,
                 replies.read_users,
                 replies.read_state,
+                replies.read_known,
                 replies.read_ok,
                 replies.read_count,
             ):

@@ -74,14 +74,14 @@ enum { NAMES = 70, MOST = 1 << 16 };
 static const char *const LINES[] = {
     "1 lock b", "1 start b", "1 ifchange b source-1 source-2 new", "1 ifcreate b other", "1 always b", "1 stamp b 6162",
     "2 lock a", "2 start a", "2 ifchange a b source-3", "1 done b 1", "3 lock c", "1 lock c", "1 build c", "2 done a 2",
-    "2 why a", "3 deps b", "2 users b", "1 state b", "1 ood", "2 targets", "3 sources", "1 end", "2 lock b", "2 start b",
-    "2 end", "3 gone source-1", "2 why a", "3 ood", "3 lock c", "3 start c", "3 end",
+    "2 why a", "3 deps b", "2 users b", "1 state b", "3 names", "1 ood", "2 targets", "3 sources", "1 end", "2 lock b",
+    "2 start b", "2 end", "3 gone source-1", "2 why a", "3 ood", "3 lock c", "3 start c", "3 end",
 };
 
 /* What is asked after a restart: first a faulty line, so that memory for telling of a fault is refused, too. */
 static const char *const ASKED[] = {
     "1 build c", "1 ood", "2 targets", "3 sources", "1 why a", "2 deps b", "3 users b",
-    "3 state c", "1 lock b",
+    "3 state c", "2 names", "1 lock b",
 };
 
 enum { AFTER = sizeof LINES / sizeof *LINES, TOLD = NAMES + AFTER, ASKS = sizeof ASKED / sizeof *ASKED };

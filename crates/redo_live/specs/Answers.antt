@@ -1,13 +1,14 @@
--- The answers to questions about a name.
+-- The answers to questions about a name, and to that about all names.
 use Rattle.std.specs.Prelude.{◌≡◌, ℕ, ◌+◌, Bool, true, false, List, [], ◌∷◌, ◌++◌, Option, Some, None, length, codes, decimal}
+use Rattle.std.specs.List.{flat_map}
 use Rattle.redo_model.specs.Names.{Text, texts}
-use Rattle.redo_model.specs.State.{State, TargetState, Idle, Building, Built, Failed, target_state}
+use Rattle.redo_model.specs.State.{Cell, State, TargetState, Idle, Building, Built, Failed, target_state}
 use Rattle.redo_model.specs.Deps as model
 use Rattle.redo_model.specs.Deps.{AreDeps}
 use Rattle.redo_model.specs.Users.{Users, AreUsers}
 use Rattle.redo_model.specs.Why as whys
 use Rattle.redo_model.specs.Why.{Reason, TellsWhy, end_of}
-use Rattle.redo_text.specs.Texts.{spaced, stamp_word}
+use Rattle.redo_text.specs.Texts.{digest_word, spaced, stamp_word}
 use Rattle.redo_text.specs.Inquiries.{inquiry_word}
 use Rattle.redo_history.specs.Histories.{ended}
 use Rattle.redo_text.specs.declared.inquiries.Inquiry.{Inquiry}
@@ -113,3 +114,24 @@ pub record AnswersInquiry (st : State Text) (session : ℕ) (inquiry : Inquiry)
     pub asked : inquiry_of answer ≡ inquiry
     pub is : IsAnswer st name answer
     pub line_is : line ≡ answer_line session name answer
+
+-- the word of a state, without a session
+abbrev pub stage_word : TargetState → Text
+stage_word Idle = codes "idle"
+stage_word (Building session) = codes "building"
+stage_word Built = codes "built"
+stage_word Failed = codes "failed"
+
+abbrev pub cell_words : Text → Cell → List Text
+cell_words name cell =
+    name ∷ stamp_word cell.file ∷ stage_word cell.state ∷ decimal cell.builds
+    ∷ stamp_word cell.done ∷ digest_word cell.digest ∷ []
+
+-- a name, and what is known of it but rows and locks
+abbrev pub known_words : State Text → Text → List Text
+known_words st name = cell_words name (st.records.cell name)
+
+-- the line for a session of how many names there are, and what is known of each
+abbrev pub names_line : ℕ → List Text → State Text → Text
+names_line session names st = ended (spaced (decimal (session + 1))
+    (codes "names" ∷ codes "=>" ∷ decimal (length names) ∷ flat_map (known_words st) names))

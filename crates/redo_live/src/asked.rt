@@ -103,7 +103,7 @@ pub(crate) fn put_why(
     }
 }
 
-fn put_count(out: &mut Vec<u8>, n: usize) -> Result<(), AllocError>
+pub(crate) fn put_count(out: &mut Vec<u8>, n: usize) -> Result<(), AllocError>
     ensures { OnOk result (out.new.items ≡ out.old.items ++ after_space (decimal n)) }
 {
     out.push(b' ')?;

@@ -3,6 +3,7 @@
 
 mod asked;
 mod fault;
+mod known;
 mod laws;
 mod live;
 mod ordering;

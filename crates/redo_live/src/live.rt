@@ -23,6 +23,7 @@ use std::mem;
 
 mod asking;
 mod ending;
+mod listing;
 mod replaying;
 
 /// How many numbers there are for names at first.

@@ -47,7 +47,8 @@ pub unused_past : (s : Stored) → rows_count s.rows ≡ count_of s
 unused_past s sized changes createds n past =
     let rows = rows_of s.rows in
     record {
-      change = λ t. none_there (rows.change t n) (λ row. omega (arith, sized, changes t n row, past));
+      change = λ t. none_there (rows.change t n)
+          (λ row. omega (arith, sized, changes t n row, past));
       created = λ t. false_from_ne_true (rows.created t n)
           (λ row. omega (arith, sized, createds t n row, past));
     }

@@ -19,10 +19,10 @@ use Rattle.redo_model.proofs.Texts.{texts_are_names}
 use Rattle.redo_text.specs.Grammar.{with_names}
 use Rattle.redo_text.proofs.ScriptParts.{with_names-append}
 use Rattle.redo_history.proofs.KnownNames.{AreKnown, with_names-known}
-use Rattle.redo_live.specs.Answers.{AnswersInquiry}
+use Rattle.redo_live.specs.Answers.{AnswersInquiry, names_line}
 use Rattle.redo_live.specs.Lines.{names_after}
-use Rattle.redo_talk.specs.Rounds.{Round, IsRound, IsAnswered, IsEnded, IsTold, IsFaulty, AreRounds, lines_in, IsFaultWord, Asks, fault_text_of, HasNoSession}
-use Rattle.redo_talk.specs.Inside.Steps.{Known, LeadsTo, Answering, Ending, Telling, Refusing, IsStep, AreSteps}
+use Rattle.redo_talk.specs.Rounds.{Round, IsRound, IsAnswered, IsEnded, IsTold, IsToldAll, IsFaulty, AreRounds, lines_in, IsFaultWord, Asks, fault_text_of, HasNoSession}
+use Rattle.redo_talk.specs.Inside.Steps.{Known, LeadsTo, Answering, Ending, Telling, TellingAll, Refusing, IsStep, AreSteps}
 
 -- the names after more lines
 names_more : (before more : List (Line Text)) → names_after (before ++ more)
@@ -154,6 +154,15 @@ module _ (before : List (Line Text)) (old new : Known) (round : Round) (led : Le
       none = step.none;
     }
 
+    telling_all_round : TellingAll old new round → IsToldAll before round
+    telling_all_round step = record {
+      session = step.session;
+      asks = step.asks;
+      tells = step.tells
+          ∙ (λ i. names_line step.session (led.names_are i) (led.state_is i));
+      none = step.none;
+    }
+
     -- the lines of an end, by the state after the history before it
     closing_is : (step : Ending old new round) → round.lines
         ≡ closing_lines_of step.session (left_by texts empty before) step.held
@@ -202,14 +211,17 @@ module _ (before : List (Line Text)) (old new : Known) (round : Round) (led : Le
     step_is_round (inl step) = inl (answering_round step)
     step_is_round (inr (inl step)) = inr (inl (ending_round step))
     step_is_round (inr (inr (inl step))) = inr (inr (inl (telling_round step)))
-    step_is_round (inr (inr (inr step))) = inr (inr (inr (refusing_round step)))
+    step_is_round (inr (inr (inr (inl step)))) = inr (inr (inr (inl (telling_all_round step))))
+    step_is_round (inr (inr (inr (inr step)))) = inr (inr (inr (inr (refusing_round step))))
 
     step_leads : IsStep old new round → LeadsTo (before ++ round.lines) new
     step_leads (inl step) = answering_leads step
     step_leads (inr (inl step)) = ending_leads step
     step_leads (inr (inr (inl step))) =
         unchanged_leads step.none step.same_names step.same_state
-    step_leads (inr (inr (inr step))) =
+    step_leads (inr (inr (inr (inl step)))) =
+        unchanged_leads step.none step.same_names step.same_state
+    step_leads (inr (inr (inr (inr step)))) =
         unchanged_leads step.none step.same_names step.same_state
 
 -- steps from the state after a history are rounds after it, and extend it by their lines

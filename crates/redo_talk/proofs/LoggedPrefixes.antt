@@ -46,4 +46,5 @@ pub logs_prefix : (old new : Known) (round : Round) → IsStep old new round
 logs_prefix old new round (inl is) = answering_prefix old new round is
 logs_prefix old new round (inr (inl is)) = ending_prefix old new round is
 logs_prefix old new round (inr (inr (inl is))) = none_prefix old round is.none
-logs_prefix old new round (inr (inr (inr is))) = none_prefix old round is.none
+logs_prefix old new round (inr (inr (inr (inl is)))) = none_prefix old round is.none
+logs_prefix old new round (inr (inr (inr (inr is)))) = none_prefix old round is.none

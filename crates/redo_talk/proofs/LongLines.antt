@@ -8,7 +8,7 @@ use Rattle.std.proofs.lemmas.List.{take_all, length-take-le, take-append-drop}
 use Rattle.redo_model.specs.Names.{Text}
 use Rattle.redo_text.specs.Inquiries.{inquiry_text_of}
 use Rattle.redo_text.proofs.Inquired.{asked_when_long, fits_is_short}
-use Rattle.redo_talk.specs.Rounds.{Round, Asks, HasNoSession, IsFaultWord, end_word, fault_text_of}
+use Rattle.redo_talk.specs.Rounds.{Round, Asks, HasNoSession, IsFaultWord, end_word, names_word, fault_text_of}
 use Rattle.redo_talk.specs.Inside.Steps.{Known, Refusing, IsStep}
 use Rattle.redo_talk.specs.Inside.KeptLines.{kept_of, IsHeardOf}
 
@@ -51,10 +51,11 @@ asked_length heard s text (few, parts) =
 
 fault_of_more : (names : List Text) (text more word : Text) → 8192 < length text
     → IsFaultWord names text word → IsFaultWord names (text ++ more) word
-fault_of_more names text more word long (inl (fault, other, is, e)) =
+fault_of_more names text more word long (inl (fault, other, another, is, e)) =
     let longer : 8192 < length (text ++ more) = omega (arith, length-append text more) in
     inl (
       fault,
+      (λ same. absurd (omega (arith, ap length same))),
       (λ same. absurd (omega (arith, ap length same))),
       asked_when_long 16777216 names (text ++ more) longer
           ∙ sym (asked_when_long 16777216 names text long) ∙ is,
@@ -119,7 +120,9 @@ module _ (old new : Known) (round : Round) (whole : Text) (heard : round.heard �
             fits_is_short text step.fits,
             long,
           ))
-      long_step (inr (inr (inr step))) = inr (inr (inr (refusing_whole step)))
+      long_step (inr (inr (inr (inl step)))) =
+          absurd (omega (arith, asked_length round.heard step.session names_word step.asks, long))
+      long_step (inr (inr (inr (inr step)))) = inr (inr (inr (inr (refusing_whole step))))
 
     -- the answer to what is kept of a line is the answer to the line
     step_of_kept : IsStep old new round → IsStep old new (record round { heard = whole })

@@ -64,7 +64,7 @@ module _ (old new : Known) (log out : Option Text) (logged said : Text) (round :
       refused_waits : GoesOn (place old log out logged said)
           (place new log out logged (said ++ round.said)) (ended whole ++ more) more
       refused_waits =
-          goes_on_by logged (said ++ round.said) (inr (inr (inr refused)))
+          goes_on_by logged (said ++ round.said) (inr (inr (inr (inr refused))))
           (sym (append-nil logged)
           ∙ ap (λ ls. logged ++ logged_of old.state ls) (sym refused.none)) refl
 

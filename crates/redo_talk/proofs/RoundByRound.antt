@@ -36,7 +36,9 @@ step_state old new round (inl step) =
 step_state old new round (inr (inl step)) = step.state_is
 step_state old new round (inr (inr (inl step))) =
     step.same_state ∙ ap (left_by texts old.state) (sym step.none)
-step_state old new round (inr (inr (inr step))) =
+step_state old new round (inr (inr (inr (inl step)))) =
+    step.same_state ∙ ap (left_by texts old.state) (sym step.none)
+step_state old new round (inr (inr (inr (inr step)))) =
     step.same_state ∙ ap (left_by texts old.state) (sym step.none)
 
 pub steps_state : (old new : Known) (rounds : List Round) → AreSteps old new rounds

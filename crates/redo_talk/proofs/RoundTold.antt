@@ -12,28 +12,30 @@ use Rattle.redo_text.specs.Questions.{words_of}
 use Rattle.redo_text.specs.declared.inquiries.Inquiry.{Inquiry}
 use Rattle.redo_text.proofs.Inquired.{asked_of_command}
 use Rattle.redo_history.specs.Histories.{line_text_of}
-use Rattle.redo_live.specs.Answers.{AnswersInquiry}
+use Rattle.redo_live.specs.Answers.{AnswersInquiry, names_line}
 use Rattle.redo_live.specs.Inside.LiveState.{LiveState, state_in, IsAsKnown}
 use Rattle.redo_live.specs.Inside.Told.{AnswersText, EndsSession, IsUnansweredFor}
 use Rattle.redo_live.specs.Inside.Withheld.{WouldAnswer, WouldEnd, IsWithheldFor, IsUnendedFor}
+use Rattle.redo_live.specs.Inside.Withheld as withheld
 use Rattle.redo_live.specs.declared.fault.Unanswered.{Unanswered as Why}
 use Rattle.redo_live.specs.declared.fault.Unanswered.TheVariants.{Memory, Worn, Fault}
 use Rattle.redo_live.specs.declared.fault.Withheld.{Withheld}
 use Rattle.redo_live.specs.declared.fault.Withheld.TheVariants.{Unanswered, TooLong}
-use Rattle.redo_talk.specs.Rounds.{Round, Asks, HasNoSession, IsFaultWord, end_word, end_text_of, fault_text_of}
+use Rattle.redo_talk.specs.Rounds.{Round, Asks, HasNoSession, IsFaultWord, end_word, end_text_of, names_word, fault_text_of}
 use Rattle.redo_talk.specs.Inside.Sending.{IsRefusedFor, refusal_word_of}
 use Rattle.redo_talk.specs.declared.replying.Replied.TheVariants as replies
 use Rattle.redo_talk.specs.Inside.Steps.{Known, Refusing, IsStep}
 use Rattle.redo_talk.specs.Inside.Hearing.{known_of}
 use Rattle.redo_talk.specs.Inside.Replies.{IsReplied, TellsRound, WouldTell, IsPutOffFor, IsUndoneFor, IsUnheededFor, IsUnsaidFor, IsUntoldFor}
 use Rattle.redo_talk.proofs.LoggedPrefixes.{logs_prefix}
-use Rattle.redo_talk.proofs.Steps.{answering_step, ending_step, telling_step, held_are_known}
+use Rattle.redo_talk.proofs.Steps.{answering_step, ending_step, telling_step, telling_all_step, held_are_known}
 
 pub done_is_step : (old new : Known) (round : Round) → IsReplied replies.Done old new round
     → IsStep old new round
 done_is_step old new round (inl is) = inl is
 done_is_step old new round (inr (inl is)) = inr (inl is)
-done_is_step old new round (inr (inr is)) = inr (inr (inl is))
+done_is_step old new round (inr (inr (inl is))) = inr (inr (inl is))
+done_is_step old new round (inr (inr (inr is))) = inr (inr (inr (inl is)))
 
 -- why a command is refused
 pub command_cause : (live : LiveState) (text : Text) (why : Why)
@@ -87,10 +89,26 @@ module _ (old : LiveState) (heard : Text) (session : ℕ) where
       record {
         round = round;
         heard_is = is_heard;
-        step = inr (inr step);
+        step = inr (inr (inl step));
         says = says;
         logs = logs;
         prefix = logs_prefix (known_of old) (known_of new) round (inr (inr (inl step)));
+      }
+
+  pub told_all_round : (new : LiveState) → IsAsKnown old new → (said said' logged : Text)
+      → Asks heard session names_word
+      → said' ≡ said ++ names_line session old.names (state_in old)
+      → TellsRound replies.Done (known_of old) (known_of new) heard said said' logged logged
+  told_all_round new same said said' logged asks e =
+      let (round, is_heard, step, says, logs) =
+      telling_all_step old new heard session said said' logged asks same e in
+      record {
+        round = round;
+        heard_is = is_heard;
+        step = inr (inr (inr step));
+        says = says;
+        logs = logs;
+        prefix = logs_prefix (known_of old) (known_of new) round (inr (inr (inr (inl step))));
       }
 
   -- and what the answer would be
@@ -170,6 +188,24 @@ module _ (old : LiveState) (heard : Text) (session : ℕ) where
     size_is = e;
   }
 
+  pub would_tell_all : (size : ℕ) → size ≡ length (names_line session old.names (state_in old))
+      → Asks heard session names_word → WouldTell (known_of old) heard size
+  would_tell_all size e asks = record {
+    round =
+        record { heard = heard; lines = []; said = names_line session old.names (state_in old) };
+    next = known_of old;
+    heard_is = refl;
+    step = inr (inr (inr (inl (record {
+      session = session;
+      asks = asks;
+      tells = refl;
+      same_names = refl;
+      same_state = refl;
+      none = refl;
+    }))));
+    size_is = e;
+  }
+
 -- the line of a fault, whose line has no session or this cause
 abbrev IsFaultLine : List Text → Text → Text → Type 0
 IsFaultLine names heard line =
@@ -208,7 +244,7 @@ module _ (old new : LiveState) (same : IsAsKnown old new) (heard line : Text)
       round = refused;
       next = known_of new;
       heard_is = refl;
-      step = inr (inr (inr refusing));
+      step = inr (inr (inr (inr refusing)));
       size_is = e;
     }
 
@@ -226,18 +262,29 @@ undone_end live session text most (TooLong size) is (more, would) = (
   λ heard asks. would_end live heard session size would (subst (Asks heard session) is asks),
 )
 
-refused_for : (names : List Text) (text : Text) (why : Why) → text ≢ end_word
+pub undone_names : (live : LiveState) (session : ℕ) (text : Text) (most : ℕ) (why : Withheld)
+    → text ≡ names_word
+    → withheld.IsUntoldFor (names_line session live.names (state_in live)) most why
+    → IsUndoneFor live session text most why
+undone_names live session text most (Unanswered why) is e = inr (inl (ap refusal_word_of e))
+undone_names live session text most (TooLong size) is (more, e) = (
+  more,
+  λ heard asks. would_tell_all live heard session size e (subst (Asks heard session) is asks),
+)
+
+refused_for : (names : List Text) (text : Text) (why : Why) → text ≢ end_word → text ≢ names_word
     → IsRefusedFor names text why → IsFaultWord names text (refusal_word_of why)
-refused_for names text Memory other cause = inr (inl refl)
-refused_for names text Worn other cause = inr (inr refl)
-refused_for names text (Fault fault) other cause = inl (fault, other, cause, refl)
+refused_for names text Memory other another cause = inr (inl refl)
+refused_for names text Worn other another cause = inr (inr refl)
+refused_for names text (Fault fault) other another cause =
+    inl (fault, other, another, cause, refl)
 
 pub undone : (live : LiveState) (session : ℕ) (text : Text) (most : ℕ) (why : Withheld)
-    → text ≢ end_word → IsUnheededFor live session text most why
+    → text ≢ end_word → text ≢ names_word → IsUnheededFor live session text most why
     → IsUndoneFor live session text most why
-undone live session text most (Unanswered why) other cause =
-    refused_for live.names text why other cause
-undone live session text most (TooLong size) other cause = cause
+undone live session text most (Unanswered why) other another cause =
+    refused_for live.names text why other another cause
+undone live session text most (TooLong size) other another cause = cause
 
 pub unheeded_command : (live : LiveState) (session : ℕ) (text : Text) (most : ℕ) (why : Withheld)
     → inquiry_in (words_of text) ≡ None → IsWithheldFor live session text most why

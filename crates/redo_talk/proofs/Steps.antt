@@ -19,14 +19,14 @@ use Rattle.redo_history.proofs.KnownNames.{AreKnown, all_members}
 use Rattle.redo_history.specs.Histories.{line_text_of}
 use Rattle.redo_text.specs.Inquiries.{inquiry_text_of, inquiry_fault}
 use Rattle.redo_text.specs.declared.inquiries.Inquiry.{Inquiry}
-use Rattle.redo_live.specs.Answers.{AnswersInquiry}
+use Rattle.redo_live.specs.Answers.{AnswersInquiry, names_line}
 use Rattle.redo_live.specs.Inside.Answered.{logged_text}
 use Rattle.redo_live.specs.Inside.LiveState.{LiveState, IsAsKnown, state_in}
 use Rattle.redo_live.specs.Inside.Told.{AnswersText, EndsSession}
 use Rattle.redo_live.specs.Lines.{lines_text_of}
-use Rattle.redo_talk.specs.Rounds.{Round, Asks, end_word, end_text_of}
+use Rattle.redo_talk.specs.Rounds.{Round, Asks, end_word, end_text_of, names_word}
 use Rattle.redo_talk.specs.Logs.{logged_of}
-use Rattle.redo_talk.specs.Inside.Steps.{Answering, Ending, Telling}
+use Rattle.redo_talk.specs.Inside.Steps.{Answering, Ending, Telling, TellingAll}
 use Rattle.redo_talk.specs.Inside.Hearing.{known_of}
 
 -- what one line logs
@@ -166,6 +166,27 @@ module _ (old new : LiveState) (heard : Text) (session : ℕ) where
       asks = subst (Asks heard session) is asks;
       fits = subst (λ t. inquiry_fault t ≡ None) is fits;
       tells = tells;
+      same_names = same.names;
+      same_state = same.state;
+      none = refl;
+    },
+    e,
+    sym (append-nil logged),
+  )
+
+  -- the answer about all names
+  pub telling_all_step : (said said' logged : Text) → Asks heard session names_word
+      → IsAsKnown old new → said' ≡ said ++ names_line session old.names (state_in old)
+      → (round : Round) × (round.heard ≡ heard) × TellingAll (known_of old) (known_of new) round
+      × (said' ≡ said ++ round.said)
+      × (logged ≡ logged ++ logged_of (state_in old) round.lines)
+  telling_all_step said said' logged asks same e = (
+    record { heard = heard; lines = []; said = names_line session old.names (state_in old) },
+    refl,
+    record {
+      session = session;
+      asks = asks;
+      tells = refl;
       same_names = same.names;
       same_state = same.state;
       none = refl;

@@ -14,7 +14,7 @@ use Rattle.redo_text.specs.Faults.{fault_word_of}
 use Rattle.redo_text.specs.declared.fault.LineFault.{LineFault}
 use Rattle.redo_history.specs.Histories.{ended, line_text_of}
 use Rattle.redo_live.specs.Lines.{names_after}
-use Rattle.redo_live.specs.Answers.{AnswersInquiry}
+use Rattle.redo_live.specs.Answers.{AnswersInquiry, names_line}
 
 -- a line that was read, without its LF; the lines of the history that it made; its answer
 pub record Round : Type 0 where
@@ -62,6 +62,16 @@ pub record IsTold (before : List (Line Text)) (round : Round) : Type 0 where
   pub tells : AnswersInquiry (left_by texts empty before) session inquiry name round.said
   pub none : round.lines ≡ []
 
+abbrev pub names_word : Text
+names_word = codes "names"
+
+-- the line asks what is known of all names: the answer is right after the history so far
+pub record IsToldAll (before : List (Line Text)) (round : Round) : Type 0 where
+  pub session : ℕ
+  pub asks : Asks round.heard session names_word
+  pub tells : round.said ≡ names_line session (names_after before) (left_by texts empty before)
+  pub none : round.lines ≡ []
+
 -- the line of a fault
 abbrev pub fault_text_of : Text → Text → Text
 fault_text_of number word = ended (number ++ codes " fault " ++ word)
@@ -70,11 +80,11 @@ fault_text_of number word = ended (number ++ codes " fault " ++ word)
 abbrev pub HasNoSession : Text → Type 0
 HasNoSession heard = (s : ℕ) (text : Text) → ¬ (Asks heard s text)
 
--- the word of the first fault of a text that is no end, or of running out of memory or of counters
+-- the word of the first fault of a text that is neither `end` nor `names`, or of running out of memory or of counters
 abbrev pub IsFaultWord : List Text → Text → Text → Type 0
 IsFaultWord names text word =
-    ((fault : LineFault) × (text ≢ end_word) × (asked_fault 16777216 names text ≡ Some fault)
-    × (word ≡ fault_word_of fault))
+    ((fault : LineFault) × (text ≢ end_word) × (text ≢ names_word)
+    × (asked_fault 16777216 names text ≡ Some fault) × (word ≡ fault_word_of fault))
     ⊎ ((word ≡ codes "memory") ⊎ (word ≡ codes "worn"))
 
 -- the line has a fault: that is the answer, and the line made no line of the history
@@ -88,7 +98,8 @@ pub record IsFaulty (before : List (Line Text)) (round : Round) : Type 0 where
 
 abbrev pub IsRound : List (Line Text) → Round → Type 0
 IsRound before round =
-    IsAnswered before round ⊎ (IsEnded before round ⊎ (IsTold before round ⊎ IsFaulty before round))
+    IsAnswered before round ⊎ (IsEnded before round ⊎ (IsTold before round
+    ⊎ (IsToldAll before round ⊎ IsFaulty before round)))
 
 -- each is a round after the lines of the history before it
 abbrev pub AreRounds : List (Line Text) → List Round → Type 0

@@ -54,7 +54,7 @@ fn tell_within(
     Ok(())
 }
 
-/// Does a session's command or question, which isn't its end, if the answer has at most `most` bytes.
+/// Does a session's command or question about a name, if the answer has at most `most` bytes.
 fn heed_within(
     alloc: Global,
     live: &mut Live,
@@ -103,6 +103,9 @@ pub(crate) fn respond_within(
 {
     if text == b"end".as_slice() {
         return live.end_within(alloc, session, most, said, logged);
+    }
+    if text == b"names".as_slice() {
+        return live.tell_names(alloc, session, most, said);
     }
     heed_within(alloc, live, session, text, most, said, logged)
 }

@@ -16,6 +16,8 @@ enum Ask {
     Deps(&'static str),
     Users(&'static str),
     State(&'static str),
+    /// What is known of all names, if that has at most this many bytes.
+    NamesWithin(usize),
     /// The command `gone` of this many names: `n0`, `n1` and so on.
     Gone(u32),
 }
@@ -34,7 +36,7 @@ enum Told {
     Fault(LineFault),
 }
 
-use Ask::{Answer, Deps, End, EndWithin, Gone, State, Users, Why, Within};
+use Ask::{Answer, Deps, End, EndWithin, Gone, NamesWithin, State, Users, Why, Within};
 use Told::{Ended, Fault, Logged, Nothing, Said, TooLong};
 
 /// The session, counted from 0, what it asks for, and what it is answered.
@@ -142,6 +144,12 @@ const TOO_LONG: &[Step] = &[
     (0, Within("ood", 0), TooLong(13)),
     (0, Within("ood", 12), TooLong(13)),
     (0, Within("ood", 13), Said("1 ood => ood\n")),
+    (0, NamesWithin(31), TooLong(32)),
+    (
+        0,
+        NamesWithin(32),
+        Said("1 names => 1 a - building 0 - -\n"),
+    ),
     (0, EndWithin(45), TooLong(46)),
     (
         0,
@@ -224,11 +232,7 @@ const QUESTIONS: &[Step] = &[
         Users("z.h"),
         Said("2 users z.h => change 2 b t created 0\n"),
     ),
-    (
-        1,
-        Users("t"),
-        Said("2 users t => change 1 top created 0\n"),
-    ),
+    (1, Users("t"), Said("2 users t => change 1 top created 0\n")),
     (
         1,
         Users("new.h"),
@@ -238,6 +242,19 @@ const QUESTIONS: &[Step] = &[
         1,
         Users("nobody"),
         Said("2 users nobody => change 0 created 0\n"),
+    ),
+    (
+        0,
+        Answer("stamp b 61"),
+        Logged("1 stamp b 61 => stamped 86f7e437faa5a7fce15d1ddcb9eaeaea377667b8\n"),
+    ),
+    (
+        1,
+        NamesWithin(1000),
+        Said(
+            "2 names => 6 z.h 1 idle 0 - - a.h 1 idle 0 - - t 5 built 1 5 - new.h - idle 0 - - \
+            top - built 1 - - b - building 0 - 86f7e437faa5a7fce15d1ddcb9eaeaea377667b8\n",
+        ),
     ),
 ];
 
@@ -288,6 +305,7 @@ fn answer_to(
         Deps(name) => inquire(alloc, live, session, (Inquiry::Deps, name), said),
         Users(name) => inquire(alloc, live, session, (Inquiry::Users, name), said),
         State(name) => inquire(alloc, live, session, (Inquiry::State, name), said),
+        NamesWithin(most) => live.tell_names(alloc, session, most, said),
         Gone(count) => withheld(tell_gone(alloc, live, count)),
     }
 }
@@ -319,6 +337,7 @@ fn named(asked: Ask) -> &'static str {
             text
         }
         End | EndWithin(_) => "end",
+        NamesWithin(_) => "names",
         Gone(_) => "gone",
     }
 }

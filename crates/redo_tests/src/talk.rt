@@ -59,7 +59,7 @@ const QUESTIONS: Talk = (
     "1 file util.h 1\n1 lock util.o\n1 start util.o\n1 ifchange util.o util.h\n1 done util.o 2\n\
     1 lock app\n1 start app\n1 ifchange app util.o\n1 done app 3\n1 file util.h 4\n2 why app\n\
     2 why util.h\n2 deps util.o\n2 state app\n2 state b\n2 deps b\n2 why b\n3 why\n3 deps a b\n\
-    3 state -\n3 users util.o\n3 users\n",
+    3 state -\n3 users util.o\n3 users\n3 names\n3 names a\n",
     "1 file util.h 1 => ok\n1 lock util.o => granted 1\n1 start util.o => ok\n\
     1 ifchange util.o util.h => ok\n1 done util.o 2 => ok\n1 lock app => granted 1\n\
     1 start app => ok\n1 ifchange app util.o => ok\n1 done app 3 => ok\n1 file util.h 4 => ok\n\
@@ -68,7 +68,9 @@ const QUESTIONS: Talk = (
     2 state app => built lock 1 file 3\n2 state b => idle lock - file -\n\
     2 deps b => change 0 created 0 always 0\n2 why b => clean\n3 fault wrong-words\n\
     3 fault wrong-words\n3 fault bad-name\n3 users util.o => change 1 app created 0\n\
-    3 fault wrong-words\n",
+    3 fault wrong-words\n\
+    3 names => 3 util.h 4 idle 0 - - util.o 2 built 1 2 - app 3 built 1 3 -\n\
+    3 fault unknown-command\n",
     "1 file util.h 1 => ok\n1 lock util.o => granted 1\n1 start util.o => ok\n\
     1 ifchange util.o util.h => ok\n1 done util.o 2 => ok\n1 lock app => granted 1\n\
     1 start app => ok\n1 ifchange app util.o => ok\n1 done app 3 => ok\n1 file util.h 4 => ok\n",

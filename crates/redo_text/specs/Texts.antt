@@ -1,5 +1,5 @@
 -- The texts of commands and replies.
-use Rattle.std.specs.Prelude.{Bool, true, false, List, [], ◌∷◌, ◌++◌, Option, Some, None, codes, decimal}
+use Rattle.std.specs.Prelude.{ℕ, Bool, true, false, List, [], ◌∷◌, ◌++◌, Option, Some, None, codes, decimal}
 use Rattle.std.specs.List.{flat_map}
 use Rattle.hex.specs.Hex.{encode_lower}
 use Rattle.redo_model.specs.Names.{Text}
@@ -21,6 +21,11 @@ spaced first others = first ++ flat_map after_space others
 abbrev pub stamp_word : Option Text → Text
 stamp_word None = codes "-"
 stamp_word (Some stamp) = stamp
+
+-- "-" means no digest
+abbrev pub digest_word : Option (List ℕ) → Text
+digest_word None = codes "-"
+digest_word (Some digest) = encode_lower digest
 
 -- "-" means empty content
 abbrev pub content_word : Text → Text

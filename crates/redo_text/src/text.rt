@@ -1,4 +1,4 @@
-ghost use Rattle.std.specs.Prelude.{◌≡◌, ◌<◌, ◌++◌, ℕ, List, map, length, decimal, IfOk, OnOk};
+ghost use Rattle.std.specs.Prelude.{◌≡◌, ◌<◌, ◌++◌, ℕ, List, map, length, decimal, option_map, IfOk, OnOk};
 ghost use Rattle.std.specs.List.{flat_map};
 ghost use Rattle.hex.specs.Hex.{encode_lower};
 ghost use Rattle.redo_model.specs.Names.{text_at};
@@ -6,7 +6,7 @@ ghost use Rattle.redo_model.specs.Reply.{Refused};
 ghost use Rattle.redo_model.specs.Renaming.{IsBelow, IsReplyBelow, AllBelow, named_refusal};
 ghost use Rattle.redo_terms.specs.Meaning.{command_of, reply_of, refusal_of, reply_at};
 ghost use Rattle.redo_terms.specs.Inside.Meaning.{kind_of, command_at, item_at};
-ghost use Rattle.redo_text.specs.Texts.{after_space, stamp_word, content_word, refusal_words, word_of, command_text_of, item_text_of, reply_text_of};
+ghost use Rattle.redo_text.specs.Texts.{after_space, stamp_word, digest_word, content_word, refusal_words, word_of, command_text_of, item_text_of, reply_text_of};
 
 use crate::keywords::keyword;
 use itoa::Buffer;
@@ -50,6 +50,25 @@ fn put_hex(alloc: Global, out: &mut Vec<u8>, bytes: &[u8]) -> Result<(), AllocEr
     ensures { OnOk result (out.new.items ≡ out.old.items ++ after_space (encode_lower bytes.now)) }
 {
     put_word(out, hex::encode(alloc, bytes)?.as_bytes())
+}
+
+fn put_digest(out: &mut Vec<u8>, digest: &[u8; 20]) -> Result<(), AllocError>
+    ensures { OnOk result (out.new.items ≡ out.old.items ++ after_space (encode_lower digest.now)) }
+{
+    let mut digits = [0; 40];
+    let _fits = hex::encode_to_slice(digest, &mut digits);
+    put_word(out, &digits)
+}
+
+/// Writes a digest as hexadecimal digits in lower case, or `-` for none.
+pub fn put_digest_or_none(out: &mut Vec<u8>, digest: Option<&[u8; 20]>) -> Result<(), AllocError>
+    ensures { OnOk result (out.new.items ≡ out.old.items
+        ++ after_space (digest_word (option_map (λ bytes. bytes.now) digest.entry))) }
+{
+    match digest {
+        None => put_word(out, b"-"),
+        Some(digest) => put_digest(out, digest),
+    }
 }
 
 /// Writes content, or `-` for none.

@@ -57,3 +57,8 @@ pub record WouldEnd (live : LiveState) (session size : ℕ) : Type 0 where
 abbrev pub IsUnendedFor : LiveState → ℕ → ℕ → Withheld → Type 0
 IsUnendedFor live session most (Unanswered why) = why ≡ Memory
 IsUnendedFor live session most (TooLong size) = (most < size) × WouldEnd live session size
+
+-- memory ran out, or this text is longer than `most`
+abbrev pub IsUntoldFor : Text → ℕ → Withheld → Type 0
+IsUntoldFor text most (Unanswered why) = why ≡ Memory
+IsUntoldFor text most (TooLong size) = (most < size) × (size ≡ length text)

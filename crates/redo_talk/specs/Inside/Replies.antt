@@ -14,7 +14,7 @@ use Rattle.redo_talk.specs.Rounds.{Round, Asks, IsFaultWord}
 use Rattle.redo_talk.specs.Logs.{logged_of}
 use Rattle.redo_talk.specs.Inside.Hearing.{known_of}
 use Rattle.redo_talk.specs.Inside.Sending.{IsRefusedFor, refusal_word_of}
-use Rattle.redo_talk.specs.Inside.Steps.{Known, Answering, Ending, Telling, Refusing, IsStep}
+use Rattle.redo_talk.specs.Inside.Steps.{Known, Answering, Ending, Telling, TellingAll, Refusing, IsStep}
 
 -- what the round logs is a prefix of its answer
 abbrev pub LogsPrefix : State Text → Round → Type 0
@@ -23,7 +23,8 @@ LogsPrefix st round = (rest : Text) × (round.said ≡ logged_of st round.lines 
 -- a command, an end or a question was answered; or the line has a fault, which is the answer
 abbrev pub IsReplied : Replied → Known → Known → Round → Type 0
 IsReplied Done old new round =
-    Answering old new round ⊎ (Ending old new round ⊎ Telling old new round)
+    Answering old new round
+    ⊎ (Ending old new round ⊎ (Telling old new round ⊎ TellingAll old new round))
 IsReplied Fault old new round = Refusing old new round
 
 -- the line was read, its round is one of those of `replied`, and was appended to `said` and `logged`
@@ -57,7 +58,7 @@ IsUntoldFor st session inquiry name most (TooLong size) =
     (most < size)
     × ((line : Text) × AnswersInquiry st session inquiry name line × (size ≡ length line))
 
--- why a text that is no end was refused
+-- why a text that is neither `end` nor `names` was refused
 abbrev pub IsUnheededFor : LiveState → ℕ → Text → ℕ → Withheld → Type 0
 IsUnheededFor live session text most (Unanswered why) = IsRefusedFor live.names text why
 IsUnheededFor live session text most (TooLong size) =

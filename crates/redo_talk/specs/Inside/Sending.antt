@@ -13,7 +13,7 @@ refusal_word_of Memory = codes "memory"
 refusal_word_of Worn = codes "worn"
 refusal_word_of (Fault fault) = fault_word_of fault
 
--- why a text that is no end was not answered: memory or calls ran out, or it has a fault
+-- why a text that is neither `end` nor `names` was not answered: memory or calls ran out, or it has a fault
 abbrev pub IsRefusedFor : List Text → Text → Unanswered → Type 0
 IsRefusedFor names text Memory = ⊤
 IsRefusedFor names text Worn = ⊤

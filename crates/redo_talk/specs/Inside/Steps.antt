@@ -12,9 +12,9 @@ use Rattle.redo_text.specs.Grammar.{IsCommandLine, with_names}
 use Rattle.redo_text.specs.Inquiries.{inquiry_text_of, inquiry_fault}
 use Rattle.redo_text.specs.declared.inquiries.Inquiry.{Inquiry}
 use Rattle.redo_history.specs.Histories.{line_text_of}
-use Rattle.redo_live.specs.Answers.{AnswersInquiry}
+use Rattle.redo_live.specs.Answers.{AnswersInquiry, names_line}
 use Rattle.redo_live.specs.Lines.{names_after}
-use Rattle.redo_talk.specs.Rounds.{Round, Asks, IsFaultWord, HasNoSession, end_word, end_text_of, fault_text_of}
+use Rattle.redo_talk.specs.Rounds.{Round, Asks, IsFaultWord, HasNoSession, end_word, end_text_of, names_word, fault_text_of}
 
 -- the names of the commands so far, and the state over names
 pub record Known : Type 0 where
@@ -64,6 +64,15 @@ pub record Telling (old new : Known) (round : Round) : Type 0 where
   pub same_state : new.state ≡ old.state
   pub none : round.lines ≡ []
 
+-- what is known of all names was answered
+pub record TellingAll (old new : Known) (round : Round) : Type 0 where
+  pub session : ℕ
+  pub asks : Asks round.heard session names_word
+  pub tells : round.said ≡ names_line session old.names old.state
+  pub same_names : new.names ≡ old.names
+  pub same_state : new.state ≡ old.state
+  pub none : round.lines ≡ []
+
 -- a fault was answered
 pub record Refusing (old new : Known) (round : Round) : Type 0 where
   pub same_names : new.names ≡ old.names
@@ -77,7 +86,8 @@ pub record Refusing (old new : Known) (round : Round) : Type 0 where
 abbrev pub IsStep : Known → Known → Round → Type 0
 IsStep old new round =
     Answering old new round
-    ⊎ (Ending old new round ⊎ (Telling old new round ⊎ Refusing old new round))
+    ⊎ (Ending old new round ⊎ (Telling old new round
+    ⊎ (TellingAll old new round ⊎ Refusing old new round)))
 
 -- one step for each round, from the old to the new
 abbrev pub AreSteps : Known → Known → List Round → Type 0

@@ -24,7 +24,8 @@ by_texts c =
     let created = c.sort-2.new.numbers.items in
     let within = subst (λ (l : LiveState). IsStateWithin (length l.names) (state_of l.tables))
     c.self.view_is c.self.invariant.state.within in
-    let rows = subst (λ (l : LiveState). AreUsers by_number (tables_records l.tables) c.args.n users)
+    let rows = subst
+    (λ (l : LiveState). AreUsers by_number (tables_records l.tables) c.args.n users)
     c.self.view_is c.in_ok-users.ensures.users in
     let changes = subst
     (λ (l : LiveState). AreSortedAgain (by_text l.names).order users.change change)
