@@ -18,6 +18,8 @@ pub mod places {
     pub const LOG: &[u8] = b"log";
     /// What the stamps of files are.
     pub const STAMPS: &[u8] = b"stamps";
+    /// What `redo-stamp` was told by the latest builds.
+    pub const CONTENTS: &[u8] = b"contents";
     /// The server's folder, which is the owner's alone.
     pub const SERVER: &[u8] = b"server";
     /// The socket that the server listens on.

@@ -58,6 +58,8 @@ pub enum Failure {
     NotStarted(FileError),
     /// The first line of the program is this one.
     NoGreeting(Vec<u8>),
+    /// It was asked for all that it knows, and this is its reply, or the beginning of that.
+    NoNames(Vec<u8>),
     /// It has answered this line, which nobody asked for.
     Unasked(Vec<u8>),
     /// It has ended, and said why.
@@ -94,6 +96,10 @@ impl fmt::Display for Failure {
             Failure::NoGreeting(line) => {
                 let line = line.escape_ascii();
                 write!(formatter, "not the greeting of redodb-live: b'{line}'")
+            }
+            Failure::NoNames(reply) => {
+                let reply = reply.escape_ascii();
+                write!(formatter, "not what redodb-live knows: b'{reply}'")
             }
             Failure::Unasked(line) => {
                 let line = line.escape_ascii();

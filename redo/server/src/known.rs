@@ -1,24 +1,24 @@
 //! What the database knows of the files, learnt from its own lines.
 
+mod contents_told;
 mod learning;
 mod looking;
 
-use std::collections::{BTreeSet, HashSet};
+use std::collections::{BTreeSet, HashMap, HashSet};
 use std::rc::Rc;
 
-use redo_core::{Digest, Name, Stamp};
+use redo_core::{Name, Stamp};
 use redo_files::contents::Contents;
 use redo_files::expected::Expected;
 use redo_files::names::{EDITED, LEFT};
-use redo_files::stamp::{Digest as LookDigest, Stamp as LookStamp};
+use redo_files::stamp::Stamp as LookStamp;
 
 use crate::interned::Interned;
 use crate::names::{Facts, FileStamp, Made, Names};
+use crate::sha1::Sum;
 
 /// The stamp of `//left/NAME` where a failed build left no file.
 const NO_FILE: &[u8] = b"none";
-/// Begins a content among the stamps: no stamp has a space.
-const CONTENT: &[u8] = b"content ";
 
 /// Each name's file stamp, which names are building, and what the last `done` of each target said,
 /// after the lines that were learnt; and with it what the files are to look like.
@@ -26,8 +26,12 @@ const CONTENT: &[u8] = b"content ";
 pub struct Known {
     pub names: Names,
     pub contents: Contents,
-    /// The stamps of files, and what builds said that their content is.
+    /// The stamps of files, and the contents that this server was told.
     stamps: Interned<FileStamp>,
+    /// What builds said that their content is, as the database keeps it.
+    sums: Interned<Sum>,
+    /// The contents of sums, among the stamps, as far as this server was told them.
+    told: HashMap<u32, u32>,
     expected: Expected,
     /// The targets that have a file which no build of them left.
     edited: BTreeSet<Rc<[u8]>>,
@@ -52,6 +56,8 @@ impl Known {
                 FileStamp::parse(NO_FILE),
                 FileStamp::Look(LookStamp::Folder),
             ]),
+            sums: Interned::new([]),
+            told: HashMap::new(),
             expected: Expected::new(),
             edited: BTreeSet::new(),
             shadows: BTreeSet::new(),
@@ -82,39 +88,13 @@ impl Known {
         Stamp(self.stamps.number(stamp))
     }
 
-    /// Returns the number of a content, by the bytes that are told of it.
-    pub fn digest_numbered(&mut self, told: &[u8]) -> Digest {
-        let content = match LookDigest::from_bytes(told) {
-            Some(digest) => FileStamp::Look(LookStamp::Digest(digest)),
-            None => FileStamp::Word([CONTENT, told].concat().into()),
-        };
-        Digest(u64::from(self.stamps.number(&content)))
-    }
-
-    /// Returns the bytes that are told of a content.
-    pub fn digest_told(&self, digest: Digest) -> &[u8] {
-        let number = u32::try_from(digest.0).ok();
-        match number.and_then(|number| self.stamps.thing(number)) {
-            Some(FileStamp::Look(LookStamp::Digest(digest))) => digest.bytes(),
-            Some(FileStamp::Word(word)) => word.strip_prefix(CONTENT).unwrap_or_default(),
-            _ => b"",
-        }
-    }
-
-    /// Returns the number of the content that a look found in a target's file. A folder has none.
-    pub fn content_of(&self, stamp: Option<Stamp>) -> Option<Digest> {
-        let stamp = stamp?;
-        match self.stamps.thing(stamp.0)? {
-            FileStamp::Look(LookStamp::Digest(_)) => Some(Digest(u64::from(stamp.0))),
-            _ => None,
-        }
-    }
-
     /// Forgets stamps and contents that no name has, if there are many.
     pub fn forget_unused(&mut self) {
-        if self.stamps.is_crowded() {
+        if self.stamps.is_crowded() || self.sums.is_crowded() {
+            self.forget_unused_sums();
             let facts = self.names.iter().map(|(_, _, facts)| facts);
-            let used: HashSet<u32> = facts.flat_map(stamps_of).map(|stamp| stamp.0).collect();
+            let mut used: HashSet<u32> = facts.flat_map(stamps_of).map(|stamp| stamp.0).collect();
+            used.extend(self.told.values());
             let kept = [redo_core::NO_FILE.0, redo_core::FOLDER.0];
             self.stamps
                 .keep(|number| used.contains(&number) || kept.contains(&number));
@@ -200,8 +180,7 @@ fn stamps_of(facts: &Facts) -> impl Iterator<Item = Stamp> {
         Made::File(made) => Some(made),
         Made::Never | Made::NoFile => None,
     };
-    let digest = facts.digest.map(Stamp);
-    facts.stamp.into_iter().chain(made).chain(digest)
+    facts.stamp.into_iter().chain(made)
 }
 
 #[cfg(test)]

@@ -51,8 +51,8 @@
 //! | [`timers`] | what is done at a moment |
 //! | [`sessions`], [`waits`] | who has which session, and who waits for which lock |
 //! | [`conversation`] | a command goes to the database, and its reply comes back |
-//! | [`names`], [`log`], [`known`] | what the database knows of the files, and how they differ |
-//! | [`interned`] | numbers of stamps |
+//! | [`names`], [`known`] | what the database knows of the files, and how they differ |
+//! | [`interned`], [`sha1`] | numbers of stamps, and of contents by their digests |
 //! | [`others`] | what the machine is to know of what text clients have done |
 //! | [`naming`] | the names of the paths of a call |
 //! | [`marks`], [`recovering`] | whether the log is whole, and what to do if it isn't |
@@ -75,7 +75,6 @@ pub mod interned;
 pub mod json;
 pub mod known;
 pub mod live;
-pub mod log;
 pub mod marks;
 pub mod names;
 pub mod naming;
@@ -87,6 +86,7 @@ pub mod random;
 pub mod recovering;
 pub mod server;
 pub mod sessions;
+pub mod sha1;
 pub mod steps;
 pub mod store;
 pub mod system;

@@ -12,8 +12,8 @@ use redo_files::private::Home;
 use redo_files::system::Folder;
 use redo_files::trust::Trust;
 
+use crate::conversation::Told;
 use crate::known::Known;
-use crate::log::LogReader;
 
 /// The stamps of plain files that hold one digit: what `b2sum -l 224` of coreutils prints for
 /// `file 0`, NUL and the digit.
@@ -52,20 +52,19 @@ impl Tree {
         fs::remove_file(self.at(path)).unwrap();
     }
 
-    /// What is known after a log with these lines, all of session 1.
+    /// What is known after these lines, all of session 1.
     pub fn known(&self, lines: &[&str]) -> Known {
-        let lines: String = lines.iter().map(|line| format!("1 {line}\n")).collect();
-        self.write(".redo/log", &format!("redodb-log 1\n{lines}"));
-        let folder = Folder::open(self.home.top()).unwrap();
-        let contents = Contents::new(folder, Clock::new(b".redo/log"), b"boot");
-        let mut known = Known::new(contents);
-        known.learn_log(&mut self.log());
+        let mut known = self.nothing_known();
+        for line in lines {
+            known.learn(&Told::parse(format!("1 {line}").as_bytes()));
+        }
         known
     }
 
-    /// A reader of the log.
-    pub fn log(&self) -> LogReader {
-        LogReader::new(self.at(".redo/log").as_os_str().as_bytes())
+    /// What is known before the first line.
+    pub fn nothing_known(&self) -> Known {
+        let folder = Folder::open(self.home.top()).unwrap();
+        Known::new(Contents::new(folder, Clock::new(b".redo/log"), b"boot"))
     }
 }
 

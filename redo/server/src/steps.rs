@@ -9,6 +9,8 @@ use crate::wire::RequestId;
 #[derive(Clone, Debug, PartialEq, Eq)]
 pub enum Taker {
     Nobody,
+    /// The server, which learns all that the database knows.
+    Names,
     /// The client that asked, as it is.
     Client(ClientId, RequestId),
     /// A look of a client, of which this reports one file.

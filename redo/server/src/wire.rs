@@ -240,7 +240,8 @@ pub fn needs_no_session(request: &[u8]) -> bool {
 fn is_question(request: &[u8]) -> bool {
     let (word, rest) = partition(request);
     match word {
-        b"why" | b"state" | b"deps" | b"ood" | b"targets" | b"sources" => true,
+        b"why" | b"state" | b"deps" | b"users" => true,
+        b"ood" | b"targets" | b"sources" | b"names" => true,
         b"file" => rest.starts_with(&[ALWAYS, b" "].concat()),
         _ => false,
     }
@@ -250,7 +251,7 @@ fn is_question(request: &[u8]) -> bool {
 pub fn may_be_long(request: &[u8]) -> bool {
     matches!(
         partition(request).0,
-        b"ood" | b"targets" | b"sources" | b"deps" | b"why"
+        b"ood" | b"targets" | b"sources" | b"names" | b"deps" | b"users" | b"why"
     )
 }
 
@@ -264,6 +265,15 @@ pub fn partition(text: &[u8]) -> (&[u8], &[u8]) {
     match text.iter().position(|byte| *byte == b' ') {
         Some(at) => (&text[..at], &text[at + 1..]),
         None => (text, b""),
+    }
+}
+
+/// Adds bytes to a text, as two hexadecimal digits each.
+pub fn put_digits(bytes: &[u8], text: &mut Vec<u8>) {
+    const DIGITS: &[u8; 16] = b"0123456789abcdef";
+    for byte in bytes {
+        text.push(DIGITS[usize::from(byte >> 4)]);
+        text.push(DIGITS[usize::from(byte & 15)]);
     }
 }
 

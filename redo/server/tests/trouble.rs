@@ -213,6 +213,28 @@ fn a_command_that_the_database_refuses_ends_the_run() {
 }
 
 #[test]
+fn a_database_that_does_not_say_what_it_knows_ends_the_server() {
+    for (edit, text) in [
+        ("s/ names => .*/ fault unknown-command/", "unknown-command"),
+        ("s/ names => .*/ names => 7 t 5/", "7 t 5"),
+    ] {
+        let mut tree = tree();
+        assert!(builds(&tree));
+        tree.restart_with_edited_answers(edit);
+        let mut link = tree.link();
+        link.call(tree.call(Program::IfChange, &["t"], None));
+        match link.message() {
+            Some(ToProgram::Error(line)) => {
+                let line = String::from_utf8(line).unwrap();
+                assert!(line.contains("not what redodb-live knows"), "{line}");
+                assert!(line.contains(text), "{line}");
+            }
+            other => panic!("{other:?}"),
+        }
+    }
+}
+
+#[test]
 fn a_database_that_ends_stops_all() {
     let tree = tree();
     tree.write("t.do", "wait go");

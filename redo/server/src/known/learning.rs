@@ -1,7 +1,7 @@
 //! What the lines of the database tell.
 
-use std::collections::BTreeSet;
 use std::rc::Rc;
+use std::str::FromStr;
 
 use redo_core::{Name, Stamp};
 use redo_files::names::{is_internal, EDITED, LEFT};
@@ -9,8 +9,8 @@ use redo_files::names::{is_internal, EDITED, LEFT};
 use crate::conversation::Told;
 use crate::groups::from_digits;
 use crate::known::Known;
-use crate::log::LogReader;
-use crate::names::{FileStamp, Made};
+use crate::names::{Facts, FileStamp, Made};
+use crate::sha1::Sum;
 
 /// What a command tells of its first name.
 #[derive(Clone, Copy, Debug, PartialEq, Eq)]
@@ -18,7 +18,8 @@ enum Telling<'a> {
     File(&'a [u8]),
     Gone,
     Start,
-    Stamp(&'a [u8]),
+    /// With the SHA-1 of the content, which the reply has.
+    Stamp(&'a [u8], &'a [u8]),
     Done(&'a [u8]),
     Failed,
 }
@@ -46,13 +47,63 @@ impl Known {
         (!is_same).then_some(name)
     }
 
-    /// Learns the lines of a log that weren't learnt yet, all of which changed something.
-    pub fn learn_log(&mut self, log: &mut LogReader) {
-        let mut moved = BTreeSet::new();
-        log.each_new_line(|line| moved.extend(self.take(&Told::parse(line))));
-        for name in moved {
-            self.expect(name);
+    /// Learns all that the database knows: the answer to `names`, `K NAME FILE STATE BUILDS DONE
+    /// DIGEST ..`. Says whether it is one.
+    pub fn learn_all(&mut self, answer: &[u8]) -> bool {
+        let mut words = answer.split(|byte| *byte == b' ');
+        let count = words.next().and_then(number_in::<usize>);
+        let mut names = Vec::new();
+        while let Some(name) = words.next() {
+            match self.take_name(name, &mut words) {
+                Some(number) => names.push(number),
+                None => return false,
+            }
         }
+        if count != Some(names.len()) {
+            return false;
+        }
+        names.into_iter().for_each(|name| self.expect(name));
+        true
+    }
+
+    /// Learns what is known of a name: the five words after it.
+    fn take_name<'a>(
+        &mut self,
+        name: &[u8],
+        words: &mut impl Iterator<Item = &'a [u8]>,
+    ) -> Option<Name> {
+        let mut next = || words.next().filter(|word| !word.is_empty());
+        let name = Some(name).filter(|name| !name.is_empty())?;
+        let (stamp, state, builds) = (next()?, next()?, next()?);
+        let (done, digest) = (next()?, next()?);
+        let (is_building, has_failed) = match state {
+            b"idle" | b"built" => (false, false),
+            b"building" => (true, false),
+            b"failed" => (false, true),
+            _ => return None,
+        };
+        let builds = number_in(builds)?;
+        let digest = match digest {
+            b"-" => None,
+            digits => Some(self.sum_numbered(&sum_in(digits)?)),
+        };
+        let done = self.parse_stamp_or_none(done);
+        let made = match builds {
+            0 => Made::Never,
+            _ => done.map_or(Made::NoFile, Made::File),
+        };
+        let stamp = self.parse_stamp_or_none(stamp);
+        let (number, _) = self.names.add(name);
+        *self.names.facts_mut(number) = Facts {
+            stamp,
+            made,
+            digest,
+            builds,
+            is_building,
+            has_failed,
+            is_told: true,
+        };
+        Some(number)
     }
 
     /// Learns a line, and returns the names of which something else is expected from now on.
@@ -62,13 +113,16 @@ impl Known {
             [b"file", name, stamp] => (name, Telling::File(stamp)),
             [b"gone", name] => (name, Telling::Gone),
             [b"start", name] => (name, Telling::Start),
-            [b"stamp", name, content] => (name, Telling::Stamp(content)),
+            [b"stamp", name, content] => match told.reply.strip_prefix(b"stamped ") {
+                Some(sum) => (name, Telling::Stamp(content, sum)),
+                None => return Vec::new(),
+            },
             [b"done", name, stamp] => (name, Telling::Done(stamp)),
             [b"failed", name] => (name, Telling::Failed),
             [b"lock" | b"ifchange" | b"ifcreate", ..] => return self.take_names(&words[1..]),
             _ => return Vec::new(),
         };
-        if told.reply != b"ok" && !told.reply.starts_with(b"stamped ") {
+        if told.reply != b"ok" && !matches!(telling.1, Telling::Stamp(..)) {
             return Vec::new();
         }
         let (number, _) = self.names.add(telling.0);
@@ -83,10 +137,10 @@ impl Known {
             Telling::File(stamp) => facts.stamp = Some(self.parse_stamp(stamp)),
             Telling::Gone => facts.stamp = None,
             Telling::Start => (facts.is_building, facts.digest) = (true, None),
-            Telling::Stamp(content) => facts.digest = Some(self.parse_content(content)),
+            Telling::Stamp(content, sum) => facts.digest = self.parse_content(content, sum),
             Telling::Failed => (facts.is_building, facts.has_failed) = (false, true),
             Telling::Done(stamp) => {
-                facts.stamp = (stamp != b"-").then(|| self.parse_stamp(stamp));
+                facts.stamp = self.parse_stamp_or_none(stamp);
                 facts.made = facts.stamp.map_or(Made::NoFile, Made::File);
                 facts.builds = facts.builds.saturating_add(1);
                 (facts.is_building, facts.has_failed) = (false, false);
@@ -99,11 +153,16 @@ impl Known {
         self.stamp_numbered(&FileStamp::parse(word))
     }
 
-    /// Reads content as a command has it; that of no bytes is `-`.
-    fn parse_content(&mut self, word: &[u8]) -> u32 {
-        let told = from_digits(word).unwrap_or_default();
-        let digest = self.digest_numbered(&told);
-        u32::try_from(digest.0).unwrap_or(u32::MAX)
+    fn parse_stamp_or_none(&mut self, word: &[u8]) -> Option<Stamp> {
+        (word != b"-").then(|| self.parse_stamp(word))
+    }
+
+    /// Reads content as a command has it, and its SHA-1 as the reply has that. Content of no bytes
+    /// is `-`.
+    fn parse_content(&mut self, word: &[u8], sum: &[u8]) -> Option<u32> {
+        let number = self.sum_numbered(&sum_in(sum)?);
+        self.note_told(number, &from_digits(word).unwrap_or_default());
+        Some(number)
     }
 
     /// Learns of names that were spoken of, and returns those that are new.
@@ -151,4 +210,13 @@ impl Known {
             self.edited.remove(target);
         }
     }
+}
+
+/// Reads a SHA-1 in hexadecimal digits.
+fn sum_in(digits: &[u8]) -> Option<Sum> {
+    from_digits(digits)?.try_into().ok()
+}
+
+fn number_in<T: FromStr>(digits: &[u8]) -> Option<T> {
+    std::str::from_utf8(digits).ok()?.parse().ok()
 }

@@ -1,3 +1,4 @@
+use redo_core::Digest;
 use redo_files::key::Time;
 
 use super::*;
@@ -189,4 +190,143 @@ fn refused_commands_tell_nothing_but_names() {
         learn(&mut known, line);
     }
     assert!(known.names.number(b"a").is_none());
+}
+
+/// What a database answers to `names`, of six words for each name, and what is known then.
+fn all_known(tree: &Tree, lines: &[&str]) -> Known {
+    let mut known = tree.nothing_known();
+    let answer = format!("{} {}", lines.len(), lines.join(" "));
+    assert!(known.learn_all(answer.as_bytes()), "{answer}");
+    known
+}
+
+/// The SHA-1 of the content 61, which is an a, in hexadecimal digits.
+const A: &str = "86f7e437faa5a7fce15d1ddcb9eaeaea377667b8";
+
+#[test]
+fn a_database_says_at_once_what_its_lines_said() {
+    let tree = Tree::new();
+    let stamped = format!("stamp s 61 => stamped {A}");
+    let more = [
+        ["start s => ok", &stamped, "done s - => ok"],
+        ["start f => ok", "failed f => ok", "file f 7 => ok"],
+        ["start b => ok", "file e 5 => ok", "file //edited/e 5 => ok"],
+        ["start n => ok", "done n - => ok", "start n => ok"],
+        ["done n - => ok", "file //left/f 6 => ok", "file a 5 => ok"],
+    ]
+    .concat();
+    let by_lines = known(&tree, &[("e", ONE)], &more);
+    let words = [
+        format!("e 5 built 1 {ONE} -"),
+        format!("s - built 1 - {A}"),
+        "f 7 failed 0 - -".to_owned(),
+        "b - building 0 - -".to_owned(),
+        "//edited/e 5 idle 0 - -".to_owned(),
+        "n - built 2 - -".to_owned(),
+        "//left/f 6 idle 0 - -".to_owned(),
+        "a 5 idle 0 - -".to_owned(),
+    ];
+    let words: Vec<&str> = words.iter().map(String::as_str).collect();
+    let mut at_once = all_known(&tree, &words);
+    assert_eq!(all(&at_once), all(&by_lines));
+    assert_eq!(texts(&at_once.edited(&[])), ["e", "f"]);
+    assert_eq!(at_once.edited_targets(), by_lines.edited_targets());
+    assert_eq!(at_once.untold_edits(), by_lines.untold_edits());
+    let mut by_lines = by_lines;
+    assert_eq!(at_once.all_differing(), by_lines.all_differing());
+}
+
+/// Each name with what is known of it, stamps and digests as texts.
+fn all(known: &Known) -> Vec<(Vec<u8>, String)> {
+    let names = known.names.iter();
+    names
+        .map(|(_, name, facts)| {
+            let stamp = facts.stamp.map(|stamp| known.text_of(stamp));
+            let made = known.made(name);
+            let sum = facts.digest.map(|digest| known.sums.thing(digest));
+            let rest = (facts.is_building, facts.has_failed, facts.is_told);
+            let builds = (facts.builds, facts.made == Made::Never);
+            let text = format!("{stamp:?} {made} {sum:?} {builds:?} {rest:?}");
+            (name.to_vec(), text)
+        })
+        .collect()
+}
+
+#[test]
+fn what_is_no_answer_about_all_names_is_refused() {
+    let tree = Tree::new();
+    let wrong = [
+        "",
+        "x",
+        "1",
+        "0 ",
+        "1 a",
+        "2 a - idle 0 - -",
+        "0 a - idle 0 - -",
+        "1 a - idle 0 - - ",
+        "1  - idle 0 - -",
+        "1 a  idle 0 - -",
+        "1 a - locked 0 - -",
+        "1 a - idle -1 - -",
+        "1 a - idle 0 - 00",
+        "1 a - idle 0 -",
+        "fault unknown-command",
+    ];
+    for answer in wrong {
+        let mut known = tree.nothing_known();
+        assert!(!known.learn_all(answer.as_bytes()), "{answer:?}");
+    }
+    assert!(tree.nothing_known().learn_all(b"0"));
+}
+
+#[test]
+fn a_content_has_one_number_whoever_was_told_it() {
+    let tree = Tree::new();
+    let mut known = all_known(&tree, &[&format!("s - built 1 - {A}")]);
+    let digest = Digest(known.names.facts_of(b"s").unwrap().digest.unwrap().into());
+    let target = known.names.number(b"s").unwrap();
+    assert_eq!(known.digest_told(target, digest).len(), 20); // nobody knows it
+    assert_eq!(known.digest_numbered(b"a"), digest);
+    assert_eq!(known.digest_told(target, digest), b"a");
+    learn(&mut known, &format!("stamp s 61 => stamped {A}"));
+    assert_eq!(known.names.facts(target).digest, Some(digest.0 as u32));
+}
+
+#[test]
+fn the_content_of_a_file_is_known_from_the_file() {
+    let tree = Tree::new();
+    tree.write("t", "1");
+    let mut before = known(&tree, &[("t", ONE)], &[]);
+    let target = before.names.number(b"t").unwrap();
+    let stamp = before.look_at(target);
+    let digest = before.content_of(stamp).unwrap();
+    let told = before.digest_told(target, digest).to_vec();
+    let sum: String = before
+        .sums
+        .thing(digest.0 as u32)
+        .unwrap()
+        .iter()
+        .map(|byte| format!("{byte:02x}"))
+        .collect();
+    let after = all_known(&tree, &[&format!("t {ONE} built 1 {ONE} {sum}")]);
+    let target = after.names.number(b"t").unwrap();
+    let digest = Digest(after.names.facts(target).digest.unwrap().into());
+    assert_eq!(after.digest_told(target, digest), told);
+}
+
+#[test]
+fn what_was_told_outlasts_the_server() {
+    let tree = Tree::new();
+    let stamped = format!("stamp s 61 => stamped {A}");
+    let mut before = known(&tree, &[], &["start s => ok", &stamped, "done s - => ok"]);
+    before.digest_numbered(b"of no target");
+    before.store_told(&tree.home, b"contents").unwrap();
+    assert_eq!(std::fs::read(tree.at(".redo/contents")).unwrap(), b"61\n");
+    tree.write(".redo/contents", "61\nno digits\n6\n");
+    let mut after = tree.nothing_known();
+    after.load_told(&tree.home, b"contents");
+    assert!(after.learn_all(format!("1 s - built 1 - {A}").as_bytes()));
+    let target = after.names.number(b"s").unwrap();
+    let digest = Digest(after.names.facts(target).digest.unwrap().into());
+    assert_eq!(after.digest_told(target, digest), b"a");
 }

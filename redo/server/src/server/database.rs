@@ -20,6 +20,8 @@ use crate::wire::partition;
 
 const MOST_STARTS: u32 = 100;
 const PAUSE: Duration = Duration::from_millis(50);
+/// So many bytes are shown of an answer that isn't one.
+const MOST_SHOWN: usize = 200;
 
 impl Server {
     /// Starts redodb-live.
@@ -118,7 +120,7 @@ impl Server {
                 self.hear_line(line);
             } else if is_greeting(line) {
                 self.machine.database_mut().live.greet();
-                self.take_log();
+                self.ask_names();
             } else {
                 self.fail_live(Failure::NoGreeting(line.to_vec()));
             }
@@ -170,9 +172,19 @@ impl Server {
     }
 
     /// Takes it that redodb-live has read its log, and closed there what was left open.
-    fn take_log(&mut self) {
+    fn ask_names(&mut self) {
+        let conversation = &mut self.machine.database_mut().live.conversation;
+        let session = Session::QUESTIONS;
+        conversation.ask(session, b"names", Span::OneLine, Taker::Names);
+    }
+
+    /// Learns all that redodb-live knows. If its log isn't whole, tells it what the files say.
+    pub(super) fn take_names(&mut self, reply: &[u8]) {
         let known = &mut self.machine.database_mut().known;
-        known.learn_log(&mut self.log);
+        if !known.learn_all(reply) {
+            let beginning = reply[..reply.len().min(MOST_SHOWN)].to_vec();
+            return self.fail_live(Failure::NoNames(beginning));
+        }
         let commands = recovering::commands(known, self.marks.log(), &self.taken.home);
         for command in commands {
             self.tell(Session::QUESTIONS, &command);

@@ -24,7 +24,6 @@ use crate::client::{Client, ClientId};
 use crate::error::ServerError;
 use crate::known::Known;
 use crate::live;
-use crate::log::LogReader;
 use crate::marks::Marks;
 use crate::others::Others;
 use crate::sessions::{Session, Sessions};
@@ -64,7 +63,7 @@ struct Owner {
 /// How far the server is.
 #[derive(Clone, Debug, PartialEq, Eq)]
 enum State {
-    /// redodb-live reads its log.
+    /// redodb-live reads its log, and says what it knows.
     Starting,
     /// Clients are served.
     Ready,
@@ -117,7 +116,6 @@ pub struct Server {
     /// What the machine isn't told yet.
     others: Others,
     calls: Calls,
-    log: LogReader,
     sessions: Sessions<ClientId>,
     waits: Waits<Owner>,
     clients: HashMap<ClientId, Client>,
@@ -154,7 +152,6 @@ impl Server {
             actions: VecDeque::new(),
             others: Others::default(),
             calls: Calls::default(),
-            log: LogReader::new(&taken.whole(places::LOG)),
             sessions: Sessions::new(),
             waits: Waits::new(),
             clients: HashMap::new(),
@@ -171,8 +168,8 @@ impl Server {
         let failed = ServerError::system("epoll");
         self.start_live();
         let known = &mut self.machine.database_mut().known;
-        known.learn_log(&mut self.log);
         known.contents.load(&self.taken.home, places::STAMPS);
+        known.load_told(&self.taken.home, places::CONTENTS);
         self.timers.set(Alarm::Close, self.idle.max(FIRST_WAIT));
         self.poll
             .change(&self.signals, SIGNALS, Interest::NOTHING, Interest::READS)
@@ -262,6 +259,7 @@ impl Server {
             let is_known = |name: &[u8]| names.number(name).is_some();
             let contents = &known.contents;
             let _ = contents.store(&self.taken.home, places::STAMPS, is_known);
+            let _ = known.store_told(&self.taken.home, places::CONTENTS);
             let _ = self.marks.end();
         }
         Outcome::InOrder

@@ -18,6 +18,7 @@ impl Server {
     pub(super) fn take_reply(&mut self, taker: Taker, reply: &[u8]) {
         match taker {
             Taker::Nobody => {}
+            Taker::Names => self.take_names(reply),
             Taker::Client(client, request) => self.answer(client, &request, reply),
             Taker::Look(look) => self.take_look(look, reply),
             Taker::Lock(wait) => {

@@ -3,7 +3,7 @@
 use redo_core::{Command, Stamp, Subject};
 
 use crate::store::Store;
-use crate::wire::partition;
+use crate::wire::{partition, put_digits};
 
 /// An answer to a command.
 #[derive(Clone, Debug, PartialEq, Eq)]
@@ -79,7 +79,7 @@ impl Store {
             Command::Stamp(name, digest) => {
                 self.words(line, b"stamp", [file(name)]);
                 line.push(b' ');
-                write_content(self.known.digest_told(*digest), line);
+                write_content(self.known.digest_told(*name, *digest), line);
             }
             Command::Done(name, stamp) => {
                 self.words(line, b"done", [file(name)]);
@@ -111,14 +111,10 @@ impl Store {
 
 /// Writes content as hexadecimal digits; that of no bytes is `-`.
 fn write_content(content: &[u8], line: &mut Vec<u8>) {
-    const DIGITS: &[u8; 16] = b"0123456789abcdef";
     if content.is_empty() {
         line.push(b'-');
     }
-    for byte in content {
-        line.push(DIGITS[usize::from(byte >> 4)]);
-        line.push(DIGITS[usize::from(byte & 15)]);
-    }
+    put_digits(content, line);
 }
 
 fn number(digits: &[u8]) -> Option<u64> {
