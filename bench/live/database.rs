@@ -7,6 +7,8 @@ use crate::questions::{Question, Search};
 use crate::store::Store;
 use std::collections::BTreeSet;
 
+pub const MOST_SESSIONS: u16 = 65_535;
+
 pub struct Database {
     pub names: Names<'static>,
     pub store: Store<'static>,
@@ -30,20 +32,18 @@ impl Answers {
         self.said.len() >= 1 << 20
     }
 
-    fn fault(&mut self, session: u8, word: &str) {
+    fn fault(&mut self, session: u16, word: &str) {
         self.said.extend_from_slice(format!("{session} fault {word}\n").as_bytes());
     }
 }
 
 // the session that a line names, and the rest of the line
-fn session_of(line: &[u8]) -> Option<(u8, &[u8])> {
-    let digit = |byte: &u8| byte.is_ascii_digit().then(|| byte - b'0');
-    let (session, text) = match line {
-        [a, b' ', text @ ..] => (digit(a)?, text),
-        [a @ b'1'..=b'9', b, b' ', text @ ..] => (10 * digit(a)? + digit(b)?, text),
-        _ => return None,
-    };
-    (1..=64).contains(&session).then_some((session, text))
+fn session_of(line: &[u8]) -> Option<(u16, &[u8])> {
+    let length = line.iter().take(6).position(|byte| *byte == b' ')?;
+    let (digits, text) = (&line[..length], &line[length + 1..]);
+    let is_number = digits.iter().all(u8::is_ascii_digit) && digits.first() != Some(&b'0');
+    let session = std::str::from_utf8(digits).ok().filter(|_| is_number)?.parse().ok()?;
+    Some((session, text))
 }
 
 impl Database {
@@ -54,7 +54,7 @@ impl Database {
             store: Store::new(text, digests, Vec::new()),
             lists: Vec::new(),
             search: Search::default(),
-            held: vec![BTreeSet::new(); 65],
+            held: vec![BTreeSet::new(); usize::from(MOST_SESSIONS) + 1],
             calls: 0,
         }
     }
@@ -70,7 +70,7 @@ impl Database {
         }
     }
 
-    fn note(&mut self, session: u8, command: Command, reply: Reply) {
+    fn note(&mut self, session: u16, command: Command, reply: Reply) {
         let held = &mut self.held[usize::from(session)];
         match (command, reply) {
             (Command::Lock(t), Reply::Granted(_)) => held.insert(t),
@@ -80,7 +80,7 @@ impl Database {
     }
 
     // does a command, and prints its reply; returns whether it changed something
-    fn call(&mut self, session: u8, command: Command, said: &mut Vec<u8>) -> bool {
+    fn call(&mut self, session: u16, command: Command, said: &mut Vec<u8>) -> bool {
         self.calls += 1;
         let is_change = self.is_change(command);
         let reply = self.store.call(session, command, &self.lists);
@@ -99,7 +99,7 @@ impl Database {
     }
 
     // a command that was read from a line, whose text was said already from there on
-    fn reply(&mut self, session: u8, command: Command, from: usize, answers: &mut Answers) {
+    fn reply(&mut self, session: u16, command: Command, from: usize, answers: &mut Answers) {
         let graph = &self.store.graph;
         let (mut stamps, mut digests) = (graph.text.len(), graph.digests.len());
         if self.call(session, command, &mut answers.said) {
@@ -116,7 +116,7 @@ impl Database {
         self.store.graph.digests.to_mut().truncate(digests);
     }
 
-    // Answers a line without its LF. Of a line of 8,196 bytes the rest may be lacking.
+    // Answers a line without its LF. Of a line of 8,199 bytes the rest may be lacking.
     pub fn answer(&mut self, line: &[u8], answers: &mut Answers) {
         match session_of(line) {
             Some((session, b"end")) => {
@@ -146,7 +146,7 @@ impl Database {
             None => return answers.fault(0, "bad-session"),
         };
         // what `end` needs is left over
-        if self.calls + 131_072 >= 1 << 32 {
+        if self.calls + 2 * (self.names.texts.len() as u64 + 65) >= (1 << 32) - 1 {
             return answers.fault(session, "worn");
         }
         match self.command(text) {
@@ -164,7 +164,7 @@ impl Database {
         }
     }
 
-    fn close_by(&mut self, session: u8, word: &str, command: Command, t: u32, to: &mut Answers) {
+    fn close_by(&mut self, session: u16, word: &str, command: Command, t: u32, to: &mut Answers) {
         let from = to.said.len();
         to.said.extend_from_slice(format!("{session} {word} ").as_bytes());
         to.said.extend_from_slice(self.names.texts[t as usize]);
@@ -172,7 +172,7 @@ impl Database {
     }
 
     // Does the closing commands of a session: it fails what it builds, and unlocks what it holds.
-    pub fn close(&mut self, session: u8, answers: &mut Answers) {
+    pub fn close(&mut self, session: u16, answers: &mut Answers) {
         let mut held: Vec<u32> = self.held[usize::from(session)].iter().copied().collect();
         held.sort_unstable_by_key(|t| self.names.texts[*t as usize]);
         for t in held {

@@ -1,5 +1,5 @@
 // The log: a file of the lines that changed something.
-use crate::database::{Answers, Database};
+use crate::database::{Answers, Database, MOST_SESSIONS};
 use crate::opening::{open, open_again, sync_folder};
 use std::fs::{File, OpenOptions};
 use std::io::{self, BufRead, BufReader, Read, Seek, Write};
@@ -137,7 +137,7 @@ impl Log {
         if restored.bytes == 0 {
             answers.logged.extend_from_slice(HEADER);
         }
-        (1..=64).for_each(|session| database.close(session, &mut answers));
+        (1..=MOST_SESSIONS).for_each(|session| database.close(session, &mut answers));
         self.append(&answers.logged)?;
         Ok((database, restored.lines))
     }

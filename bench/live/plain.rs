@@ -34,8 +34,8 @@ use database::{Answers, Database};
 use log::Log;
 use std::io::{stdin, stdout, BufRead, BufReader, Read, Write};
 
-// a line of which this many bytes were read is too long: two digits, a space, and 8,193 bytes
-const MOST_BYTES: u64 = 8196;
+// a line of which this many bytes were read is too long: five digits, a space, and 8,193 bytes
+const MOST_BYTES: u64 = 8199;
 
 #[derive(Default)]
 struct Words {

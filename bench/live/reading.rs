@@ -5,7 +5,7 @@ use std::num::NonZeroU8;
 
 pub type Fault = &'static str;
 
-const MOST_NAMES: usize = 65_536;
+const MOST_NAMES: usize = 1 << 24;
 
 // what follows the names of a command
 #[derive(Clone, Copy, PartialEq)]
@@ -85,7 +85,7 @@ impl Database {
         }
         self.store.grow();
         let kept: &'static [u8] = word.to_vec().leak();
-        self.names.add(kept).expect("a name, and room")
+        self.names.add(kept, MOST_NAMES).expect("a name, and room")
     }
 
     fn stamp(&mut self, word: &[u8]) -> Stamp {

@@ -6,7 +6,7 @@ use std::borrow::Cow;
 #[derive(Clone, Copy, PartialEq)]
 pub enum State {
     Idle,
-    Building(u8),
+    Building(u16),
     Built,
     Failed,
 }
@@ -19,7 +19,7 @@ pub struct Cell {
     pub done: Option<Stamp>,
     pub digest: Option<u32>,
     pub builds: u32,
-    pub holder: Option<u8>,
+    pub holder: Option<u16>,
     pub grants: u32,
 }
 

@@ -85,7 +85,7 @@ impl Reply {
 
 #[derive(Clone, Copy)]
 pub struct Line {
-    pub session: u8,
+    pub session: u16,
     pub command: Command,
     pub reply: Reply,
 }

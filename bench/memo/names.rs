@@ -57,6 +57,10 @@ impl Hasher for Folded {
     }
 }
 
+// so many names a history or a run has at most
+#[allow(dead_code)]
+pub const MOST_NAMES: usize = 65_536;
+
 #[derive(Default)]
 pub struct Names<'a> {
     pub texts: Vec<&'a [u8]>,
@@ -64,13 +68,13 @@ pub struct Names<'a> {
 }
 
 impl<'a> Names<'a> {
-    // the number of a text of visible bytes, if it is a name and there aren't too many
-    pub fn add(&mut self, text: &'a [u8]) -> Option<u32> {
+    // the number of a text of visible bytes, if it is a name and there aren't more than this
+    pub fn add(&mut self, text: &'a [u8], most: usize) -> Option<u32> {
         if let Some(number) = self.numbers.get(text) {
             return Some(*number);
         }
         let is_name = (1..=255).contains(&text.len()) && text[0] != b'#';
-        if !is_name || text == b"-" || text == b"=>" || self.texts.len() == 65536 {
+        if !is_name || text == b"-" || text == b"=>" || self.texts.len() == most {
             return None;
         }
         let number = self.texts.len() as u32;

@@ -1,6 +1,6 @@
 // A history, as it is read.
 use crate::lines::{Command, Line, Listing, Part, Reply, Stamp};
-use crate::names::Names;
+use crate::names::{Names, MOST_NAMES};
 use crate::sha1::sha1;
 use std::num::NonZeroU8;
 
@@ -72,7 +72,7 @@ impl<'a> History<'a> {
 
     fn name(&mut self) -> Option<u32> {
         let word = self.next_word()?;
-        self.names.add(word)
+        self.names.add(word, MOST_NAMES)
     }
 
     fn is_next(&self, text: &[u8]) -> bool {
@@ -197,7 +197,7 @@ impl<'a> History<'a> {
     }
 
     fn line(&mut self) -> Option<Line> {
-        let session = number_of(self.word()).filter(|session| *session <= 64)? as u8;
+        let session = number_of(self.word()).filter(|session| *session <= 64)? as u16;
         self.passes(b" ")?;
         let from = self.at;
         let command = self.command()?;

@@ -71,7 +71,7 @@ impl<'a> Store<'a> {
         }
     }
 
-    fn lock(&mut self, session: u8, t: u32) -> Reply {
+    fn lock(&mut self, session: u16, t: u32) -> Reply {
         let cell = self.graph.cell_mut(t);
         if cell.holder.is_some() {
             return Reply::Busy(cell.grants);
@@ -81,7 +81,7 @@ impl<'a> Store<'a> {
         Reply::Granted(cell.grants)
     }
 
-    fn start(&mut self, session: u8, t: u32) {
+    fn start(&mut self, session: u16, t: u32) {
         self.targets.set(self.ranks[t as usize], true);
         self.graph.changes.clear(t);
         self.graph.created.clear(t);
@@ -170,7 +170,7 @@ impl<'a> Store<'a> {
         Reply::Listed(listing, Part { at: 0, len: self.listed.len() as u32 })
     }
 
-    fn needs_lock(&self, session: u8, t: u32) -> Option<Reply> {
+    fn needs_lock(&self, session: u16, t: u32) -> Option<Reply> {
         let cell = self.graph.cell(t);
         match cell.state {
             _ if cell.holder != Some(session) => Some(Reply::NotLocked),
@@ -179,12 +179,12 @@ impl<'a> Store<'a> {
         }
     }
 
-    fn needs_build(&self, session: u8, t: u32) -> Option<Reply> {
+    fn needs_build(&self, session: u16, t: u32) -> Option<Reply> {
         let is_building = self.graph.cell(t).state == State::Building(session);
         (!is_building).then_some(Reply::NotBuilding)
     }
 
-    fn refusal(&self, session: u8, command: Command, lists: &[u32]) -> Option<Reply> {
+    fn refusal(&self, session: u16, command: Command, lists: &[u32]) -> Option<Reply> {
         let is_among = |t, names: Part| names.of(lists).contains(&t).then_some(Reply::Itself);
         let has_file = |n: &u32| self.graph.cell(*n).file.is_some();
         match command {
@@ -203,7 +203,7 @@ impl<'a> Store<'a> {
         }
     }
 
-    fn accepted(&mut self, session: u8, command: Command, lists: &[u32]) -> Reply {
+    fn accepted(&mut self, session: u16, command: Command, lists: &[u32]) -> Reply {
         match command {
             Command::File(n, stamp) => self.set_file(n, Some(stamp)),
             Command::Gone(n) => self.set_file(n, None),
@@ -240,7 +240,7 @@ impl<'a> Store<'a> {
     }
 
     // Does a command, whose names are among these lists.
-    pub fn call(&mut self, session: u8, command: Command, lists: &[u32]) -> Reply {
+    pub fn call(&mut self, session: u16, command: Command, lists: &[u32]) -> Reply {
         let refusal = self.refusal(session, command, lists);
         refusal.unwrap_or_else(|| self.accepted(session, command, lists))
     }

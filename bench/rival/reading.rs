@@ -1,6 +1,6 @@
 // Session files, as they are read.
 use crate::lines::{Command, Part, Stamp};
-use crate::names::{Folded, Names};
+use crate::names::{Folded, Names, MOST_NAMES};
 use crate::sha1::sha1;
 use std::collections::HashMap;
 use std::hash::BuildHasherDefault;
@@ -58,7 +58,7 @@ impl<'a> Reader<'a> {
     }
 
     fn name(&mut self, word: &'a [u8]) -> Option<u32> {
-        is_word(word, 255).then(|| self.names.add(word))?
+        is_word(word, 255).then(|| self.names.add(word, MOST_NAMES))?
     }
 
     fn names(&mut self, words: &[&'a [u8]]) -> Option<Part> {

@@ -17,7 +17,7 @@ pub trait Database {
 
 impl Database for Store<'_> {
     fn call(&mut self, session: u8, command: Command, lists: &[u32]) -> Reply {
-        Store::call(self, session, command, lists)
+        Store::call(self, u16::from(session), command, lists)
     }
 
     fn listed(&self) -> &[u32] {
