@@ -48,7 +48,7 @@ class Client(Commands):
 
     @property
     def session(self) -> int:
-        """The number of the session, from 1 to 63."""
+        """The number of the session, from 1 to 1,023."""
         return self._lines.session
 
     def close(self) -> None:

@@ -18,7 +18,7 @@ def connect(top: bytes, timeout: float | None = None, idle: float = 3.0) -> Line
     """Return a connection to the server of a tree, with its session.
 
     If no server listens, one is started, which ends `idle` seconds after its last client. More
-    than 63 connections wait for a session, for ever or timeout seconds. Raises ServerError,
+    than 1,023 connections wait for a session, for ever or timeout seconds. Raises ServerError,
     TimeoutError.
     """
     places = Places(top)

@@ -16,6 +16,9 @@ from redodb.places import Places, find_program, find_server, package_folder
 PATIENCE = 20.0
 """So many seconds are waited for what has to happen."""
 
+RUNS = 63
+"""So many clients have a session of a server that a test starts; other servers have more."""
+
 
 def program_or_skip() -> str:
     """Return the program redodb-live. If it isn't proved, the tests are skipped."""
@@ -113,8 +116,9 @@ class ServedTree(unittest.TestCase):
         self.places = Places(os.fsencode(top))
 
     def serve(self, idle: float = 0.1, program: str = "") -> subprocess.Popen[bytes]:
-        """Start a server, and return it when it listens."""
+        """Start a server with RUNS sessions, and return it when it listens."""
         command = [self.server_program, "--top", self.top, "--idle", str(idle)]
+        command += ["--runs", str(RUNS)]
         server = subprocess.Popen(
             command,
             cwd=package_folder(),

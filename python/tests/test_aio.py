@@ -10,7 +10,7 @@ import beside  # noqa: F401
 from redodb import AsyncClient, Client, aio, reach
 from redodb.errors import BadName, RefusedError, ServerError
 from redodb.replies import Busy, Forgotten, Granted, Names, Reason, Ring, State, Why
-from served import PATIENCE, ServedTree, eventually, program_or_skip
+from served import PATIENCE, RUNS, ServedTree, eventually, program_or_skip
 from test_client import COMMANDS, run_examples
 
 
@@ -197,7 +197,7 @@ class Calls(ServedTree):
 
     def test_wait_for_a_session_no_longer_than_they_may(self) -> None:
         self.serve(idle=5)
-        clients = [self.client() for _ in range(63)]
+        clients = [self.client() for _ in range(RUNS)]
 
         async def work() -> None:
             with self.assertRaises(TimeoutError):

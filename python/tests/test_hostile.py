@@ -11,7 +11,7 @@ import unittest
 from pathlib import Path
 
 import beside  # noqa: F401
-from served import Raw, ServedTree, eventually
+from served import RUNS, Raw, ServedTree, eventually
 
 LITTLE = 64 << 10
 """So many KiB the server may take, whatever clients send."""
@@ -63,7 +63,7 @@ class Hostile(ServedTree):
         self.assertLess(self.memory(), LITTLE)
 
     def test_lines_of_those_who_wait_for_a_session_are_not_read_without_end(self) -> None:
-        clients = [self.client() for _ in range(63)]
+        clients = [self.client() for _ in range(RUNS)]
         waiting = self.raw()
         waiting.socket.setblocking(False)
         sent, last = 0, time.monotonic()
@@ -98,7 +98,7 @@ class Hostile(ServedTree):
         soft, hard = resource.getrlimit(resource.RLIMIT_NOFILE)
         resource.setrlimit(resource.RLIMIT_NOFILE, (min(hard, 4096), hard))
         self.addCleanup(resource.setrlimit, resource.RLIMIT_NOFILE, (soft, hard))
-        clients = [self.client() for _ in range(63)]
+        clients = [self.client() for _ in range(RUNS)]
         waiting = [self.raw() for _ in range(1000)]
         for one in waiting[::2]:
             one.send("1 lock a")

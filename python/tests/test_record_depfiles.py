@@ -3,8 +3,10 @@
 import os
 import shutil
 import unittest
+import unittest.mock
 
 import beside  # noqa: F401
+from redodb.places import find_program
 from redodb.record.depfile import read_rules
 from trees import TreeTest, has_tools, record
 
@@ -134,9 +136,15 @@ class RecordDepfiles(TreeTest):
         self.assertEqual((status, out, errors.count("\n")), (2, "", 1))
         self.assertIn("263 bytes, over 255", errors)
 
-    def test_more_names_than_the_database_takes(self) -> None:
-        self.write("out/many.d", "many.o: " + " ".join(f"h/{at}.h" for at in range(65_536)) + "\n")
-        status, out, errors = record("depfiles", str(self.top))
+    def test_name_that_the_database_does_not_take(self) -> None:
+        self.write("out/many.d", "many.o: h/1.h h/2.h\n")
+        program = os.fsdecode(find_program() or b"")
+        answer = "s/^1 lock .*many.o .*/1 fault too-many-names/"
+        self.write("database", f"#!/bin/sh\n'{program}' | sed -u '{answer}'\n")
+        (self.top / "database").chmod(0o755)
+        chosen = {"REDODB_LIVE": str(self.top / "database")}
+        with unittest.mock.patch.dict(os.environ, chosen):
+            status, out, errors = record("depfiles", str(self.top))
         wanted = "redodb record: the database doesn't take the tree: 1 fault too-many-names\n"
         self.assertEqual((status, out, errors), (2, "", wanted))
 

@@ -12,7 +12,7 @@ from pathlib import Path
 import beside  # noqa: F401
 from redodb import requests
 from redodb.places import package_folder
-from served import PATIENCE, Raw, ServedTree, eventually, server_or_skip
+from served import PATIENCE, RUNS, Raw, ServedTree, eventually, server_or_skip
 
 
 class Place(ServedTree):
@@ -67,11 +67,11 @@ class Place(ServedTree):
 
 
 class Sessions(ServedTree):
-    def test_are_63_and_more_wait_their_turn(self) -> None:
+    def test_are_so_many_and_more_wait_their_turn(self) -> None:
         self.serve(idle=5)
-        clients = [self.raw() for _ in range(63)]
+        clients = [self.raw() for _ in range(RUNS)]
         self.assertEqual(
-            [client.line() for client in clients], [f"session {n}" for n in range(1, 64)]
+            [client.line() for client in clients], [f"session {n}" for n in range(1, RUNS + 1)]
         )
         first, second, third = self.raw(), self.raw(), self.raw()
         first.send("1 lock early")
@@ -157,7 +157,7 @@ class Questions(ServedTree):
     def test_are_answered_while_all_sessions_are_taken(self) -> None:
         self.write("a")
         self.serve(idle=5)
-        clients = [self.client() for _ in range(63)]
+        clients = [self.client() for _ in range(RUNS)]
         self.assertEqual(clients[0].talk("1 lock b", "2 look a"), ["1 granted 1", "2 ok 1"])
         waiting = self.raw()
         self.assertTrue(waiting.is_silent())
@@ -202,7 +202,7 @@ class Questions(ServedTree):
 
     def test_may_be_followed_by_a_wait_for_a_session(self) -> None:
         self.serve(idle=5)
-        clients = [self.client() for _ in range(63)]
+        clients = [self.client() for _ in range(RUNS)]
         first, second, third = self.asker(), self.asker(), self.asker()
         for asker in (first, second, third):
             asker.send("1 session", "2 turn", "3 lock a", "4 end")
@@ -218,7 +218,7 @@ class Questions(ServedTree):
     def test_give_back_a_session_that_was_given_before_they_spoke(self) -> None:
         self.serve(idle=5)
         late = self.client()
-        clients = [self.client() for _ in range(62)]
+        clients = [self.client() for _ in range(RUNS - 1)]
         waiting = self.raw()
         self.assertTrue(waiting.is_silent())
         late.send("0 question", "1 lock a", "2 state a")

@@ -6,7 +6,7 @@ import time
 from pathlib import Path
 
 import beside  # noqa: F401
-from served import PATIENCE, ServedTree, eventually
+from served import PATIENCE, RUNS, ServedTree, eventually
 
 
 class End(ServedTree):
@@ -56,7 +56,7 @@ class End(ServedTree):
 
     def test_of_redodb_live_is_told_to_all_clients(self) -> None:
         server = self.serve(idle=60)
-        clients = [self.client() for _ in range(63)] + [self.raw(), self.raw()]
+        clients = [self.client() for _ in range(RUNS)] + [self.raw(), self.raw()]
         children = Path(f"/proc/{server.pid}/task/{server.pid}/children").read_text().split()
         self.assertEqual(len(children), 1)
         os.kill(int(children[0]), signal.SIGKILL)

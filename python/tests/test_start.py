@@ -12,7 +12,7 @@ from redodb import Client, reach
 from redodb.errors import ServerError, UntrustedError
 from redodb.places import package_folder
 from redodb.replies import Busy, Granted, State
-from served import PATIENCE, ServedTree, eventually
+from served import PATIENCE, RUNS, ServedTree, eventually
 
 
 class Start(ServedTree):
@@ -91,7 +91,12 @@ class Start(ServedTree):
                 self.assertEqual(one.state("a").state, State.IDLE)
 
     def test_is_not_for_ever_where_all_sessions_are_taken(self) -> None:
-        clients = [Client(self.top, idle=0.05) for _ in range(63)]
+        program = Path(self.top, "server")
+        program.write_text(f"#!/bin/sh\nexec {self.server_program} --runs {RUNS} \"$@\"\n")
+        program.chmod(0o755)
+        chosen = unittest.mock.patch.dict(os.environ, {"REDO_SERVER": str(program)})
+        with chosen:
+            clients = [Client(self.top, idle=0.05) for _ in range(RUNS)]
         with self.assertRaises(TimeoutError):
             Client(self.top, timeout=0.2)
         for one in clients:

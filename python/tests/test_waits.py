@@ -235,7 +235,7 @@ class NoPolling(ServedTree):
         self.assertLessEqual(self.processor_time() - before, 0.02)
         self.assertEqual(one.talk("2 unlock a"), ["2 ok"])
         self.assertEqual(two.line(), "1 granted 2")
-        wanted = ["1 lock a", "2 lock a", "1 unlock a", "2 lock a"]
+        wanted = ["1024 names", "1 lock a", "2 lock a", "1 unlock a", "2 lock a"]
         eventually(lambda: noted.read_text().splitlines() == wanted)  # tee passes a line on first
         self.assertEqual(noted.read_text().splitlines(), wanted)
 

@@ -347,12 +347,14 @@ def case_moved_tree(tree: Tree) -> None:
 
 
 def case_too_many_names(tree: Tree) -> None:
-    """More names than the database takes are an error that says so; what was known stays."""
+    """A name that the database doesn't take is an error that says so; what was known stays."""
     tree.files(x__do="echo x\n", y__do="echo y\n")
     tree.redo("x")
     end_server(tree)
-    with open(tree.path(".redo/log"), "a", encoding="ascii") as log:
-        log.writelines(f"1 file n{number} 1 => ok\n" for number in range(65536 - 3))
+    answer = "s/^\\([0-9]*\\) lock y => .*/\\1 fault too-many-names/"
+    tree.write("database", f"#!/bin/sh\n'{tree.live}' \"$@\" | sed -u '{answer}'\n")
+    tree.path("database").chmod(0o755)
+    tree.live = str(tree.path("database"))
     run = tree.run("redo", "y")
     tree.check.same("status", run.status, 1)
     tree.check.has("message", run.err, "too-many-names")

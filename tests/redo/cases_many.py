@@ -5,12 +5,12 @@ import signal
 import subprocess
 import time
 
-from trees import Tree
+from trees import PROGRAM_FOLDER, Tree, end_server
 
 MANY = 200
 AT_ONCE = 63
 ENOUGH = 150.0
-OTHERS = "redo: 63 others build in {}; waiting for one to end"
+OTHERS = f"redo: {AT_ONCE} others build in {{}}; waiting for one to end"
 
 QUESTIONS = (
     ("redo-ood",),
@@ -43,7 +43,9 @@ def case_many_whose_scripts_ask(tree: Tree) -> None:
     """
     tree.files(default__out__do=ASKING, right__do="redo-ifchange src\ncat src\n", src="text\n")
     tree.ifchange("right")
+    end_server(tree)
     tree.more["REDO_PATIENCE"] = "1"
+    tree.more["REDO_SERVER"] = few_sessions(tree)
     line = OTHERS.format(tree.folder.resolve())
     runs = [
         tree.start("sh", "-c", f"exec redo {number}.out 2>err.{number}", process_group=0)
@@ -62,6 +64,14 @@ def case_many_whose_scripts_ask(tree: Tree) -> None:
     built = [tree.read(f"{number}.out") for number in range(MANY)]
     tree.check.same("targets", built, ["text\n"] * MANY)
     tree.check.same("said once", said(tree, line), MANY - AT_ONCE)
+
+
+def few_sessions(tree: Tree) -> str:
+    """Returns a program that is a server with fewer sessions than it has otherwise."""
+    server = os.environ.get("REDO_SERVER") or f"{PROGRAM_FOLDER}/redo-server"
+    tree.write("server", f'#!/bin/sh\nexec {server} --runs {AT_ONCE} "$@"\n')
+    tree.path("server").chmod(0o755)
+    return str(tree.path("server").resolve())
 
 
 def said(tree: Tree, line: str) -> int:

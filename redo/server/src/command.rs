@@ -19,10 +19,11 @@ use redo_files::{links, system as files, top, FileError};
 
 use crate::error::ServerError;
 use crate::server::{Outcome, Server, Start};
+use crate::sessions::MOST_RUNS;
 use crate::system::{self, Fork};
 use crate::taking::{take, Taken};
 
-pub const USAGE: &str = "usage: redo-server [--top DIR] [--idle SECONDS] [--detach]";
+pub const USAGE: &str = "usage: redo-server [--top DIR] [--idle SECONDS] [--runs N] [--detach]";
 
 const HELP: &str = "
 
@@ -32,6 +33,7 @@ once.
 
     --top DIR         the top of the tree; else the nearest folder upwards that has .redo
     --idle SECONDS    end so many seconds after the last client (3)
+    --runs N          have at most N clients with a session at a time; the others wait (1023)
     --detach          go on in the background; end as soon as clients can come";
 
 const IDLE: Duration = Duration::from_secs(3);
@@ -51,6 +53,7 @@ enum Call {
 struct Options {
     top: Option<Vec<u8>>,
     idle: Duration,
+    runs: u32,
     is_detached: bool,
 }
 
@@ -92,6 +95,7 @@ impl Options {
         let mut options = Options {
             top: None,
             idle: IDLE,
+            runs: MOST_RUNS,
             is_detached: false,
         };
         let mut words = words.iter();
@@ -100,6 +104,7 @@ impl Options {
                 Some("--detach") => options.is_detached = true,
                 Some("--top") => options.top = Some(top_of(words.next())?),
                 Some("--idle") => options.idle = idle_of(words.next())?,
+                Some("--runs") => options.runs = runs_of(words.next())?,
                 _ => return Err(ServerError::Usage),
             }
         }
@@ -120,6 +125,13 @@ fn idle_of(value: Option<&OsString>) -> Result<Duration, ServerError> {
         Ok(seconds) if (0.0..MOST_IDLE).contains(&seconds) => Ok(Duration::from_secs_f64(seconds)),
         _ => Err(ServerError::Usage),
     }
+}
+
+fn runs_of(value: Option<&OsString>) -> Result<u32, ServerError> {
+    let text = value.and_then(|value| value.to_str());
+    let runs = text.and_then(|text| text.parse().ok());
+    runs.filter(|runs| (1..=MOST_RUNS).contains(runs))
+        .ok_or(ServerError::Usage)
 }
 
 /// Reports what is wrong on standard error, and returns the status.
@@ -157,13 +169,13 @@ fn serve(options: &Options) -> Result<Outcome, ServerError> {
     if options.is_detached && fork()? == Fork::Parent {
         return Ok(Outcome::InOrder);
     }
-    go_on(taken, live, options.idle, signals)
+    go_on(taken, live, options, signals)
 }
 
 fn go_on(
     mut taken: Taken,
     live: Vec<u8>,
-    idle: Duration,
+    options: &Options,
     signals: UnixStream,
 ) -> Result<Outcome, ServerError> {
     let top = taken.home.top();
@@ -173,7 +185,8 @@ fn go_on(
     let start = Start {
         taken,
         live,
-        idle,
+        idle: options.idle,
+        runs: options.runs,
         signals,
     };
     Server::new(start)?.run()

@@ -186,29 +186,32 @@ mod tests {
         let mut talk = Conversation::new();
         talk.ask(session(), b"lock a", Span::OneLine, "first");
         talk.ask(session(), b"oood", Span::OneLine, "second");
-        assert_eq!(talk.out.unsent(), b"64 lock a\n64 oood\n".len());
+        assert_eq!(talk.out.unsent(), b"1024 lock a\n1024 oood\n".len());
         assert_eq!(
-            taken(&mut talk, "64 lock a => granted 1"),
+            taken(&mut talk, "1024 lock a => granted 1"),
             (Addressee::Taker("first"), "granted 1".to_owned())
         );
         assert_eq!(
-            taken(&mut talk, "64 fault unknown-command"),
+            taken(&mut talk, "1024 fault unknown-command"),
             (
                 Addressee::Taker("second"),
                 "fault unknown-command".to_owned()
             )
         );
-        assert_eq!(taken(&mut talk, "64 ood => ood").0, Addressee::Unasked);
+        assert_eq!(taken(&mut talk, "1024 ood => ood").0, Addressee::Unasked);
     }
 
     #[test]
     fn an_end_is_answered_after_the_closing_commands() {
         let mut talk = Conversation::new();
         talk.ask(session(), b"end", Span::UpToEnd, "end");
-        for line in ["64 failed a => ok", "64 unlock a => ok"] {
+        for line in ["1024 failed a => ok", "1024 unlock a => ok"] {
             assert_eq!(taken(&mut talk, line).0, Addressee::Nobody);
         }
-        assert_eq!(taken(&mut talk, "64 end => ok").0, Addressee::Taker("end"));
+        assert_eq!(
+            taken(&mut talk, "1024 end => ok").0,
+            Addressee::Taker("end")
+        );
     }
 
     #[test]
@@ -216,7 +219,7 @@ mod tests {
         let mut talk = Conversation::new();
         talk.ask(session(), b"end", Span::UpToEnd, "end");
         assert_eq!(
-            taken(&mut talk, "64 fault memory"),
+            taken(&mut talk, "1024 fault memory"),
             (Addressee::Taker("end"), "fault memory".to_owned())
         );
     }
@@ -230,7 +233,7 @@ mod tests {
         talk.ask(session(), b"ood", Span::OneLine, "second");
         assert_eq!(talk.next_due(), None);
         assert_eq!(
-            taken(&mut talk, "64 ood => ood").0,
+            taken(&mut talk, "1024 ood => ood").0,
             Addressee::Taker("first")
         );
         assert_eq!(talk.next_due(), Some("later"));
@@ -246,11 +249,11 @@ mod tests {
         talk.ask(session(), b"done a 1", Span::OneLine, "second");
         talk.ask(session(), b"ood", Span::OneLine, "third");
         assert_eq!(
-            taken(&mut talk, "64 lock a => busy 1").0,
+            taken(&mut talk, "1024 lock a => busy 1").0,
             Addressee::Taker("first")
         );
         assert!(!talk.knows_stamps());
-        taken(&mut talk, "64 done a 1 => refused not-building");
+        taken(&mut talk, "1024 done a 1 => refused not-building");
         assert!(talk.knows_stamps());
     }
 

@@ -3,8 +3,8 @@
 use std::collections::{BTreeSet, VecDeque};
 use std::fmt;
 
-/// So many clients have a session at a time.
-const RUNS: u32 = 63;
+/// So many clients have a session at a time, unless a server is called for fewer.
+pub const MOST_RUNS: u32 = 1023;
 
 /// A session of the database, by its number.
 #[derive(Clone, Copy, Debug, PartialEq, Eq, PartialOrd, Ord, Hash)]
@@ -12,7 +12,7 @@ pub struct Session(u32);
 
 impl Session {
     /// The one in which all clients without one ask.
-    pub const QUESTIONS: Session = Session(RUNS + 1);
+    pub const QUESTIONS: Session = Session(MOST_RUNS + 1);
 
     /// Its number, from 1 on.
     pub fn number(self) -> u32 {
@@ -29,16 +29,25 @@ impl fmt::Display for Session {
 /// The sessions that are free, and the clients `C` that wait for one, first come, first served.
 #[derive(Debug)]
 pub struct Sessions<C> {
+    runs: u32,
     free: BTreeSet<Session>,
     line: VecDeque<C>,
 }
 
 impl<C: PartialEq> Sessions<C> {
-    pub fn new() -> Sessions<C> {
+    /// So many are free, and at most [`MOST_RUNS`].
+    pub fn new(runs: u32) -> Sessions<C> {
+        let runs = runs.min(MOST_RUNS);
         Sessions {
-            free: (1..=RUNS).map(Session).collect(),
+            runs,
+            free: (1..=runs).map(Session).collect(),
             line: VecDeque::new(),
         }
+    }
+
+    /// How many there are, free or not.
+    pub fn count(&self) -> u32 {
+        self.runs
     }
 
     /// Takes the lowest session that is free.
@@ -82,30 +91,30 @@ impl<C: PartialEq> Sessions<C> {
     }
 }
 
-impl<C: PartialEq> Default for Sessions<C> {
-    fn default() -> Self {
-        Sessions::new()
-    }
-}
-
 #[cfg(test)]
 mod tests {
     use super::*;
 
     #[test]
-    fn sixty_three_are_given_and_then_none() {
-        let mut sessions = Sessions::<u8>::new();
+    fn so_many_are_given_and_then_none() {
+        assert_eq!(all(MOST_RUNS + 5).len(), 1023);
+        let mut sessions = Sessions::<u8>::new(63);
         let given: Vec<String> = std::iter::from_fn(|| sessions.take())
             .map(|session| session.to_string())
             .collect();
         let wanted: Vec<String> = (1..64).map(|number| number.to_string()).collect();
         assert_eq!(given, wanted);
-        assert_eq!(Session::QUESTIONS.to_string(), "64");
+        assert_eq!(Session::QUESTIONS.to_string(), "1024");
+    }
+
+    fn all(runs: u32) -> Vec<Session> {
+        let mut sessions = Sessions::<u8>::new(runs);
+        std::iter::from_fn(|| sessions.take()).collect()
     }
 
     #[test]
     fn those_who_wait_are_served_in_their_order_by_the_lowest() {
-        let mut sessions = Sessions::new();
+        let mut sessions = Sessions::new(63);
         let all: Vec<Session> = std::iter::from_fn(|| sessions.take()).collect();
         sessions.wait("first");
         sessions.wait("gone");

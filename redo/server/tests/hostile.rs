@@ -12,7 +12,7 @@ use std::thread;
 use std::time::{Duration, Instant};
 
 use common::link::{send, Link};
-use common::Tree;
+use common::{Tree, RUNS};
 use redo_wire::{Call, FrameBuffer, Program, ToProgram, ToServer, MOST_BODY, OPENING};
 
 const LONGEST: Duration = Duration::from_secs(20);
@@ -128,7 +128,7 @@ fn frames_that_never_end_are_bounded() {
 fn calls_that_wait_are_bounded() {
     let tree = tree();
     tree.write("slow.do", "wait go");
-    let mut all: Vec<Link> = (0..63).map(|_| tree.link()).collect();
+    let mut all: Vec<Link> = (0..RUNS).map(|_| tree.link()).collect();
     for link in &mut all {
         link.call(tree.call(Program::Redo, &["slow"], None));
     }

@@ -9,7 +9,7 @@ use std::time::Duration;
 
 use common::link::{send, Link};
 use common::run::{stamp_of, Playing, Ran};
-use common::Tree;
+use common::{Tree, RUNS};
 use redo_wire::{FrameBuffer, Program, ToProgram, ToServer, OPENING, VERSION};
 
 fn tree() -> Tree {
@@ -315,7 +315,7 @@ fn what_a_run_would_do_is_told() {
 #[test]
 fn questions_need_no_session() {
     let tree = tree();
-    let all: Vec<Link> = (0..63).map(|_| tree.link()).collect();
+    let all: Vec<Link> = (0..RUNS).map(|_| tree.link()).collect();
     let mut told = Vec::new();
     for mut link in all {
         link.call(tree.call(Program::Redo, &["t"], None));

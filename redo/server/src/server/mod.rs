@@ -89,6 +89,8 @@ pub struct Start {
     pub live: Vec<u8>,
     /// It ends so long after its last client.
     pub idle: Duration,
+    /// So many clients have a session at a time.
+    pub runs: u32,
     /// Something comes here when a signal ends the server.
     pub signals: UnixStream,
 }
@@ -132,6 +134,7 @@ impl Server {
             taken,
             live,
             idle,
+            runs,
             signals,
         } = start;
         let boot = top::boot();
@@ -152,7 +155,7 @@ impl Server {
             actions: VecDeque::new(),
             others: Others::default(),
             calls: Calls::default(),
-            sessions: Sessions::new(),
+            sessions: Sessions::new(runs),
             waits: Waits::new(),
             clients: HashMap::new(),
             touched: VecDeque::new(),

@@ -6,7 +6,6 @@ use redo_wire::{Say, ToProgram};
 
 use crate::client::{ClientId, Role, Standing};
 use crate::server::Server;
-use crate::sessions::Session;
 use crate::timers::Alarm;
 
 /// A task that waits for a lock of others.
@@ -24,7 +23,7 @@ impl Server {
         if !matches!(standing, Some(Standing::Program(Role::Waiting(_)))) {
             return;
         }
-        let others = Session::QUESTIONS.number() - 1;
+        let others = self.sessions.count();
         let mut line = format!("redo: {others} others build in ").into_bytes();
         line.extend(shown(self.taken.home.top()));
         line.extend(b"; waiting for one to end");

@@ -25,6 +25,9 @@ const LONGEST: Duration = Duration::from_secs(20);
 static COUNT: AtomicU32 = AtomicU32::new(0);
 static LIVE: Mutex<Option<PathBuf>> = Mutex::new(None);
 
+/// So many clients have a session of the server of a test, unless it is about very many.
+pub const RUNS: u32 = 63;
+
 /// A tree, and its server.
 pub struct Tree {
     folder: PathBuf,
@@ -154,6 +157,7 @@ impl Drop for Tree {
 fn start(folder: &Path, live: &Path) -> Child {
     let mut command = Command::new(env!("CARGO_BIN_EXE_redo-server"));
     command.arg("--top").arg(folder).args(["--idle", "30"]);
+    command.arg("--runs").arg(RUNS.to_string());
     command.env("REDODB_LIVE", live).stdin(Stdio::null());
     let server = command.spawn().unwrap();
     let socket = folder.join(".redo/server/socket");
