@@ -68,7 +68,7 @@ _redodb() {
         mapfile -t COMPREPLY < <(compgen -W "$(_redodb_kinds "$first") --help" -- "$word")
     elif [ "${word#-}" != "$word" ]; then
         case $first in
-            serve) mapfile -t COMPREPLY < <(compgen -W '--top --idle --help' -- "$word") ;;
+            serve) mapfile -t COMPREPLY < <(compgen -W '--top --idle --runs --help' -- "$word") ;;
             record) mapfile -t COMPREPLY < <(compgen -W '--rules --log' -- "$word") ;;
             picture) mapfile -t COMPREPLY < <(compgen -W '--lines --targets' -- "$word") ;;
         esac
@@ -92,7 +92,7 @@ _redo() {
     case ${COMP_WORDS[0]##*/} in
         redo) options+=' -j --jobs= -k --keep-going -n --dry-run -d --debug --shuffle -x --xtrace -v --verbose --overwrite --no-details --no-log --no-color --no-status' ;;
         redo-log) options+=' -f --follow -n --no-recurse -r --recursive -u --unchanged --no-details --no-color' ;;
-        redo-why) options+=' --json' ;;
+        redo-why) options+=' --json --users' ;;
     esac
     COMPREPLY=()
     case ${COMP_WORDS[0]##*/}:$word in
@@ -100,6 +100,8 @@ _redo() {
         redo-why:* | redo-log:*) _redodb_targets "$word" ;;
         *) _redodb_targets "$word"; _redodb_files -f "$word" ;;
     esac
+    # sources have users, too
+    if [[ "${COMP_WORDS[0]##*/} ${COMP_WORDS[*]}" == redo-why*' --users '* ]]; then _redodb_files -f "$word"; fi
 }
 
 complete -o filenames -F _redodb redodb

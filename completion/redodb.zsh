@@ -30,7 +30,7 @@ _redodb_program() {
         return
     fi
     case $words[2] in
-        serve) _arguments '2:word:' '--top[top of the tree]:folder:_files -/' '--idle[seconds after the last client]:seconds:' '--help[print a summary]' ;;
+        serve) _arguments '2:word:' '--top[top of the tree]:folder:_files -/' '--idle[seconds after the last client]:seconds:' '--runs[clients with a session]:number:' '--help[print a summary]' ;;
         record)
             _arguments '2:word:' '3:kind:(ninja make depfiles compdb)' '4:folder:_files -/' '--log[write a log]:log:_files' \
                 '--rules[write .do files]' '*:goal:' ;;
@@ -54,7 +54,9 @@ case $service in
             '(-v --verbose)'{-v,--verbose}'[print lines of scripts]' '--overwrite[build edited targets]' '--no-log[keep no log]' '--no-color[no colours]' \
             '--no-status[no progress]' '--help[print a summary]' '--version[print the version]' \
             '*:target:{ _redo_targets; _redo_files }' ;;
-    redo-why) _arguments '--json[print objects]' '--help[print a summary]' '--version[print the version]' '*:target:_redo_targets' ;;
+    redo-why)
+        _arguments '--json[print objects]' '--users[print what depends on it]' '--help[print a summary]' \
+            '--version[print the version]' '*:target:{ _redo_targets; (( ! $words[(I)--users] )) || _redo_files }' ;;
     redo-log)
         _arguments '(-n --no-recurse)'{-n,--no-recurse}'[the log of the target alone]' '--no-color[no colours]' \
             '(-u --unchanged)'{-u,--unchanged}'[lines for what was needed and not built]' '--no-details[no lines of scripts]' \

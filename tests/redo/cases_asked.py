@@ -224,3 +224,52 @@ def case_readme(tree: Tree) -> None:
         last = commands.splitlines()[-1]
         tree.check.same(last, (run.status, run.out + run.err), (0, printed))
     tree.check.same("hello", tree.run("./hello").out, "good morning\n")
+
+
+def case_users(tree: Tree) -> None:
+    """redo-why --users prints what depends on a name, of the latest builds, and builds nothing."""
+    program_of_two(tree)
+    tree.files(default__x__do='redo-ifcreate util.p\nredo-ifchange util.h\necho "$1"\n')
+    tree.path("d").mkdir()
+    tree.redo("d/one.x", "two.x")
+    users = tree.run("redo-why", "--users", "util.h")
+    built = [f"{name} is built from util.h" for name in ("d/one.x", "two.x", "util.o")]
+    tree.check.same("header", (users.status, users.out.splitlines()), (0, built))
+    users = tree.run("redo-why", "../util.p", "--users", "../app", folder="d")
+    lines = [f"../util.p must not exist for {name}" for name in ("one.x", "../two.x")]
+    lines.append("no target depends on ../app")
+    tree.check.same("absent, and none", users.out.splitlines(), lines)
+    rule = tree.run("redo-why", "--users", "default.x.do").out.splitlines()
+    built = [f"{name} is built from default.x.do" for name in ("d/one.x", "two.x")]
+    tree.check.same("rule", rule, built)
+    rule = tree.run("redo-why", "--users", "two.x.do").out
+    tree.check.same("a rule that would win", rule, "two.x.do must not exist for two.x\n")
+    tree.check.same("no name", tree.run("redo-why", "--users").status, 2)
+
+
+def case_users_as_objects(tree: Tree) -> None:
+    """redo-why --users --json prints an object for each name."""
+    program_of_two(tree)
+    lines = tree.run("redo-why", "--users", "--json", "util.o", "app.do", "default.do").out
+    objects = [json.loads(line) for line in lines.splitlines()]
+    wanted = [
+        {"name": "util.o", "built": ["app"], "absent": []},
+        {"name": "app.do", "built": ["app"], "absent": []},
+        {"name": "default.do", "built": [], "absent": []},
+    ]
+    tree.check.same("objects", objects, wanted)
+
+
+def case_users_of_an_edited_target(tree: Tree) -> None:
+    """What is built from an edited target depends on it still, before and after a restart."""
+    program_of_two(tree)
+    tree.write("util.o", "by hand\n")
+    tree.ifchange("app")
+    for _ in range(2):
+        users = tree.run("redo-why", "--users", "util.o").out
+        tree.check.same("util.o", users, "app is built from util.o\n")
+        end_server(tree)
+    tree.files(app__do="echo app\n")
+    tree.ifchange("app")
+    users = tree.run("redo-why", "--users", "util.o").out
+    tree.check.same("no more", users, "no target depends on util.o\n")

@@ -153,11 +153,12 @@ looked for, up to the first that is there. The status is 0 where there is one,
 else 1.
 ";
 
-const WHY: &str = "usage: redo-why [--json] TARGET..
+const WHY: &str = "usage: redo-why [--json] [--users] TARGET..
 
 Prints of each TARGET why it is out of date, by a shortest chain of what
 depends on what.
 
+    --users            prints which targets depend on each TARGET, or source
     --json             prints an object a line: target, reason, chain
 ";
 

@@ -106,7 +106,7 @@ fn list(program: Program, words: Vec<Vec<u8>>) -> Result<u8, Failure> {
 }
 
 fn why(words: Vec<Vec<u8>>) -> Result<u8, Failure> {
-    let (_, rest) = taken_out(&words, &[b"--json"]);
+    let (_, rest) = taken_out(&words, &[b"--json", b"--users"]);
     if targets_of(&rest)?.is_empty() {
         return usage("it takes a target");
     }

@@ -25,6 +25,7 @@ fn each_question_sends_its_words_and_prints_the_answer() {
         (Program::Sources, "-0"),
         (Program::Why, "a b"),
         (Program::Why, "--json -- -a"),
+        (Program::Why, "--users --json a"),
     ];
     for (program, text) in cases {
         let tree = Tree::new();

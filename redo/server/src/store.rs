@@ -1,6 +1,6 @@
 //! The database as the machine uses it: redodb-live, and what is known of what it was told.
 
-mod lines;
+pub(crate) mod lines;
 
 use std::cell::{Cell, RefCell};
 use std::collections::BTreeMap;

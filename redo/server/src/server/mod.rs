@@ -13,6 +13,7 @@ mod requests;
 mod runs;
 mod saying;
 mod scripts;
+mod users;
 
 use std::collections::{HashMap, VecDeque};
 use std::io::Read;

@@ -111,7 +111,7 @@ impl Server {
     }
 
     /// Asks the database. Fails if that has ended.
-    fn ask_database(&mut self, question: &[&[u8]]) -> Result<Vec<u8>, Refusal> {
+    pub(super) fn ask_database(&mut self, question: &[&[u8]]) -> Result<Vec<u8>, Refusal> {
         let answer = self.machine.database().ask(question);
         self.note_failure();
         answer.ok_or_else(|| Refusal {
@@ -121,21 +121,23 @@ impl Server {
     }
 
     fn whys(&mut self, call: &Call) -> Result<Printed, Refusal> {
-        let (taken, words) = taken_out(&call.words, &[b"--json"]);
+        let (taken, words) = taken_out(&call.words, &[b"--json", b"--users"]);
+        let has = |option: &[u8]| taken.iter().any(|word| word == option);
+        let (is_json, is_users) = (has(b"--json"), has(b"--users"));
         let targets = targets_of(&words)?;
         if targets.is_empty() {
             return Err(usage("it takes a target"));
         }
         let names = self.names_asked(&targets, call)?;
+        if is_users {
+            let text = self.users(&names, call, is_json)?;
+            return Ok(Printed { text, status: 0 });
+        }
         self.look_for_question();
         let mut text = Vec::new();
         for name in names {
             let cause = self.cause_of(name, &call.folder)?;
-            text.extend(if taken.is_empty() {
-                cause.line()
-            } else {
-                cause.json()
-            });
+            text.extend(if is_json { cause.json() } else { cause.line() });
             text.push(b'\n');
         }
         Ok(Printed { text, status: 0 })
@@ -205,7 +207,7 @@ impl Server {
         Ok(Cause { word, chain: paths })
     }
 
-    fn path_from(&self, name: &[u8], folder: &[u8]) -> Vec<u8> {
+    pub(super) fn path_from(&self, name: &[u8], folder: &[u8]) -> Vec<u8> {
         let name = name.strip_prefix(EDITED).unwrap_or(name);
         let folder = links::resolved(folder).unwrap_or_else(|_| folder.to_vec());
         relative_path(name, self.taken.home.top(), &folder)
@@ -299,7 +301,7 @@ impl Server {
         targets.collect()
     }
 
-    fn name_text(&self, name: Name) -> Vec<u8> {
+    pub(super) fn name_text(&self, name: Name) -> Vec<u8> {
         self.machine.database().known.names.name(name).to_vec()
     }
 }

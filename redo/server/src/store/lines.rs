@@ -41,8 +41,20 @@ impl<'a> Answer<'a> {
 
 /// The names of the change rows in the answer to `deps`, `change COUNT N.. created ..`.
 pub fn needs_in(answer: &[u8]) -> Vec<&[u8]> {
-    let mut words = answer.split(|byte| *byte == b' ').skip(1);
-    let count = words.next().and_then(number).unwrap_or_default();
+    counted(&mut answer.split(|byte| *byte == b' '))
+}
+
+/// The targets in the answer to `users`, `change COUNT T.. created COUNT T..`: of change rows, and
+/// of created rows.
+pub fn users_in(answer: &[u8]) -> (Vec<&[u8]>, Vec<&[u8]>) {
+    let mut words = answer.split(|byte| *byte == b' ');
+    let changes = counted(&mut words);
+    (changes, counted(&mut words))
+}
+
+/// The words that follow a word and their count.
+fn counted<'a>(words: &mut impl Iterator<Item = &'a [u8]>) -> Vec<&'a [u8]> {
+    let count = words.nth(1).and_then(number).unwrap_or_default();
     let count = usize::try_from(count).unwrap_or(usize::MAX);
     words.take(count).collect()
 }
@@ -144,6 +156,22 @@ mod tests {
         assert_eq!(needs_in(answer), [&b"a"[..], b"//always"]);
         assert!(needs_in(b"change 0 created 0 always 0").is_empty());
         assert!(needs_in(b"refused").is_empty());
+    }
+
+    #[test]
+    fn users_are_the_targets_of_both_kinds_of_rows() {
+        let none = Vec::new();
+        for (answer, changes, created) in [
+            (
+                "change 2 a created created 0",
+                vec![&b"a"[..], b"created"],
+                none.clone(),
+            ),
+            ("change 0 created 1 a", none.clone(), vec![&b"a"[..]]),
+            ("fault worn", none.clone(), none.clone()),
+        ] {
+            assert_eq!(users_in(answer.as_bytes()), (changes, created), "{answer}");
+        }
     }
 
     #[test]
