@@ -101,9 +101,11 @@ struct Hexadecimal<'a>(&'a [u8]);
 
 impl fmt::Display for Hexadecimal<'_> {
     fn fmt(&self, formatter: &mut fmt::Formatter<'_>) -> fmt::Result {
-        self.0
-            .iter()
-            .try_for_each(|byte| write!(formatter, "{byte:02x}"))
+        const DIGITS: &[u8; 16] = b"0123456789abcdef";
+        let digit = |number: u8| char::from(DIGITS[usize::from(number)]);
+        let digits = self.0.iter().map(|byte| [byte >> 4, byte & 15]);
+        // at once: a server writes one for each name when it starts
+        formatter.write_str(&digits.flatten().map(digit).collect::<String>())
     }
 }
 
