@@ -163,11 +163,12 @@ class Questions(ServedTree):
         self.assertTrue(waiting.is_silent())
         asked = self.asker().talk(
             *("1 look", "2 state b", "3 why b", "4 deps b", "5 made b", "6 ood", "7 targets"),
-            *("8 sources", "9 file //always 5", "10 session"),
+            *("8 sources", "9 file //always 5", "10 session", "11 users b", "12 names"),
         )
         self.assertEqual(asked[1], "2 idle lock 1 file -")
         self.assertEqual([asked[0], asked[5], asked[8]], ["1 ok 0", "6 ood", "9 ok"])
-        self.assertEqual(asked[9], "10 busy")
+        self.assertEqual(asked[9:11], ["10 busy", "11 change 0 created 0"])
+        self.assertRegex(asked[11], r"\A12 3 .*\bb - idle 0 - -")
         self.assertTrue(waiting.is_silent())
 
     def test_need_no_session_and_what_needs_one_is_refused(self) -> None:

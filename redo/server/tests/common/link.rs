@@ -42,6 +42,7 @@ impl Link {
                 Ok(0) => return None,
                 Ok(count) => self.received.push(&room[..count]),
                 Err(cause) if cause.kind() == ErrorKind::ConnectionReset => return None,
+                Err(cause) if cause.kind() == ErrorKind::Interrupted => {}
                 Err(cause) => panic!("{cause}"),
             }
         }
