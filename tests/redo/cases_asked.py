@@ -242,8 +242,8 @@ def case_users(tree: Tree) -> None:
     rule = tree.run("redo-why", "--users", "default.x.do").out.splitlines()
     built = [f"{name} is built from default.x.do" for name in ("d/one.x", "two.x")]
     tree.check.same("rule", rule, built)
-    rule = tree.run("redo-why", "--users", "two.x.do").out
-    tree.check.same("a rule that would win", rule, "two.x.do must not exist for two.x\n")
+    absent = tree.run("redo-why", "--users", "two.x.do").out
+    tree.check.same("a rule that would win", absent, "two.x.do must not exist for two.x\n")
     tree.check.same("no name", tree.run("redo-why", "--users").status, 2)
 
 

@@ -4,6 +4,8 @@ import signal
 
 from trees import Tree, end_server, ended, sleepers
 
+MANY = 100_000
+"""More names than a database once took."""
 ABOVE = "echo all >>ran\nredo-ifchange {}\n"
 WARNING = "redo: x was changed by hand: it stays as it is\n"
 
@@ -128,3 +130,22 @@ def case_restart_with_builds_that_were_killed(tree: Tree) -> None:
     tree.check.same("why", tree.run("redo-why", "x").out, "x failed\n")
     builds(tree, "it is built", "all", "x")
     tree.check.same("x", tree.read("x"), "1\n")
+
+
+def case_restart_with_very_many_names(tree: Tree) -> None:
+    """More names than 65,536 are known to the next server, and are looked at."""
+    last = MANY - 1
+    tree.files(x__do="redo-ifchange n7\ncat n7\n", n7="7\n")
+    tree.files(y__do=f"redo-ifchange n{last}\ncat n{last}\n")
+    tree.redo("x")
+    restarted(tree)
+    with open(tree.path(".redo/log"), "a", encoding="ascii") as log:
+        log.writelines(f"1 file n{number} 1 => ok\n" for number in range(MANY) if number != 7)
+    tree.write(f"n{last}", "9\n")
+    tree.redo("y")
+    tree.check.same("y", tree.read("y"), "9\n")
+    tree.check.same("x", tree.ifchange("x").built, [])
+    tree.write("n7", "8\n")
+    restarted(tree)
+    tree.check.same("why", tree.run("redo-why", "x").out, "x <- n7 changed\n")
+    tree.check.same("x", tree.ifchange("x", "y").built, ["x"])
