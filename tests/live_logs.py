@@ -187,9 +187,30 @@ class Logs:
         ):
             self.log.write_text(text)
             self.checks.check(f"tools/history of {text!r}", ended(TOP / "tools/history", "", str(self.log)), wanted)
+        self.large_histories()
         self.log.unlink()
         wanted = 2, "", f"history: {self.log}: No such file or directory\n"
         self.checks.check("tools/history of no file", ended(TOP / "tools/history", "", str(self.log)), wanted)
+
+    def large_histories(self) -> None:
+        """tools/history prints all of a log, and says what of it a replay refuses: each at its limit, and one more."""
+        spread = [f"1 file n{number} 1 => ok\n" for number in range(65_537)]
+        listed = f"2 ifchange n0 {' '.join(f'n{number}' for number in range(65_530, 65_537))} => ok\n"
+        again = ["64 gone a => ok\n", "64 file a 1 => ok\n"] * (1 << 19)
+        for lines, excess in (
+            (spread[:-1], ""),
+            (spread, "65,537 names (65,536)"),
+            ([*spread[:-1], listed, "64 lock n0 => granted 1\n"], "65,537 names (65,536)"),
+            (["65 lock a => granted 1\n"], "session 65 (64)"),
+            (["65535 lock a => granted 1\n", *spread], "65,538 names (65,536), session 65,535 (64)"),
+            (again, ""),
+            ([*again, "1 gone a => ok\n"], "1,048,577 lines (1,048,576)"),
+        ):
+            self.log.write_text(HEADER + "".join(lines))
+            told = f"history: {self.log}: more than redodb replay takes: {excess}\n" if excess else ""
+            got = ended(TOP / "tools/history", "", str(self.log))
+            wanted = 0, f"history {len(lines)}\n" + "".join(lines), told
+            self.checks.check(f"tools/history of {len(lines)} lines: {excess}", got == wanted, True)
 
     def all(self) -> None:
         self.histories()

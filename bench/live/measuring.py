@@ -1,6 +1,7 @@
 """What the benchmarks of conversations share: programs are compiled, and run in turn."""
 import os
 import subprocess
+import sys
 from pathlib import Path
 from typing import Callable, Sequence
 
@@ -14,6 +15,17 @@ def compiled(folder: Path, source: str) -> Path:
     program, source_file = folder / Path(source).stem, TOP / "bench" / source
     subprocess.run(["rustc", "--edition", "2021", "-O", "-o", program, source_file], check=True)
     return program
+
+
+def seconds(command: list[object], asked: Path, output: object = subprocess.DEVNULL) -> float:
+    """Seconds of the processor that a command takes on this input."""
+    with asked.open("rb") as lines:
+        child = subprocess.Popen([str(word) for word in command], stdin=lines, stdout=output)
+        _, status, usage = os.wait4(child.pid, 0)
+    child.returncode = os.waitstatus_to_exitcode(status)
+    if child.returncode:
+        sys.exit(f"{command[0]} failed")
+    return usage.ru_utime + usage.ru_stime
 
 
 def least(tasks: Sequence[Callable[[], float]], rounds: int = ROUNDS) -> list[float]:
