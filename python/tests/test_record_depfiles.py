@@ -136,6 +136,16 @@ class RecordDepfiles(TreeTest):
         self.assertEqual((status, out, errors.count("\n")), (2, "", 1))
         self.assertIn("263 bytes, over 255", errors)
 
+    def test_more_names_than_a_replay_takes(self) -> None:
+        headers = [f"h/{at}.h" for at in range(65_536)]
+        self.write("large/many.d", f"many.o: {' '.join(headers)}\n")
+        large = str(self.top / "large")
+        wanted = "redodb record: the history has 65537 names, over 65536\n"
+        self.assertEqual(record("depfiles", large), (2, "", wanted))
+        log = self.top / "log"
+        self.assertEqual(record("depfiles", large, "--log", str(log)), (0, "", ""))
+        self.assertIn("many.o", log.read_text())
+
     def test_name_that_the_database_does_not_take(self) -> None:
         self.write("out/many.d", "many.o: h/1.h h/2.h\n")
         program = os.fsdecode(find_program() or b"")

@@ -6,8 +6,11 @@ from typing import BinaryIO
 from ..conversation import Conversation
 from .graph import RecordError
 
-MOST_LINES = 1_048_576
-"""The lines of a history that a replay takes."""
+MOST_LINES, MOST_NAMES = 1_048_576, 65_536
+"""The lines of a history that a replay takes, and the names in it. A log may have more."""
+
+LISTING = (b"ifchange", b"ifcreate")
+"""The commands whose words after the target are names."""
 
 
 def answered(commands: Iterable[bytes], log: bytes | None = None) -> list[bytes]:
@@ -26,9 +29,18 @@ def answered(commands: Iterable[bytes], log: bytes | None = None) -> list[bytes]
     return lines
 
 
+def names_in(line: bytes) -> list[bytes]:
+    """Return the names in the command of a history's line."""
+    _, word, *rest = line.partition(b" => ")[0].split(b" ")
+    return rest if word in LISTING else rest[:1]
+
+
 def write_history(lines: list[bytes], out: BinaryIO) -> None:
     """Write the lines as a history. Raises RecordError if these are more than a replay takes."""
     if len(lines) > MOST_LINES:
         raise RecordError(f"the history has {len(lines)} lines, over {MOST_LINES}")
+    names = {name for line in lines for name in names_in(line)}
+    if len(names) > MOST_NAMES:
+        raise RecordError(f"the history has {len(names)} names, over {MOST_NAMES}")
     out.write(b"history %d\n" % len(lines))
     out.writelines(line + b"\n" for line in lines)
