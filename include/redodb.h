@@ -24,7 +24,7 @@ extern "C" {
 #define REDODB_ABI 1
 
 /* A database knows at most this many names: a line with one more is answered by its fault. */
-#define REDODB_MOST_NAMES 65536
+#define REDODB_MOST_NAMES 16777216
 
 /* Sessions are numbered from 1 to this number. */
 #define REDODB_MOST_SESSIONS 65535
@@ -42,7 +42,7 @@ enum redodb_status {
     REDODB_MEMORY = 3,
     /* The bytes are no log. */
     REDODB_DIFFERS = 4,
-    /* The log has more lines than a database answers: 4,294,836,223. */
+    /* The log has more lines than a database answers: with two for each name, 4,294,967,165. */
     REDODB_WORN = 5,
     /* A pointer is null, a length is above PTRDIFF_MAX, or the line overlaps the buffer for its answer. */
     REDODB_MISUSE = 6

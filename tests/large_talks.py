@@ -106,8 +106,8 @@ class Large:
         self.checks.check("1,000 sessions, restarted", got, (0, wanted, ""))
 
     def all_sessions_left(self) -> None:
-        """Each of 65,535 sessions holds a lock, and each third builds, when the program is killed. The next start closes
-        all of them, in their order."""
+        """Each of 65,535 sessions holds a lock, and each third builds, when the program is killed. The next start
+        closes all of them, in their order."""
         log = self.folder / "left.log"
         talk = Talk(self.program, self.folder, "--log", str(log))
         talk.hear()
