@@ -97,6 +97,9 @@ impl fmt::Display for Failure {
                 let line = line.escape_ascii();
                 write!(formatter, "not the greeting of redodb-live: b'{line}'")
             }
+            Failure::NoNames(reply) if is_of_older(reply) => {
+                formatter.write_str("redodb-live is older than redo-server")
+            }
             Failure::NoNames(reply) => {
                 let reply = reply.escape_ascii();
                 write!(formatter, "not what redodb-live knows: b'{reply}'")
@@ -113,4 +116,10 @@ impl fmt::Display for Failure {
             Failure::Mark(error) => error.fmt(formatter),
         }
     }
+}
+
+/// Says whether a reply to `names` is that of a redodb-live without that question, or without the
+/// session that asks. Any other one can be short of memory, and has no other fault.
+fn is_of_older(reply: &[u8]) -> bool {
+    reply.starts_with(b"fault ") && reply != b"fault memory"
 }

@@ -212,25 +212,41 @@ fn a_command_that_the_database_refuses_ends_the_run() {
     );
 }
 
+/// Starts another server whose database answers otherwise, and returns what a call is told of it.
+fn told_of_database(tree: &mut Tree, edit: &str) -> String {
+    tree.restart_with_edited_answers(edit);
+    let mut link = tree.link();
+    link.call(tree.call(Program::IfChange, &["t"], None));
+    match link.message() {
+        Some(ToProgram::Error(line)) => String::from_utf8(line).unwrap(),
+        other => panic!("{other:?}"),
+    }
+}
+
 #[test]
 fn a_database_that_does_not_say_what_it_knows_ends_the_server() {
     for (edit, text) in [
-        ("s/ names => .*/ fault unknown-command/", "unknown-command"),
-        ("s/ names => .*/ names => 7 t 5/", "7 t 5"),
+        ("s/ names => .*/ fault memory/", "b'fault memory'"),
+        ("s/ names => .*/ names => 7 t 5/", "b'7 t 5'"),
     ] {
         let mut tree = tree();
         assert!(builds(&tree));
-        tree.restart_with_edited_answers(edit);
-        let mut link = tree.link();
-        link.call(tree.call(Program::IfChange, &["t"], None));
-        match link.message() {
-            Some(ToProgram::Error(line)) => {
-                let line = String::from_utf8(line).unwrap();
-                assert!(line.contains("not what redodb-live knows"), "{line}");
-                assert!(line.contains(text), "{line}");
-            }
-            other => panic!("{other:?}"),
-        }
+        let line = told_of_database(&mut tree, edit);
+        let end = format!("not what redodb-live knows: {text}");
+        assert!(line.ends_with(&end), "{line}");
+    }
+}
+
+#[test]
+fn an_older_database_is_said_to_be_older() {
+    for answer in ["0 fault bad-session", "1024 fault unknown-command"] {
+        let mut tree = tree();
+        let edit = format!("s/^1024 names => .*/{answer}/");
+        let line = told_of_database(&mut tree, &edit);
+        assert!(
+            line.ends_with("redodb-live is older than redo-server"),
+            "{line}"
+        );
     }
 }
 
