@@ -224,6 +224,45 @@ fn told_of_database(tree: &mut Tree, edit: &str) -> String {
 }
 
 #[test]
+fn a_question_that_the_database_does_not_answer_fails() {
+    for (words, question) in [
+        (&["--users", "t"][..], "users t"),
+        (&["--json", "--users", "t"], "users t"),
+        (&["t"], "why t"),
+        (&[], "ood"),
+    ] {
+        let mut tree = tree();
+        assert!(builds(&tree));
+        let edit = format!("s/ {question} => .*/ fault memory/");
+        tree.restart_with_edited_answers(&edit);
+        let program = if words.is_empty() {
+            Program::Ood
+        } else {
+            Program::Why
+        };
+        let line = format!(
+            "{}: the database has a fault: {question} => fault memory",
+            program.name()
+        );
+        assert_eq!(tree.ask(program, words), (line, 1));
+        assert!(builds(&tree));
+    }
+}
+
+#[test]
+fn what_depends_on_a_name_of_any_length_is_told() {
+    let tree = Tree::new();
+    for length in [246, 247, 255] {
+        let name = format!("{}/{}", "d".repeat(120), "f".repeat(length - 121));
+        tree.write(&name, "1");
+        tree.write("t.do", &format!("ifchange {name}\ncat {name}"));
+        assert!(builds(&tree));
+        let told = format!("t is built from {name}\n");
+        assert_eq!(tree.ask(Program::Why, &["--users", &name]), (told, 0));
+    }
+}
+
+#[test]
 fn a_database_that_does_not_say_what_it_knows_ends_the_server() {
     for (edit, text) in [
         ("s/ names => .*/ fault memory/", "b'fault memory'"),

@@ -51,7 +51,7 @@ impl Server {
     fn reason(&mut self, target: Name, folder: &[u8]) -> Vec<u8> {
         let cause = match self.cause_of(target, folder) {
             Ok(cause) => cause,
-            Err(_) => return b"the database has ended".to_vec(),
+            Err(refusal) => return refusal.text,
         };
         let chain: Vec<Vec<u8>> = cause.chain.iter().skip(1).map(|one| shown(one)).collect();
         let mut text = chain.join(b" <- ".as_slice());

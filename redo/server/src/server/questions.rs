@@ -10,7 +10,7 @@ use redo_wire::{Call, Program};
 use crate::client::ClientId;
 use crate::json;
 use crate::server::programs::{FAILED, USAGE};
-use crate::server::runs::{Refusal, Wanted};
+use crate::server::runs::{Refusal, Wanted, HAS_FAULT};
 use crate::server::Server;
 use crate::sessions::Session;
 use crate::wire::partition;
@@ -110,14 +110,17 @@ impl Server {
         Printed { text, status: 0 }
     }
 
-    /// Asks the database. Fails if that has ended.
+    /// Asks the database. Fails if that has ended, or if it answers a fault.
     pub(super) fn ask_database(&mut self, question: &[&[u8]]) -> Result<Vec<u8>, Refusal> {
         let answer = self.machine.database().ask(question);
         self.note_failure();
-        answer.ok_or_else(|| Refusal {
-            text: b"the database has ended".to_vec(),
-            status: FAILED,
-        })
+        let text = match answer {
+            Some(answer) if !answer.starts_with(b"fault ") => return Ok(answer),
+            Some(fault) => [HAS_FAULT, &question.concat(), b" => ", &fault].concat(),
+            None => b"the database has ended".to_vec(),
+        };
+        let status = FAILED;
+        Err(Refusal { text, status })
     }
 
     fn whys(&mut self, call: &Call) -> Result<Printed, Refusal> {

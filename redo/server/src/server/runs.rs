@@ -23,6 +23,9 @@ use crate::server::Server;
 use crate::sessions::Session;
 use crate::timers::Alarm;
 
+/// What is said of a line that the database didn't take, before the line and its answer.
+pub(super) const HAS_FAULT: &[u8] = b"the database has a fault: ";
+
 /// What a user wants.
 pub(super) struct Wanted {
     pub names: Vec<Name>,
@@ -331,7 +334,7 @@ impl Server {
 
     /// Has a run end whose commands the database didn't do.
     pub(super) fn stop_run(&mut self, run: RunId, told: &[u8]) {
-        let text = [b"the database has a fault: ", told].concat();
+        let text = [HAS_FAULT, told].concat();
         let client = match self.calls.runs.get_mut(&run) {
             Some(record) if !record.is_stopped => {
                 record.is_stopped = true;

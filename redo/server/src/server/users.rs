@@ -3,7 +3,7 @@
 use std::collections::BTreeSet;
 
 use redo_core::Name;
-use redo_files::names::{is_internal, EDITED};
+use redo_files::names::{edited_name, is_internal};
 use redo_files::paths::shown;
 use redo_wire::Call;
 
@@ -40,7 +40,7 @@ impl Server {
 
     fn users_of(&mut self, name: Name, folder: &[u8]) -> Result<Users, Refusal> {
         let text = self.name_text(name);
-        let edited = [EDITED, &text].concat();
+        let edited = edited_name(&text);
         let (mut built, mut absent) = (BTreeSet::new(), BTreeSet::new());
         // what is built from an edited target has its row on another name
         for one in [&text, &edited] {
