@@ -268,10 +268,13 @@ pub fn partition(text: &[u8]) -> (&[u8], &[u8]) {
     }
 }
 
-/// Adds bytes to a text, as two hexadecimal digits each.
-pub fn put_digits(bytes: &[u8], text: &mut Vec<u8>) {
+/// Writes content as two hexadecimal digits for each byte; that of no bytes is `-`.
+pub fn write_content(content: &[u8], text: &mut Vec<u8>) {
     const DIGITS: &[u8; 16] = b"0123456789abcdef";
-    for byte in bytes {
+    if content.is_empty() {
+        text.push(b'-');
+    }
+    for byte in content {
         text.push(DIGITS[usize::from(byte >> 4)]);
         text.push(DIGITS[usize::from(byte & 15)]);
     }

@@ -3,8 +3,8 @@
 //!
 //! A target whose `.do` file is gone is told with its content again. That of a file is found out
 //! from the file. The others, of `redo-stamp`, are in the file `.redo/contents` while no server is
-//! there, in hexadecimal digits, each on a line. It may be lost: then what depends on such a target
-//! is built once more.
+//! there, each on a line, as `stamp` has it: in hexadecimal digits, or as `-` if it is empty. It may
+//! be lost: then what depends on such a target is built once more.
 
 use std::collections::{BTreeSet, HashSet};
 
@@ -14,11 +14,10 @@ use redo_files::stamp::{Digest as LookDigest, Stamp as LookStamp};
 use redo_files::FileError;
 
 use crate::groups::from_digits;
-
 use crate::known::Known;
 use crate::names::{Facts, FileStamp, Made};
 use crate::sha1::{sum_of, Sum};
-use crate::wire::put_digits;
+use crate::wire::write_content;
 
 /// Begins a content among the stamps: no stamp has a space.
 const CONTENT: &[u8] = b"content ";
@@ -83,7 +82,12 @@ impl Known {
     pub fn load_told(&mut self, home: &Home, file: &[u8]) {
         let text = home.read(file).unwrap_or_default();
         for line in text.split(|byte| *byte == b'\n') {
-            if let Some(told) = from_digits(line).filter(|told| !told.is_empty()) {
+            let told = match line {
+                b"" => None, // behind the last LF
+                b"-" => Some(Vec::new()),
+                digits => from_digits(digits),
+            };
+            if let Some(told) = told {
                 self.digest_numbered(&told);
             }
         }
@@ -96,7 +100,7 @@ impl Known {
         let told: BTreeSet<&[u8]> = all.filter_map(|facts| self.told_alone(facts)).collect();
         let mut text = Vec::new();
         for content in told {
-            put_digits(content, &mut text);
+            write_content(content, &mut text);
             text.push(b'\n');
         }
         if home.read(file).unwrap_or_default() == text {

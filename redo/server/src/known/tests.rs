@@ -330,3 +330,19 @@ fn what_was_told_outlasts_the_server() {
     let digest = Digest(after.names.facts(target).digest.unwrap().into());
     assert_eq!(after.digest_told(target, digest), b"a");
 }
+
+#[test]
+fn that_nothing_was_told_outlasts_the_server() {
+    const NOTHING: &str = "da39a3ee5e6b4b0d3255bfef95601890afd80709";
+    let tree = Tree::new();
+    let stamped = format!("stamp s - => stamped {NOTHING}");
+    let before = known(&tree, &[], &["start s => ok", &stamped, "done s - => ok"]);
+    before.store_told(&tree.home, b"contents").unwrap();
+    assert_eq!(std::fs::read(tree.at(".redo/contents")).unwrap(), b"-\n");
+    let mut after = tree.nothing_known();
+    after.load_told(&tree.home, b"contents");
+    assert!(after.learn_all(format!("1 s - built 1 - {NOTHING}").as_bytes()));
+    let target = after.names.number(b"s").unwrap();
+    let digest = Digest(after.names.facts(target).digest.unwrap().into());
+    assert_eq!(after.digest_told(target, digest), b"");
+}

@@ -3,7 +3,7 @@
 use redo_core::{Command, Stamp, Subject};
 
 use crate::store::Store;
-use crate::wire::{partition, put_digits};
+use crate::wire::{partition, write_content};
 
 /// An answer to a command.
 #[derive(Clone, Debug, PartialEq, Eq)]
@@ -119,14 +119,6 @@ impl Store {
             Some(stamp) => line.extend_from_slice(self.known.text_of(stamp).as_bytes()),
         }
     }
-}
-
-/// Writes content as hexadecimal digits; that of no bytes is `-`.
-fn write_content(content: &[u8], line: &mut Vec<u8>) {
-    if content.is_empty() {
-        line.push(b'-');
-    }
-    put_digits(content, line);
 }
 
 fn number(digits: &[u8]) -> Option<u64> {
