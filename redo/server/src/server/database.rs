@@ -171,7 +171,7 @@ impl Server {
         }
     }
 
-    /// Takes it that redodb-live has read its log, and closed there what was left open.
+    /// Asks redodb-live for all that it knows.
     fn ask_names(&mut self) {
         let conversation = &mut self.machine.database_mut().live.conversation;
         let session = Session::QUESTIONS;
