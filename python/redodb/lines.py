@@ -43,7 +43,7 @@ class Lines:
         self.number = 0
         self.late: dict[int, bytes] = {}
         self._socket = connected
-        self._rest = b""
+        self._rest: list[bytes] = []
         self._unsent = b""
 
     def greet(self, deadline: float | None = None) -> bool:
@@ -86,7 +86,7 @@ class Lines:
 
     def detach(self) -> tuple[int, bytes]:
         """Give the descriptor away, on which all goes on, and what was read ahead."""
-        return self._socket.detach(), self._rest
+        return self._socket.detach(), b"".join(self._rest)
 
     def close(self) -> None:
         """End the connection, and with it the session."""
@@ -94,20 +94,21 @@ class Lines:
 
     def _first_line(self, deadline: float | None) -> bytes:
         """Return a line before any request was answered, or b"" at the end."""
-        while b"\n" not in self._rest:
+        lines: list[bytes] = []
+        while not lines:
             data = self._receive(deadline)
             if not data:
                 return b""
-            self._rest += data
-        line, _, self._rest = self._rest.partition(b"\n")
-        return line
+            lines = whole_lines(self._rest, data)
+        self._keep(lines[1:], range(0), {})
+        return lines[0]
 
     def _answers(self, wanted: range, data: bytes, deadline: float | None) -> list[bytes]:
         """Return the answers to requests, of which some may be in the data that came."""
         answers: dict[int, bytes] = {}
-        self._take(data, wanted, answers)
+        self._keep(whole_lines(self._rest, data), wanted, answers)
         while len(answers) < len(wanted):
-            self._take(self._next(deadline), wanted, answers)
+            self._keep(whole_lines(self._rest, self._next(deadline)), wanted, answers)
         return [answers[number] for number in wanted]
 
     def _next(self, deadline: float | None) -> bytes:
@@ -160,9 +161,8 @@ class Lines:
         except ConnectionResetError:
             return b""
 
-    def _take(self, data: bytes, wanted: range, answers: dict[int, bytes]) -> None:
-        lines = (self._rest + data).split(b"\n")
-        self._rest = lines.pop()
+    def _keep(self, lines: list[bytes], wanted: range, answers: dict[int, bytes]) -> None:
+        """Sort lines into the answers that are wanted, and the late ones."""
         for line in lines:
             number, _, answer = line.partition(b" ")
             if number == b"0" or not number.isdigit():
@@ -175,6 +175,22 @@ class Lines:
         if line.startswith(b"0 failed "):
             raise ServerError(line[len(b"0 failed ") :].decode(errors="replace"))
         raise ProtocolError(f"not a line of the server: {line!r}")
+
+
+def whole_lines(rest: list[bytes], data: bytes) -> list[bytes]:
+    """Return the lines that end in what came now, without LF.
+
+    rest is what came before of the first one, in pieces, and has then what came of the next one: so
+    a long line is joined once, in time linear in its length.
+    """
+    lines = data.split(b"\n")
+    last = lines.pop()
+    if lines and rest:
+        lines[0] = b"".join([*rest, lines[0]])
+        rest.clear()
+    if last:
+        rest.append(last)
+    return lines
 
 
 def dial(places: Places) -> socket | None:

@@ -7,7 +7,7 @@ from collections.abc import Sequence
 from typing import Any
 
 from .errors import ProtocolError, RedodbError, ServerError
-
+from .lines import whole_lines
 
 _MOST_READ = 1 << 16
 
@@ -43,7 +43,7 @@ class Wire(asyncio.BufferedProtocol):
         self._waiting: dict[int, Batch] = {}
         self._out: list[bytes] = []
         self._buffer = memoryview(bytearray(_MOST_READ))
-        self._rest = b""
+        self._rest: list[bytes] = []
         self._error: RedodbError | None = None
         self._transport: asyncio.Transport | None = None
         self._lost: asyncio.Future[None] = self._loop.create_future()
@@ -99,9 +99,7 @@ class Wire(asyncio.BufferedProtocol):
         self._received(bytes(self._buffer[:nbytes]))
 
     def _received(self, data: bytes) -> None:
-        lines = (self._rest + data).split(b"\n")
-        self._rest = lines.pop()
-        for line in lines:
+        for line in whole_lines(self._rest, data):
             number, _, answer = line.partition(b" ")
             batch = self._waiting.pop(int(number), None) if number.isdigit() else None
             if batch is not None:
