@@ -159,7 +159,8 @@ Prints of each TARGET why it is out of date, by a shortest chain of what
 depends on what.
 
     --users            prints which targets depend on each TARGET, or source
-    --json             prints an object a line: target, reason, chain
+    --json             prints an object a line: target, reason, chain; with
+                       --users: name, built, absent
 ";
 
 const LOG: &str = "usage: redo-log [OPTION..] TARGET..
@@ -190,6 +191,15 @@ mod tests {
                 "{text}"
             );
         }
+    }
+
+    #[test]
+    fn help_names_the_parts_of_each_object() {
+        let text = help(Program::Why);
+        let words: Vec<&str> = text.split_whitespace().collect();
+        let text = words.join(" ");
+        assert!(text.contains("prints an object a line: target, reason, chain"));
+        assert!(text.contains("with --users: name, built, absent"));
     }
 
     #[test]
