@@ -130,6 +130,13 @@ class Man(unittest.TestCase):
             tried += 1
         self.assertGreaterEqual(tried, 3)
 
+    def test_sessions_of_a_conversation_are_those_of_help(self) -> None:
+        run = subprocess.run(
+            [TOP / "redodb-live", "--help"], capture_output=True, text=True, check=False
+        )
+        for text in (run.stdout, (TOP / "man" / "redodb-live.1").read_text()):
+            self.assertEqual(re.findall(r" from 1 to (\d+)", text), ["65535"])
+
 
 if __name__ == "__main__":
     unittest.main()
