@@ -7,8 +7,8 @@ from talks import Checks, ended, greeting
 
 # no number of a session and a space in front
 BAD_SESSION = [
-    "", " ", "1", "64", "ood", "0 ood", "00 ood", "01 ood", "065 ood", "65536 ood", "65537 ood", "99999 ood", "100000 ood",
-    "131072 ood", "4294967297 ood",
+    "", " ", "1", "64", "ood", "0 ood", "00 ood", "01 ood", "065 ood", "65536 ood", "65537 ood", "99999 ood",
+    "100000 ood", "131072 ood", "4294967297 ood",
     "+1 ood", "-1 ood", " 1 ood", "1\tood", "1.0 ood", "# 1 ood", "#", "? 1 ood", "?", "end", "1end", "x 1 ood",
     "0 end", "65536 end", "\xff", "\x00", "1\x00ood", "-", "a" * 8193, "65536 " + "a" * 9000, "ood " * 5000,
 ]
