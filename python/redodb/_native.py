@@ -50,9 +50,10 @@ class Database(Commands):
     """A database of this process, with the commands and questions of a client.
 
     log is what a log holds, from which it goes on; without it nothing is known. session is the
-    session of the calls, from 1 to 65,535; `answer` takes lines of any session. One thread at a time
-    uses it. All calls raise RefusedError, FaultError, and LibraryError if there is no library,
-    no memory, or if log is none.
+    session of the calls, from 1 to 65,535; `answer` takes lines of any session. One thread at a
+    time uses it. All calls raise RefusedError, FaultError, and LibraryError if there is no library,
+    no memory, or if log is none. It keeps the room of its longest answer, as that of `names` may
+    be.
 
     >>> with Database() as database:
     ...     database.file("main.c", "1")

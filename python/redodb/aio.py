@@ -162,7 +162,10 @@ class AsyncClient:
         return await self._do(requests.state(name))
 
     async def names(self) -> tuple[Known, ...]:
-        """Return what is known of all names, in the order in which they became known."""
+        """Return what is known of all names, in the order in which they became known.
+
+        Of a large tree that takes memory, or fails, as Client.names says.
+        """
         return await self._do(requests.names())
 
     async def wait(

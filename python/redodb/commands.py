@@ -196,6 +196,10 @@ class Commands(ABC):
     def names(self) -> tuple[Known, ...]:
         """Return what is known of all names, in the order in which they became known.
 
+        The answer may have some hundreds of bytes for each name. To read it takes three times as
+        much memory besides, and what is returned twice as much. A server closes the connection
+        instead of an answer above 128 MiB, and that raises ServerError.
+
         >>> client.file("a.c", "1")
         >>> client.names()[-1]
         Known(name=b'a.c', state=<State.IDLE: 'idle'>, stamp='1', builds=0, done=None, digest=None)

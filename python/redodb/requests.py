@@ -18,7 +18,7 @@ TOP_LEVEL = b"-"
 
 _MOST_NAMES = 64
 _MOST_BYTES = 7_000
-_MOST_KEPT = 1 << 16  # as many names as a tree has at most
+_MOST_KEPT = 1 << 16  # names, of which a tree may have more
 
 
 class Request(Generic[Answer]):
