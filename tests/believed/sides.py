@@ -1,0 +1,32 @@
+"""Which side of specs/Inside the definitions of all crates are on."""
+from collections.abc import Iterator
+from pathlib import Path
+
+from believed.closure import Closure
+
+# this folder of specs has what need not be believed; what no public contract names is nowhere else
+INSIDE = "Inside"
+
+
+def misplaced(closure: Closure, said: Closure) -> Iterator[str]:
+    """What must be believed and is inside, and what is outside though no contract names it."""
+    for path in sorted(closure.tree.crates.glob("*/specs/**/*.antt")):
+        name = path.relative_to(closure.tree.crates)
+        specs = closure.tree.specs_at(path)
+        if name.parts[2] == INSIDE:
+            if path in closure.blocks:
+                names = " ".join(specs.names_of(closure.blocks[path]))
+                yield f"{name}: is reached: {names}"
+        elif path.stem not in ("Lib", INSIDE):
+            yield from unnamed(name, specs.names_of(blocks_besides(said, path)))
+
+
+def blocks_besides(said: Closure, path: Path) -> set[int]:
+    """The blocks of a file that aren't reached."""
+    return set(range(len(said.tree.specs_at(path).blocks))) - said.blocks.get(path, set())
+
+
+def unnamed(name: Path, names: list[str]) -> Iterator[str]:
+    """The complaint about definitions of a file that no contract names, if there are any."""
+    if names:
+        yield f"{name}: no public contract names it, and it belongs {INSIDE}: {' '.join(names)}"
