@@ -1,0 +1,1 @@
+"""The parts of tests/doubts: a small tree, and what is made wrong in it."""
