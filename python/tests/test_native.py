@@ -56,8 +56,10 @@ class Calls(NativeTest):
         self.assertEqual(refused.exception.refusal, Refusal.NOT_LOCKED)
         with self.assertRaises(BadName):
             self.database.lock("a b")
+        self.database.session = 65_535
+        self.assertEqual(self.database.lock("a.o"), Granted(1))
         with self.assertRaises(FaultError) as fault:
-            self.database.session = 65
+            self.database.session = 65_536
             self.database.lock("a.o")
         self.assertEqual(fault.exception.word, FaultWord.BAD_SESSION)
 
