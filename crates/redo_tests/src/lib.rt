@@ -1,5 +1,5 @@
 //! Tests of the database and the layers below it, of names and texts, of merging, of reports, of
-//! runs whose readers and writers fail, and of the live database, its log and its conversation.
+//! runs whose readers and writers fail, and of the live database.
 #![tactic(auto)]
 
 #[cfg(test)]
@@ -19,8 +19,6 @@ mod lines;
 #[cfg(test)]
 mod live;
 #[cfg(test)]
-mod log;
-#[cfg(test)]
 mod merge;
 #[cfg(test)]
 mod names;
@@ -32,8 +30,6 @@ mod regions;
 mod rows;
 #[cfg(test)]
 mod shared;
-#[cfg(test)]
-mod talk;
 #[cfg(test)]
 mod texts;
 #[cfg(test)]

@@ -1,0 +1,7 @@
+//! Tests of conversations and of logs.
+#![tactic(auto)]
+
+#[cfg(test)]
+mod log;
+#[cfg(test)]
+mod talk;
