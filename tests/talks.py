@@ -94,6 +94,26 @@ def changing(lines: Iterable[str]) -> list[str]:
     return changing_from([], lines)
 
 
+def closing_of(lines: list[str]) -> str:
+    """What closes all sessions after these lines, by the replies that their own commands got."""
+    held: dict[tuple[int, str], bool] = {}
+    for line in lines:
+        said, _, reply = line.rstrip("\n").partition(" => ")
+        session, word, *names = said.split(" ")
+        key = int(session), names[0] if names else ""
+        if word == "lock" and reply.startswith("granted "):
+            held[key] = False
+        elif word == "unlock" and reply == "ok":
+            del held[key]
+        elif word in ("start", "done", "failed") and reply == "ok":
+            held[key] = word == "start"
+    ends = []
+    for (holder, name), is_building in sorted(held.items()):
+        ends += [f"{holder} failed {name} => ok\n"] if is_building else []
+        ends.append(f"{holder} unlock {name} => ok\n")
+    return "".join(ends)
+
+
 def history_of(log: str) -> str:
     """A log as a history, by the rule that each line but the first is one of a history."""
     lines = log.splitlines(keepends=True)[1:]
@@ -110,13 +130,14 @@ def verdict(redodb: Path, folder: Path, history: str) -> str:
 class Talk:
     """A program that is talked to over a pair of FIFOs."""
 
-    def __init__(self, program: Path, folder: Path, *words: str) -> None:
+    def __init__(self, program: Path, folder: Path, *words: str, **variables: str) -> None:
         asks, answers = folder / "asks", folder / "answers"
         for fifo in (asks, answers):
             fifo.unlink(missing_ok=True)
             os.mkfifo(fifo)
         shell = ["sh", "-c", 'asks=$1 answers=$2; shift 2; exec "$0" "$@" <"$asks" >"$answers"']
-        self.process = subprocess.Popen([*shell, program, asks, answers, *words], stderr=subprocess.PIPE)
+        self.process = subprocess.Popen([*shell, program, asks, answers, *words], stderr=subprocess.PIPE,
+                                        env={**os.environ, **variables})
         self.asks: IO[bytes] = asks.open("wb", buffering=0)
         self.answers: IO[bytes] = answers.open("rb", buffering=0)
         self.read = b""
