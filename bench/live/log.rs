@@ -1,6 +1,7 @@
 // The log: a file of the lines that changed something.
 use crate::database::{Answers, Database, MOST_SESSIONS};
 use crate::opening::{open, open_again, sync_folder};
+use crate::say;
 use std::fs::{File, OpenOptions};
 use std::io::{self, BufRead, BufReader, Read, Seek, Write};
 use std::os::unix::fs::FileExt;
@@ -108,7 +109,7 @@ impl Log {
         let length = self.file.metadata().map_err(|_| self.read_fault())?.len();
         self.cut(bytes)?;
         let cut = length - bytes;
-        eprintln!("redodb-live: {}: {lines} lines kept, {cut} bytes cut off", self.name);
+        say(&format!("redodb-live: {}: {lines} lines kept, {cut} bytes cut off\n", self.name));
         self.file.rewind().map_err(|_| self.read_fault())
     }
 

@@ -32,7 +32,7 @@ mod store;
 
 use database::{Answers, Database};
 use log::Log;
-use std::io::{stdin, stdout, BufRead, BufReader, Read, Write};
+use std::io::{stderr, stdin, stdout, BufRead, BufReader, Read, Write};
 
 // a line of which this many bytes were read is too long: five digits, a space, and 8,193 bytes
 const MOST_BYTES: u64 = 8199;
@@ -60,6 +60,11 @@ fn words_of(given: impl Iterator<Item = String>) -> Option<Words> {
     }
     let needs_log = words.is_synced || words.is_salvaged;
     (words.log.is_some() || !needs_log).then_some(words)
+}
+
+// Writes a line to standard error, at once. Ignores a failed write.
+fn say(line: &str) {
+    let _ = stderr().write_all(line.as_bytes());
 }
 
 // Writes the answers: first what is to be logged.
@@ -132,7 +137,7 @@ fn run() -> Result<(), String> {
 
 fn main() {
     if let Err(fault) = run() {
-        eprintln!("redodb-live: {fault}");
+        say(&format!("redodb-live: {fault}\n"));
         std::process::exit(2);
     }
 }
