@@ -3,3 +3,4 @@ pub mod CutLogs
 pub mod Asked
 pub mod Redone
 pub mod Stepping
+pub mod Prefixes

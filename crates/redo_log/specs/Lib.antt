@@ -1,3 +1,4 @@
 pub mod Inside
+pub mod Operations
 pub mod Logs
 pub mod Restores

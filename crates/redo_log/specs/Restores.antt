@@ -44,6 +44,10 @@ pub record DiffersBehind (bytes : Text) (lines : List (Line Text)) : Type 0 wher
   pub differs : (line : Line Text) (rest : Text) → left ≡ line_text_of line ++ rest
       → ¬ (AreLogged (lines ++ line ∷ []))
 
+-- after these lines, or in place of the header, something comes that can't be there
+abbrev pub IsDamagedAfter : Text → List (Line Text) → Type 0
+IsDamagedAfter bytes lines = (HasBadHeader bytes × (lines ≡ [])) ⊎ DiffersBehind bytes lines
+
 -- a line of the file, counted from 1, is not the database's answer: this many lines and bytes of a
 -- log come before it
 abbrev pub DiffersAt : Text → ℕ → ℕ → ℕ → Type 0

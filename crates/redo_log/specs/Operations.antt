@@ -1,0 +1,71 @@
+-- What was done to the log and the output of a conversation, and what they hold by it.
+use Rattle.std.specs.Prelude.{◌≡◌, ℕ, Bool, true, false, List, [], ◌∷◌, ◌++◌, take}
+use Rattle.redo_model.specs.Names.{Text}
+
+-- an operation on the log or on the output, as far as it was done
+pub data Operation : Type 0 where
+  -- these bytes of the log were read: all, or its first ones if they aren't those of a log
+  Read : Text → Operation
+  -- these bytes were appended to the log
+  Append : Text → Operation
+  -- the log was cut to this many bytes
+  Cut : ℕ → Operation
+  -- the bytes of the log were synced to the disk
+  Sync : Operation
+  -- a sync failed: the bytes of the log that had not been synced were cut off
+  Revert : Operation
+  -- the log was copied, and the copy synced, under a name that no file had
+  Copy : Operation
+  -- these bytes were written to the output
+  Write : Text → Operation
+  -- an operation of the log, or of the output, failed and changed nothing
+  LogFailed : Operation
+  OutputFailed : Operation
+
+-- the bytes of the log that are known to be on the disk, and all that it holds; the newest operation comes first
+pub record Held : Type 0 where
+  pub synced : Text
+  pub all : Text
+
+-- what the log holds after one operation more
+abbrev pub held_then : Operation → Held → Held
+held_then (Read bytes) held = record { synced = []; all = bytes }
+held_then (Append bytes) held = record held { all = held.all ++ bytes }
+held_then (Cut size) held = record { synced = take size held.synced; all = take size held.all }
+held_then Sync held = record { synced = held.all; all = held.all }
+held_then Revert held = record { synced = held.synced; all = held.synced }
+held_then other held = held
+
+-- what the log holds after these operations, of which the newest comes first
+abbrev pub held_after : List Operation → Held
+held_after [] = record { synced = []; all = [] }
+held_after (operation ∷ earlier) = held_then operation (held_after earlier)
+
+-- what was written to the output
+abbrev pub written_by : List Operation → Text
+written_by [] = []
+written_by (Write bytes ∷ earlier) = written_by earlier ++ bytes
+written_by (operation ∷ earlier) = written_by earlier
+
+-- a beginning of the bytes
+abbrev pub IsPrefix : Text → Text → Type 0
+IsPrefix prefix bytes = (rest : Text) × (bytes ≡ prefix ++ rest)
+
+-- the operation, or the first part of it
+abbrev pub IsPartOf : Operation → Operation → Type 0
+IsPartOf part (Append bytes) = (some : Text) × IsPrefix some bytes × (part ≡ Append some)
+IsPartOf part (Write bytes) = (some : Text) × IsPrefix some bytes × (part ≡ Write some)
+IsPartOf part operation = part ≡ operation
+
+-- P is true at each moment: after each operation, and after each first part of it
+abbrev pub IsAlways : (List Operation → Type 0) → List Operation → Type 0
+IsAlways P [] = Unit {0}
+IsAlways P (operation ∷ earlier) =
+    ((part : Operation) → IsPartOf part operation → P (part ∷ earlier)) × IsAlways P earlier
+
+-- an operation of the log that changed nothing
+abbrev pub changes_nothing : Operation → Bool
+changes_nothing (Read bytes) = true
+changes_nothing Copy = true
+changes_nothing LogFailed = true
+changes_nothing operation = false
