@@ -162,7 +162,7 @@ class Devices:
             wanted = ["sync", f"log {len(HEADER)}", *sync, first, f"log {len(logged)}", *sync, out]
             self.checks.check(f"writes {words}", got, wanted)
             got = self.noted(f"{log.stem}.again", library, "3 ood\n", *talk)
-            wanted = [*sync, *sync, f"log {len(closing)}", *sync, first, f"out {len('3 ood => ood') + 1}"]
+            wanted = [*sync, f"log {len(closing)}", *sync, first, f"out {len('3 ood => ood') + 1}"]
             self.checks.check(f"writes of a restart {words}", got, wanted)
 
     def all(self) -> None:

@@ -9,7 +9,7 @@ from pathlib import Path
 from typing import NamedTuple
 
 from databases import QUESTIONS
-from disks import Cut, Disk, Event, Step, Write, disk_of, in_any_order, in_order
+from disks import Disk, Event, Step, disk_of, in_any_order, in_order
 from recordings import Recorder, bursts, random_lines
 from restarts import Image, Outcome, Restarts, count, lines_after_header, text_of, whole
 from talks import HEADER, Checks, changing_from, closing_of, greeting, shown
@@ -67,13 +67,6 @@ def told_lines(said: str) -> list[str]:
     """The answers that are lines of a history."""
     lines = [line for line in whole(said).splitlines(keepends=True) if " => " in line]
     return [line for line in lines if line.split(" ")[1] not in NO_LINES]
-
-
-def is_cut_lost(disk: Disk, kept: Iterable[Step], log: str) -> bool:
-    """Whether the log isn't cut, although something is kept that was written to it later."""
-    cuts = {step for step in disk.pending if step.name == log and isinstance(step.change, Cut)}
-    writes = {step for step in kept if step.name == log and isinstance(step.change, Write)}
-    return bool(writes) and bool(cuts.difference(kept))
 
 
 class Talked:
@@ -180,15 +173,14 @@ class Talked:
 
     def losses(self, name: str, moment: Moment) -> Iterator[Loss]:
         """Losses at a moment, each once, and each checked."""
-        tried: set[tuple[Image, bool, bool]] = set()
+        tried: set[tuple[Image, bool]] = set()
         for steps, is_ordered in self.ways(moment):
             image = self.image(moment.disk.left(steps))
-            is_free = self.damaged is not None and is_cut_lost(moment.disk, steps, self.log)
-            if (image, is_ordered, is_free) in tried:
+            if (image, is_ordered) in tried:
                 continue
-            tried.add((image, is_ordered, is_free))
+            tried.add((image, is_ordered))
             loss = Loss(moment, image, self.restarts.outcome(image))
-            self.check(name, loss, is_ordered, is_free)
+            self.check(name, loss, is_ordered)
             yield loss
 
     def times(self, moment: Moment) -> int:
@@ -202,12 +194,12 @@ class Talked:
             yield from ((steps, True) for steps in in_order(moment.disk, self.choose, LOSSES))
             yield from ((steps, False) for steps in in_any_order(moment.disk, self.choose, LOSSES))
 
-    def check(self, name: str, loss: Loss, is_ordered: bool, is_free: bool) -> None:
-        """What is claimed of a loss holds. If it is free, it may restore what --salvage cut off."""
+    def check(self, name: str, loss: Loss, is_ordered: bool) -> None:
+        """What is claimed of a loss holds."""
         (_, _, promised, had), image, (lines, refused, faults) = loss
         broken = {
             "an answered line is lost": not lines.startswith(promised),
-            "a line is restored that wasn't there": not (had.startswith(lines) or is_free),
+            "a line is restored that wasn't there": not had.startswith(lines),
             "a right line is named": refused is not None and (HEADER + had).startswith(refused),
             "a lost end is named": is_ordered and refused is not None and image.log != self.damaged,
             "what was damaged is lost": self.damaged is not None and self.damaged not in image,

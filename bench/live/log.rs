@@ -108,6 +108,8 @@ impl Log {
         self.copy_to_damaged()?;
         let length = self.file.metadata().map_err(|_| self.read_fault())?.len();
         self.cut(bytes)?;
+        // else a later line could be on the disk without the cut, and before what was cut off
+        self.file.sync_data().map_err(|_| format!("{}: write", self.name))?;
         let cut = length - bytes;
         say(&format!("redodb-live: {}: {lines} lines kept, {cut} bytes cut off\n", self.name));
         self.file.rewind().map_err(|_| self.read_fault())

@@ -8,7 +8,7 @@ from believed.texts import Unread, words_of
 from believed.tree import Tree
 
 # words that nothing brings in: the libraries, and the types of the toolchain's prelude
-PRELUDE = (*LIBRARIES, "Type", "Unit", "IsProp", "IsSet", "Dec", "Discrete", "Id", "Path")
+PRELUDE = (*LIBRARIES, "Self", "Type", "Unit", "IsProp", "IsSet", "Dec", "Discrete", "Id", "Path")
 RUST_PRELUDE = ("Box", "Option", "Result", "Self", "Send", "String", "Sync", "Vec")
 # each file with its number of lines that are reached, and the names of what they define
 Files = dict[str, tuple[int, list[str]]]
@@ -147,10 +147,12 @@ class Closure:
         return any(model for model, _ in models)
 
     def follow_item(self, path: Path, name: str) -> None:
-        """Reaches the types that an item of the code is made of, and what its model names."""
+        """Reaches the types that an item of the code is made of, and what its model names, or the
+        contracts of a trait's methods and its other members."""
         code = self.tree.code_at(path)
         for words in code.types_of(name):
             self.follow_type(code, words, whole=True)
+        self.follow_clauses(code.clauses_of(name), code)
         self.follow_models(code.crate, name)
 
     def follow_models(self, crate: str, name: str) -> None:

@@ -17,6 +17,8 @@ ITEM = re.compile(
 )
 FUNCTION = re.compile(r'\b(pub(?:\s*\([^)]*\))?)\s+(?:(?:const|unsafe|extern\s+"+)\s+)*fn\s+(\w+)')
 CLAUSE = re.compile(r"\b(?:ensures|requires)\*?(?:\s+\w+)?\s*$")
+TRAIT = re.compile(rf"[ \t]*(?:{PUB})?trait\b")
+TRAIT_CLAUSE = re.compile(r"\b(?:ensures|requires|ghost)\b[^{};]*\{")
 IMPLEMENTATION = re.compile(r"\b(?:impl|trait)\b(?:[^{};\[]|\[[^\]{}]*\])*\{")
 MODEL = re.compile(r"\bModel\b(?:\s*<[^{}]*>)?\s+for\s+(?:\w+\s*::\s*)*(\w+)")
 MEMBER = re.compile(r"\bghost\s+(\w+)\s*=\s*(?=\{)")
@@ -109,10 +111,16 @@ class Code:
         lines = "\n".join(self.items[name]).split("\n")
         return len([line for line in lines if line.strip() and not line.lstrip().startswith("#[")])
 
+    def clauses_of(self, name: str) -> str:
+        """The clauses and the other ghost members of the traits of this name."""
+        traits = [item for item in self.items[name] if TRAIT.match(item)]
+        return "\n".join(part for item in traits for part in clauses_in(item)[1])
+
     def types_of(self, name: str) -> Iterator[list[str]]:
-        """The paths in an item that may be those of types, but for its variants' names."""
+        """The paths in an item that may be those of types, but for its variants' names, and for the
+        clauses of a trait."""
         for item in self.items[name]:
-            text = re.sub(r"#\[[^\]]*\]", " ", item)
+            text = re.sub(r"#\[[^\]]*\]", " ", clauses_in(item)[0] if TRAIT.match(item) else item)
             yield from paths_of(without_variants(text) if re.search(r"\benum\b", text) else text)
 
     def modelled(self) -> Iterator[tuple[str, str]]:
@@ -166,6 +174,16 @@ class Code:
         if last and self.text[last : mark.start()].strip() or after:
             raise Unread(f"the contract of {name} can't be read")
         return mark.start()
+
+
+def clauses_in(text: str) -> tuple[str, list[str]]:
+    """The text of a trait without its clauses and its other ghost members, and each of these."""
+    rest, at, clauses = "", 0, list[str]()
+    while mark := TRAIT_CLAUSE.search(text, at):
+        end = end_of_brackets(text, mark.end() - 1)
+        rest, clauses = rest + text[at : mark.start()], [*clauses, text[mark.end() - 1 : end]]
+        at = end
+    return rest + text[at:], clauses
 
 
 def members_of(text: str, members: tuple[str, ...]) -> list[str]:

@@ -9,7 +9,7 @@ Root = tuple[str, str]
 ROOTS: list[Root] = [
     ("redo_session", "run_texts"),
     ("redo_replay", "replay_text"),
-    ("redo_talk", "converse"),
+    ("redo_talk", "serve"),
     ("redo_words", "job"),
     ("redo_words", "conversation"),
     ("redo_job", "finish"),

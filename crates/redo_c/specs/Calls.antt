@@ -7,7 +7,7 @@ use Rattle.redo_log.specs.Restores.{IsRestored, DiffersAt, HasTooMany}
 use Rattle.redo_log.specs.declared.restoring.Restored.{Restored}
 use Rattle.redo_talk.specs.Rounds.{Round}
 use Rattle.redo_talk.specs.Logs.{logged_of}
-use Rattle.redo_talk.specs.Inside.Hearing.{known_of}
+use Rattle.redo_talk.specs.Inside.Places.{known_of}
 use Rattle.redo_talk.specs.Inside.Replies.{IsReplied, LogsPrefix, WouldTell}
 use Rattle.redo_talk.specs.Inside.Steps.{Known}
 use Rattle.redo_talk.specs.declared.replying.Replied.{Replied}

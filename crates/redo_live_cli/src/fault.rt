@@ -1,4 +1,5 @@
-use redo_log::RestoreFault;
+use redo_log as logs;
+use redo_talk::ServeFault;
 use redo_whole::{Watched, write_whole};
 use std::alloc::AllocError;
 use thiserror::Error;
@@ -60,12 +61,28 @@ impl From<AllocError> for Fault {
     }
 }
 
-impl From<RestoreFault> for Fault {
-    fn from(fault: RestoreFault) -> Fault {
+impl From<logs::LogFault> for LogFault {
+    fn from(fault: logs::LogFault) -> LogFault {
         match fault {
-            RestoreFault::Memory => Fault::Memory,
-            RestoreFault::Worn => Fault::Log(LogFault::Worn),
-            RestoreFault::Differs { line, .. } => Fault::Log(LogFault::Differs { line }),
+            logs::LogFault::Read => LogFault::Read,
+            logs::LogFault::NotRegular => LogFault::NotRegular,
+            logs::LogFault::Write => LogFault::Write,
+            logs::LogFault::IsCopied => LogFault::IsCopied,
+            logs::LogFault::CannotCopy => LogFault::CannotCopy,
+            logs::LogFault::CopyWrite => LogFault::CopyWrite,
+        }
+    }
+}
+
+impl From<ServeFault> for Fault {
+    fn from(fault: ServeFault) -> Fault {
+        match fault {
+            ServeFault::Memory => Fault::Memory,
+            ServeFault::Worn => Fault::Log(LogFault::Worn),
+            ServeFault::Differs { line } => Fault::Log(LogFault::Differs { line }),
+            ServeFault::Log(fault) => Fault::Log(LogFault::from(fault)),
+            ServeFault::Read | ServeFault::TooLong => Fault::Read,
+            ServeFault::Write => Fault::Write,
         }
     }
 }

@@ -1,18 +1,24 @@
 //! The program `redodb-live`: a conversation with one database, and its log.
 #![tactic(auto)]
 
-mod fault;
-mod log;
-mod log_writer;
-mod opening;
+ghost use Rattle.std.specs.Prelude.{◌≡◌, [], IfOk};
 
-use fault::{Fault, LogFault};
-use opening::hold_closed;
-use redo_live::Live;
-use redo_talk::{TalkFault, talk};
-use redo_whole::{Watched, write_whole};
-use redo_words::{Conversation, LogFile, WordsFault, conversation};
-use std::io::Write;
+mod copying;
+mod devices;
+mod fault;
+mod log_file;
+mod opening;
+mod reading;
+mod writing;
+
+use devices::FileDevices;
+use fault::Fault;
+use log_file::LogFile;
+use opening::{hold_closed, open_log};
+use redo_talk::{Keeping, serve};
+use redo_whole::Watched;
+use redo_words::{Conversation, WordsFault, conversation};
+use std::fs::File;
 use std::process::ExitCode;
 use std::rt::Env;
 use std::{env, io};
@@ -41,58 +47,55 @@ fn asked<R: Env + AllocGlobal>(rt: &R) -> Result<Conversation, Fault> {
     }
 }
 
-/// Writes how many lines were restored, before it reads a line.
-fn greet<R: AllocGlobal, W: Write>(
-    rt: &R,
-    restored: usize,
-    out: &mut Watched<W>,
-) -> Result<(), Fault> {
-    let greeting = format!(in rt.alloc(); "redodb-live {VERSION} restored {restored}\n")?;
-    if write_whole(out, greeting.as_bytes()).is_err() || out.flush().is_err() {
-        return Err(Fault::Write);
-    }
-    Ok(())
-}
-
-/// Talks until standard input ends.
-fn talk_to<L: Write>(
-    rt: &HostRuntime,
-    live: &mut Live,
-    restored: usize,
-    log: &mut Watched<L>,
-) -> Result<(), Fault> {
-    let mut input = Watched::new(rt.stdin());
-    let mut out = Watched::new(io::writer(rt));
-    greet(rt, restored, &mut out)?;
-    match talk(rt.alloc(), live, &mut input, log, &mut out) {
-        Ok(()) => Ok(()),
-        Err(TalkFault::Memory) => Err(Fault::Memory),
-        Err(TalkFault::Write) if log.faulted() => Err(Fault::Log(LogFault::Write)),
-        Err(TalkFault::Write) => Err(Fault::Write),
-        Err(TalkFault::Read | TalkFault::TooLong) => Err(Fault::Read),
+/// How the log that the arguments name is kept.
+fn keeping(conversation: &Conversation) -> Keeping {
+    match &conversation.log {
+        Some(log) => Keeping {
+            sync: log.sync,
+            salvage: log.salvage,
+        },
+        None => Keeping {
+            sync: false,
+            salvage: false,
+        },
     }
 }
 
-/// The conversation that a log keeps.
-fn converse_by_log(rt: &HostRuntime, asked: &LogFile) -> Result<(), Fault> {
-    let _held = hold_closed(rt)?;
-    let mut begun = log::begin(rt, asked)?;
-    let restored = begun.restored.lines;
-    talk_to(rt, &mut begun.restored.live, restored, &mut begun.log)
+/// The log and the output of a conversation.
+fn devices_of<'a>(
+    rt: &'a HostRuntime,
+    conversation: &'a Conversation,
+) -> Result<FileDevices<'a>, Fault>
+    ensures { IfOk result (λ devices. devices.done.operations ≡ []) }
+{
+    let log = match &conversation.log {
+        Some(asked) => open_log(rt, asked)?,
+        None => LogFile::new("", String::new(rt.alloc()), None),
+    };
+    Ok(FileDevices::new(rt, log))
 }
 
-/// A conversation that nothing keeps.
-fn converse_alone(rt: &HostRuntime) -> Result<(), Fault> {
-    let mut live = Live::new(rt.alloc())?;
-    talk_to(rt, &mut live, 0, &mut Watched::new(io::sink()))
+/// The descriptors that are held in a conversation with a log.
+fn held(rt: &HostRuntime, conversation: &Conversation) -> Result<Vec<File>, Fault> {
+    match &conversation.log {
+        Some(_) => hold_closed(rt),
+        None => Ok(Vec::new(rt.alloc())),
+    }
 }
 
 /// The conversation that the arguments ask for.
 fn converse(rt: &HostRuntime, conversation: &Conversation) -> Result<(), Fault> {
-    match &conversation.log {
-        Some(asked) => converse_by_log(rt, asked),
-        None => converse_alone(rt),
-    }
+    let _held = held(rt, conversation)?;
+    let mut devices = devices_of(rt, conversation)?;
+    let mut input = Watched::new(rt.stdin());
+    serve(
+        rt.alloc(),
+        VERSION,
+        keeping(conversation),
+        &mut input,
+        &mut devices,
+    )?;
+    Ok(())
 }
 
 fn main(rt: HostRuntime) -> ExitCode {

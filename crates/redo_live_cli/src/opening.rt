@@ -1,4 +1,7 @@
 use crate::fault::{Fault, LogFault};
+use crate::log_file::LogFile;
+use redo_log::LOG_HEADER;
+use redo_words as words;
 use std::fs::{File, Metadata, OpenOptions, TryLockError};
 use std::io::ErrorKind;
 use std::os::fd::AsRawFd;
@@ -52,7 +55,7 @@ fn open_found(rt: &HostRuntime, name: &str, how: &OpenOptions) -> Result<File, L
 }
 
 /// Opens the log, which no other process may have. The lock ends with the process.
-pub fn open(rt: &HostRuntime, name: &str) -> Result<File, LogFault> {
+fn open(rt: &HostRuntime, name: &str) -> Result<File, LogFault> {
     // follows no link, whatever the name leads to
     let created = OpenOptions::new()
         .read(true)
@@ -87,4 +90,22 @@ pub fn sync_folder(rt: &HostRuntime, name: &str) -> io::Result<()> {
         Err(error) if error.kind() == ErrorKind::InvalidInput => Ok(()),
         synced => synced,
     }
+}
+
+/// Whether the file has no line yet.
+fn is_new(file: &File) -> Result<bool, LogFault> {
+    match file.metadata() {
+        Ok(metadata) => Ok(metadata.len() < LOG_HEADER.len() as u64),
+        Err(_) => Err(LogFault::Read),
+    }
+}
+
+/// Opens the log of the arguments. The folder is synced if the log has no line yet, or if each answer is to be.
+pub fn open_log<'a>(rt: &HostRuntime, asked: &'a words::LogFile) -> Result<LogFile<'a>, Fault> {
+    let copy = format!(in rt.alloc(); "{}.damaged", asked.name)?;
+    let file = open(rt, &asked.name)?;
+    if (asked.sync || is_new(&file)?) && sync_folder(rt, &asked.name).is_err() {
+        return Err(Fault::Log(LogFault::Write));
+    }
+    Ok(LogFile::new(&asked.name, copy, Some(file)))
 }

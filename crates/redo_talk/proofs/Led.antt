@@ -1,5 +1,5 @@
 -- Steps from the state after a history are rounds after that history.
-use Rattle.std.proofs.Common.{◌≡◌, ◌⊎◌, ℕ, ◌+◌, ◌≤◌, Bool, true, false, cond, List, [], ◌∷◌, ◌++◌, length, refl, sym, ap, ◌∙◌, subst, append-nil, append_assoc, inl, inr}
+use Rattle.std.proofs.Common.{◌≡◌, ◌⊎◌, ℕ, ◌+◌, ◌≤◌, Bool, true, false, cond, List, [], ◌∷◌, ◌++◌, length, refl, sym, ap, ◌∙◌, subst, append-nil, append_assoc, length-append, inl, inr, arith}
 use Rattle.std.specs.Prelude.{codes, decimal}
 use Rattle.std.specs.List.{AllByRecursion, flat_map}
 use Rattle.std.specs.Cmp.Lexicographic.{nat_list_cmp_total}
@@ -113,6 +113,12 @@ module _ (before : List (Line Text)) (old new : Known) (round : Round) (led : Le
           state_is = step.state_is
               ∙ ap (λ st. after texts st line.session line.command) led.state_is
               ∙ sym (left_by-append texts empty before (line ∷ []));
+          calls_are = omega (
+            arith,
+            step.calls_are,
+            led.calls_are,
+            length-append before (line ∷ []),
+          );
         })
 
     refusing_round : Refusing old new round → IsFaulty before round
@@ -121,26 +127,30 @@ module _ (before : List (Line Text)) (old new : Known) (round : Round) (led : Le
         cause : (HasNoSession round.heard
             × (round.said ≡ fault_text_of (codes "0") (codes "bad-session")))
             ⊎ ((s : ℕ) × (text : Text) × (word : Text) × Asks round.heard s text
-            × IsFaultWord old.names text word
+            × IsFaultWord old.calls old.names text word
             × (round.said ≡ fault_text_of (decimal (s + 1)) word))
             → (HasNoSession round.heard
             × (round.said ≡ fault_text_of (codes "0") (codes "bad-session")))
             ⊎ ((s : ℕ) × (text : Text) × (word : Text) × Asks round.heard s text
-            × IsFaultWord (names_after before) text word
+            × IsFaultWord (length before) (names_after before) text word
             × (round.said ≡ fault_text_of (decimal (s + 1)) word))
         cause (inl none) = inl none
         cause (inr (s, text, word, asks, is, said)) =
-            inr (s, text, word, asks, subst (λ ns. IsFaultWord ns text word) led.names_are is, said)
+            inr (
+              s,
+              text,
+              word,
+              asks,
+              subst (λ ns. IsFaultWord (length before) ns text word) led.names_are
+                  (subst (λ n. IsFaultWord n old.names text word) led.calls_are is),
+              said,
+            )
 
     -- a step that changes nothing
-    unchanged_leads : round.lines ≡ [] → new.names ≡ old.names → new.state ≡ old.state
-        → LeadsTo (before ++ round.lines) new
-    unchanged_leads none same_names same_state =
-        led_by [] none (subst (λ ls. LeadsTo ls new) (sym (append-nil before)) (record {
-          legal = led.legal;
-          names_are = same_names ∙ led.names_are;
-          state_is = same_state ∙ led.state_is;
-        }))
+    unchanged_leads : round.lines ≡ [] → new ≡ old → LeadsTo (before ++ round.lines) new
+    unchanged_leads none same =
+        led_by [] none (subst (λ ls. LeadsTo ls new) (sym (append-nil before))
+        (subst (LeadsTo before) (sym same) led))
 
     telling_round : Telling old new round → IsTold before round
     telling_round step = record {
@@ -150,7 +160,7 @@ module _ (before : List (Line Text)) (old new : Known) (round : Round) (led : Le
       asks = step.asks;
       fits = step.fits;
       tells = subst (λ st. AnswersInquiry st step.session step.inquiry step.name round.said)
-          led.state_is step.tells;
+          led.state_is step.tells.is;
       none = step.none;
     }
 
@@ -205,6 +215,8 @@ module _ (before : List (Line Text)) (old new : Known) (round : Round) (led : Le
       names_are = step.names_are ∙ sym (ending_names step);
       state_is = step.state_is ∙ ap (λ st. left_by texts st round.lines) led.state_is
           ∙ sym (left_by-append texts empty before round.lines);
+      calls_are =
+          omega (arith, step.calls_are, led.calls_are, length-append before round.lines);
     }
 
     step_is_round : IsStep old new round → IsRound before round
@@ -217,12 +229,9 @@ module _ (before : List (Line Text)) (old new : Known) (round : Round) (led : Le
     step_leads : IsStep old new round → LeadsTo (before ++ round.lines) new
     step_leads (inl step) = answering_leads step
     step_leads (inr (inl step)) = ending_leads step
-    step_leads (inr (inr (inl step))) =
-        unchanged_leads step.none step.same_names step.same_state
-    step_leads (inr (inr (inr (inl step)))) =
-        unchanged_leads step.none step.same_names step.same_state
-    step_leads (inr (inr (inr (inr step)))) =
-        unchanged_leads step.none step.same_names step.same_state
+    step_leads (inr (inr (inl step))) = unchanged_leads step.none step.same
+    step_leads (inr (inr (inr (inl step)))) = unchanged_leads step.none step.same
+    step_leads (inr (inr (inr (inr step)))) = unchanged_leads step.none step.same
 
 -- steps from the state after a history are rounds after it, and extend it by their lines
 pub steps_are_rounds : (before : List (Line Text)) (old new : Known) (rounds : List Round)
@@ -237,11 +246,7 @@ steps_are_rounds before old new (round ∷ rounds) led (middle, step, steps) = (
 pub steps_lead : (before : List (Line Text)) (old new : Known) (rounds : List Round)
     → LeadsTo before old → AreSteps old new rounds → LeadsTo (before ++ lines_in rounds) new
 steps_lead before old new [] led same = subst (λ ls. LeadsTo ls new) (sym (append-nil before))
-    (record {
-      legal = led.legal;
-      names_are = same.0 ∙ led.names_are;
-      state_is = same.1 ∙ led.state_is;
-    })
+    (subst (LeadsTo before) (sym same) led)
 steps_lead before old new (round ∷ rounds) led (middle, step, steps) =
     subst (λ ls. LeadsTo ls new) (append_assoc before round.lines (lines_in rounds))
     (steps_lead (before ++ round.lines) middle new rounds

@@ -1,5 +1,5 @@
 -- What is kept of a line determines the fault of the whole line.
-use Rattle.std.proofs.Common.{◌≡◌, ◌⊎◌, ℕ, ◌+◌, ◌-◌, ◌<◌, ◌≤◌, List, ◌++◌, length, take, drop, length-append, append_assoc, sym, ap, ◌∙◌, subst, inl, inr, arith}
+use Rattle.std.proofs.Common.{◌≡◌, ◌≢◌, ◌⊎◌, ℕ, ◌+◌, ◌-◌, ◌<◌, ◌≤◌, List, ◌++◌, length, take, drop, length-append, append_assoc, sym, ap, ◌∙◌, subst, inl, inr, arith}
 use Rattle.std.specs.Prelude.{codes, decimal}
 use Rattle.std.proofs.Math.Seq.{take-append-add}
 use Rattle.std.proofs.lemmas.Bool.{cases_lt}
@@ -11,6 +11,7 @@ use Rattle.redo_text.proofs.Inquired.{asked_when_long, fits_is_short}
 use Rattle.redo_talk.specs.Rounds.{Round, Asks, HasNoSession, IsFaultWord, end_word, names_word, fault_text_of}
 use Rattle.redo_talk.specs.Inside.Steps.{Known, Refusing, IsStep}
 use Rattle.redo_talk.specs.Inside.KeptLines.{kept_of, IsHeardOf}
+use Rattle.redo_talk.proofs.LongQuestions.{no_question_in_more}
 
 abbrev prefix_of : ℕ → Text
 prefix_of s = decimal (s + 1) ++ codes " "
@@ -49,27 +50,40 @@ asked_length : (heard : Text) (s : ℕ) (text : Text) → Asks heard s text
 asked_length heard s text (few, parts) =
     omega (arith, ap length parts, length-append (prefix_of s) text, prefix_is_short s few)
 
-fault_of_more : (names : List Text) (text more word : Text) → 8192 < length text
-    → IsFaultWord names text word → IsFaultWord names (text ++ more) word
-fault_of_more names text more word long (inl (fault, other, another, is, e)) =
+-- a word that is short is not a long text with more
+not_short : (text more word : Text) → 8192 < length text → length word ≤ 8192
+    → text ++ more ≢ word
+not_short text more word long short same =
+    absurd (omega (arith, length-append text more, ap length same))
+
+fault_of_more : (calls : ℕ) (names : List Text) (text more word : Text) → 8192 < length text
+    → IsFaultWord calls names text word → IsFaultWord calls names (text ++ more) word
+fault_of_more calls names text more word long (inl (fault, other, another, is, e)) =
     let longer : 8192 < length (text ++ more) = omega (arith, length-append text more) in
     inl (
       fault,
-      (λ same. absurd (omega (arith, ap length same))),
-      (λ same. absurd (omega (arith, ap length same))),
+      not_short text more end_word long (omega arith),
+      not_short text more names_word long (omega arith),
       asked_when_long 16777216 names (text ++ more) longer
           ∙ sym (asked_when_long 16777216 names text long) ∙ is,
       e,
     )
-fault_of_more names text more word long (inr want) = inr want
+fault_of_more calls names text more word long (inr (inl memory)) = inr (inl memory)
+fault_of_more calls names text more word long (inr (inr (other, another, none, e, worn))) =
+    inr (inr (
+      not_short text more end_word long (omega arith),
+      not_short text more names_word long (omega arith),
+      no_question_in_more text more long none,
+      e,
+      worn,
+    ))
 
 module _ (old new : Known) (round : Round) (whole : Text) (heard : round.heard ≡ kept_of whole)
   where
     module _ (long : length round.heard ≡ 8199) where
       refusing_whole : Refusing old new round → Refusing old new (record round { heard = whole })
       refusing_whole step = record {
-        same_names = step.same_names;
-        same_state = step.same_state;
+        same = step.same;
         none = step.none;
         cause = cause step.cause;
       }
@@ -77,12 +91,12 @@ module _ (old new : Known) (round : Round) (whole : Text) (heard : round.heard �
           cause : (HasNoSession round.heard
               × (round.said ≡ fault_text_of (codes "0") (codes "bad-session")))
               ⊎ ((s : ℕ) × (text : Text) × (word : Text) × Asks round.heard s text
-              × IsFaultWord old.names text word
+              × IsFaultWord old.calls old.names text word
               × (round.said ≡ fault_text_of (decimal (s + 1)) word))
               → (HasNoSession whole
               × (round.said ≡ fault_text_of (codes "0") (codes "bad-session")))
               ⊎ ((s : ℕ) × (text : Text) × (word : Text) × Asks whole s text
-              × IsFaultWord old.names text word
+              × IsFaultWord old.calls old.names text word
               × (round.said ≡ fault_text_of (decimal (s + 1)) word))
           cause (inl (none, said)) =
               inl (
@@ -97,7 +111,7 @@ module _ (old new : Known) (round : Round) (whole : Text) (heard : round.heard �
                 text ++ drop 8199 whole,
                 word,
                 asks_with_more whole s text (subst (λ h. Asks h s text) heard asks),
-                fault_of_more old.names text (drop 8199 whole) word
+                fault_of_more old.calls old.names text (drop 8199 whole) word
                     (omega (arith, asked_length round.heard s text asks, long)) is,
                 said,
               )

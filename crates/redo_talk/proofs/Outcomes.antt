@@ -20,6 +20,11 @@ pub err_then : {T E : Type 0} (r : Result T E) (P Q : Type 0) → OnErr r P → 
 err_then (Ok x) P Q p f = tt
 err_then (Err e) P Q p f = f p
 
+pub ok_by_three : {T E : Type 0} (r : Result T E) (P Q R Z : Type 0) → OnOk r P → OnOk r Q
+    → OnOk r R → (P → Q → R → Z) → OnOk r Z
+ok_by_three (Ok x) P Q R Z p q t f = f p q t
+ok_by_three (Err e) P Q R Z p q t f = tt
+
 pub ok_by_four : {T E : Type 0} (r : Result T E) (P Q R S Z : Type 0) → OnOk r P → OnOk r Q
     → OnOk r R → OnOk r S → (P → Q → R → S → Z) → OnOk r Z
 ok_by_four (Ok x) P Q R S Z p q t s f = f p q t s

@@ -1,5 +1,6 @@
 -- The answer to a line, if it fits.
-use Rattle.std.proofs.Common.{◌≡◌, ◌≢◌, ◌⊎◌, ℕ, ◌+◌, List, [], ◌∷◌, ◌++◌, refl, sym, ap, ◌∙◌, subst, append-nil, inl, inr, length, None}
+use Rattle.std.proofs.Common.{◌≡◌, ◌⊎◌, ℕ, ◌+◌, Bool, cond, List, [], ◌∷◌, ◌++◌, refl, sym, ap, ◌∙◌, subst, append-nil, inl, inr, length, Some, None}
+use Rattle.std.specs.Borrow.{Bor}
 use Rattle.std.specs.Prelude.{codes, decimal}
 use Rattle.std.specs.List.{flat_map}
 use Rattle.redo_model.specs.Names.{Text, texts}
@@ -7,13 +8,16 @@ use Rattle.redo_model.specs.Command.{names_in}
 use Rattle.redo_model.specs.History.{left_by}
 use Rattle.redo_model.specs.Step.{Answers, after}
 use Rattle.redo_text.specs.Grammar.{with_names}
-use Rattle.redo_text.specs.Inquiries.{inquiry_text_of, inquiry_fault, inquiry_in}
-use Rattle.redo_text.specs.Questions.{words_of}
+use Rattle.redo_text.specs.Faults.{fault_word_of}
+use Rattle.redo_text.specs.Inquiries.{inquiry_text_of, inquiry_fault, asked_fault}
+use Rattle.redo_text.specs.Questions.{line_fault}
+use Rattle.redo_text.specs.declared.fault.LineFault.{LineFault}
 use Rattle.redo_text.specs.declared.inquiries.Inquiry.{Inquiry}
 use Rattle.redo_text.proofs.Inquired.{asked_of_command}
 use Rattle.redo_history.specs.Histories.{line_text_of}
-use Rattle.redo_live.specs.Answers.{AnswersInquiry, names_line}
-use Rattle.redo_live.specs.Inside.LiveState.{LiveState, state_in, IsAsKnown}
+use Rattle.redo_live.specs.Answers.{names_line}
+use Rattle.redo_live.specs.Inside.AnswerForms.{AnswersInForm}
+use Rattle.redo_live.specs.Inside.LiveState.{LiveState, state_in, calls_in, IsAsKnown}
 use Rattle.redo_live.specs.Inside.Told.{AnswersText, EndsSession, IsUnansweredFor}
 use Rattle.redo_live.specs.Inside.Withheld.{WouldAnswer, WouldEnd, IsWithheldFor, IsUnendedFor}
 use Rattle.redo_live.specs.Inside.Withheld as withheld
@@ -22,13 +26,15 @@ use Rattle.redo_live.specs.declared.fault.Unanswered.TheVariants.{Memory, Worn, 
 use Rattle.redo_live.specs.declared.fault.Withheld.{Withheld}
 use Rattle.redo_live.specs.declared.fault.Withheld.TheVariants.{Unanswered, TooLong}
 use Rattle.redo_talk.specs.Rounds.{Round, Asks, HasNoSession, IsFaultWord, end_word, end_text_of, names_word, fault_text_of}
-use Rattle.redo_talk.specs.Inside.Sending.{IsRefusedFor, refusal_word_of}
+use Rattle.redo_talk.specs.Inside.Sending.{refusal_word_of}
 use Rattle.redo_talk.specs.declared.replying.Replied.TheVariants as replies
 use Rattle.redo_talk.specs.Inside.Steps.{Known, Refusing, IsStep}
-use Rattle.redo_talk.specs.Inside.Hearing.{known_of}
-use Rattle.redo_talk.specs.Inside.Replies.{IsReplied, TellsRound, WouldTell, IsPutOffFor, IsUndoneFor, IsUnheededFor, IsUnsaidFor, IsUntoldFor}
+use Rattle.redo_talk.specs.Inside.Places.{known_of}
+use Rattle.redo_talk.specs.Inside.Requests.{Requests, RequestsBadly}
+use Rattle.redo_talk.specs.declared.request.Request.TheVariants as requests
+use Rattle.redo_talk.specs.Inside.Replies.{IsReplied, TellsRound, WouldTell, IsPutOffFor, IsUndoneFor, IsUnsaidFor, IsUntoldFor}
 use Rattle.redo_talk.proofs.LoggedPrefixes.{logs_prefix}
-use Rattle.redo_talk.proofs.Steps.{answering_step, ending_step, telling_step, telling_all_step, held_are_known}
+use Rattle.redo_talk.proofs.Steps.{answering_step, ending_step, telling_step, telling_all_step, held_are_known, as_known}
 
 pub done_is_step : (old new : Known) (round : Round) → IsReplied replies.Done old new round
     → IsStep old new round
@@ -36,15 +42,6 @@ done_is_step old new round (inl is) = inl is
 done_is_step old new round (inr (inl is)) = inr (inl is)
 done_is_step old new round (inr (inr (inl is))) = inr (inr (inl is))
 done_is_step old new round (inr (inr (inr is))) = inr (inr (inr (inl is)))
-
--- why a command is refused
-pub command_cause : (live : LiveState) (text : Text) (why : Why)
-    → inquiry_in (words_of text) ≡ None → IsUnansweredFor live text why
-    → IsRefusedFor live.names text why
-command_cause live text Memory none cause = tt
-command_cause live text Worn none cause = tt
-command_cause live text (Fault fault) none cause =
-    asked_of_command 16777216 live.names text none ∙ cause
 
 module _ (old : LiveState) (heard : Text) (session : ℕ) where
   pub answered_round : (new : LiveState) (text said said' logged logged' : Text)
@@ -80,7 +77,7 @@ module _ (old : LiveState) (heard : Text) (session : ℕ) where
   pub told_round : (new : LiveState) → IsAsKnown old new
       → (text : Text) (inquiry : Inquiry) (name line said said' logged : Text)
       → Asks heard session text → text ≡ inquiry_text_of inquiry name → inquiry_fault text ≡ None
-      → AnswersInquiry (state_in old) session inquiry name line → said' ≡ said ++ line
+      → AnswersInForm (state_in old) session inquiry name line → said' ≡ said ++ line
       → TellsRound replies.Done (known_of old) (known_of new) heard said said' logged logged
   told_round new same text inquiry name line said said' logged asks is fits tells e =
       let (round, is_heard, step, says, logs) =
@@ -122,6 +119,7 @@ module _ (old : LiveState) (heard : Text) (session : ℕ) where
         next = record {
           names = would.names_after;
           state = after texts (state_in old) session line.command;
+          calls = calls_in old + 1;
         };
         heard_is = refl;
         step = inl (record {
@@ -135,6 +133,7 @@ module _ (old : LiveState) (heard : Text) (session : ℕ) where
           answers = subst (λ s. Answers texts (state_in old) s line.command line.reply) (sym same)
               would.answers;
           state_is = ap (λ s. after texts (state_in old) s line.command) (sym same);
+          calls_are = refl;
           lines_are = refl;
           said_is = refl;
         });
@@ -150,7 +149,11 @@ module _ (old : LiveState) (heard : Text) (session : ℕ) where
           lines = lines;
           said = flat_map line_text_of lines ++ end_text_of session;
         };
-        next = record { names = old.names; state = left_by texts (state_in old) lines };
+        next = record {
+          names = old.names;
+          state = left_by texts (state_in old) lines;
+          calls = calls_in old + length lines;
+        };
         heard_is = refl;
         step = inr (inl (record {
           session = session;
@@ -160,6 +163,7 @@ module _ (old : LiveState) (heard : Text) (session : ℕ) where
           known = held_are_known old session would.is.targets would.is.held;
           names_are = refl;
           state_is = refl;
+          calls_are = refl;
           lines_are = would.is.lines_are;
           said_is = refl;
         }));
@@ -168,7 +172,7 @@ module _ (old : LiveState) (heard : Text) (session : ℕ) where
 
   pub would_tell : (text : Text) (inquiry : Inquiry) (name line : Text) (size : ℕ)
       → text ≡ inquiry_text_of inquiry name → inquiry_fault text ≡ None
-      → AnswersInquiry (state_in old) session inquiry name line → size ≡ length line
+      → AnswersInForm (state_in old) session inquiry name line → size ≡ length line
       → Asks heard session text → WouldTell (known_of old) heard size
   would_tell text inquiry name line size is fits tells e asks = record {
     round = record { heard = heard; lines = []; said = line };
@@ -181,8 +185,7 @@ module _ (old : LiveState) (heard : Text) (session : ℕ) where
       asks = subst (Asks heard session) is asks;
       fits = subst (λ t. inquiry_fault t ≡ None) is fits;
       tells = tells;
-      same_names = refl;
-      same_state = refl;
+      same = refl;
       none = refl;
     })));
     size_is = e;
@@ -199,30 +202,28 @@ module _ (old : LiveState) (heard : Text) (session : ℕ) where
       session = session;
       asks = asks;
       tells = refl;
-      same_names = refl;
-      same_state = refl;
+      same = refl;
       none = refl;
     }))));
     size_is = e;
   }
 
 -- the line of a fault, whose line has no session or this cause
-abbrev IsFaultLine : List Text → Text → Text → Type 0
-IsFaultLine names heard line =
+abbrev IsFaultLine : ℕ → List Text → Text → Text → Type 0
+IsFaultLine calls names heard line =
     (HasNoSession heard × (line ≡ fault_text_of (codes "0") (codes "bad-session")))
-    ⊎ ((s : ℕ) × (text : Text) × (word : Text) × Asks heard s text × IsFaultWord names text word
-    × (line ≡ fault_text_of (decimal (s + 1)) word))
+    ⊎ ((s : ℕ) × (text : Text) × (word : Text) × Asks heard s text
+    × IsFaultWord calls names text word × (line ≡ fault_text_of (decimal (s + 1)) word))
 
 module _ (old new : LiveState) (same : IsAsKnown old new) (heard line : Text)
-    (cause : IsFaultLine old.names heard line)
+    (cause : IsFaultLine (calls_in old) old.names heard line)
   where
     abbrev refused : Round
     refused = record { heard = heard; lines = []; said = line }
 
     refusing : Refusing (known_of old) (known_of new) refused
     refusing = record {
-      same_names = same.names;
-      same_state = same.state;
+      same = as_known old new same;
       none = refl;
       cause = cause;
     }
@@ -272,38 +273,43 @@ undone_names live session text most (TooLong size) is (more, e) = (
   λ heard asks. would_tell_all live heard session size e (subst (Asks heard session) is asks),
 )
 
-refused_for : (names : List Text) (text : Text) (why : Why) → text ≢ end_word → text ≢ names_word
-    → IsRefusedFor names text why → IsFaultWord names text (refusal_word_of why)
-refused_for names text Memory other another cause = inr (inl refl)
-refused_for names text Worn other another cause = inr (inr refl)
-refused_for names text (Fault fault) other another cause =
-    inl (fault, other, another, cause, refl)
-
-pub undone : (live : LiveState) (session : ℕ) (text : Text) (most : ℕ) (why : Withheld)
-    → text ≢ end_word → text ≢ names_word → IsUnheededFor live session text most why
+pub undone_inquiry : (live : LiveState) (session : ℕ) (text : Text) (most : ℕ)
+    (inquiry : Inquiry) (name : Bor Text) (why : Withheld)
+    → Requests text (requests.Inquiry inquiry name)
+    → IsUntoldFor (state_in live) session inquiry name.now most why
     → IsUndoneFor live session text most why
-undone live session text most (Unanswered why) other another cause =
-    refused_for live.names text why other another cause
-undone live session text most (TooLong size) other another cause = cause
-
-pub unheeded_command : (live : LiveState) (session : ℕ) (text : Text) (most : ℕ) (why : Withheld)
-    → inquiry_in (words_of text) ≡ None → IsWithheldFor live session text most why
-    → IsUnheededFor live session text most why
-unheeded_command live session text most (Unanswered why) none cause =
-    command_cause live text why none cause
-unheeded_command live session text most (TooLong size) none (more, would) = (
-  more,
-  λ heard asks. would_answer live heard session text size would asks,
-)
-
-pub unheeded_inquiry : (live : LiveState) (session : ℕ) (text : Text) (most : ℕ)
-    (inquiry : Inquiry) (name : Text) (why : Withheld) → text ≡ inquiry_text_of inquiry name
-    → inquiry_fault text ≡ None → IsUntoldFor (state_in live) session inquiry name most why
-    → IsUnheededFor live session text most why
-unheeded_inquiry live session text most inquiry name (Unanswered why) is fits e =
-    subst (IsRefusedFor live.names text) (sym e) tt
-unheeded_inquiry live session text most inquiry name (TooLong size) is fits (more, told) = (
+undone_inquiry live session text most inquiry name (Unanswered why) (is, fits) e =
+    inr (inl (ap refusal_word_of e))
+undone_inquiry live session text most inquiry name (TooLong size) (is, fits) (more, told) = (
   more,
   λ heard asks.
-      would_tell live heard session text inquiry name told.0 size is fits told.1 told.2 asks,
+      would_tell live heard session text inquiry name.now told.0 size is fits told.1 told.2 asks,
+)
+
+pub undone_fault : (live : LiveState) (text : Text) (fault : LineFault) → RequestsBadly text fault
+    → IsFaultWord (calls_in live) live.names text (fault_word_of fault)
+undone_fault live text fault (other, another, question, is) =
+    let fault_is : asked_fault 16777216 live.names text ≡ Some fault =
+    ap (λ (b : Bool). cond b (inquiry_fault text) (line_fault 16777216 live.names text)) question
+    ∙ is in
+    inl (fault, other, another, fault_is, refl)
+
+-- why a command is refused
+command_cause : (live : LiveState) (text : Text) (why : Why) → Requests text requests.Command
+    → IsUnansweredFor live text why
+    → IsFaultWord (calls_in live) live.names text (refusal_word_of why)
+command_cause live text Memory is cause = inr (inl refl)
+command_cause live text Worn (other, another, none) worn =
+    inr (inr (other, another, none, refl, worn))
+command_cause live text (Fault fault) (other, another, none) is =
+    inl (fault, other, another, asked_of_command 16777216 live.names text none ∙ is, refl)
+
+pub undone_command : (live : LiveState) (session : ℕ) (text : Text) (most : ℕ) (why : Withheld)
+    → Requests text requests.Command → IsWithheldFor live session text most why
+    → IsUndoneFor live session text most why
+undone_command live session text most (Unanswered why) is cause =
+    command_cause live text why is cause
+undone_command live session text most (TooLong size) is (more, would) = (
+  more,
+  λ heard asks. would_answer live heard session text size would asks,
 )

@@ -19,7 +19,8 @@ use Rattle.redo_history.proofs.KnownNames.{AreKnown, all_members}
 use Rattle.redo_history.specs.Histories.{line_text_of}
 use Rattle.redo_text.specs.Inquiries.{inquiry_text_of, inquiry_fault}
 use Rattle.redo_text.specs.declared.inquiries.Inquiry.{Inquiry}
-use Rattle.redo_live.specs.Answers.{AnswersInquiry, names_line}
+use Rattle.redo_live.specs.Answers.{names_line}
+use Rattle.redo_live.specs.Inside.AnswerForms.{AnswersInForm}
 use Rattle.redo_live.specs.Inside.Answered.{logged_text}
 use Rattle.redo_live.specs.Inside.LiveState.{LiveState, IsAsKnown, state_in}
 use Rattle.redo_live.specs.Inside.Told.{AnswersText, EndsSession}
@@ -27,7 +28,7 @@ use Rattle.redo_live.specs.Lines.{lines_text_of}
 use Rattle.redo_talk.specs.Rounds.{Round, Asks, end_word, end_text_of, names_word}
 use Rattle.redo_talk.specs.Logs.{logged_of}
 use Rattle.redo_talk.specs.Inside.Steps.{Answering, Ending, Telling, TellingAll}
-use Rattle.redo_talk.specs.Inside.Hearing.{known_of}
+use Rattle.redo_talk.specs.Inside.Places.{known_of}
 
 -- what one line logs
 one_logged : (st : State Text) (line : Line Text)
@@ -84,6 +85,11 @@ held_are_known live s ts held =
     held_has live.names (state_of live.tables).locks t s (position (bytes_eq t) live.names) refl
     ((held.1 t).0 there))
 
+-- the same is known
+pub as_known : (old new : LiveState) → IsAsKnown old new → known_of new ≡ known_of old
+as_known old new same =
+    λ i. record { names = same.names i; state = same.state i; calls = same.calls i }
+
 module _ (old new : LiveState) (heard : Text) (session : ℕ) where
   -- a command that was answered
   pub answering_step : (text said said' logged logged' : Text) → Asks heard session text
@@ -108,6 +114,7 @@ module _ (old new : LiveState) (heard : Text) (session : ℕ) where
               is.is.answers;
           state_is = is.is.after_is
               ∙ ap (λ s. after texts (state_in old) s line.command) (sym same);
+          calls_are = is.told.calls;
           lines_are = refl;
           said_is = refl;
         },
@@ -141,6 +148,7 @@ module _ (old new : LiveState) (heard : Text) (session : ℕ) where
           known = held_are_known old session targets is.is.held;
           names_are = is.names;
           state_is = is.is.left;
+          calls_are = is.calls;
           lines_are = is.is.lines_are;
           said_is = refl;
         },
@@ -151,7 +159,7 @@ module _ (old new : LiveState) (heard : Text) (session : ℕ) where
   -- an answer about a name
   pub telling_step : (text : Text) (inquiry : Inquiry) (name line said said' logged : Text)
       → Asks heard session text → text ≡ inquiry_text_of inquiry name → inquiry_fault text ≡ None
-      → AnswersInquiry (state_in old) session inquiry name line → IsAsKnown old new
+      → AnswersInForm (state_in old) session inquiry name line → IsAsKnown old new
       → said' ≡ said ++ line
       → (round : Round) × (round.heard ≡ heard) × Telling (known_of old) (known_of new) round
       × (said' ≡ said ++ round.said)
@@ -166,8 +174,7 @@ module _ (old new : LiveState) (heard : Text) (session : ℕ) where
       asks = subst (Asks heard session) is asks;
       fits = subst (λ t. inquiry_fault t ≡ None) is fits;
       tells = tells;
-      same_names = same.names;
-      same_state = same.state;
+      same = as_known old new same;
       none = refl;
     },
     e,
@@ -187,8 +194,7 @@ module _ (old new : LiveState) (heard : Text) (session : ℕ) where
       session = session;
       asks = asks;
       tells = refl;
-      same_names = same.names;
-      same_state = same.state;
+      same = as_known old new same;
       none = refl;
     },
     e,

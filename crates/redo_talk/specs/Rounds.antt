@@ -1,5 +1,5 @@
 -- A conversation: the lines that were read, the history's lines that they made, and the answers.
-use Rattle.std.specs.Prelude.{◌≡◌, ◌≢◌, ◌⊎◌, ℕ, ◌<◌, ◌≤◌, ◌+◌, List, [], ◌∷◌, ◌++◌, Some, None, length, codes, decimal}
+use Rattle.std.specs.Prelude.{◌≡◌, ◌≢◌, ◌⊎◌, ℕ, ◌<◌, ◌≤◌, ◌+◌, ◌*◌, ◌^◌, List, [], ◌∷◌, ◌++◌, Some, None, length, codes, decimal}
 use Rattle.std.specs.List.{AllByRecursion, flat_map}
 use Rattle.redo_model.specs.Names.{Text, texts}
 use Rattle.redo_model.specs.State.{empty}
@@ -8,9 +8,10 @@ use Rattle.redo_model.specs.Step.{Answers}
 use Rattle.redo_model.specs.History.{Line, left_by, part_of}
 use Rattle.redo_model.specs.Closing.{ClosesAfter}
 use Rattle.redo_text.specs.Grammar.{IsCommandLine}
-use Rattle.redo_text.specs.Inquiries.{inquiry_text_of, inquiry_fault, asked_fault}
+use Rattle.redo_text.specs.Inquiries.{inquiry_text_of, inquiry_in, inquiry_fault, asked_fault}
 use Rattle.redo_text.specs.declared.inquiries.Inquiry.{Inquiry}
 use Rattle.redo_text.specs.Faults.{fault_word_of}
+use Rattle.redo_text.specs.Questions.{words_of}
 use Rattle.redo_text.specs.declared.fault.LineFault.{LineFault}
 use Rattle.redo_history.specs.Histories.{ended, line_text_of}
 use Rattle.redo_live.specs.Lines.{names_after}
@@ -80,12 +81,19 @@ fault_text_of number word = ended (number ++ codes " fault " ++ word)
 abbrev pub HasNoSession : Text → Type 0
 HasNoSession heard = (s : ℕ) (text : Text) → ¬ (Asks heard s text)
 
--- the word of the first fault of a text that is neither `end` nor `names`, or of running out of memory or of counters
-abbrev pub IsFaultWord : List Text → Text → Text → Type 0
-IsFaultWord names text word =
+-- after so many lines, with so many names, one more line can't be counted, and two for each of 65 names more: these are
+-- kept for closing
+abbrev pub AreWorn : ℕ → List Text → Type 0
+AreWorn calls names = 2 ^ 32 ≤ calls + 1 + 2 * (length names + 65)
+
+-- the word of the first fault of a text that is neither `end` nor `names`; or that memory ran out, or the counters
+abbrev pub IsFaultWord : ℕ → List Text → Text → Text → Type 0
+IsFaultWord calls names text word =
     ((fault : LineFault) × (text ≢ end_word) × (text ≢ names_word)
     × (asked_fault 16777216 names text ≡ Some fault) × (word ≡ fault_word_of fault))
-    ⊎ ((word ≡ codes "memory") ⊎ (word ≡ codes "worn"))
+    ⊎ ((word ≡ codes "memory")
+    ⊎ ((text ≢ end_word) × (text ≢ names_word) × (inquiry_in (words_of text) ≡ None)
+    × (word ≡ codes "worn") × AreWorn calls names))
 
 -- the line has a fault: that is the answer, and the line made no line of the history
 pub record IsFaulty (before : List (Line Text)) (round : Round) : Type 0 where
@@ -93,7 +101,7 @@ pub record IsFaulty (before : List (Line Text)) (round : Round) : Type 0 where
   pub cause : (HasNoSession round.heard
       × (round.said ≡ fault_text_of (codes "0") (codes "bad-session")))
       ⊎ ((s : ℕ) × (text : Text) × (word : Text) × Asks round.heard s text
-      × IsFaultWord (names_after before) text word
+      × IsFaultWord (length before) (names_after before) text word
       × (round.said ≡ fault_text_of (decimal (s + 1)) word))
 
 abbrev pub IsRound : List (Line Text) → Round → Type 0

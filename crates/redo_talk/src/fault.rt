@@ -1,4 +1,5 @@
 use redo_live::Unanswered;
+use redo_log::{LogFault, RestoreFault, Unread};
 use redo_text::fault_word;
 use redo_whole::WriteFault;
 use std::alloc::AllocError;
@@ -6,39 +7,89 @@ use thiserror::Error;
 
 /// Why a conversation ended before its input did.
 #[derive(Clone, Copy, Debug, PartialEq, Eq, Error)]
-pub enum TalkFault {
+pub enum ServeFault {
     /// Memory ran out at the beginning.
     #[error("out of memory")]
     Memory,
+    /// The log has more lines than the database answers.
+    #[error("worn")]
+    Worn,
+    /// This line of the log isn't the database's answer, or it isn't the header, which is line 1.
+    #[error("line {line} differs")]
+    Differs { line: usize },
+    /// An operation of the log failed.
+    #[error("log: {0}")]
+    Log(LogFault),
+    /// A read of the input failed.
     #[error("a read failed")]
     Read,
-    /// A write to the log or to the output failed, or a flush.
-    #[error("a write failed")]
-    Write,
     /// More reads than can be counted gave bytes.
     #[error("too long")]
     TooLong,
+    /// A write to the output failed, or its flush.
+    #[error("a write failed")]
+    Write,
 }
 
-impl From<AllocError> for TalkFault {
+impl From<AllocError> for ServeFault {
     ghost use Rattle.std.specs.Prelude.{◌≡◌};
-    ghost use Rattle.redo_talk.specs.declared.fault.TalkFault.TheVariants.{Memory};
+    ghost use Rattle.redo_talk.specs.declared.fault.ServeFault.TheVariants.{Memory};
 
     ghost from_gives = { λ _ fault. fault ≡ Memory };
 
-    fn from(_: AllocError) -> TalkFault {
-        TalkFault::Memory
+    fn from(_: AllocError) -> ServeFault {
+        ServeFault::Memory
     }
 }
 
-impl From<WriteFault> for TalkFault {
+impl From<LogFault> for ServeFault {
     ghost use Rattle.std.specs.Prelude.{◌≡◌};
-    ghost use Rattle.redo_talk.specs.declared.fault.TalkFault.TheVariants.{Write};
+    ghost use Rattle.redo_talk.specs.declared.fault.ServeFault.TheVariants.{Log};
+
+    ghost from_gives = { λ cause fault. fault ≡ Log cause };
+
+    fn from(fault: LogFault) -> ServeFault {
+        ServeFault::Log(fault)
+    }
+}
+
+impl From<Unread> for ServeFault {
+    ghost use Rattle.std.specs.Prelude.{◌≡◌};
+    ghost use Rattle.redo_talk.specs.Inside.Opening.{unread};
+
+    ghost from_gives = { λ cause fault. fault ≡ unread cause };
+
+    fn from(fault: Unread) -> ServeFault {
+        match fault {
+            Unread::Memory => ServeFault::Memory,
+            Unread::Fault(fault) => ServeFault::Log(fault),
+        }
+    }
+}
+
+impl From<RestoreFault> for ServeFault {
+    ghost use Rattle.std.specs.Prelude.{◌≡◌};
+    ghost use Rattle.redo_talk.specs.Inside.Opening.{unrestored};
+
+    ghost from_gives = { λ cause fault. fault ≡ unrestored cause };
+
+    fn from(fault: RestoreFault) -> ServeFault {
+        match fault {
+            RestoreFault::Memory => ServeFault::Memory,
+            RestoreFault::Worn => ServeFault::Worn,
+            RestoreFault::Differs { line, .. } => ServeFault::Differs { line },
+        }
+    }
+}
+
+impl From<WriteFault> for ServeFault {
+    ghost use Rattle.std.specs.Prelude.{◌≡◌};
+    ghost use Rattle.redo_talk.specs.declared.fault.ServeFault.TheVariants.{Write};
 
     ghost from_gives = { λ _ fault. fault ≡ Write };
 
-    fn from(_: WriteFault) -> TalkFault {
-        TalkFault::Write
+    fn from(_: WriteFault) -> ServeFault {
+        ServeFault::Write
     }
 }
 

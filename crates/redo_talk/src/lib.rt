@@ -1,15 +1,24 @@
-//! Conversations: one database answers the lines that are read, and what changes it is logged.
+//! Conversations: a database is restored from its log and answers the lines that are read; what changes it is logged
+//! before it is answered.
 #![tactic(auto)]
 
+mod answering;
 mod asked;
-mod conversing;
 mod fault;
-mod hearing;
+mod keeping;
+mod laws;
+mod opening;
 mod replying;
+mod request;
+mod sending;
+mod serving;
 mod talking;
-mod unsent;
 
-pub use conversing::converse;
-pub use fault::TalkFault;
+pub use fault::ServeFault;
+pub use keeping::Keeping;
+pub use laws::{
+    answers_differ, conversation_is_determined, conversation_is_history, log_is_always_one,
+    log_restores, own_lines_in_order,
+};
 pub use replying::{Replied, reply};
-pub use talking::talk;
+pub use serving::serve;

@@ -1,18 +1,19 @@
 //! The answer to one line, in this many bytes at most.
 ghost use Rattle.std.specs.Prelude.{◌≡◌, ◌≤◌, ◌+◌, ◌++◌, length, decimal, IfOk, IfErr, OnOk, OnErr};
 ghost use Rattle.redo_model.specs.Names.{Text};
-ghost use Rattle.redo_live.specs.Answers.{AnswersInquiry};
+ghost use Rattle.redo_live.specs.Inside.AnswerForms.{AnswersInForm};
 ghost use Rattle.redo_live.specs.Inside.LiveState.{IsAsKnown, state_in};
 ghost use Rattle.redo_live.specs.Inside.Told.{TellsNothing};
 ghost use Rattle.redo_talk.specs.Rounds.{Asks, fault_text_of};
-ghost use Rattle.redo_talk.specs.Inside.Hearing.{known_of};
-ghost use Rattle.redo_talk.specs.Inside.Replies.{TellsRound, IsPutOffFor, IsUndoneFor, IsUnheededFor, IsUnsaidFor, IsUntoldFor};
+ghost use Rattle.redo_talk.specs.Inside.Places.{known_of};
+ghost use Rattle.redo_talk.specs.Inside.Replies.{TellsRound, IsPutOffFor, IsUndoneFor, IsUnsaidFor, IsUntoldFor};
 
 use crate::asked::asked;
 use crate::fault::Refusal;
-use crate::unsent::fault_line;
+use crate::request::{Request, read_request};
+use crate::sending::fault_line;
 use redo_live::{Live, Unanswered, Withheld};
-use redo_text::{Inquiry, read_inquiry};
+use redo_text::Inquiry;
 use std::alloc::Global;
 
 /// How a line was answered.
@@ -25,7 +26,7 @@ pub enum Replied {
 }
 
 /// Answers a session's question about a name, in at most `most` bytes.
-fn tell_within(
+fn ask_within(
     alloc: Global,
     live: &mut Live,
     session: u16,
@@ -35,7 +36,7 @@ fn tell_within(
     said: &mut Vec<u8>,
 ) -> Result<(), Withheld>
     ensures told { OnOk result ((line : Text)
-        × AnswersInquiry (state_in live.old) session inquiry name.now line
+        × AnswersInForm (state_in live.old) session inquiry name.now line
         × (said.new.items ≡ said.old.items ++ line)) }
     ensures fits { OnOk result
         (length said.new.items ≤ length said.old.items + most) }
@@ -54,35 +55,8 @@ fn tell_within(
     Ok(())
 }
 
-/// Does a session's command or question about a name, if the answer has at most `most` bytes.
-fn heed_within(
-    alloc: Global,
-    live: &mut Live,
-    session: u16,
-    text: &[u8],
-    most: usize,
-    said: &mut Vec<u8>,
-    logged: &mut Vec<u8>,
-) -> Result<(), Withheld>
-    ensures told { OnOk result ((heard : Text) → Asks heard session text.now
-        → TellsRound Replied.Done (known_of live.old) (known_of live.new) heard
-        said.old.items said.new.items logged.old.items logged.new.items) }
-    ensures fits { OnOk result
-        (length said.new.items ≤ length said.old.items + most) }
-    ensures cause { IfErr result (IsUnheededFor live.old session text.now most) }
-    ensures known { OnErr result (IsAsKnown live.old live.new) }
-    ensures untold { OnErr result
-        (TellsNothing said.old.items said.new.items logged.old.items logged.new.items) }
-{
-    match read_inquiry(text) {
-        Some(Ok((inquiry, name))) => tell_within(alloc, live, session, inquiry, name, most, said),
-        Some(Err(fault)) => Err(Withheld::Unanswered(Unanswered::Fault(fault))),
-        None => live.answer_within(alloc, session, text, most, said, logged),
-    }
-}
-
-/// Does a session's line, if the answer has at most `most` bytes.
-pub(crate) fn respond_within(
+/// Does what a session asks, if the answer has at most `most` bytes.
+fn respond_within(
     alloc: Global,
     live: &mut Live,
     session: u16,
@@ -101,17 +75,19 @@ pub(crate) fn respond_within(
     ensures untold { OnErr result
         (TellsNothing said.old.items said.new.items logged.old.items logged.new.items) }
 {
-    if text == b"end".as_slice() {
-        return live.end_within(alloc, session, most, said, logged);
+    match read_request(text) {
+        Ok(Request::End) => live.end_within(alloc, session, most, said, logged),
+        Ok(Request::Names) => live.tell_names(alloc, session, most, said),
+        Ok(Request::Inquiry(inquiry, name)) => {
+            ask_within(alloc, live, session, inquiry, name, most, said)
+        }
+        Ok(Request::Command) => live.answer_within(alloc, session, text, most, said, logged),
+        Err(fault) => Err(Withheld::Unanswered(Unanswered::Fault(fault))),
     }
-    if text == b"names".as_slice() {
-        return live.tell_names(alloc, session, most, said);
-    }
-    heed_within(alloc, live, session, text, most, said, logged)
 }
 
 /// Answers a fault in at most `most` bytes.
-fn tell_refusal(fault: Refusal, most: usize, said: &mut Vec<u8>) -> Result<Replied, Withheld>
+fn refuse_within(fault: Refusal, most: usize, said: &mut Vec<u8>) -> Result<Replied, Withheld>
     requires { length fault.word.now ≤ 20 }
     ensures told { OnOk result (said.new.items
         ≡ said.old.items ++ fault_text_of (decimal fault.number) fault.word.now) }
@@ -152,11 +128,11 @@ pub fn reply(
         (TellsNothing said.old.items said.new.items logged.old.items logged.new.items) }
 {
     let Some((session, text)) = asked(line) else {
-        return tell_refusal(Refusal::no_session(), most, said);
+        return refuse_within(Refusal::no_session(), most, said);
     };
     match respond_within(alloc, live, session, text, most, said, logged) {
         Ok(()) => Ok(Replied::Done),
-        Err(Withheld::Unanswered(why)) => tell_refusal(Refusal::of(session, why), most, said),
+        Err(Withheld::Unanswered(why)) => refuse_within(Refusal::of(session, why), most, said),
         Err(Withheld::TooLong(size)) => Err(Withheld::TooLong(size)),
     }
 }

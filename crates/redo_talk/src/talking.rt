@@ -1,79 +1,81 @@
-ghost use Rattle.std.specs.Prelude.{◌≡◌, ◌≢◌, ◌++◌, List, OnOk, IfErr, IsErrOf};
+ghost use Rattle.std.specs.Prelude.{◌≡◌, ◌<◌, ◌≤◌, [], length, vec_capacity, OnOk, IfOk, IfErr};
 ghost use Rattle.std.specs.Io.KnownBytes.{IsAtEnd};
-ghost use Rattle.redo_model.specs.Names.{Text};
-ghost use Rattle.redo_model.specs.History.{Line};
 ghost use Rattle.redo_whole.specs.Devices.{known_in};
-ghost use Rattle.redo_talk.specs.Rounds.{Round, lines_in};
-ghost use Rattle.redo_talk.specs.Talks.{IsConversation, IsCutShort};
-ghost use Rattle.redo_talk.specs.Inside.LeftBy.{IsLeftBy};
+ghost use Rattle.redo_whole.specs.Watched.{has_failed};
+ghost use Rattle.redo_talk.specs.Inside.Places.{known_of};
+ghost use Rattle.redo_talk.specs.Inside.Talking.{AreEmpty, HasAnsweredAll, IsTalkCause, TalksFrom};
 
-use crate::fault::TalkFault;
-use crate::hearing::{MOST_KEPT, hear};
-use crate::unsent::Unsent;
+use crate::answering::{MOST_KEPT, answer_lines};
+use crate::fault::ServeFault;
+use crate::sending::Unsent;
 use redo_live::Live;
+use redo_log::Devices;
 use redo_whole::Watched;
-use std::alloc::Global;
-use std::io::{Read, Write};
+use std::alloc::{AllocError, Global};
+use std::io::Read;
 
 /// This many bytes are read at once.
 const READ_BYTES: usize = 65_536;
 
-/// Answers line after line, until the input ends.
-///
-/// Answers go to `out`, and lines that change something first to `log`. Both are written and flushed before more is
-/// read: lines that came together share one write. A last line without LF is not answered.
-pub fn talk<R: Read, L: Write, W: Write>(
+/// Memory for what is read, and for a prefix of a line that goes on in the next read.
+#[derive(Drop)]
+pub(crate) struct Buffers {
+    chunk: Vec<u8>,
+    prefix: Vec<u8>,
+}
+
+impl Buffers {
+    pub fn new(alloc: Global) -> Result<Buffers, AllocError>
+        ensures { IfOk result AreEmpty }
+    {
+        Ok(Buffers {
+            chunk: vec![in alloc; 0; READ_BYTES]?,
+            prefix: Vec::with_capacity(alloc, MOST_KEPT)?,
+        })
+    }
+}
+
+/// Answers line after line, until the input ends. Answers are sent before more is read: lines that came together share
+/// one write. A last line without LF is not answered.
+pub(crate) fn talk<R: Read, D: Devices>(
     alloc: Global,
     live: &mut Live,
+    sync: bool,
+    buffers: Buffers,
     input: &mut Watched<R>,
-    log: &mut Watched<L>,
-    out: &mut Watched<W>,
-) -> Result<(), TalkFault>
-    // All lines were answered, in their order, and the database is in the state after their history.
-    ensures talk { OnOk result ((before : List (Line Text)) → IsLeftBy live.old before
-        → (rounds : List Round) × (torn : Text) × IsConversation before rounds torn
-        (known_in R.remaining input.old) (known_in R.remaining input.new)
-        (known_in L.contents log.old) (known_in L.contents log.new)
-        (known_in W.contents out.old) (known_in W.contents out.new)
-        × IsLeftBy live.new (before ++ lines_in rounds)) }
+    devices: &mut D,
+) -> Result<(), ServeFault>
+    requires { AreEmpty buffers }
+    ensures talk { OnOk result (TalksFrom sync (known_of live.old)
+        (known_in R.remaining input.old) (D.history devices.old) (λ start. HasAnsweredAll start
+        (known_of live.new) (known_in R.remaining input.new) (D.history devices.new))) }
     ensures end { OnOk result (IsAtEnd (known_in R.remaining input.new)) }
-
-    // Unless a write failed, all that was read was answered.
-    ensures read { IfErr result (λ fault. fault ≢ TalkFault.Write
-        → (before : List (Line Text)) → IsLeftBy live.old before
-        → (rounds : List Round) × (torn : Text) × IsConversation before rounds torn
-        (known_in R.remaining input.old) (known_in R.remaining input.new)
-        (known_in L.contents log.old) (known_in L.contents log.new)
-        (known_in W.contents out.old) (known_in W.contents out.new)
-        × IsLeftBy live.new (before ++ lines_in rounds)) }
-
-    // If a write failed, no answer was written whose lines aren't whole in the log.
-    ensures write { IsErrOf result TalkFault.Write
-        → (before : List (Line Text)) → IsLeftBy live.old before
-        → (sent : List Round) × (kept : List Round) × IsCutShort before sent kept
-        (known_in R.remaining input.old) (known_in R.remaining input.new)
-        (known_in L.contents log.old) (known_in L.contents log.new)
-        (known_in W.contents out.old) (known_in W.contents out.new) }
+    ensures cause { IfErr result (λ fault. TalksFrom sync (known_of live.old)
+        (known_in R.remaining input.old) (D.history devices.old) (λ start. IsTalkCause start
+        (known_of live.new) (known_in R.remaining input.new) (D.history devices.new)
+        (has_failed input.old input.new) fault)) }
 {
-    let mut prefix = Vec::with_capacity(alloc, MOST_KEPT)?;
-    let mut chunk = vec![in alloc; 0; READ_BYTES]?;
+    let Buffers {
+        mut chunk,
+        mut prefix,
+    } = buffers;
     let mut unsent = Unsent::new(alloc);
     'reads: for _ in 0..u64::MAX {
         let Some(count) = input.read(&mut chunk) else {
-            return Err(TalkFault::Read);
+            return Err(ServeFault::Read);
         };
         if count == 0 {
             return Ok(());
         }
-        hear(
+        answer_lines(
             alloc,
             live,
             &mut prefix,
             &chunk[..count],
+            sync,
             &mut unsent,
-            log,
-            out,
+            devices,
         )?;
     }
-    Err(TalkFault::TooLong)
+    Err(ServeFault::TooLong)
 }

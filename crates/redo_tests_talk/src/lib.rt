@@ -4,4 +4,6 @@
 #[cfg(test)]
 mod log;
 #[cfg(test)]
+mod served;
+#[cfg(test)]
 mod talk;

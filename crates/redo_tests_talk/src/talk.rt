@@ -1,6 +1,9 @@
 //! Conversations that were worked out by hand from the rules.
+ghost use Rattle.std.specs.Prelude.{◌≡◌, []};
+
 use redo_live::{Live, Withheld};
-use redo_talk::{Replied, TalkFault, converse, reply};
+use redo_log::{Failing, LogFault, MemoryDevices};
+use redo_talk::{Keeping, Replied, ServeFault, reply, serve};
 use redo_whole::Watched;
 use std::alloc::{AllocError, Global};
 use std::process::Abort;
@@ -76,30 +79,35 @@ const QUESTIONS: Talk = (
     1 start app => ok\n1 ifchange app util.o => ok\n1 done app 3 => ok\n1 file util.h 4 => ok\n",
 );
 
-/// The output and the log for this input.
-fn heard(alloc: Global, bytes: &[u8]) -> Result<(Vec<u8>, Vec<u8>), AllocError> {
-    let (mut said, mut logged) = (Vec::new(alloc), Vec::new(alloc));
-    let ended = converse(
-        alloc,
-        &mut Watched::new(bytes),
-        &mut Watched::new(&mut logged),
-        &mut Watched::new(&mut said),
-    );
-    match ended {
-        Ok(()) => Ok((said, logged)),
-        Err(_) => Err(AllocError),
-    }
+/// The output before the first answer.
+const GREETING: &str = "redodb-live test restored 0\n";
+
+/// Reads these lines over a new log.
+fn heard(alloc: Global, bytes: &[u8], devices: &mut MemoryDevices) -> Result<(), ServeFault>
+    requires { devices.old.done.operations ≡ [] }
+{
+    let keeping = Keeping {
+        sync: false,
+        salvage: false,
+    };
+    let mut input = Watched::new(bytes);
+    serve(alloc, "test", keeping, &mut input, devices)
 }
 
+/// These lines have these answers, and these lines are logged.
 fn check_talk(
     rt: &impl Abort,
     alloc: Global,
     bytes: &[u8],
     want: (&str, &str),
 ) -> Result<(), AllocError> {
-    let (said, logged) = heard(alloc, bytes)?;
-    assert!(rt; said.as_slice() == want.0.as_bytes(), "{}", want.0);
-    assert!(rt; logged.as_slice() == want.1.as_bytes(), "{}", want.1);
+    let said = format!(in alloc; "{GREETING}{}", want.0)?;
+    let logged = format!(in alloc; "redodb-log 1\n{}", want.1)?;
+    let mut devices = MemoryDevices::new(alloc, Vec::new(alloc), Failing::never());
+    let ended = heard(alloc, bytes, &mut devices);
+    assert!(rt; ended == Ok(()));
+    assert!(rt; devices.output() == said.as_bytes(), "{}", want.0);
+    assert!(rt; devices.log() == logged.as_bytes(), "{}", want.1);
     Ok(())
 }
 
@@ -140,19 +148,19 @@ fn longest_faults(rt: HostRuntime) -> Result<(), AllocError> {
     check_talk(&rt, rt.alloc(), &bytes, (LONGEST_FAULTS, ""))
 }
 
-/// A line that changes something isn't answered if the log takes no byte.
+/// A line that changes something isn't answered if the log takes no byte of it.
 #[test]
 fn full_log(rt: HostRuntime) {
-    let mut said = Vec::new(rt.alloc());
-    let mut room: [u8; 0] = [];
-    let ended = converse(
-        rt.alloc(),
-        &mut Watched::new(b"1 lock a\n".as_slice()),
-        &mut Watched::new(room.as_mut_slice()),
-        &mut Watched::new(&mut said),
-    );
-    assert!(rt; ended == Err(TalkFault::Write));
-    assert!(rt; said.is_empty());
+    // The operations before it are a read, the header, and the greeting.
+    let failing = Failing {
+        number: 4,
+        ..Failing::never()
+    };
+    let mut devices = MemoryDevices::new(rt.alloc(), Vec::new(rt.alloc()), failing);
+    let ended = heard(rt.alloc(), b"1 lock a\n", &mut devices);
+    assert!(rt; ended == Err(ServeFault::Log(LogFault::Write)));
+    assert!(rt; devices.output() == GREETING.as_bytes());
+    assert!(rt; devices.log() == b"redodb-log 1\n".as_slice());
 }
 
 /// Lines, their answers, how they are answered, and how many bytes of each answer are logged.

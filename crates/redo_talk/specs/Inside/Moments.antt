@@ -1,51 +1,72 @@
--- Moments of a conversation: what was read and answered since the first, and what waits to be sent.
-use Rattle.std.specs.Prelude.{◌≡◌, ◌⊎◌, List, [], ◌++◌, Option}
-use Rattle.std.specs.Io.KnownBytes.{Consumes, Appends}
-use Rattle.redo_model.specs.Names.{Text}
-use Rattle.redo_talk.specs.Rounds.{Round, lines_in, heard_in, said_in}
-use Rattle.redo_talk.specs.Logs.{logged_of}
+-- Moments of a conversation after its greeting: what was read and answered so far, and what waits to be sent.
+use Rattle.std.specs.Prelude.{◌≡◌, ◌⊎◌, Bool, cond, List, ◌++◌, Option, length}
+use Rattle.std.specs.Io.KnownBytes.{Consumes}
+use Rattle.redo_model.specs.Names.{Text, texts}
+use Rattle.redo_model.specs.State.{empty}
+use Rattle.redo_model.specs.History.{left_by}
+use Rattle.redo_live.specs.Lines.{names_after}
+use Rattle.redo_log.specs.Operations.{Operation, held_after, written_by, IsAlways}
+use Rattle.redo_talk.specs.Rounds.{Round, heard_in, said_in}
+use Rattle.redo_talk.specs.Talks.{Former, BeginsBy, IsBegun, IsLoggedFirst, history_of, log_of, output_of}
 use Rattle.redo_talk.specs.Inside.Steps.{Known, AreSteps}
 
--- what is known, the bytes that are left to be read, and the contents of the log and the output, if they are known
+-- how a conversation began: what was asked, what was restored from these bytes, and what is left to be read
+pub record Start : Type 0 where
+  pub sync : Bool
+  pub version : Text
+  pub bytes : Text
+  pub former : Former
+  pub left : Option Text
+
+-- what is known before the first line
+abbrev pub known_first : Start → Known
+known_first start =
+    let history = history_of start.former in
+    record {
+      names = names_after history;
+      state = left_by texts empty history;
+      calls = length history;
+    }
+
+-- what is known, the bytes that are left to be read, and what was done
 pub record Moment : Type 0 where
   pub known : Known
   pub left : Option Text
-  pub log : Option Text
-  pub out : Option Text
+  pub done : List Operation
 
 -- what is answered and waits to be sent
 pub record Waiting : Type 0 where
   pub said : Text
   pub logged : Text
 
--- since the first moment these rounds were read and sent, these were read and wait, and then these bytes were read
-pub record IsTalk (first now : Moment) (waiting : Waiting) (more : Text) : Type 0 where
-  pub sent : List Round
-  pub kept : List Round
-  pub steps : AreSteps first.known now.known (sent ++ kept)
-  pub heard : Consumes first.left now.left (heard_in (sent ++ kept) ++ more)
-  pub logged : Appends first.log now.log (logged_of first.known.state (lines_in sent))
-  pub to_log : logged_of first.known.state (lines_in (sent ++ kept))
-      ≡ logged_of first.known.state (lines_in sent) ++ waiting.logged
-  pub said : Appends first.out now.out (said_in sent)
-  pub to_say : said_in kept ≡ waiting.said
+-- what is true at a moment
+abbrev pub IsSafe : Start → List Round → List Operation → Type 0
+IsSafe start rounds done =
+    IsBegun start.bytes start.former done
+    ⊎ IsLoggedFirst start.sync start.version start.former rounds done
 
--- since the first moment these rounds were sent; a prefix of those that waited was written to the log and, if that was
--- whole, a prefix to the output
-pub record IsBrokenOff (first now : Moment) : Type 0 where
+-- since the start these rounds were read and sent, these were read and wait, and then these bytes were read
+pub record IsUnderWay (start : Start) (now : Moment) (waiting : Waiting) (more : Text) : Type 0
+  where
+    pub sent : List Round
+    pub kept : List Round
+    pub steps : AreSteps (known_first start) now.known (sent ++ kept)
+    pub heard : Consumes start.left now.left (heard_in (sent ++ kept) ++ more)
+    pub begins : BeginsBy start.bytes start.former now.done
+    pub always : IsAlways (IsSafe start (sent ++ kept)) now.done
+    pub log : (held_after now.done).all ≡ log_of start.former sent
+    pub disk : cond start.sync (held_after now.done).synced (held_after now.done).all
+        ≡ log_of start.former sent
+    pub to_log : log_of start.former (sent ++ kept) ≡ log_of start.former sent ++ waiting.logged
+    pub output : written_by now.done ≡ output_of start.version start.former sent
+    pub to_say : said_in kept ≡ waiting.said
+
+-- since the start these rounds were read, and an operation failed
+pub record IsBrokenOff (start : Start) (now : Moment) : Type 0 where
   pub known : Known
-  pub sent : List Round
-  pub kept : List Round
+  pub rounds : List Round
   pub more : Text
-  pub steps : AreSteps first.known known (sent ++ kept)
-  pub heard : Consumes first.left now.left (heard_in (sent ++ kept) ++ more)
-  pub log_prefix : Text
-  pub log_rest : Text
-  pub to_log : logged_of first.known.state (lines_in (sent ++ kept))
-      ≡ logged_of first.known.state (lines_in sent) ++ log_prefix ++ log_rest
-  pub logged : Appends first.log now.log (logged_of first.known.state (lines_in sent) ++ log_prefix)
-  pub said_prefix : Text
-  pub said_rest : Text
-  pub to_say : said_in kept ≡ said_prefix ++ said_rest
-  pub said : Appends first.out now.out (said_in sent ++ said_prefix)
-  pub log_first : (log_rest ≡ []) ⊎ (said_prefix ≡ [])
+  pub steps : AreSteps (known_first start) known rounds
+  pub heard : Consumes start.left now.left (heard_in rounds ++ more)
+  pub begins : BeginsBy start.bytes start.former now.done
+  pub always : IsAlways (IsSafe start rounds) now.done

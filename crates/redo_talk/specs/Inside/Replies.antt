@@ -3,8 +3,8 @@ use Rattle.std.specs.Prelude.{◌≡◌, ◌⊎◌, ℕ, ◌<◌, ◌++◌, leng
 use Rattle.redo_model.specs.Names.{Text}
 use Rattle.redo_model.specs.State.{State}
 use Rattle.redo_text.specs.declared.inquiries.Inquiry.{Inquiry}
-use Rattle.redo_live.specs.Answers.{AnswersInquiry}
-use Rattle.redo_live.specs.Inside.LiveState.{LiveState}
+use Rattle.redo_live.specs.Inside.AnswerForms.{AnswersInForm}
+use Rattle.redo_live.specs.Inside.LiveState.{LiveState, calls_in}
 use Rattle.redo_live.specs.declared.fault.Unanswered.TheVariants.{Memory}
 use Rattle.redo_live.specs.declared.fault.Withheld.{Withheld}
 use Rattle.redo_live.specs.declared.fault.Withheld.TheVariants.{Unanswered, TooLong}
@@ -12,8 +12,8 @@ use Rattle.redo_talk.specs.declared.replying.Replied.{Replied}
 use Rattle.redo_talk.specs.declared.replying.Replied.TheVariants.{Done, Fault}
 use Rattle.redo_talk.specs.Rounds.{Round, Asks, IsFaultWord}
 use Rattle.redo_talk.specs.Logs.{logged_of}
-use Rattle.redo_talk.specs.Inside.Hearing.{known_of}
-use Rattle.redo_talk.specs.Inside.Sending.{IsRefusedFor, refusal_word_of}
+use Rattle.redo_talk.specs.Inside.Places.{known_of}
+use Rattle.redo_talk.specs.Inside.Sending.{refusal_word_of}
 use Rattle.redo_talk.specs.Inside.Steps.{Known, Answering, Ending, Telling, TellingAll, Refusing, IsStep}
 
 -- what the round logs is a prefix of its answer
@@ -56,19 +56,12 @@ abbrev pub IsUntoldFor : State Text → ℕ → Inquiry → Text → ℕ → Wit
 IsUntoldFor st session inquiry name most (Unanswered why) = why ≡ Memory
 IsUntoldFor st session inquiry name most (TooLong size) =
     (most < size)
-    × ((line : Text) × AnswersInquiry st session inquiry name line × (size ≡ length line))
-
--- why a text that is neither `end` nor `names` was refused
-abbrev pub IsUnheededFor : LiveState → ℕ → Text → ℕ → Withheld → Type 0
-IsUnheededFor live session text most (Unanswered why) = IsRefusedFor live.names text why
-IsUnheededFor live session text most (TooLong size) =
-    (most < size)
-    × ((heard : Text) → Asks heard session text → WouldTell (known_of live) heard size)
+    × ((line : Text) × AnswersInForm st session inquiry name line × (size ≡ length line))
 
 -- why a text was refused
 abbrev pub IsUndoneFor : LiveState → ℕ → Text → ℕ → Withheld → Type 0
 IsUndoneFor live session text most (Unanswered why) =
-    IsFaultWord live.names text (refusal_word_of why)
+    IsFaultWord (calls_in live) live.names text (refusal_word_of why)
 IsUndoneFor live session text most (TooLong size) =
     (most < size)
     × ((heard : Text) → Asks heard session text → WouldTell (known_of live) heard size)

@@ -12,20 +12,23 @@ use Rattle.redo_text.specs.Grammar.{IsCommandLine, with_names}
 use Rattle.redo_text.specs.Inquiries.{inquiry_text_of, inquiry_fault}
 use Rattle.redo_text.specs.declared.inquiries.Inquiry.{Inquiry}
 use Rattle.redo_history.specs.Histories.{line_text_of}
-use Rattle.redo_live.specs.Answers.{AnswersInquiry, names_line}
+use Rattle.redo_live.specs.Inside.AnswerForms.{AnswersInForm}
+use Rattle.redo_live.specs.Answers.{names_line}
 use Rattle.redo_live.specs.Lines.{names_after}
 use Rattle.redo_talk.specs.Rounds.{Round, Asks, IsFaultWord, HasNoSession, end_word, end_text_of, names_word, fault_text_of}
 
--- the names of the commands so far, and the state over names
+-- the names of the commands so far, the state over names, and how many lines were answered
 pub record Known : Type 0 where
   pub names : List Text
   pub state : State Text
+  pub calls : ℕ
 
 -- the state after the history
 pub record LeadsTo (lines : List (Line Text)) (known : Known) : Type 0 where
   pub legal : Legal texts lines
   pub names_are : known.names ≡ names_after lines
   pub state_is : known.state ≡ left_by texts empty lines
+  pub calls_are : known.calls ≡ length lines
 
 -- a command was answered
 pub record Answering (old new : Known) (round : Round) : Type 0 where
@@ -37,6 +40,7 @@ pub record Answering (old new : Known) (round : Round) : Type 0 where
   pub few_names : length new.names ≤ 16777216
   pub answers : Answers texts old.state line.session line.command line.reply
   pub state_is : new.state ≡ after texts old.state line.session line.command
+  pub calls_are : new.calls ≡ old.calls + 1
   pub lines_are : round.lines ≡ line ∷ []
   pub said_is : round.said ≡ line_text_of line
 
@@ -49,6 +53,7 @@ pub record Ending (old new : Known) (round : Round) : Type 0 where
   pub known : AllByRecursion (λ t. has old.names t ≡ true) held
   pub names_are : new.names ≡ old.names
   pub state_is : new.state ≡ left_by texts old.state round.lines
+  pub calls_are : new.calls ≡ old.calls + length round.lines
   pub lines_are : round.lines ≡ closing_lines_of session old.state held
   pub said_is : round.said ≡ flat_map line_text_of round.lines ++ end_text_of session
 
@@ -59,9 +64,8 @@ pub record Telling (old new : Known) (round : Round) : Type 0 where
   pub name : Text
   pub asks : Asks round.heard session (inquiry_text_of inquiry name)
   pub fits : inquiry_fault (inquiry_text_of inquiry name) ≡ None
-  pub tells : AnswersInquiry old.state session inquiry name round.said
-  pub same_names : new.names ≡ old.names
-  pub same_state : new.state ≡ old.state
+  pub tells : AnswersInForm old.state session inquiry name round.said
+  pub same : new ≡ old
   pub none : round.lines ≡ []
 
 -- what is known of all names was answered
@@ -69,19 +73,17 @@ pub record TellingAll (old new : Known) (round : Round) : Type 0 where
   pub session : ℕ
   pub asks : Asks round.heard session names_word
   pub tells : round.said ≡ names_line session old.names old.state
-  pub same_names : new.names ≡ old.names
-  pub same_state : new.state ≡ old.state
+  pub same : new ≡ old
   pub none : round.lines ≡ []
 
 -- a fault was answered
 pub record Refusing (old new : Known) (round : Round) : Type 0 where
-  pub same_names : new.names ≡ old.names
-  pub same_state : new.state ≡ old.state
+  pub same : new ≡ old
   pub none : round.lines ≡ []
   pub cause : (HasNoSession round.heard
       × (round.said ≡ fault_text_of (codes "0") (codes "bad-session")))
       ⊎ ((s : ℕ) × (text : Text) × (word : Text) × Asks round.heard s text
-      × IsFaultWord old.names text word × (round.said ≡ fault_text_of (decimal (s + 1)) word))
+      × IsFaultWord old.calls old.names text word × (round.said ≡ fault_text_of (decimal (s + 1)) word))
 
 abbrev pub IsStep : Known → Known → Round → Type 0
 IsStep old new round =
@@ -91,6 +93,6 @@ IsStep old new round =
 
 -- one step for each round, from the old to the new
 abbrev pub AreSteps : Known → Known → List Round → Type 0
-AreSteps old new [] = (new.names ≡ old.names) × (new.state ≡ old.state)
+AreSteps old new [] = new ≡ old
 AreSteps old new (round ∷ rounds) =
     (middle : Known) × IsStep old middle round × AreSteps middle new rounds

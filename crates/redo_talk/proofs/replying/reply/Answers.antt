@@ -1,6 +1,7 @@
 use Rattle.std.proofs.Common.{ℕ, ◌++◌, refl, sym, ap, ◌∙◌, subst, inl, inr, decimal, arith}
 use Rattle.std.proofs.lemmas.Fmt.{decimal_digit}
 use Rattle.redo_model.specs.Names.{Text}
+use Rattle.redo_live.specs.Inside.LiveState.{calls_in}
 use Rattle.redo_talk.specs.Rounds.{IsFaultWord, fault_text_of}
 use Rattle.redo_talk.specs.declared.replying.Replied.TheVariants.{Fault}
 use Rattle.redo_talk.proofs.Outcomes.{ok_is_then, if_err_then}
@@ -11,19 +12,19 @@ pub returns-in_default-clause-told : goal.returns-in_default-clause-told
 returns-in_default-clause-told c =
     let live = c.args.live.now in
     let zero = ap decimal c.no_session.ensures.number ∙ decimal_digit 0 (omega arith) in
-    ok_is_then c.tell_refusal.result Fault _ _ c.tell_refusal.ensures.told
-    c.tell_refusal.ensures.fault (λ says.
+    ok_is_then c.refuse_within.result Fault _ _ c.refuse_within.ensures.told
+    c.refuse_within.ensures.fault (λ says.
     refused_round live live (record { state = refl; names = refl; calls = refl }) c.args.line.now
     (fault_text_of (decimal c.no_session.result.number) c.no_session.result.word.now)
     (inl (c.in_default.ensures, λ i. fault_text_of (zero i) (c.no_session.ensures.word i)))
-    c.args.said.now.items c.tell_refusal.new.said.items c.args.logged.now.items
+    c.args.said.now.items c.refuse_within.new.said.items c.args.logged.now.items
     c.args.logged.now.items says refl)
 
 pub returns-in_default-clause-cause : goal.returns-in_default-clause-cause
 returns-in_default-clause-cause c =
     let live = c.args.live.now in
     let zero = ap decimal c.no_session.ensures.number ∙ decimal_digit 0 (omega arith) in
-    if_err_then c.tell_refusal.result _ _ c.tell_refusal.ensures.cause (
+    if_err_then c.refuse_within.result _ _ c.refuse_within.ensures.cause (
     refusal_put_off live live (record { state = refl; names = refl; calls = refl }) c.args.line.now
     (fault_text_of (decimal c.no_session.result.number) c.no_session.result.word.now)
     (inl (c.in_default.ensures, λ i. fault_text_of (zero i) (c.no_session.ensures.word i)))
@@ -36,19 +37,19 @@ returns-in-Err-Unanswered-clause-told c =
     let line = fault_text_of (decimal c.of.result.number) word in
     let failed = c.in-Err-Unanswered.ensures in
     let cause = rw c.in-Err-Unanswered.field-0-is at failed.cause in
-    ok_is_then c.tell_refusal-in-Err-Unanswered.result Fault _ _
-    c.tell_refusal-in-Err-Unanswered.ensures.told
-    c.tell_refusal-in-Err-Unanswered.ensures.fault (λ says.
+    ok_is_then c.refuse_within-in-Err-Unanswered.result Fault _ _
+    c.refuse_within-in-Err-Unanswered.ensures.told
+    c.refuse_within-in-Err-Unanswered.ensures.fault (λ says.
     refused_round live c.respond_within.new.live failed.known c.args.line.now line
     (inr (
       c.in-Some.session,
       c.in-Some.text.now,
       word,
       c.in-Some.ensures,
-      subst (IsFaultWord live.names c.in-Some.text.now) (sym c.of.ensures.word) cause,
+      subst (IsFaultWord (calls_in live) live.names c.in-Some.text.now) (sym c.of.ensures.word) cause,
       ap (λ (n : ℕ). fault_text_of (decimal n) word) c.of.ensures.number,
     ))
-    c.args.said.now.items c.tell_refusal-in-Err-Unanswered.new.said.items
+    c.args.said.now.items c.refuse_within-in-Err-Unanswered.new.said.items
     c.args.logged.now.items c.respond_within.new.logged.items
     (says ∙ ap (λ (t : Text). t ++ line) failed.untold.says) failed.untold.logs)
 
@@ -58,8 +59,8 @@ returns-in-Err-Unanswered-clause-cause c =
     let word = c.of.result.word.now in
     let failed = c.in-Err-Unanswered.ensures in
     let cause = rw c.in-Err-Unanswered.field-0-is at failed.cause in
-    if_err_then c.tell_refusal-in-Err-Unanswered.result _ _
-    c.tell_refusal-in-Err-Unanswered.ensures.cause (
+    if_err_then c.refuse_within-in-Err-Unanswered.result _ _
+    c.refuse_within-in-Err-Unanswered.ensures.cause (
     refusal_put_off live c.respond_within.new.live failed.known c.args.line.now
     (fault_text_of (decimal c.of.result.number) word)
     (inr (
@@ -67,7 +68,7 @@ returns-in-Err-Unanswered-clause-cause c =
       c.in-Some.text.now,
       word,
       c.in-Some.ensures,
-      subst (IsFaultWord live.names c.in-Some.text.now) (sym c.of.ensures.word) cause,
+      subst (IsFaultWord (calls_in live) live.names c.in-Some.text.now) (sym c.of.ensures.word) cause,
       ap (λ (n : ℕ). fault_text_of (decimal n) word) c.of.ensures.number,
     ))
     c.args.most)

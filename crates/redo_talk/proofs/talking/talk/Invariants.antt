@@ -1,8 +1,9 @@
 use Rattle.std.proofs.Common.{◌≡◌, ◌<◌, ◌≤◌, [], length, vec_capacity}
 use Rattle.redo_model.specs.Names.{Text}
-use Rattle.redo_whole.specs.Watched.{inner_of}
+use Rattle.redo_whole.specs.Watched.{inner_of, failures_of}
 use Rattle.redo_talk.specs.Inside.KeptLines.{IsPrefixOf}
-use Rattle.redo_talk.specs.Inside.Hearing.{TalksAt, known_of, as_place}
+use Rattle.redo_talk.specs.Inside.Places.{TalksAt, known_of, as_place}
+use Rattle.redo_talk.specs.Inside.Talking.{TalksFrom}
 use Rattle.redo_talk.proofs.talking.talk.Given as goal
 
 abbrev pub invariant-reads : goal.invariant-reads
@@ -12,13 +13,10 @@ invariant-reads g l = record {
   chunk : 0 < length l.chunk.items;
   none_said : l.unsent.said.items ≡ [];
   none_logged : l.unsent.logged.items ≡ [];
-  talk : (begun : Text) × IsPrefixOf begun l.prefix.items
-      × TalksAt (record {
-        known = known_of l.initial.live;
-        left = g.R.Read.remaining (inner_of l.initial.input);
-        log = g.L.Write.contents (inner_of l.initial.log);
-        out = g.W.Write.contents (inner_of l.initial.out);
-      }) (g.R.Read.remaining (inner_of l.input))
-      (as_place l.live (g.L.Write.contents (inner_of l.log))
-      (g.W.Write.contents (inner_of l.out)) l.unsent) begun;
+  failures : failures_of l.input ≡ failures_of l.initial.input;
+  talk : TalksFrom l.sync (known_of l.initial.live)
+      (g.R.Read.remaining (inner_of l.initial.input)) (g.D.Devices.history l.initial.devices)
+      (λ start. (begun : Text) × IsPrefixOf begun l.prefix.items
+      × TalksAt start (g.R.Read.remaining (inner_of l.input))
+      (as_place l.live (g.D.Devices.history l.devices) l.unsent) begun);
 }

@@ -1,0 +1,117 @@
+//! The log and the output of the program. Each method does what it is called for, and then notes what it did.
+ghost use Rattle.std.specs.Prelude.{◌≡◌, []};
+
+use crate::log_file::LogFile;
+use crate::writing::write_or_part;
+use redo_log::{Devices, LogFault, Record, Unread};
+use redo_whole::WriteFault;
+use std::alloc::Global;
+use std::io;
+
+/// The file of a log, and standard output.
+#[derive(Drop)]
+pub struct FileDevices<'a> {
+    rt: &'a HostRuntime,
+    log: LogFile<'a>,
+    done: Record,
+}
+
+impl<'a> FileDevices<'a> {
+    pub fn new(rt: &'a HostRuntime, log: LogFile<'a>) -> FileDevices<'a>
+        ensures { result.done.operations ≡ [] }
+    {
+        FileDevices {
+            rt,
+            log,
+            done: Record::new(),
+        }
+    }
+}
+
+impl Devices for FileDevices<'_> {
+    ghost history = { λ devices. devices.done.operations };
+
+    fn read(&mut self, alloc: Global, header: &[u8]) -> Result<Vec<u8>, Unread> {
+        let read = self.log.read(alloc, header);
+        match &read {
+            Ok(bytes) => self.done.read(bytes),
+            Err(Unread::Memory) => {}
+            Err(Unread::Fault(_)) => self.done.log_failed(),
+        }
+        read
+    }
+
+    fn append(&mut self, bytes: &[u8]) -> Result<(), LogFault> {
+        match self.log.append(bytes) {
+            Ok(()) => {
+                self.done.appended(bytes);
+                Ok(())
+            }
+            Err(part) => {
+                self.done.appended(part);
+                self.done.log_failed();
+                Err(LogFault::Write)
+            }
+        }
+    }
+
+    fn cut(&mut self, size: usize) -> Result<(), LogFault> {
+        if self.log.cut(size) {
+            self.done.cut(size);
+            return Ok(());
+        }
+        self.done.log_failed();
+        Err(LogFault::Write)
+    }
+
+    fn settle(&mut self) -> Result<(), LogFault> {
+        if self.log.sync() {
+            self.done.synced();
+            return Ok(());
+        }
+        self.log.write_again(self.rt);
+        self.done.log_failed();
+        Err(LogFault::Write)
+    }
+
+    fn sync(&mut self) -> Result<(), LogFault> {
+        if self.log.sync() {
+            self.done.synced();
+            return Ok(());
+        }
+        if self.log.revert() {
+            self.done.reverted();
+        } else {
+            self.done.log_failed();
+        }
+        Err(LogFault::Write)
+    }
+
+    fn copy(&mut self) -> Result<(), LogFault> {
+        let copied = self.log.copy(self.rt);
+        match copied {
+            Ok(()) => self.done.copied(),
+            Err(_) => self.done.log_failed(),
+        }
+        copied
+    }
+
+    fn tell_cut(&mut self, lines: usize, bytes: usize) {
+        let (name, gone) = (self.log.name(), self.log.found_after(bytes));
+        let _ = eprint!(self.rt; "redodb-live: {name}: {lines} lines kept, {gone} bytes cut off\n");
+    }
+
+    fn write(&mut self, bytes: &[u8]) -> Result<(), WriteFault> {
+        match write_or_part(&mut io::writer(self.rt), bytes) {
+            Ok(()) => {
+                self.done.written(bytes);
+                Ok(())
+            }
+            Err(part) => {
+                self.done.written(part);
+                self.done.output_failed();
+                Err(WriteFault::Write)
+            }
+        }
+    }
+}

@@ -1,0 +1,213 @@
+-- Logs without the lines that change nothing, and what is left of them.
+use Rattle.std.proofs.Common.{◌≡◌, ◌⊎◌, ◌<◌, ◌≤◌, ◌^◌, Bool, true, false, cond, List, [], ◌∷◌, ◌++◌, length, refl, sym, ap, ◌∙◌, subst, append-nil, append_assoc, length-append, inl, inr, arith}
+use Rattle.std.specs.Prelude.{Contains}
+use Rattle.std.specs.List.{AllByRecursion, flat_map}
+use Rattle.std.proofs.lemmas.Grind.{flat_map-append}
+use Rattle.std.proofs.lemmas.List.{append_cancel_left}
+use Rattle.redo_model.specs.Names.{Text, texts}
+use Rattle.redo_model.specs.State.{State, empty}
+use Rattle.redo_model.specs.Step.{after}
+use Rattle.redo_model.specs.History.{Line, LegalFrom, left_by}
+use Rattle.redo_model.specs.Changes.{changes, changing_from}
+use Rattle.redo_model.proofs.Members.{contains_none}
+use Rattle.redo_model.proofs.OneMore.{left_by-append, legal_both}
+use Rattle.redo_model.proofs.Texts.{texts_are_names}
+use Rattle.redo_model.proofs.Unchanging.{changing_from-append, changing_legal}
+use Rattle.redo_history.specs.Histories.{line_text_of}
+use Rattle.redo_history.specs.Inside.HistoryTexts.{IsLineSaid}
+use Rattle.redo_history.proofs.DistinctNames.{few_known}
+use Rattle.redo_history.proofs.HistoryReadsBack.{own_text_of}
+use Rattle.redo_history.proofs.KnownNames.{IsKnown}
+use Rattle.redo_history.proofs.TextCuts.{has_lf}
+use Rattle.redo_live.specs.Lines.{lines_text_of, names_after}
+use Rattle.redo_live.proofs.Lines.{all_both}
+use Rattle.redo_log.specs.Logs.{log_header, AreLogged, IsLogOf, IsTornHeader}
+use Rattle.redo_log.specs.Operations.{IsPrefix}
+use Rattle.redo_log.proofs.CutLogs.{cut_log}
+use Rattle.redo_talk.proofs.LawfulLines.{OfNames, own_names, all_parts, all_names, names_known}
+
+legal_parts : (st : State Text) (lines more : List (Line Text)) → LegalFrom texts st (lines ++ more)
+    → LegalFrom texts st lines × LegalFrom texts (left_by texts st lines) more
+legal_parts st [] more h = (tt, h)
+legal_parts st (line ∷ lines) more h =
+    let rest = legal_parts (after texts st line.session line.command) lines more h.1 in
+    ((h.0, rest.0), rest.1)
+
+one_changing : (P : Line Text → Type 0) (b : Bool) (line : Line Text) (lines : List (Line Text))
+    → P line → AllByRecursion P lines → AllByRecursion P (cond b (line ∷ []) [] ++ lines)
+one_changing P true line lines p h = (p, h)
+one_changing P false line lines p h = h
+
+all_changing : (P : Line Text → Type 0) (st : State Text) (lines : List (Line Text))
+    → AllByRecursion P lines → AllByRecursion P (changing_from texts st lines)
+all_changing P st [] h = tt
+all_changing P st (line ∷ lines) h =
+    one_changing P (changes st.records line.command line.reply) line
+    (changing_from texts (after texts st line.session line.command) lines) h.0
+    (all_changing P (after texts st line.session line.command) lines h.1)
+
+-- these lines, and those of the others that change something
+abbrev pub and_changing : List (Line Text) → List (Line Text) → List (Line Text)
+and_changing before more = before ++ changing_from texts (left_by texts empty before) more
+
+module _ (before more : List (Line Text)) where
+  all_and_changing : (P : Line Text → Type 0) → AllByRecursion P (before ++ more)
+      → AllByRecursion P (and_changing before more)
+  all_and_changing P h =
+      let parts = all_parts P before more h in
+      all_both P before (changing_from texts (left_by texts empty before) more) parts.0
+      (all_changing P (left_by texts empty before) more parts.1)
+
+  few_names : length (names_after (before ++ more)) ≤ 16777216
+      → length (names_after (and_changing before more)) ≤ 16777216
+  few_names few =
+      let names = names_after (before ++ more) in
+      let fewer = few_known names (flat_map own_names (and_changing before more))
+      (all_names (IsKnown names) (and_changing before more)
+      (all_and_changing (OfNames (IsKnown names)) (names_known (before ++ more)))) in
+      omega (arith, fewer, few)
+
+  -- without lines that change nothing, logged lines can be logged
+  pub changing_logged : AreLogged (before ++ more) → AreLogged (and_changing before more)
+  changing_logged is =
+      let st = left_by texts empty before in
+      let parts = legal_parts empty before more is.legal in
+      record {
+        legal = legal_both texts empty before (changing_from texts st more) parts.0
+            (changing_legal texts_are_names st more parts.1).0;
+        said = all_and_changing (IsLineSaid 65535) is.said;
+        few_names = few_names is.few_names;
+      }
+
+  -- and leave the same state
+  pub changing_leaves : LegalFrom texts empty (before ++ more)
+      → left_by texts empty (and_changing before more) ≡ left_by texts empty (before ++ more)
+  changing_leaves legal =
+      let st = left_by texts empty before in
+      let parts = legal_parts empty before more legal in
+      left_by-append texts empty before (changing_from texts st more)
+      ∙ (changing_legal texts_are_names st more parts.1).1
+      ∙ sym (left_by-append texts empty before more)
+
+-- the lines of a first part are the first lines
+pub changing_first : (before first others : List (Line Text))
+    → (back : List (Line Text)) × (and_changing before (first ++ others)
+    ≡ and_changing before first ++ back)
+changing_first before first others =
+    let st = left_by texts empty before in
+    let back = changing_from texts (left_by texts st first) others in (
+      back,
+      ap (λ ls. before ++ ls) (changing_from-append texts st first others)
+          ∙ sym (append_assoc before (changing_from texts st first) back),
+    )
+
+-- the text of a log
+pub log_text : (lines more : List (Line Text))
+    → log_header ++ lines_text_of lines ++ lines_text_of more
+    ≡ log_header ++ lines_text_of (lines ++ more)
+log_text lines more =
+    append_assoc log_header (lines_text_of lines) (lines_text_of more)
+    ∙ ap (λ t. log_header ++ t) (sym (flat_map-append line_text_of lines more))
+
+pub whole_log : (bytes : Text) (lines : List (Line Text)) → AreLogged lines
+    → bytes ≡ log_header ++ lines_text_of lines → IsLogOf bytes lines []
+whole_log bytes lines is e = record {
+  logged = is;
+  parts = e ∙ sym (append-nil (log_header ++ lines_text_of lines));
+  free = contains_none 10;
+}
+
+-- a line's text ends with a line feed
+text_has_lf : (line : Line Text) (rest : Text) → Contains (line_text_of line ++ rest) 10
+text_has_lf line rest =
+    let own = own_text_of line in
+    subst (λ (t : Text). Contains t 10) (sym (append_assoc own (10 ∷ []) rest)) (has_lf own rest 10)
+
+-- of two beginnings of a list one comes first
+first_of : {X : Type 0} (a b c d : List X) → a ++ b ≡ c ++ d
+    → ((m : List X) × (a ≡ c ++ m)) ⊎ ((m : List X) × (c ≡ a ++ m))
+first_of [] b c d e = inr (c, refl)
+first_of (x ∷ a) b [] d e = inl (x ∷ a, refl)
+first_of (x ∷ a) b (y ∷ c) d e =
+    let head : x ≡ y = cc in
+    let rest : a ++ b ≡ c ++ d = cc in
+    elim (first_of a b c d rest) [
+      | inl h ↦ inl (h.0, λ i. head i ∷ h.1 i)
+      | inr h ↦ inr (h.0, λ i. sym head i ∷ h.1 i)
+    ]
+
+-- a log that has the text of these lines is no beginning of the header
+pub no_torn_header : (bytes : Text) (lines : List (Line Text))
+    → IsPrefix (log_header ++ lines_text_of lines) bytes → ¬ (IsTornHeader bytes)
+no_torn_header bytes lines (rest, e) (more, torn) =
+    let long = ap length e in
+    let short = ap length torn in
+    absurd (omega (
+      arith,
+      long,
+      short,
+      length-append (log_header ++ lines_text_of lines) rest,
+      length-append log_header (lines_text_of lines),
+      length-append bytes more,
+    ))
+
+-- of a log that has the text of the first lines, the lines begin with them
+pub cut_behind : (bytes torn : Text) (lines back first others : List (Line Text))
+    → IsLogOf bytes lines torn → lines ++ back ≡ first ++ others
+    → IsPrefix (log_header ++ lines_text_of first) bytes
+    → (more : List (Line Text)) × (lines ≡ first ++ more)
+cut_behind bytes torn lines back first others is e (rest, begins) =
+    by (first_of lines back first others e)
+  where
+    by_more : (m : List (Line Text)) → first ≡ lines ++ m
+        → (more : List (Line Text)) × (lines ≡ first ++ more)
+    by_more [] same = ([], sym (append-nil lines) ∙ sym same ∙ sym (append-nil first))
+    by_more (line ∷ ls) same =
+        let behind = lines_text_of ls in
+        let whole : log_header ++ lines_text_of lines ++ torn
+        ≡ log_header ++ lines_text_of lines ++ (lines_text_of (line ∷ ls) ++ rest) =
+        sym is.parts ∙ begins ∙ ap (λ x. log_header ++ lines_text_of x ++ rest) same
+        ∙ ap (λ t. t ++ rest) (sym (log_text lines (line ∷ ls)))
+        ∙ append_assoc (log_header ++ lines_text_of lines) (lines_text_of (line ∷ ls)) rest in
+        let torn_is : torn ≡ line_text_of line ++ (behind ++ rest) =
+        append_cancel_left (log_header ++ lines_text_of lines) torn
+        (lines_text_of (line ∷ ls) ++ rest) whole
+        ∙ append_assoc (line_text_of line) behind rest in
+        absurd (is.free (subst (λ (t : Text). Contains t 10) (sym torn_is)
+        (text_has_lf line (behind ++ rest))))
+
+    by : ((m : List (Line Text)) × (lines ≡ first ++ m))
+        ⊎ ((m : List (Line Text)) × (first ≡ lines ++ m))
+        → (more : List (Line Text)) × (lines ≡ first ++ more)
+    by (inl found) = found
+    by (inr (m, same)) = by_more m same
+
+-- what is left of a log with at least these first lines is a log of them, and maybe of more
+pub record HasFirst (bytes : Text) (all first : List (Line Text)) : Type 0 where
+  pub lines : List (Line Text)
+  pub torn : Text
+  pub is_log : IsLogOf bytes lines torn
+  pub more : List (Line Text)
+  pub begins : lines ≡ first ++ more
+  pub back : List (Line Text)
+  pub nothing_else : all ≡ lines ++ back
+
+pub cut_has : (whole bytes : Text) (all first others : List (Line Text)) → AreLogged all
+    → whole ≡ log_header ++ lines_text_of all → length all < 2 ^ 32 → IsPrefix bytes whole
+    → all ≡ first ++ others
+    → IsPrefix (log_header ++ lines_text_of first) bytes → HasFirst bytes all first
+cut_has whole bytes all first others is e few (rest, cut) parts begins =
+    elim (cut_log whole bytes rest all (whole_log whole all is e) few cut) [
+      | inl torn ↦ absurd (no_torn_header bytes first begins torn)
+      | inr (lines, back, torn, split, found) ↦ let more = cut_behind bytes torn lines back first
+          others found (sym split ∙ parts) begins in
+          record {
+            lines = lines;
+            torn = torn;
+            is_log = found;
+            more = more.0;
+            begins = more.1;
+            back = back;
+            nothing_else = split;
+          }
+    ]

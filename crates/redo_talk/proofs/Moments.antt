@@ -1,0 +1,168 @@
+-- What is true at each moment stays true as more is done, and as more rounds are answered.
+use Rattle.std.proofs.Common.{◌≡◌, Bool, true, false, cond, List, [], ◌∷◌, ◌++◌, refl, sym, ap, ◌∙◌, subst, append-nil, append_assoc, inl, inr}
+use Rattle.std.proofs.lemmas.List.Concat.{flat_map-append}
+use Rattle.redo_model.specs.Names.{Text, texts}
+use Rattle.redo_model.specs.State.{empty}
+use Rattle.redo_model.specs.History.{left_by}
+use Rattle.redo_live.specs.Lines.{lines_text_of}
+use Rattle.redo_log.specs.Logs.{log_header}
+use Rattle.redo_log.specs.Operations.{Operation, Append, Sync, Write, LogFailed, OutputFailed, IsPrefix, IsAlways, held_after, written_by}
+use Rattle.redo_talk.specs.Logs.{logged_of}
+use Rattle.redo_talk.specs.Rounds.{Round, lines_in, said_in}
+use Rattle.redo_talk.specs.Talks.{Former, history_of, log_of, output_of, greeting_of}
+use Rattle.redo_talk.specs.Inside.Moments.{Start, IsSafe}
+use Rattle.redo_talk.specs.Inside.Sending.{after_logging}
+use Rattle.redo_talk.proofs.RoundByRound.{logged-append}
+
+pub prefix_self : (bytes : Text) → IsPrefix bytes bytes
+prefix_self bytes = ([], sym (append-nil bytes))
+
+pub prefix_longer : (prefix bytes more : Text) → IsPrefix prefix bytes
+    → IsPrefix prefix (bytes ++ more)
+prefix_longer prefix bytes more (rest, e) =
+    (rest ++ more, ap (λ t. t ++ more) e ∙ append_assoc prefix rest more)
+
+pub prefix_trans : (a b c : Text) → IsPrefix a b → IsPrefix b c → IsPrefix a c
+prefix_trans a b c (rest, e) (more, f) =
+    (rest ++ more, f ∙ ap (λ t. t ++ more) e ∙ append_assoc a rest more)
+
+pub prefix_behind : (front prefix bytes : Text) → IsPrefix prefix bytes
+    → IsPrefix (front ++ prefix) (front ++ bytes)
+prefix_behind front prefix bytes (rest, e) =
+    (rest, ap (λ t. front ++ t) e ∙ sym (append_assoc front prefix rest))
+
+pub prefix_of_same : (prefix bytes : Text) → prefix ≡ bytes → IsPrefix prefix bytes
+prefix_of_same prefix bytes e = ([], sym e ∙ sym (append-nil prefix))
+
+pub prefix_of_either : (b : Bool) (prefix x y : Text) → IsPrefix prefix x → IsPrefix prefix y
+    → IsPrefix prefix (cond b x y)
+prefix_of_either true prefix x y p q = p
+prefix_of_either false prefix x y p q = q
+
+-- what is true of each moment
+pub always_then : (P Q : List Operation → Type 0) → ((now : List Operation) → P now → Q now)
+    → (done : List Operation) → IsAlways P done → IsAlways Q done
+always_then P Q f [] is = tt
+always_then P Q f (operation ∷ earlier) (parts, rest) =
+    (λ part of. f (part ∷ earlier) (parts part of), always_then P Q f earlier rest)
+
+module _ (P : List Operation → Type 0) (done : List Operation) (before : IsAlways P done) where
+  pub append_always : (bytes : Text)
+      → ((some : Text) → IsPrefix some bytes → P (Append some ∷ done))
+      → IsAlways P (Append bytes ∷ done)
+  append_always bytes f =
+      (λ part of. subst (λ o. P (o ∷ done)) (sym of.2) (f of.0 of.1), before)
+
+  pub write_always : (bytes : Text)
+      → ((some : Text) → IsPrefix some bytes → P (Write some ∷ done))
+      → IsAlways P (Write bytes ∷ done)
+  write_always bytes f =
+      (λ part of. subst (λ o. P (o ∷ done)) (sym of.2) (f of.0 of.1), before)
+
+-- the log after more rounds
+pub log_more : (former : Former) (rounds more : List Round) → log_of former (rounds ++ more)
+    ≡ log_of former rounds
+    ++ logged_of (left_by texts (left_by texts empty (history_of former)) (lines_in rounds))
+    (lines_in more)
+log_more former rounds more =
+    let state = left_by texts empty (history_of former) in
+    let opened = log_header ++ lines_text_of (history_of former) in
+    ap (λ ls. opened ++ logged_of state ls) (flat_map-append (λ r. r.lines) rounds more)
+    ∙ ap (λ t. opened ++ t) (logged-append state (lines_in rounds) (lines_in more))
+    ∙ sym (append_assoc opened (logged_of state (lines_in rounds))
+    (logged_of (left_by texts state (lines_in rounds)) (lines_in more)))
+
+-- the output after more rounds
+pub output_more : (version : Text) (former : Former) (rounds more : List Round)
+    → output_of version former (rounds ++ more)
+    ≡ output_of version former rounds ++ said_in more
+output_more version former rounds more =
+    let greeting = greeting_of version former in
+    ap (λ t. greeting ++ t) (flat_map-append (λ r. r.said) rounds more)
+    ∙ sym (append_assoc greeting (said_in rounds) (said_in more))
+
+-- more rounds are answered
+safe_more : (start : Start) (rounds more : List Round) (now : List Operation)
+    → IsSafe start rounds now → IsSafe start (rounds ++ more) now
+safe_more start rounds more now (inl begun) = inl begun
+safe_more start rounds more now (inr is) =
+    inr (record {
+      answered = is.answered;
+      others = is.others ++ more;
+      parts = ap (λ rs. rs ++ more) is.parts ∙ append_assoc is.answered is.others more;
+      written = is.written;
+      logged = is.logged;
+      nothing_else = subst (IsPrefix (held_after now).all)
+          (sym (log_more start.former rounds more))
+          (prefix_longer (held_after now).all (log_of start.former rounds)
+          (logged_of (left_by texts (left_by texts empty (history_of start.former))
+          (lines_in rounds)) (lines_in more)) is.nothing_else);
+    })
+
+pub always_more : (start : Start) (rounds more : List Round) (done : List Operation)
+    → IsAlways (IsSafe start rounds) done → IsAlways (IsSafe start (rounds ++ more)) done
+always_more start rounds more =
+    always_then (IsSafe start rounds) (IsSafe start (rounds ++ more))
+    (safe_more start rounds more)
+
+-- a failure changes nothing
+pub log_failed_safe : (start : Start) (rounds : List Round) (done : List Operation)
+    → IsSafe start rounds done → IsSafe start rounds (LogFailed ∷ done)
+log_failed_safe start rounds done (inl begun) =
+    inl (record {
+      written = begun.written;
+      lines = begun.lines;
+      nothing_else = begun.nothing_else;
+    })
+log_failed_safe start rounds done (inr is) =
+    inr (record {
+      answered = is.answered;
+      others = is.others;
+      parts = is.parts;
+      written = is.written;
+      logged = is.logged;
+      nothing_else = is.nothing_else;
+    })
+
+pub output_failed_safe : (start : Start) (rounds : List Round) (done : List Operation)
+    → IsSafe start rounds done → IsSafe start rounds (OutputFailed ∷ done)
+output_failed_safe start rounds done (inl begun) =
+    inl (record {
+      written = begun.written;
+      lines = begun.lines;
+      nothing_else = begun.nothing_else;
+    })
+output_failed_safe start rounds done (inr is) =
+    inr (record {
+      answered = is.answered;
+      others = is.others;
+      parts = is.parts;
+      written = is.written;
+      logged = is.logged;
+      nothing_else = is.nothing_else;
+    })
+
+-- after bytes were appended, and synced or not
+module _ (logged : Text) (done : List Operation) where
+  pub all_after_logging : (sync : Bool) → (held_after (after_logging sync logged done)).all
+      ≡ (held_after done).all ++ logged
+  all_after_logging true = refl
+  all_after_logging false = refl
+
+  pub kept_after_logging : (sync : Bool)
+      → cond sync (held_after (after_logging sync logged done)).synced
+      (held_after (after_logging sync logged done)).all ≡ (held_after done).all ++ logged
+  kept_after_logging true = refl
+  kept_after_logging false = refl
+
+  pub written_after_logging : (sync : Bool)
+      → written_by (after_logging sync logged done) ≡ written_by done
+  written_after_logging true = refl
+  written_after_logging false = refl
+
+  pub always_after_logging : (P : List Operation → Type 0) (sync : Bool)
+      → IsAlways P (Append logged ∷ done) → P (Sync ∷ Append logged ∷ done)
+      → IsAlways P (after_logging sync logged done)
+  always_after_logging P true always synced =
+      (λ part e. subst (λ o. P (o ∷ Append logged ∷ done)) (sym e) synced, always)
+  always_after_logging P false always synced = always

@@ -1,0 +1,72 @@
+-- What a conversation comes to when all that was read was answered, or an operation failed.
+use Rattle.std.proofs.Common.{◌≡◌, Bool, List, [], ◌++◌, Option, sym, subst, append-nil}
+use Rattle.std.specs.Io.KnownBytes.{Consumes, Keeps}
+use Rattle.std.proofs.KnownBytes.{Consumes-kept}
+use Rattle.redo_model.specs.Names.{Text}
+use Rattle.redo_log.specs.Operations.{Operation}
+use Rattle.redo_talk.specs.Logs.{HasNoEnd}
+use Rattle.redo_talk.specs.Rounds.{heard_in}
+use Rattle.redo_talk.specs.Inside.Moments.{Start, IsBrokenOff}
+use Rattle.redo_talk.specs.Inside.Places.{TalksAt}
+use Rattle.redo_talk.specs.Inside.Steps.{Known}
+use Rattle.redo_talk.specs.Inside.Sending.{IsSendCause}
+use Rattle.redo_talk.specs.Inside.Talking.{HasAnsweredAll, IsTalkCause}
+use Rattle.redo_talk.specs.declared.fault.ServeFault.{ServeFault}
+use Rattle.redo_talk.specs.declared.fault.ServeFault.TheVariants.{Memory, Worn, Differs, Log, Read, TooLong, Write}
+use Rattle.redo_talk.proofs.Responding.{place, same_waiting}
+use Rattle.redo_talk.proofs.UnderWay.{heard_more}
+
+module _ (start : Start) (known : Known) (left left' : Option Text) (done : List Operation)
+    (logged said begun : Text)
+    (talk : TalksAt start left (place known done logged said) begun)
+  where
+    -- a read that failed took nothing
+    pub kept_left : Keeps left left' → TalksAt start left' (place known done logged said) begun
+    kept_left same = record {
+      sent = talk.sent;
+      kept = talk.kept;
+      steps = talk.steps;
+      heard = Consumes-kept start.left left left' (heard_in (talk.sent ++ talk.kept) ++ begun)
+          talk.heard same;
+      begins = talk.begins;
+      always = talk.always;
+      log = talk.log;
+      disk = talk.disk;
+      to_log = talk.to_log;
+      output = talk.output;
+      to_say = talk.to_say;
+    }
+
+    -- a read gave more
+    pub read_more : (bytes : Text) → Consumes left left' bytes
+        → TalksAt start left' (place known done logged said) (begun ++ bytes)
+    read_more bytes taken =
+        heard_more start (record { known = known; left = left; done = done })
+        (record { said = said; logged = logged }) begun talk left' bytes taken
+
+    -- a read gave nothing
+    pub read_none : Consumes left left' [] → TalksAt start left' (place known done logged said) begun
+    read_none taken =
+        subst (λ t. TalksAt start left' (place known done logged said) t) (append-nil begun)
+        (read_more [] taken)
+
+-- nothing waits, and the line that began has no end
+pub answered_all : (start : Start) (known : Known) (left : Option Text) (done : List Operation)
+    (logged said begun : Text) → logged ≡ [] → said ≡ [] → HasNoEnd begun
+    → TalksAt start left (place known done logged said) begun
+    → HasAnsweredAll start known left done
+answered_all start known left done logged said begun e f free talk =
+    (begun, free, same_waiting start left known done logged said [] [] begun (sym e) (sym f) talk)
+
+-- an operation failed
+pub send_cause_talks : (start : Start) (known : Known) (left : Option Text) (done : List Operation)
+    (read_failed : Bool) (fault : ServeFault) → IsSendCause done fault
+    → IsBrokenOff start (record { known = known; left = left; done = done })
+    → IsTalkCause start known left done read_failed fault
+send_cause_talks start known left done read_failed (Log fault) cause broken = (cause, broken)
+send_cause_talks start known left done read_failed Write cause broken = (cause, broken)
+send_cause_talks start known left done read_failed Memory cause broken = absurd cause
+send_cause_talks start known left done read_failed Worn cause broken = absurd cause
+send_cause_talks start known left done read_failed (Differs line) cause broken = absurd cause
+send_cause_talks start known left done read_failed Read cause broken = absurd cause
+send_cause_talks start known left done read_failed TooLong cause broken = absurd cause

@@ -1,0 +1,318 @@
+-- A conversation goes on: one more line is answered, what waits is sent, more is read; or an operation fails.
+use Rattle.std.proofs.Common.{◌≡◌, Bool, true, false, cond, List, [], ◌∷◌, ◌++◌, Option, refl, sym, ap, ◌∙◌, subst, append-nil, append_assoc, inl, inr}
+use Rattle.std.specs.Io.KnownBytes.{Consumes}
+use Rattle.std.proofs.KnownBytes.{Consumes-trans}
+use Rattle.std.proofs.lemmas.List.Concat.{flat_map-append}
+use Rattle.redo_model.specs.Names.{Text, texts}
+use Rattle.redo_model.specs.History.{left_by}
+use Rattle.redo_history.specs.Histories.{ended}
+use Rattle.redo_log.specs.Operations.{Operation, Append, Sync, Revert, Write, LogFailed, OutputFailed, IsPrefix, IsAlways, held_after, written_by}
+use Rattle.redo_talk.specs.Logs.{logged_of}
+use Rattle.redo_talk.specs.Rounds.{Round, lines_in, heard_in, said_in}
+use Rattle.redo_talk.specs.Talks.{BeginsBy, log_of, output_of}
+use Rattle.redo_talk.specs.Inside.Moments.{Start, Moment, Waiting, IsSafe, IsUnderWay, IsBrokenOff, known_first}
+use Rattle.redo_talk.specs.Inside.Sending.{IsAppendedInPart, IsUnsynced, IsWrittenInPart, IsSentInPart, after_logging, sent_after}
+use Rattle.redo_talk.specs.Inside.Steps.{Known, IsStep, AreSteps}
+use Rattle.redo_talk.specs.Inside.Talking.{nothing}
+use Rattle.redo_talk.proofs.Moments.{prefix_self, prefix_of_same, prefix_trans, prefix_of_either, prefix_behind, append_always, write_always, log_more, output_more, always_more, log_failed_safe, output_failed_safe, all_after_logging, kept_after_logging, written_after_logging, always_after_logging}
+use Rattle.redo_talk.proofs.RoundByRound.{steps_more, steps_state, in_more}
+
+-- more was done
+pub begins_more : (start : Start) (operation : Operation) (done : List Operation)
+    → BeginsBy start.bytes start.former done → BeginsBy start.bytes start.former (operation ∷ done)
+begins_more start operation done begins = record {
+  later = operation ∷ begins.later;
+  first = ap (λ ops. operation ∷ ops) begins.first;
+  copied = λ damaged.
+      let (rest, e) = begins.copied damaged in
+      (operation ∷ rest, ap (λ ops. operation ∷ ops) e);
+}
+
+begins_after_logging : (start : Start) (sync : Bool) (logged : Text) (done : List Operation)
+    → BeginsBy start.bytes start.former done
+    → BeginsBy start.bytes start.former (after_logging sync logged done)
+begins_after_logging start true logged done begins =
+    begins_more start Sync (Append logged ∷ done) (begins_more start (Append logged) done begins)
+begins_after_logging start false logged done begins =
+    begins_more start (Append logged) done begins
+
+-- what is kept of the log while more is appended
+kept_while_appending : (sync : Bool) (log synced all some : Text) → cond sync synced all ≡ log
+    → all ≡ log → IsPrefix log (cond sync synced (all ++ some))
+kept_while_appending true log synced all some e f = prefix_of_same log synced (sym e)
+kept_while_appending false log synced all some e f = (some, ap (λ t. t ++ some) f)
+
+module _ (start : Start) (now : Moment) (waiting : Waiting) (more : Text)
+    (way : IsUnderWay start now waiting more)
+  where
+    abbrev rounds : List Round
+    rounds = way.sent ++ way.kept
+
+    abbrev sent_log : Text
+    sent_log = log_of start.former way.sent
+
+    abbrev logged : List Operation
+    logged = after_logging start.sync waiting.logged now.done
+
+    -- a line was read and answered
+    pub answered_more : (round : Round) (known : Known) (rest : Text)
+        → more ≡ ended round.heard ++ rest → IsStep now.known known round
+        → IsUnderWay start (record now { known = known }) (record {
+          said = waiting.said ++ round.said;
+          logged = waiting.logged ++ logged_of now.known.state round.lines;
+        }) rest
+    answered_more round known rest e step =
+        let history = (known_first start).state in
+        let kept = way.kept ++ round ∷ [] in
+        let lines = lines_in rounds in
+        let assoc = append_assoc way.sent way.kept (round ∷ []) in
+        record {
+          sent = way.sent;
+          kept = kept;
+          steps = subst (AreSteps (known_first start) known) assoc
+              (steps_more (known_first start) now.known known rounds round way.steps step);
+          heard = subst (Consumes start.left now.left)
+              (ap (λ t. heard_in rounds ++ t) e
+              ∙ sym (append_assoc (heard_in rounds) (ended round.heard) rest)
+              ∙ ap (λ t. t ++ rest)
+              (sym (in_more (λ r. ended r.heard) way.sent way.kept round))) way.heard;
+          begins = way.begins;
+          always = subst (λ rs. IsAlways (IsSafe start rs) now.done) assoc
+              (always_more start rounds (round ∷ []) now.done way.always);
+          log = way.log;
+          disk = way.disk;
+          to_log = ap (log_of start.former) (sym assoc)
+              ∙ log_more start.former rounds (round ∷ [])
+              ∙ ap (λ ls. log_of start.former rounds ++ logged_of (left_by texts history lines) ls)
+              (append-nil round.lines)
+              ∙ ap (λ t. t ++ logged_of (left_by texts history lines) round.lines) way.to_log
+              ∙ append_assoc sent_log waiting.logged
+              (logged_of (left_by texts history lines) round.lines)
+              ∙ ap (λ st. sent_log ++ (waiting.logged ++ logged_of st round.lines))
+              (sym (steps_state (known_first start) now.known rounds way.steps));
+          output = way.output;
+          to_say = flat_map-append (λ r. r.said) way.kept (round ∷ [])
+              ∙ ap (λ t. said_in way.kept ++ t) (append-nil round.said)
+              ∙ ap (λ t. t ++ round.said) way.to_say;
+        }
+
+    -- more was read
+    pub heard_more : (left : Option Text) (bytes : Text) → Consumes now.left left bytes
+        → IsUnderWay start (record now { left = left }) waiting (more ++ bytes)
+    heard_more left bytes taken = record {
+      sent = way.sent;
+      kept = way.kept;
+      steps = way.steps;
+      heard = subst (Consumes start.left left) (append_assoc (heard_in rounds) more bytes)
+          (Consumes-trans start.left now.left left (heard_in rounds ++ more) bytes way.heard taken);
+      begins = way.begins;
+      always = way.always;
+      log = way.log;
+      disk = way.disk;
+      to_log = way.to_log;
+      output = way.output;
+      to_say = way.to_say;
+    }
+
+    -- the log when all that waits is in it
+    log_whole : (held_after now.done).all ++ waiting.logged ≡ log_of start.former rounds
+    log_whole = ap (λ t. t ++ waiting.logged) way.log ∙ sym way.to_log
+
+    written_sent : IsPrefix (written_by now.done) (output_of start.version start.former way.sent)
+    written_sent =
+        prefix_of_same (written_by now.done) (output_of start.version start.former way.sent)
+        way.output
+
+    append_safe : (some : Text) → IsPrefix some waiting.logged
+        → IsSafe start rounds (Append some ∷ now.done)
+    append_safe some part =
+        let held = held_after now.done in
+        inr (record {
+          answered = way.sent;
+          others = way.kept;
+          parts = refl;
+          written = written_sent;
+          logged = kept_while_appending start.sync sent_log held.synced held.all some way.disk
+              way.log;
+          nothing_else = subst (IsPrefix (held.all ++ some)) log_whole
+              (prefix_behind held.all some waiting.logged part);
+        })
+
+    pub appends_safely : IsAlways (IsSafe start rounds) (Append waiting.logged ∷ now.done)
+    appends_safely =
+        append_always (IsSafe start rounds) now.done way.always waiting.logged append_safe
+
+    sync_safe : IsSafe start rounds (Sync ∷ Append waiting.logged ∷ now.done)
+    sync_safe =
+        let all = (held_after now.done).all ++ waiting.logged in
+        let begins : IsPrefix sent_log all =
+        (waiting.logged, ap (λ t. t ++ waiting.logged) way.log) in
+        inr (record {
+          answered = way.sent;
+          others = way.kept;
+          parts = refl;
+          written = written_sent;
+          logged = prefix_of_either start.sync sent_log all all begins begins;
+          nothing_else = prefix_of_same all (log_of start.former rounds) log_whole;
+        })
+
+    logs_safely : IsAlways (IsSafe start rounds) logged
+    logs_safely =
+        always_after_logging waiting.logged now.done (IsSafe start rounds) start.sync
+        appends_safely sync_safe
+
+    written_then : (some : Text) → written_by (Write some ∷ logged)
+        ≡ output_of start.version start.former way.sent ++ some
+    written_then some =
+        ap (λ t. t ++ some)
+        (written_after_logging waiting.logged now.done start.sync ∙ way.output)
+
+    output_whole : output_of start.version start.former rounds
+        ≡ output_of start.version start.former way.sent ++ waiting.said
+    output_whole =
+        output_more start.version start.former way.sent way.kept
+        ∙ ap (λ t. output_of start.version start.former way.sent ++ t) way.to_say
+
+    write_safe : (some : Text) → IsPrefix some waiting.said
+        → IsSafe start rounds (Write some ∷ logged)
+    write_safe some (rest, e) =
+        let held = held_after logged in
+        inr (record {
+          answered = rounds;
+          others = [];
+          parts = sym (append-nil rounds);
+          written = (
+            rest,
+            output_whole
+                ∙ ap (λ t. output_of start.version start.former way.sent ++ t) e
+                ∙ sym (append_assoc (output_of start.version start.former way.sent) some rest)
+                ∙ ap (λ t. t ++ rest) (sym (written_then some)),
+          );
+          logged = prefix_of_same (log_of start.former rounds) (cond start.sync held.synced held.all)
+              (sym log_whole
+              ∙ sym (kept_after_logging waiting.logged now.done start.sync));
+          nothing_else = prefix_of_same held.all (log_of start.former rounds)
+              (all_after_logging waiting.logged now.done start.sync ∙ log_whole);
+        })
+
+    pub writes_safely : IsAlways (IsSafe start rounds) (Write waiting.said ∷ logged)
+    writes_safely =
+        write_always (IsSafe start rounds) logged logs_safely waiting.said write_safe
+
+    -- what waited was sent
+    pub all_sent : IsUnderWay start (record now {
+      done = sent_after start.sync waiting.logged waiting.said now.done;
+    }) nothing more
+    all_sent =
+        let none = append-nil rounds in
+        record {
+          sent = rounds;
+          kept = [];
+          steps = subst (AreSteps (known_first start) now.known) (sym none) way.steps;
+          heard = subst (λ rs. Consumes start.left now.left (heard_in rs ++ more)) (sym none)
+              way.heard;
+          begins = begins_more start (Write waiting.said) logged
+              (begins_after_logging start start.sync waiting.logged now.done way.begins);
+          always = subst (λ rs. IsAlways (IsSafe start rs) (Write waiting.said ∷ logged))
+              (sym none) writes_safely;
+          log = all_after_logging waiting.logged now.done start.sync ∙ log_whole;
+          disk = kept_after_logging waiting.logged now.done start.sync ∙ log_whole;
+          to_log = ap (log_of start.former) none ∙ sym (append-nil (log_of start.former rounds));
+          output = written_then waiting.said ∙ sym output_whole;
+          to_say = refl;
+        }
+
+    broken_by : (done : List Operation) → BeginsBy start.bytes start.former done
+        → IsAlways (IsSafe start rounds) done → IsBrokenOff start (record now { done = done })
+    broken_by done begins always = record {
+      known = now.known;
+      rounds = rounds;
+      more = more;
+      steps = way.steps;
+      heard = way.heard;
+      begins = begins;
+      always = always;
+    }
+
+    -- an append failed
+    append_broken : (done : List Operation) → IsAppendedInPart waiting.logged now.done done
+        → IsBrokenOff start (record now { done = done })
+    append_broken done (some, part, e) =
+        let appended = Append some ∷ now.done in
+        let whole : IsAlways (IsSafe start rounds) appended =
+        append_always (IsSafe start rounds) now.done way.always some
+        (λ less is. append_safe less
+        (prefix_trans less some waiting.logged is part)) in
+        subst (λ ops. IsBrokenOff start (record now { done = ops })) (sym e)
+        (broken_by (LogFailed ∷ appended)
+        (begins_more start LogFailed appended
+        (begins_more start (Append some) now.done way.begins)) (
+          λ last same. subst (λ o. IsSafe start rounds (o ∷ appended)) (sym same)
+              (log_failed_safe start rounds appended (append_safe some part)),
+          whole,
+        ))
+
+    -- a sync failed
+    unsynced_safe : start.sync ≡ true
+        → IsSafe start rounds (Revert ∷ Append waiting.logged ∷ now.done)
+    unsynced_safe synced =
+        let held = held_after now.done in
+        let same : held.synced ≡ sent_log =
+        subst (λ b. cond b held.synced held.all ≡ sent_log) synced way.disk in
+        inr (record {
+          answered = way.sent;
+          others = way.kept;
+          parts = refl;
+          written = written_sent;
+          logged = prefix_of_either start.sync sent_log held.synced held.synced
+              (prefix_of_same sent_log held.synced (sym same))
+              (prefix_of_same sent_log held.synced (sym same));
+          nothing_else = (waiting.logged, way.to_log ∙ ap (λ t. t ++ waiting.logged) (sym same));
+        })
+
+    sync_broken : (done : List Operation) → start.sync ≡ true
+        → IsUnsynced waiting.logged now.done done
+        → IsBrokenOff start (record now { done = done })
+    sync_broken done synced failed =
+        let appended = Append waiting.logged ∷ now.done in
+        let begins = begins_more start (Append waiting.logged) now.done way.begins in
+        let whole = append_safe waiting.logged (prefix_self waiting.logged) in
+        elim failed [
+          | inl e ↦ subst (λ ops. IsBrokenOff start (record now { done = ops })) (sym e)
+              (broken_by (LogFailed ∷ appended) (begins_more start LogFailed appended begins) (
+                λ last same. subst (λ o. IsSafe start rounds (o ∷ appended)) (sym same)
+                    (log_failed_safe start rounds appended whole),
+                appends_safely,
+              ))
+          | inr e ↦ subst (λ ops. IsBrokenOff start (record now { done = ops })) (sym e)
+              (broken_by (Revert ∷ appended) (begins_more start Revert appended begins) (
+                λ last same. subst (λ o. IsSafe start rounds (o ∷ appended)) (sym same)
+                    (unsynced_safe synced),
+                appends_safely,
+              ))
+        ]
+
+    -- a write failed
+    write_broken : (done : List Operation) → IsWrittenInPart waiting.said logged done
+        → IsBrokenOff start (record now { done = done })
+    write_broken done (some, part, e) =
+        let written = Write some ∷ logged in
+        let whole : IsAlways (IsSafe start rounds) written =
+        write_always (IsSafe start rounds) logged logs_safely some
+        (λ less is. write_safe less (prefix_trans less some waiting.said is part)) in
+        subst (λ ops. IsBrokenOff start (record now { done = ops })) (sym e)
+        (broken_by (OutputFailed ∷ written)
+        (begins_more start OutputFailed written
+        (begins_more start (Write some) logged
+        (begins_after_logging start start.sync waiting.logged now.done way.begins))) (
+          λ last same. subst (λ o. IsSafe start rounds (o ∷ written)) (sym same)
+              (output_failed_safe start rounds written (write_safe some part)),
+          whole,
+        ))
+
+    pub sent_in_part : (done : List Operation)
+        → IsSentInPart start.sync waiting.logged waiting.said now.done done
+        → IsBrokenOff start (record now { done = done })
+    sent_in_part done (inl failed) = append_broken done failed
+    sent_in_part done (inr (inl (synced, failed))) = sync_broken done synced failed
+    sent_in_part done (inr (inr failed)) = write_broken done failed

@@ -1,0 +1,18 @@
+use Rattle.std.proofs.Common.{◌≤◌, ◌++◌, length, vec_capacity}
+use Rattle.redo_model.specs.Names.{Text}
+use Rattle.redo_talk.specs.Inside.KeptLines.{IsPrefixOf}
+use Rattle.redo_talk.specs.Inside.Places.{GoesOnInLine, as_place}
+use Rattle.redo_talk.proofs.answering.answer_lines.Given as goal
+
+abbrev pub invariant-lines : goal.invariant-lines
+invariant-lines g l = record {
+  room : 8199 ≤ vec_capacity l.prefix;
+  few : length l.prefix.items ≤ 8199;
+  talk : (begun : Text) → IsPrefixOf begun l.initial.prefix.items → GoesOnInLine l.sync
+      (as_place l.initial.live (g.D.Devices.history l.initial.devices) l.initial.unsent)
+      (as_place l.live (g.D.Devices.history l.devices) l.unsent)
+      (begun ++ l.initial.bytes) l.prefix.items l.rest;
+}
+
+abbrev pub decreases-lines : goal.decreases-lines
+decreases-lines g l = length l.rest

@@ -1,0 +1,22 @@
+use Rattle.redo_talk.specs.Inside.Places.{known_of}
+use Rattle.redo_talk.proofs.Responding.{sending_goes_on, sending_breaks_off}
+use Rattle.redo_talk.proofs.Outcomes.{on_err}
+use Rattle.redo_talk.proofs.answering.send_much.Goals as goal
+
+pub returns-in_ok-send-clause-talk : goal.returns-in_ok-send-clause-talk
+returns-in_ok-send-clause-talk g c = λ more.
+    let sent = c.in_ok-send.ensures in
+    sending_goes_on c.args.sync (known_of c.args.live.now)
+    (g.D.Devices.history c.args.devices.now) (g.D.Devices.history c.send.new.devices)
+    c.args.unsent.now.logged.items c.send.new.unsent.logged.items
+    c.args.unsent.now.said.items c.send.new.unsent.said.items more
+    sent.sent sent.none_logged sent.none_said
+
+pub returns-in_err-send-clause-broken : goal.returns-in_err-send-clause-broken
+returns-in_err-send-clause-broken g c =
+    on_err c.from_residual.result _ (λ more.
+    sending_breaks_off c.args.sync (known_of c.args.live.now)
+    (g.D.Devices.history c.args.devices.now) (g.D.Devices.history c.send.new.devices)
+    c.args.unsent.now.logged.items c.send.new.unsent.logged.items
+    c.args.unsent.now.said.items c.send.new.unsent.said.items more
+    c.in_err-send.ensures.part)

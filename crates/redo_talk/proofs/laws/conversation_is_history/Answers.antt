@@ -1,0 +1,8 @@
+use Rattle.redo_talk.specs.Inside.Laws.{lines_after}
+use Rattle.redo_talk.proofs.LawfulTalks.{all_logged, history_text}
+use Rattle.redo_talk.proofs.laws.conversation_is_history.Goals as goal
+
+pub returns : goal.returns
+returns c keeping version former rounds rest input input_after done talk few =
+    history_text (lines_after former rounds)
+    (all_logged keeping version former rounds rest input input_after done talk) few

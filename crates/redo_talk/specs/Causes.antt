@@ -1,0 +1,55 @@
+-- Why a conversation ends before its input does, and what was done by then.
+use Rattle.std.specs.Prelude.{◌≡◌, ◌⊎◌, ℕ, Bool, true, false, List, [], ◌∷◌, Option, IsTrue}
+use Rattle.std.specs.List.{AllByRecursion}
+use Rattle.redo_model.specs.Names.{Text}
+use Rattle.redo_log.specs.Operations.{Operation, Read, Revert, LogFailed, OutputFailed, changes_nothing}
+use Rattle.redo_log.specs.Restores.{DiffersAt, HasTooMany}
+use Rattle.redo_talk.specs.Rounds.{Round}
+use Rattle.redo_talk.specs.Talks.{Former, IsTalk, IsConversation}
+use Rattle.redo_talk.specs.declared.keeping.Keeping.{Keeping}
+use Rattle.redo_talk.specs.declared.fault.ServeFault.{ServeFault}
+use Rattle.redo_talk.specs.declared.fault.ServeFault.TheVariants as faults
+
+-- the newest operation is a failure of the log
+abbrev pub log_failed : List Operation → Bool
+log_failed (LogFailed ∷ earlier) = true
+log_failed (Revert ∷ earlier) = true
+log_failed done = false
+
+-- the newest operation is a failure of the output
+abbrev pub output_failed : List Operation → Bool
+output_failed (OutputFailed ∷ earlier) = true
+output_failed done = false
+
+-- neither the log nor the output was changed
+abbrev pub IsUnchanged : List Operation → Type 0
+IsUnchanged done = AllByRecursion (λ operation. changes_nothing operation ≡ true) done
+
+module _ (keeping : Keeping) (version : Text) (input input_after : Option Text)
+    (done : List Operation)
+  where
+    -- a conversation was led so far, and of what was read the last lines may not be answered
+    abbrev pub TalkedSoFar : Type 0
+    TalkedSoFar =
+        (former : Former) × (rounds : List Round) × (rest : Text)
+        × IsTalk keeping version former rounds rest input input_after done
+
+    -- each line that was read was answered
+    abbrev pub AnsweredAll : Type 0
+    AnsweredAll =
+        (former : Former) × (rounds : List Round) × (rest : Text)
+        × IsConversation keeping version former rounds rest input input_after done
+
+    -- the cause of a fault; `read_failed` says whether a read of the input failed
+    abbrev pub IsServeCause : Bool → ServeFault → Type 0
+    IsServeCause read_failed faults.Memory = IsUnchanged done
+    IsServeCause read_failed faults.Worn =
+        (bytes : Text) × (done ≡ Read bytes ∷ []) × HasTooMany bytes
+    IsServeCause read_failed (faults.Differs line) =
+        (bytes : Text) × (done ≡ Read bytes ∷ [])
+        × ((count : ℕ) × (size : ℕ) × DiffersAt bytes line count size)
+    IsServeCause read_failed (faults.Log fault) =
+        IsTrue (log_failed done) × (IsUnchanged done ⊎ TalkedSoFar)
+    IsServeCause read_failed faults.Read = IsTrue read_failed × AnsweredAll
+    IsServeCause read_failed faults.TooLong = AnsweredAll
+    IsServeCause read_failed faults.Write = IsTrue (output_failed done) × TalkedSoFar

@@ -1,0 +1,46 @@
+-- From its first line on, what a conversation comes to.
+use Rattle.std.specs.Prelude.{◌≡◌, ◌<◌, ◌≤◌, Bool, List, [], Option, IsTrue, length, vec_capacity}
+use Rattle.redo_model.specs.Names.{Text}
+use Rattle.redo_log.specs.Operations.{Operation}
+use Rattle.redo_talk.specs.Causes.{log_failed, output_failed}
+use Rattle.redo_talk.specs.Logs.{HasNoEnd}
+use Rattle.redo_talk.specs.Inside.Steps.{Known}
+use Rattle.redo_talk.specs.Inside.Moments.{Start, Waiting, IsUnderWay, IsBrokenOff}
+use Rattle.redo_talk.specs.declared.fault.ServeFault.{ServeFault}
+use Rattle.redo_talk.specs.declared.fault.ServeFault.TheVariants.{Log, Read, TooLong, Write}
+use Rattle.redo_talk.specs.declared.talking.Buffers.{Buffers}
+
+-- a chunk has room, and no prefix is kept
+pub record AreEmpty (buffers : Buffers) : Type 0 where
+  pub chunk : 0 < length buffers.chunk.items
+  pub room : 8199 ≤ vec_capacity buffers.prefix
+  pub none : buffers.prefix.items ≡ []
+
+abbrev pub nothing : Waiting
+nothing = record { said = []; logged = [] }
+
+-- a conversation whose first line is next, if the log is synced or not, comes to that
+abbrev pub TalksFrom : Bool → Known → Option Text → List Operation → (Start → Type 0) → Type 0
+TalksFrom sync known left done comes_to =
+    (start : Start) → start.sync ≡ sync
+    → IsUnderWay start (record { known = known; left = left; done = done }) nothing []
+    → comes_to start
+
+-- all lines that were read were answered, and nothing waits
+abbrev pub HasAnsweredAll : Start → Known → Option Text → List Operation → Type 0
+HasAnsweredAll start known left done =
+    (more : Text) × HasNoEnd more
+    × IsUnderWay start (record { known = known; left = left; done = done }) nothing more
+
+module _ (start : Start) (known : Known) (left : Option Text) (done : List Operation) where
+  -- why it ended; `read_failed` says whether a read failed
+  abbrev pub IsTalkCause : Bool → ServeFault → Type 0
+  IsTalkCause read_failed Read = IsTrue read_failed × HasAnsweredAll start known left done
+  IsTalkCause read_failed TooLong = HasAnsweredAll start known left done
+  IsTalkCause read_failed (Log fault) =
+      IsTrue (log_failed done)
+      × IsBrokenOff start (record { known = known; left = left; done = done })
+  IsTalkCause read_failed Write =
+      IsTrue (output_failed done)
+      × IsBrokenOff start (record { known = known; left = left; done = done })
+  IsTalkCause read_failed fault = ⊥

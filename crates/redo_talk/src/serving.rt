@@ -1,0 +1,48 @@
+ghost use Rattle.std.specs.Prelude.{◌≡◌, List, [], OnOk, IfErr};
+ghost use Rattle.std.specs.Io.KnownBytes.{IsAtEnd};
+ghost use Rattle.redo_whole.specs.Devices.{known_in};
+ghost use Rattle.redo_whole.specs.Watched.{has_failed};
+ghost use Rattle.redo_talk.specs.Causes.{AnsweredAll, IsServeCause};
+
+use crate::fault::ServeFault;
+use crate::keeping::Keeping;
+use crate::opening::{begin, open};
+use crate::talking::{Buffers, talk};
+use redo_log::{Devices, LOG_HEADER};
+use redo_whole::Watched;
+use std::alloc::Global;
+use std::io::Read;
+
+/// Restores a database from its log, ends the sessions that the log left, greets, and answers line after line until the
+/// input ends. A last line without LF is not answered.
+///
+/// What changes the database is logged before it is answered. After an operation fails, nothing more is done.
+pub fn serve<R: Read, D: Devices>(
+    alloc: Global,
+    version: &str,
+    keeping: Keeping,
+    input: &mut Watched<R>,
+    devices: &mut D,
+) -> Result<(), ServeFault>
+    requires { D.history devices.old ≡ [] }
+    ensures talk { OnOk result (AnsweredAll keeping version.now
+        (known_in R.remaining input.old) (known_in R.remaining input.new)
+        (D.history devices.new)) }
+    ensures end { OnOk result (IsAtEnd (known_in R.remaining input.new)) }
+    ensures cause { IfErr result (IsServeCause keeping version.now
+        (known_in R.remaining input.old) (known_in R.remaining input.new)
+        (D.history devices.new) (has_failed input.old input.new)) }
+{
+    let log = devices.read(alloc, LOG_HEADER)?;
+    let mut opened = open(alloc, version, keeping.salvage, log)?;
+    let buffers = Buffers::new(alloc)?;
+    begin(&opened, keeping.sync, devices)?;
+    talk(
+        alloc,
+        &mut opened.live,
+        keeping.sync,
+        buffers,
+        input,
+        devices,
+    )
+}
