@@ -9,7 +9,6 @@ use redo_session::run_texts;
 use redo_text::Fault;
 use redo_whole::Watched;
 use redo_words::{Job, WordsFault, job};
-use std::io::Read;
 use std::process::ExitCode;
 use std::rt::{Env, Files};
 use std::sync::Wait;
@@ -52,83 +51,55 @@ fn open_all<R: Files + AllocGlobal>(
     Ok(opened)
 }
 
-/// Runs the files' sessions side by side, and flushes standard output.
-fn run<I: Read, R: Threads + Wait + Sync + Print + AllocGlobal>(
-    rt: &R,
-    files: &mut [Watched<I>],
-) -> Result<(), Fault> {
-    let mut out = Watched::new(io::writer(rt));
-    run_texts(rt, rt.alloc(), files, &mut out)?;
-    match out.flush() {
-        Ok(()) => Ok(()),
-        Err(_) => Err(Fault::Write),
+/// The fault of words that mean no job.
+fn fault_of(fault: WordsFault) -> Fault {
+    match fault {
+        WordsFault::Memory => Fault::Memory,
+        WordsFault::Usage => Fault::Usage,
     }
 }
 
-/// Replays the history, and flushes standard output. The program ends then, so the system takes
-/// the database's memory back, which is faster than to drop it.
-fn replay<I: Read, R: Print + AllocGlobal>(
+/// Does the job, and flushes standard output. Only a replay has a verdict. After a replay the
+/// program ends, so the system takes the database's memory back, which is faster than to drop it.
+fn done<R: Threads + Wait + Sync + Files + Input + Print + AllocGlobal>(
     rt: &R,
-    input: &mut Watched<I>,
-) -> Result<Verdict, Fault> {
+    job: &Job,
+) -> Result<Option<Verdict>, Fault> {
     let mut out = Watched::new(io::writer(rt));
-    let (verdict, live) = replay_text(rt.alloc(), input, &mut out)?;
-    mem::forget(live);
+    let verdict = match job {
+        Job::Input => {
+            let mut files = Vec::new(rt.alloc());
+            files.push(Watched::new(rt.reader()))?;
+            run_texts(rt, rt.alloc(), &mut files, &mut out)?;
+            None
+        }
+        Job::Run(names) => {
+            let mut files = open_all(rt, names)?;
+            run_texts(rt, rt.alloc(), &mut files, &mut out)?;
+            None
+        }
+        Job::Replay(name) => {
+            let mut input = open(rt, 0, name)?;
+            let (verdict, live) = replay_text(rt.alloc(), &mut input, &mut out)?;
+            mem::forget(live);
+            Some(verdict)
+        }
+    };
     match out.flush() {
         Ok(()) => Ok(verdict),
         Err(_) => Err(Fault::Write),
     }
 }
 
-/// Runs the session on standard input.
-fn run_input<R: Threads + Wait + Sync + Input + Print + AllocGlobal>(rt: &R) -> Result<(), Fault> {
-    let mut files = Vec::new(rt.alloc());
-    files.push(Watched::new(rt.reader()))?;
-    run(rt, &mut files)
-}
-
-fn run_named<R: Threads + Wait + Sync + Files + Print + AllocGlobal>(
-    rt: &R,
-    names: &[String],
-) -> Result<(), Fault> {
-    let mut files = open_all(rt, names)?;
-    run(rt, &mut files)
-}
-
-fn replay_named<R: Files + Print + AllocGlobal>(rt: &R, name: &str) -> Result<Verdict, Fault> {
-    let mut input = open(rt, 0, name)?;
-    replay(rt, &mut input)
-}
-
-/// Does the job. Only a replay has a verdict.
-fn done<R: Threads + Wait + Sync + Files + Input + Print + AllocGlobal>(
-    rt: &R,
-    job: &Job,
-) -> Result<Option<Verdict>, Fault> {
-    match job {
-        Job::Input => run_input(rt)?,
-        Job::Run(names) => run_named(rt, names)?,
-        Job::Replay(name) => return Ok(Some(replay_named(rt, name)?)),
-    }
-    Ok(None)
-}
-
-fn asked<R: Env + AllocGlobal>(rt: &R) -> Result<Job, Fault> {
-    let words = given_words(rt)?;
-    match job(rt.alloc(), &words) {
-        Ok(job) => Ok(job),
-        Err(WordsFault::Memory) => Err(Fault::Memory),
-        Err(WordsFault::Usage) => Err(Fault::Usage),
-    }
-}
-
 fn main(rt: HostRuntime) -> ExitCode {
     let mut err = Watched::new(rt.stderr());
-    match asked(&rt) {
-        Ok(job) => {
-            let answer = done(&rt, &job);
-            ExitCode::from(finish(&answer, job.files(), &mut err))
-        }
-        Err(fault) => ExitCode::from(finish(&Err(fault), &[], &mut err)),
-    }
+    let asked = match given_words(&rt) {
+        Ok(words) => job(rt.alloc(), &words).map_err(fault_of),
+        Err(fault) => Err(fault),
+    };
+    let status = match asked {
+        Ok(job) => finish(&done(&rt, &job), job.files(), &mut err),
+        Err(fault) => finish(&Err(fault), &[], &mut err),
+    };
+    ExitCode::from(status)
 }
