@@ -1,9 +1,12 @@
-"""A small tree of the six roots and `run`, in which all is listed, for tests/believe to check."""
+"""A small tree of the roots and `run`, in which all is listed, for tests/believe to check: each of
+the roots takes and gives a byte, and one program calls them all."""
 import compileall
 import shutil
 import subprocess
 from dataclasses import dataclass
 from pathlib import Path
+
+from believed.roots import ROOTS
 
 TESTS = Path(__file__).resolve().parent.parent
 # each file of the tree; None is one that is taken away
@@ -29,10 +32,10 @@ use Rattle.redo_model.specs.Bases.{base}
 """
 RULES = RULES_USES + "\nabbrev pub Right : ℕ → Type 0\nRight n = n ≡ base\n"
 BASES = "use Rattle.std.specs.Prelude.{ℕ}\n\nabbrev pub base : ℕ\nbase = 1\n"
-BELIEVE = """# What has to be believed
+NAMED = ", ".join(f"`{function}` of `{crate}`" for crate, function in ROOTS)
+BELIEVE = f"""# What has to be believed
 
-`run_texts` of `redo_session`, `replay_text` of `redo_replay`, `converse` of `redo_talk`, `job` and
-`conversation` of `redo_words`, `finish` of `redo_job`.
+{NAMED}: 4 lines in all.
 
 | File of `crates` | Lines | What it says |
 |---|---|---|
@@ -48,8 +51,25 @@ BELIEVE = """# What has to be believed
 
 0 lines in 0 files.
 """
+PROGRAM = (
+    "".join(f"use {crate}::{function};\n" for crate, function in ROOTS)
+    + "\nfn main(rt: HostRuntime) {\n"
+    + "".join(f"    {function}(0);\n" for _, function in ROOTS)
+    + "}\n"
+)
+
+
+def libraries() -> Files:
+    """The crates of the roots."""
+    texts: dict[str, str] = {}
+    for crate, function in ROOTS:
+        path = f"crates/{crate}/src/lib.rt"
+        texts[path] = texts.get(path, PRELUDE) + SAME.format(function)
+    return {**texts, "crates/redo_session/src/lib.rt": SESSION}
+
+
 SMALL: Files = {
-    "README.md": "# A tree\n",
+    "README.md": "# A tree of some 4 lines, which [docs/BELIEVE.md](docs/BELIEVE.md) lists\n",
     "bench/README.md": "# Nothing\n",
     "docs/BELIEVE.md": BELIEVE,
     "docs/PROMISES.md": f"# Promises\n\n```rust\n{RUN_TEXTS}```\n",
@@ -57,11 +77,8 @@ SMALL: Files = {
     "crates/redo_model/specs/Lib.antt": "pub mod Rules\npub mod Bases\n",
     "crates/redo_model/specs/Rules.antt": RULES,
     "crates/redo_model/specs/Bases.antt": BASES,
-    "crates/redo_session/src/lib.rt": SESSION,
-    "crates/redo_replay/src/lib.rt": PRELUDE + SAME.format("replay_text"),
-    "crates/redo_talk/src/lib.rt": PRELUDE + SAME.format("converse"),
-    "crates/redo_words/src/lib.rt": PRELUDE + SAME.format("job") + SAME.format("conversation"),
-    "crates/redo_job/src/lib.rt": PRELUDE + SAME.format("finish"),
+    "crates/redo_cli/src/main.rt": PROGRAM,
+    **libraries(),
 }
 
 

@@ -26,6 +26,7 @@ def other_clause(code: str, quoted: str) -> Files:
     }
 
 
+ALL = "docs/BELIEVE.md: the page doesn't say once '4 lines in all'"
 EXTRA = "| `redo_model/specs/More.antt` | 1 | More. |\n"
 WRONG_PAGES: list[Case] = [
     (
@@ -54,6 +55,9 @@ WRONG_PAGES: list[Case] = [
         "docs/BELIEVE.md: the last line isn't '0 lines in 0 files.'",
     ),
     ("no sum", page("4 lines in 2 files.\n", ""), "the last line isn't '4 lines in 2 files.'"),
+    ("a wrong sum of all", page("4 lines in all", "3 lines in all"), ALL),
+    ("no sum of all", page("4 lines in all", "4 lines"), ALL),
+    ("two sums of all", page("4 lines in all", "4 lines in all, 4 lines in all"), ALL),
     (
         "a file in the wrong part",
         {PAGE: BELIEVE.replace(BASE_ROW, "").replace("|\n\n0 lines", f"|\n{BASE_ROW}\n0 lines")},
