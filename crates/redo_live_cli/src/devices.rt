@@ -1,14 +1,16 @@
 //! The log and the output of the program. Each method does what it is called for, and then notes what it did.
 ghost use Rattle.std.specs.Prelude.{◌≡◌, []};
 
+use crate::fault::say;
 use crate::log_file::LogFile;
 use crate::writing::write_or_part;
 use redo_log::{Devices, LogFault, Record, Unread};
 use redo_whole::WriteFault;
 use std::alloc::Global;
 use std::io;
+use std::marker::Model;
 
-/// The file of a log, and standard output.
+/// The file of a log, and standard output. In clauses it is what was done, the newest operation first.
 #[derive(Drop)]
 pub struct FileDevices<'a> {
     rt: &'a HostRuntime,
@@ -16,9 +18,18 @@ pub struct FileDevices<'a> {
     done: Record,
 }
 
+impl<'a> Model for FileDevices<'a> {
+    ghost use Rattle.std.specs.Prelude.{List};
+    ghost use Rattle.redo_log.specs.Operations.{Operation};
+
+    ghost Value = { List Operation };
+
+    ghost view = { λ inside. inside.done.operations };
+}
+
 impl<'a> FileDevices<'a> {
     pub fn new(rt: &'a HostRuntime, log: LogFile<'a>) -> FileDevices<'a>
-        ensures { result.done.operations ≡ [] }
+        ensures { result ≡ [] }
     {
         FileDevices {
             rt,
@@ -29,7 +40,7 @@ impl<'a> FileDevices<'a> {
 }
 
 impl Devices for FileDevices<'_> {
-    ghost history = { λ devices. devices.done.operations };
+    ghost history = { λ done. done };
 
     fn read(&mut self, alloc: Global, header: &[u8]) -> Result<Vec<u8>, Unread> {
         let read = self.log.read(alloc, header);
@@ -98,7 +109,13 @@ impl Devices for FileDevices<'_> {
 
     fn tell_cut(&mut self, lines: usize, bytes: usize) {
         let (name, gone) = (self.log.name(), self.log.found_after(bytes));
-        let _ = eprint!(self.rt; "redodb-live: {name}: {lines} lines kept, {gone} bytes cut off\n");
+        let alloc = self.rt.alloc();
+        let line = format!(in alloc;
+            "redodb-live: {name}: {lines} lines kept, {gone} bytes cut off\n"
+        );
+        if let Ok(line) = line {
+            say(self.rt, &line);
+        }
     }
 
     fn write(&mut self, bytes: &[u8]) -> Result<(), WriteFault> {

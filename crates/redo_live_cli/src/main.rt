@@ -66,7 +66,7 @@ fn devices_of<'a>(
     rt: &'a HostRuntime,
     conversation: &'a Conversation,
 ) -> Result<FileDevices<'a>, Fault>
-    ensures { IfOk result (λ devices. devices.done.operations ≡ []) }
+    ensures { IfOk result (λ done. done ≡ []) }
 {
     let log = match &conversation.log {
         Some(asked) => open_log(rt, asked)?,

@@ -41,6 +41,12 @@ abbrev pub held_after : List Operation → Held
 held_after [] = record { synced = []; all = [] }
 held_after (operation ∷ earlier) = held_then operation (held_after earlier)
 
+-- whether the log was read
+abbrev pub has_read : List Operation → Bool
+has_read [] = false
+has_read (Read bytes ∷ earlier) = true
+has_read (operation ∷ earlier) = has_read earlier
+
 -- what was written to the output
 abbrev pub written_by : List Operation → Text
 written_by [] = []

@@ -1,12 +1,12 @@
 //! A log and an output in memory, of which one operation may fail.
 ghost use Rattle.std.specs.Prelude.{◌≡◌, ◌++◌, IfErr, OnOk, take};
 ghost use Rattle.redo_log.specs.Operations.{IsPrefix};
-ghost use Rattle.redo_log.specs.Inside.Memory.{HoldAsDone};
 
 use crate::devices::{Devices, LogFault, Unread};
 use crate::record::Record;
 use redo_whole::WriteFault;
 use std::alloc::Global;
+use std::marker::Model;
 
 /// Which operation fails, and how.
 #[derive(Clone, Copy, Debug, PartialEq, Eq)]
@@ -87,7 +87,7 @@ fn put<'a>(to: &mut Vec<u8>, bytes: &'a [u8], most: Option<usize>) -> Result<(),
     Err(part)
 }
 
-/// A log and an output in memory.
+/// A log and an output in memory. In clauses it is what was done, the newest operation first.
 #[derive(Drop)]
 pub struct MemoryDevices {
     counted: Counted,
@@ -96,18 +96,29 @@ pub struct MemoryDevices {
     synced: usize,
     copy: Vec<u8>,
     output: Vec<u8>,
-    is_read: bool,
     done: Record,
-    ghost as_done: { HoldAsDone is_read log.items synced output.items done.operations },
+}
+
+impl Model for MemoryDevices {
+    ghost use Rattle.std.specs.Prelude.{List};
+    ghost use Rattle.redo_log.specs.Operations.{Operation};
+    ghost use Rattle.redo_log.specs.Inside.Memory.{HoldAsDone};
+
+    ghost Value = { List Operation };
+
+    ghost view = { λ inside. inside.done.operations };
+
+    ghost invariant = { λ inside. HoldAsDone
+        inside.log.items inside.synced inside.output.items inside.done.operations };
 }
 
 impl MemoryDevices {
     ghost use Rattle.std.specs.Prelude.{◌≡◌, [], IsTrue};
-    ghost use Rattle.redo_log.specs.Operations.{held_after, written_by};
+    ghost use Rattle.redo_log.specs.Operations.{has_read, held_after, written_by};
 
     /// A log that has these bytes, and an empty output.
     pub fn new(alloc: Global, log: Vec<u8>, failing: Failing) -> MemoryDevices
-        ensures { result.done.operations ≡ [] }
+        ensures { result ≡ [] }
     {
         MemoryDevices {
             counted: Counted { failing, count: 0 },
@@ -115,23 +126,20 @@ impl MemoryDevices {
             synced: 0,
             copy: Vec::new(alloc),
             output: Vec::new(alloc),
-            is_read: false,
             done: Record::new(),
         }
     }
 
     /// What the log holds.
     pub fn log(&self) -> &[u8]
-        ensures { IsTrue self.now.is_read
-            → result.now ≡ (held_after self.now.done.operations).all }
+        ensures { IsTrue (has_read self.now) → result.now ≡ (held_after self.now).all }
     {
         &self.log
     }
 
     /// What of the log was synced since it was read.
     pub fn synced(&self) -> &[u8]
-        ensures { IsTrue self.now.is_read
-            → result.now ≡ (held_after self.now.done.operations).synced }
+        ensures { IsTrue (has_read self.now) → result.now ≡ (held_after self.now).synced }
     {
         first(&self.log, self.synced)
     }
@@ -143,7 +151,7 @@ impl MemoryDevices {
 
     /// What was written to the output.
     pub fn output(&self) -> &[u8]
-        ensures { result.now ≡ written_by self.now.done.operations }
+        ensures { result.now ≡ written_by self.now }
     {
         &self.output
     }
@@ -155,7 +163,7 @@ impl MemoryDevices {
 }
 
 impl Devices for MemoryDevices {
-    ghost history = { λ devices. devices.done.operations };
+    ghost history = { λ done. done };
 
     fn read(&mut self, alloc: Global, _header: &[u8]) -> Result<Vec<u8>, Unread> {
         if self.counted.fails() {
@@ -166,7 +174,6 @@ impl Devices for MemoryDevices {
             return Err(Unread::Memory);
         };
         self.synced = 0;
-        self.is_read = true;
         self.done.read(&bytes);
         Ok(bytes)
     }

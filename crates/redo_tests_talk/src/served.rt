@@ -70,7 +70,7 @@ const ROUNDS: [(&str, &str); 3] = [
 
 /// Reads the lines.
 fn heard(alloc: Global, keeping: Keeping, devices: &mut MemoryDevices) -> Result<(), ServeFault>
-    requires { devices.old.done.operations ≡ [] }
+    requires { devices.old ≡ [] }
 {
     let [first, second, third] = LINES;
     let lines = first

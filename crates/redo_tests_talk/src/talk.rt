@@ -84,7 +84,7 @@ const GREETING: &str = "redodb-live test restored 0\n";
 
 /// Reads these lines over a new log.
 fn heard(alloc: Global, bytes: &[u8], devices: &mut MemoryDevices) -> Result<(), ServeFault>
-    requires { devices.old.done.operations ≡ [] }
+    requires { devices.old ≡ [] }
 {
     let keeping = Keeping {
         sync: false,
