@@ -14,6 +14,7 @@ pub mod UnderWay
 pub mod Unanswered
 pub mod Talked
 pub mod Served
+pub mod LawfulBytes
 pub mod LawfulLines
 pub mod LawfulLogs
 pub mod LawfulTalks

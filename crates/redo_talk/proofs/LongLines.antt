@@ -10,7 +10,7 @@ use Rattle.redo_text.specs.Inquiries.{inquiry_text_of}
 use Rattle.redo_text.proofs.Inquired.{asked_when_long, fits_is_short}
 use Rattle.redo_talk.specs.Rounds.{Round, Asks, HasNoSession, IsFaultWord, end_word, names_word, fault_text_of}
 use Rattle.redo_talk.specs.Inside.Steps.{Known, Refusing, IsStep}
-use Rattle.redo_talk.specs.Inside.KeptLines.{kept_of, IsHeardOf}
+use Rattle.redo_talk.specs.Inside.KeptLines.{kept_of}
 use Rattle.redo_talk.proofs.LongQuestions.{no_question_in_more}
 
 abbrev prefix_of : ℕ → Text
@@ -147,7 +147,7 @@ module _ (old new : Known) (round : Round) (whole : Text) (heard : round.heard �
     ]
 
 pub step_of_whole : (old new : Known) (round : Round) (whole : Text)
-    → IsHeardOf whole round.heard → IsStep old new round
+    → (round.heard ≡ whole) ⊎ (round.heard ≡ kept_of whole) → IsStep old new round
     → IsStep old new (record round { heard = whole })
 step_of_whole old new round whole (inl same) step =
     subst (λ h. IsStep old new (record round { heard = h })) same step

@@ -7,9 +7,9 @@ use Rattle.redo_model.specs.History.{left_by}
 use Rattle.redo_live.specs.Lines.{lines_text_of}
 use Rattle.redo_log.specs.Logs.{log_header}
 use Rattle.redo_log.specs.Operations.{Operation, Append, Sync, Write, LogFailed, OutputFailed, IsPrefix, IsAlways, held_after, written_by}
-use Rattle.redo_talk.specs.Logs.{logged_of}
+use Rattle.redo_talk.specs.Logs.{HasNoEnd, logged_of}
 use Rattle.redo_talk.specs.Rounds.{Round, lines_in, said_in}
-use Rattle.redo_talk.specs.Talks.{Former, history_of, log_of, output_of, greeting_of}
+use Rattle.redo_talk.specs.Talks.{Former, AreLines, BeginsBy, history_of, log_of, output_of, greeting_of}
 use Rattle.redo_talk.specs.Inside.Moments.{Start, IsSafe}
 use Rattle.redo_talk.specs.Inside.Sending.{after_logging}
 use Rattle.redo_talk.proofs.RoundByRound.{logged-append}
@@ -38,6 +38,23 @@ pub prefix_of_either : (b : Bool) (prefix x y : Text) → IsPrefix prefix x → 
     → IsPrefix prefix (cond b x y)
 prefix_of_either true prefix x y p q = p
 prefix_of_either false prefix x y p q = q
+
+-- more was done
+pub begins_more : (bytes : Text) (former : Former) (operation : Operation) (done : List Operation)
+    → BeginsBy bytes former done → BeginsBy bytes former (operation ∷ done)
+begins_more bytes former operation done begins = record {
+  later = operation ∷ begins.later;
+  first = ap (λ ops. operation ∷ ops) begins.first;
+  copied = λ damaged.
+      let (rest, e) = begins.copied damaged in
+      (operation ∷ rest, ap (λ ops. operation ∷ ops) e);
+}
+
+-- one more line was read
+pub lines_more : (rounds : List Round) (round : Round) → AreLines rounds → HasNoEnd round.heard
+    → AreLines (rounds ++ round ∷ [])
+lines_more [] round are free = (free, tt)
+lines_more (first ∷ rounds) round are free = (are.0, lines_more rounds round are.1 free)
 
 -- what is true of each moment
 pub always_then : (P Q : List Operation → Type 0) → ((now : List Operation) → P now → Q now)
@@ -105,42 +122,34 @@ always_more start rounds more =
     always_then (IsSafe start rounds) (IsSafe start (rounds ++ more))
     (safe_more start rounds more)
 
+-- what is true at a moment is so by what is held and written
+safe_as : (start : Start) (rounds : List Round) (done later : List Operation)
+    → held_after later ≡ held_after done → written_by later ≡ written_by done
+    → IsSafe start rounds done → IsSafe start rounds later
+safe_as start rounds done later held written (inl begun) =
+    inl (record {
+      written = written ∙ begun.written;
+      lines = rw held begun.lines;
+      nothing_else = rw held begun.nothing_else;
+    })
+safe_as start rounds done later held written (inr is) =
+    inr (record {
+      answered = is.answered;
+      others = is.others;
+      parts = is.parts;
+      written = rw written is.written;
+      logged = rw held is.logged;
+      nothing_else = rw held is.nothing_else;
+    })
+
 -- a failure changes nothing
 pub log_failed_safe : (start : Start) (rounds : List Round) (done : List Operation)
     → IsSafe start rounds done → IsSafe start rounds (LogFailed ∷ done)
-log_failed_safe start rounds done (inl begun) =
-    inl (record {
-      written = begun.written;
-      lines = begun.lines;
-      nothing_else = begun.nothing_else;
-    })
-log_failed_safe start rounds done (inr is) =
-    inr (record {
-      answered = is.answered;
-      others = is.others;
-      parts = is.parts;
-      written = is.written;
-      logged = is.logged;
-      nothing_else = is.nothing_else;
-    })
+log_failed_safe start rounds done = safe_as start rounds done (LogFailed ∷ done) refl refl
 
 pub output_failed_safe : (start : Start) (rounds : List Round) (done : List Operation)
     → IsSafe start rounds done → IsSafe start rounds (OutputFailed ∷ done)
-output_failed_safe start rounds done (inl begun) =
-    inl (record {
-      written = begun.written;
-      lines = begun.lines;
-      nothing_else = begun.nothing_else;
-    })
-output_failed_safe start rounds done (inr is) =
-    inr (record {
-      answered = is.answered;
-      others = is.others;
-      parts = is.parts;
-      written = is.written;
-      logged = is.logged;
-      nothing_else = is.nothing_else;
-    })
+output_failed_safe start rounds done = safe_as start rounds done (OutputFailed ∷ done) refl refl
 
 -- after bytes were appended, and synced or not
 module _ (logged : Text) (done : List Operation) where

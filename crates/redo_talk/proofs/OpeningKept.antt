@@ -1,5 +1,5 @@
 -- The lines of a log that are kept were done again, whether a last line was torn or one differs.
-use Rattle.std.proofs.Common.{◌≡◌, ◌⊎◌, ℕ, ◌+◌, ◌≤◌, Bool, List, [], ◌++◌, length, take, drop, refl, sym, ap, ◌∙◌, subst, append-nil, append_assoc, length-append, inl, inr, arith}
+use Rattle.std.proofs.Common.{◌≡◌, ◌⊎◌, ℕ, ◌+◌, ◌≤◌, Bool, false, List, [], ◌++◌, length, take, drop, refl, sym, ap, ◌∙◌, subst, append-nil, append_assoc, length-append, inl, inr, arith}
 use Rattle.std.specs.Prelude.{Contains, IsTrue}
 use Rattle.std.proofs.lemmas.List.{append_cancel_left, take-append-drop, take_all}
 use Rattle.std.proofs.Math.Seq.{take-append_seam}
@@ -169,19 +169,13 @@ many_more bytes cut size cut_is (lines, rest, logged, parts, many) = (
   many,
 )
 
-pub open_cause : (bytes : Text) (fault : RestoreFault) → IsRestoreCause bytes fault
-    → IsOpenCause bytes (unrestored fault)
-open_cause bytes Memory cause = tt
-open_cause bytes Worn cause = cause
-open_cause bytes (Differs number count size) cause = (count, size, cause)
-
 -- the first bytes of a log are refused only for want of room
-pub first_refused : (bytes cut : Text) (number count size : ℕ) (fault : RestoreFault)
+pub first_refused : (salvage : Bool) (bytes cut : Text) (number count size : ℕ) (fault : RestoreFault)
     → DiffersAt bytes number count size → cut ≡ take size bytes
     → ((lines : List (Line Text)) (torn : Text) → IsLogOf cut lines torn → IsOfRoom fault)
     → (IsTornHeader cut → IsOfRoom fault) → IsRestoreCause cut fault
-    → IsOpenCause bytes (unrestored fault)
-first_refused bytes cut number count size fault differs cut_is only begun cause =
+    → IsOpenCause salvage bytes (unrestored fault)
+first_refused salvage bytes cut number count size fault differs cut_is only begun cause =
     by fault (room differs) cause
   where
     room : DiffersAt bytes number count size → IsOfRoom fault
@@ -201,7 +195,7 @@ first_refused bytes cut number count size fault differs cut_is only begun cause 
         })
 
     by : (fault : RestoreFault) → IsOfRoom fault → IsRestoreCause cut fault
-        → IsOpenCause bytes (unrestored fault)
+        → IsOpenCause salvage bytes (unrestored fault)
     by Memory room cause = tt
     by Worn room cause = many_more bytes cut size cut_is cause
     by (Differs n c s) room cause = absurd room

@@ -17,7 +17,7 @@ use Rattle.redo_talk.specs.Inside.Talking.{nothing}
 use Rattle.redo_talk.specs.declared.opening.Opened.{Opened}
 use Rattle.redo_talk.specs.declared.opening.Rest.{Rest}
 use Rattle.redo_talk.specs.declared.opening.Rest.TheVariants.{Nothing, Torn, Damaged}
-use Rattle.redo_talk.proofs.Moments.{prefix_self, prefix_trans, append_always, write_always}
+use Rattle.redo_talk.proofs.Moments.{begins_more, prefix_self, prefix_trans, append_always, write_always}
 
 -- an operation that is done whole or not at all
 abbrev is_whole : Operation → Bool
@@ -91,17 +91,6 @@ module _ (sync salvage : Bool) (version bytes : Text) (opened : Opened)
           nothing_else;
     })
 
-    begins_more : (operation : Operation) (done : List Operation) → BeginsBy bytes is.former done
-        → BeginsBy bytes is.former (operation ∷ done)
-    begins_more operation done begins = record {
-      later = operation ∷ begins.later;
-      first = ap (λ (d : List Operation). operation ∷ d) begins.first;
-      copied = λ damaged. (
-        operation ∷ (begins.copied damaged).0,
-        ap (λ (d : List Operation). operation ∷ d) (begins.copied damaged).1,
-      );
-    }
-
     abbrev read : List Operation
     read = Read bytes ∷ []
 
@@ -131,7 +120,7 @@ module _ (sync salvage : Bool) (version bytes : Text) (opened : Opened)
           always = always_whole (IsSafe start []) done always (Cut opened.bytes) refl
               (begun (Cut opened.bytes ∷ done) kept written held_is is.lines
               (inr (opened.logged.items, sym is.log)));
-          begins = begins_more (Cut opened.bytes) done begins;
+          begins = begins_more bytes is.former (Cut opened.bytes) done begins;
           written = written;
           held_is = held_is;
         }
@@ -151,7 +140,7 @@ module _ (sync salvage : Bool) (version bytes : Text) (opened : Opened)
     settle_failed : BeginsBy bytes is.former (LogFailed ∷ cut_copied)
         × IsAlways (IsSafe start []) (LogFailed ∷ cut_copied)
     settle_failed = (
-      begins_more LogFailed cut_copied is_cut_copied.begins,
+      begins_more bytes is.former LogFailed cut_copied is_cut_copied.begins,
       always_whole (IsSafe start []) cut_copied is_cut_copied.always LogFailed refl
           (begun (LogFailed ∷ cut_copied) kept is_cut_copied.written is_cut_copied.held_is is.lines
           (inr (opened.logged.items, sym is.log))),
@@ -171,7 +160,7 @@ module _ (sync salvage : Bool) (version bytes : Text) (opened : Opened)
       always = always_whole (IsSafe start []) cut_copied is_cut_copied.always Sync refl
           (begun (Sync ∷ cut_copied) kept is_cut_copied.written is_cut_copied.held_is is.lines
           (inr (opened.logged.items, sym is.log)));
-      begins = begins_more Sync cut_copied is_cut_copied.begins;
+      begins = begins_more bytes is.former Sync cut_copied is_cut_copied.begins;
       written = is_cut_copied.written;
       held_is = is_cut_copied.held_is;
     }
@@ -188,7 +177,7 @@ module _ (sync salvage : Bool) (version bytes : Text) (opened : Opened)
     appended_part part (more, e) = record {
       always = append_always (IsSafe start []) cut is_cut.always part (λ first within.
           safe first (prefix_trans first part opened.logged.items within (more, e)));
-      begins = begins_more (Append part) cut is_cut.begins;
+      begins = begins_more bytes is.former (Append part) cut is_cut.begins;
       written = is_cut.written;
       held_is = ap (λ (t : Text). t ++ part) is_cut.held_is;
     }
@@ -210,7 +199,7 @@ module _ (sync salvage : Bool) (version bytes : Text) (opened : Opened)
         × IsAlways (IsSafe start []) (LogFailed ∷ Append part ∷ cut)
     append_failed part (more, e) =
         let at = appended_part part (more, e) in (
-          begins_more LogFailed (Append part ∷ cut) at.begins,
+          begins_more bytes is.former LogFailed (Append part ∷ cut) at.begins,
           always_whole (IsSafe start []) (Append part ∷ cut) at.always LogFailed refl
               (begun (LogFailed ∷ Append part ∷ cut) (kept ++ part) at.written at.held_is
               (has_more_lines part is.lines)
@@ -234,7 +223,7 @@ module _ (sync salvage : Bool) (version bytes : Text) (opened : Opened)
           refl
           (begun (Sync ∷ Append opened.logged.items ∷ cut) whole logged.written logged.held_is
           has_lines (inr (prefix_self whole)));
-      begins = begins_more Sync (Append opened.logged.items ∷ cut) logged.begins;
+      begins = begins_more bytes is.former Sync (Append opened.logged.items ∷ cut) logged.begins;
       written = logged.written;
       held_is = logged.held_is;
     }
@@ -290,7 +279,7 @@ module _ (sync salvage : Bool) (version bytes : Text) (opened : Opened)
         → BeginsBy bytes is.former (OutputFailed ∷ writes part)
         × IsAlways (IsSafe start []) (OutputFailed ∷ writes part)
     write_failed part is_part = (
-      begins_more OutputFailed (writes part) (begins_more (Write part) ready is_ready.begins),
+      begins_more bytes is.former OutputFailed (writes part) (begins_more bytes is.former (Write part) ready is_ready.begins),
       always_whole (IsSafe start []) (writes part) (written_always part is_part) OutputFailed refl
           (greeted_part (OutputFailed ∷ writes part) part is_part (written_is part)
           is_ready.held_is on_disk),
@@ -307,8 +296,9 @@ module _ (sync salvage : Bool) (version bytes : Text) (opened : Opened)
         state = is.left.state_is i;
         calls = is.left.calls_are i;
       };
+      lines = tt;
       heard = Consumes-nil left;
-      begins = begins_more (Write opened.greeting.items) ready is_ready.begins;
+      begins = begins_more bytes is.former (Write opened.greeting.items) ready is_ready.begins;
       always = written_always opened.greeting.items (prefix_self opened.greeting.items);
       log = is_ready.held_is;
       disk = on_disk;

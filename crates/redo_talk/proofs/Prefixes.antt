@@ -55,10 +55,20 @@ nothing_begun begun [] is e = none_from_prefix begun is.kept
 nothing_begun begun (b ∷ bs) is e = absurd (omega (arith, e))
 
 -- what is kept of a line that ends with this piece
-pub heard_behind : (begun prefix piece line : Text) → IsPrefixOf begun prefix
+pub heard_behind : (begun prefix piece line : Text) → IsPrefixOf begun prefix → HasNoEnd piece
     → line ≡ kept_of (prefix ++ piece) → IsHeardOf (begun ++ piece) line
-heard_behind begun prefix piece line is e =
-    inr (e ∙ ap (λ t. kept_of (t ++ piece)) is.kept ∙ kept_more begun piece)
+heard_behind begun prefix piece line is free e = record {
+  unended = no_end_both begun piece is.unended free;
+  is = inr (e ∙ ap (λ t. kept_of (t ++ piece)) is.kept ∙ kept_more begun piece);
+}
+
+-- a line of which nothing was kept
+pub heard_at_once : (begun prefix piece : Text) → IsPrefixOf begun prefix → HasNoEnd piece
+    → length prefix ≡ 0 → IsHeardOf (begun ++ piece) piece
+heard_at_once begun prefix piece is free none = record {
+  unended = no_end_both begun piece is.unended free;
+  is = inl (sym (ap (λ t. t ++ piece) (nothing_begun begun prefix is none)));
+}
 
 -- a line goes on after a piece that ends one
 pub next_line : (begun rest piece after : Text) → rest ≡ piece ++ 10 ∷ after

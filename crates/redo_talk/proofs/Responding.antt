@@ -56,6 +56,7 @@ broken_anyhow start now known broken = record {
   rounds = broken.rounds;
   more = broken.more;
   steps = broken.steps;
+  lines = broken.lines;
   heard = broken.heard;
   begins = broken.begins;
   always = broken.always;
@@ -74,8 +75,8 @@ module _ (sync : Bool) (old new : Known) (done : List Operation) (logged said : 
         (said ++ round.said) logged' said' more e f
         (answered_more start (moment_at (place old done logged said) left)
         (record { said = said; logged = logged }) (ended whole ++ more) talk
-        (record round { heard = whole }) new more refl
-        (step_of_whole old new round whole heard step))
+        (record round { heard = whole }) new more refl heard.unended
+        (step_of_whole old new round whole heard.is step))
 
 module _ (sync : Bool) (old new : Known) (round : Round) (whole more : Text)
     (heard : IsHeardOf whole round.heard) (refused : Refusing old new round)

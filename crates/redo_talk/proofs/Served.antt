@@ -46,6 +46,7 @@ module _ (keeping : Keeping) (version bytes : Text) (former : Former) (input : O
             broken.steps).legal;
         are_rounds = steps_are_rounds (history_of former) (known_first start) broken.known
             broken.rounds led broken.steps;
+        are_lines = broken.lines;
         heard = broken.heard;
         always = broken.always;
       },
@@ -81,6 +82,7 @@ module _ (keeping : Keeping) (version bytes : Text) (former : Former) (input : O
                   way.steps).legal;
               are_rounds = steps_are_rounds (history_of former) (known_first start) known rounds
                   led way.steps;
+              are_lines = way.lines;
               heard = way.heard;
               always = way.always;
             };
@@ -117,6 +119,7 @@ module _ (keeping : Keeping) (version bytes : Text) (former : Former) (input : O
           rounds = [];
           more = [];
           steps = refl;
+          lines = tt;
           heard = Consumes-nil input;
           begins = begins;
           always = always;
@@ -159,7 +162,7 @@ module _ (keeping : Keeping) (version bytes : Text) (opened : Opened) (input : O
     begin_cause_serves done read_failed (Log fault) failed part = (
       failed,
       elim (part is input) [
-        | inl same ↦ inl same
+        | inl same ↦ inl (refl, same)
         | inr (begins, always) ↦ inr (in_part done begins always)
       ],
     )

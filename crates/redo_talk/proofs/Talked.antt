@@ -26,6 +26,7 @@ module _ (start : Start) (known : Known) (left left' : Option Text) (done : List
       sent = talk.sent;
       kept = talk.kept;
       steps = talk.steps;
+      lines = talk.lines;
       heard = Consumes-kept start.left left left' (heard_in (talk.sent ++ talk.kept) ++ begun)
           talk.heard same;
       begins = talk.begins;

@@ -7,34 +7,23 @@ use Rattle.redo_model.specs.Names.{Text, texts}
 use Rattle.redo_model.specs.History.{left_by}
 use Rattle.redo_history.specs.Histories.{ended}
 use Rattle.redo_log.specs.Operations.{Operation, Append, Sync, Revert, Write, LogFailed, OutputFailed, IsPrefix, IsAlways, held_after, written_by}
-use Rattle.redo_talk.specs.Logs.{logged_of}
+use Rattle.redo_talk.specs.Logs.{HasNoEnd, logged_of}
 use Rattle.redo_talk.specs.Rounds.{Round, lines_in, heard_in, said_in}
-use Rattle.redo_talk.specs.Talks.{BeginsBy, log_of, output_of}
+use Rattle.redo_talk.specs.Talks.{AreLines, BeginsBy, log_of, output_of}
 use Rattle.redo_talk.specs.Inside.Moments.{Start, Moment, Waiting, IsSafe, IsUnderWay, IsBrokenOff, known_first}
 use Rattle.redo_talk.specs.Inside.Sending.{IsAppendedInPart, IsUnsynced, IsWrittenInPart, IsSentInPart, after_logging, sent_after}
 use Rattle.redo_talk.specs.Inside.Steps.{Known, IsStep, AreSteps}
 use Rattle.redo_talk.specs.Inside.Talking.{nothing}
-use Rattle.redo_talk.proofs.Moments.{prefix_self, prefix_of_same, prefix_trans, prefix_of_either, prefix_behind, append_always, write_always, log_more, output_more, always_more, log_failed_safe, output_failed_safe, all_after_logging, kept_after_logging, written_after_logging, always_after_logging}
+use Rattle.redo_talk.proofs.Moments.{begins_more, lines_more, prefix_self, prefix_of_same, prefix_trans, prefix_of_either, prefix_behind, append_always, write_always, log_more, output_more, always_more, log_failed_safe, output_failed_safe, all_after_logging, kept_after_logging, written_after_logging, always_after_logging}
 use Rattle.redo_talk.proofs.RoundByRound.{steps_more, steps_state, in_more}
-
--- more was done
-pub begins_more : (start : Start) (operation : Operation) (done : List Operation)
-    → BeginsBy start.bytes start.former done → BeginsBy start.bytes start.former (operation ∷ done)
-begins_more start operation done begins = record {
-  later = operation ∷ begins.later;
-  first = ap (λ ops. operation ∷ ops) begins.first;
-  copied = λ damaged.
-      let (rest, e) = begins.copied damaged in
-      (operation ∷ rest, ap (λ ops. operation ∷ ops) e);
-}
 
 begins_after_logging : (start : Start) (sync : Bool) (logged : Text) (done : List Operation)
     → BeginsBy start.bytes start.former done
     → BeginsBy start.bytes start.former (after_logging sync logged done)
 begins_after_logging start true logged done begins =
-    begins_more start Sync (Append logged ∷ done) (begins_more start (Append logged) done begins)
+    begins_more start.bytes start.former Sync (Append logged ∷ done) (begins_more start.bytes start.former (Append logged) done begins)
 begins_after_logging start false logged done begins =
-    begins_more start (Append logged) done begins
+    begins_more start.bytes start.former (Append logged) done begins
 
 -- what is kept of the log while more is appended
 kept_while_appending : (sync : Bool) (log synced all some : Text) → cond sync synced all ≡ log
@@ -56,12 +45,12 @@ module _ (start : Start) (now : Moment) (waiting : Waiting) (more : Text)
 
     -- a line was read and answered
     pub answered_more : (round : Round) (known : Known) (rest : Text)
-        → more ≡ ended round.heard ++ rest → IsStep now.known known round
+        → more ≡ ended round.heard ++ rest → HasNoEnd round.heard → IsStep now.known known round
         → IsUnderWay start (record now { known = known }) (record {
           said = waiting.said ++ round.said;
           logged = waiting.logged ++ logged_of now.known.state round.lines;
         }) rest
-    answered_more round known rest e step =
+    answered_more round known rest e free step =
         let history = (known_first start).state in
         let kept = way.kept ++ round ∷ [] in
         let lines = lines_in rounds in
@@ -71,6 +60,7 @@ module _ (start : Start) (now : Moment) (waiting : Waiting) (more : Text)
           kept = kept;
           steps = subst (AreSteps (known_first start) known) assoc
               (steps_more (known_first start) now.known known rounds round way.steps step);
+          lines = subst AreLines assoc (lines_more rounds round way.lines free);
           heard = subst (Consumes start.left now.left)
               (ap (λ t. heard_in rounds ++ t) e
               ∙ sym (append_assoc (heard_in rounds) (ended round.heard) rest)
@@ -103,6 +93,7 @@ module _ (start : Start) (now : Moment) (waiting : Waiting) (more : Text)
       sent = way.sent;
       kept = way.kept;
       steps = way.steps;
+      lines = way.lines;
       heard = subst (Consumes start.left left) (append_assoc (heard_in rounds) more bytes)
           (Consumes-trans start.left now.left left (heard_in rounds ++ more) bytes way.heard taken);
       begins = way.begins;
@@ -209,9 +200,10 @@ module _ (start : Start) (now : Moment) (waiting : Waiting) (more : Text)
           sent = rounds;
           kept = [];
           steps = subst (AreSteps (known_first start) now.known) (sym none) way.steps;
+          lines = subst AreLines (sym none) way.lines;
           heard = subst (λ rs. Consumes start.left now.left (heard_in rs ++ more)) (sym none)
               way.heard;
-          begins = begins_more start (Write waiting.said) logged
+          begins = begins_more start.bytes start.former (Write waiting.said) logged
               (begins_after_logging start start.sync waiting.logged now.done way.begins);
           always = subst (λ rs. IsAlways (IsSafe start rs) (Write waiting.said ∷ logged))
               (sym none) writes_safely;
@@ -229,6 +221,7 @@ module _ (start : Start) (now : Moment) (waiting : Waiting) (more : Text)
       rounds = rounds;
       more = more;
       steps = way.steps;
+      lines = way.lines;
       heard = way.heard;
       begins = begins;
       always = always;
@@ -245,8 +238,8 @@ module _ (start : Start) (now : Moment) (waiting : Waiting) (more : Text)
         (prefix_trans less some waiting.logged is part)) in
         subst (λ ops. IsBrokenOff start (record now { done = ops })) (sym e)
         (broken_by (LogFailed ∷ appended)
-        (begins_more start LogFailed appended
-        (begins_more start (Append some) now.done way.begins)) (
+        (begins_more start.bytes start.former LogFailed appended
+        (begins_more start.bytes start.former (Append some) now.done way.begins)) (
           λ last same. subst (λ o. IsSafe start rounds (o ∷ appended)) (sym same)
               (log_failed_safe start rounds appended (append_safe some part)),
           whole,
@@ -275,17 +268,17 @@ module _ (start : Start) (now : Moment) (waiting : Waiting) (more : Text)
         → IsBrokenOff start (record now { done = done })
     sync_broken done synced failed =
         let appended = Append waiting.logged ∷ now.done in
-        let begins = begins_more start (Append waiting.logged) now.done way.begins in
+        let begins = begins_more start.bytes start.former (Append waiting.logged) now.done way.begins in
         let whole = append_safe waiting.logged (prefix_self waiting.logged) in
         elim failed [
           | inl e ↦ subst (λ ops. IsBrokenOff start (record now { done = ops })) (sym e)
-              (broken_by (LogFailed ∷ appended) (begins_more start LogFailed appended begins) (
+              (broken_by (LogFailed ∷ appended) (begins_more start.bytes start.former LogFailed appended begins) (
                 λ last same. subst (λ o. IsSafe start rounds (o ∷ appended)) (sym same)
                     (log_failed_safe start rounds appended whole),
                 appends_safely,
               ))
           | inr e ↦ subst (λ ops. IsBrokenOff start (record now { done = ops })) (sym e)
-              (broken_by (Revert ∷ appended) (begins_more start Revert appended begins) (
+              (broken_by (Revert ∷ appended) (begins_more start.bytes start.former Revert appended begins) (
                 λ last same. subst (λ o. IsSafe start rounds (o ∷ appended)) (sym same)
                     (unsynced_safe synced),
                 appends_safely,
@@ -302,8 +295,8 @@ module _ (start : Start) (now : Moment) (waiting : Waiting) (more : Text)
         (λ less is. write_safe less (prefix_trans less some waiting.said is part)) in
         subst (λ ops. IsBrokenOff start (record now { done = ops })) (sym e)
         (broken_by (OutputFailed ∷ written)
-        (begins_more start OutputFailed written
-        (begins_more start (Write some) logged
+        (begins_more start.bytes start.former OutputFailed written
+        (begins_more start.bytes start.former (Write some) logged
         (begins_after_logging start start.sync waiting.logged now.done way.begins))) (
           λ last same. subst (λ o. IsSafe start rounds (o ∷ written)) (sym same)
               (output_failed_safe start rounds written (write_safe some part)),

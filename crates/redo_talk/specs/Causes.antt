@@ -28,6 +28,14 @@ IsUnchanged done = AllByRecursion (λ operation. changes_nothing operation ≡ t
 module _ (keeping : Keeping) (version : Text) (input input_after : Option Text)
     (done : List Operation)
   where
+    -- nothing was heard, and neither the log nor the output was changed
+    abbrev pub HasNotBegun : Type 0
+    HasNotBegun = (input_after ≡ input) × IsUnchanged done
+
+    -- the log was read, it has these bytes, and then nothing was done
+    abbrev pub HasOnlyRead : Text → Type 0
+    HasOnlyRead bytes = (input_after ≡ input) × (done ≡ Read bytes ∷ [])
+
     -- a conversation was led so far, and of what was read the last lines may not be answered
     abbrev pub TalkedSoFar : Type 0
     TalkedSoFar =
@@ -42,14 +50,14 @@ module _ (keeping : Keeping) (version : Text) (input input_after : Option Text)
 
     -- the cause of a fault; `read_failed` says whether a read of the input failed
     abbrev pub IsServeCause : Bool → ServeFault → Type 0
-    IsServeCause read_failed faults.Memory = IsUnchanged done
-    IsServeCause read_failed faults.Worn =
-        (bytes : Text) × (done ≡ Read bytes ∷ []) × HasTooMany bytes
+    IsServeCause read_failed faults.Memory = HasNotBegun
+    IsServeCause read_failed faults.Worn = (bytes : Text) × HasOnlyRead bytes × HasTooMany bytes
     IsServeCause read_failed (faults.Differs line) =
-        (bytes : Text) × (done ≡ Read bytes ∷ [])
-        × ((count : ℕ) × (size : ℕ) × DiffersAt bytes line count size)
+        (keeping.salvage ≡ false)
+        × ((bytes : Text) × HasOnlyRead bytes
+        × ((count : ℕ) × (size : ℕ) × DiffersAt bytes line count size))
     IsServeCause read_failed (faults.Log fault) =
-        IsTrue (log_failed done) × (IsUnchanged done ⊎ TalkedSoFar)
+        IsTrue (log_failed done) × (HasNotBegun ⊎ TalkedSoFar)
     IsServeCause read_failed faults.Read = IsTrue read_failed × AnsweredAll
     IsServeCause read_failed faults.TooLong = AnsweredAll
     IsServeCause read_failed faults.Write = IsTrue (output_failed done) × TalkedSoFar

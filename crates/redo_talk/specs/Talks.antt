@@ -1,5 +1,6 @@
 -- What a conversation restores, answers and logs, and what its log and its output hold at each moment.
 use Rattle.std.specs.Prelude.{◌≡◌, ◌⊎◌, ℕ, ◌+◌, Bool, false, cond, List, [], ◌∷◌, ◌++◌, Option, None, IsTrue, map, length, codes, decimal}
+use Rattle.std.specs.List.{AllByRecursion}
 use Rattle.std.specs.List.Sorted.{IsStrictlyIncreasing}
 use Rattle.std.specs.Io.KnownBytes.{Consumes}
 use Rattle.redo_model.specs.Names.{Text, texts}
@@ -45,6 +46,10 @@ pub record AreEnded (former : Former) : Type 0 where
   pub rounds : AreRounds former.lines former.ends
   pub nothing : HoldsNothing (left_by texts empty (history_of former))
 
+-- each was one line: there is no LF in it
+abbrev pub AreLines : List Round → Type 0
+AreLines rounds = AllByRecursion (λ round. HasNoEnd round.heard) rounds
+
 -- the output before the first answer: which version it is, and how many lines the log had
 abbrev pub greeting_of : Text → Former → Text
 greeting_of version former =
@@ -69,8 +74,8 @@ pub record IsBegun (bytes : Text) (former : Former) (done : List Operation) : Ty
   pub nothing_else : ((held_after done).all ≡ bytes)
       ⊎ IsPrefix (held_after done).all (log_of former [])
 
--- the log before the answer: what was written answers some of the rounds, and all that these logged is in the log, and on
--- the disk if that is asked; the log has nothing else than what the rounds logged
+-- the log before the answer: what was written answers the first of the rounds, and all that these logged is in the log,
+-- and on the disk if that is asked; the log has nothing else than what the rounds logged
 pub record IsLoggedFirst (sync : Bool) (version : Text) (former : Former) (rounds : List Round)
     (done : List Operation) : Type 0 where
   pub answered : List Round
@@ -98,6 +103,7 @@ pub record IsTalk (keeping : Keeping) (version : Text) (former : Former) (rounds
   pub ended : AreEnded former
   pub legal : Legal texts (history_of former ++ lines_in rounds)
   pub are_rounds : AreRounds (history_of former) rounds
+  pub are_lines : AreLines rounds
   pub heard : Consumes input input_after (heard_in rounds ++ rest)
   pub always : IsAlways (λ now. IsBegun bytes former now
       ⊎ IsLoggedFirst keeping.sync version former rounds now) done

@@ -1,6 +1,7 @@
 ghost use Rattle.std.specs.Prelude.{◌≡◌, ◌≤◌, ◌++◌, [], length, take, vec_capacity, IfErr, OnOk, OnErr};
 ghost use Rattle.redo_model.specs.Names.{Text};
 ghost use Rattle.redo_history.specs.Histories.{ended};
+ghost use Rattle.redo_talk.specs.Logs.{HasNoEnd};
 ghost use Rattle.redo_talk.specs.Inside.KeptLines.{IsHeardOf, IsPrefixOf, kept_of};
 ghost use Rattle.redo_talk.specs.Inside.Places.{GoesOn, GoesOnInLine, BreaksOff, as_place};
 ghost use Rattle.redo_talk.specs.Inside.Sending.{IsSendCause};
@@ -91,6 +92,7 @@ fn answer_piece<D: Devices>(
 ) -> Result<(), ServeFault>
     requires room { MOST_KEPT ≤ vec_capacity prefix.old }
     requires few { length prefix.old.items ≤ MOST_KEPT }
+    requires free { HasNoEnd piece.now }
     ensures talk { OnOk result ((begun more : Text) → IsPrefixOf begun prefix.old.items
         → GoesOn sync
         (as_place live.old (D.history devices.old) unsent.old)

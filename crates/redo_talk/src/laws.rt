@@ -9,10 +9,10 @@ ghost use Rattle.redo_history.specs.Histories.{history_text_of};
 ghost use Rattle.redo_history.specs.HistoryTexts.{IsHistory};
 ghost use Rattle.redo_live.specs.Lines.{names_after};
 ghost use Rattle.redo_log.specs.Logs.{IsLogOf};
-ghost use Rattle.redo_log.specs.Operations.{Operation, held_after, IsAlways};
-ghost use Rattle.redo_talk.specs.Rounds.{Round, AreRounds, lines_in};
+ghost use Rattle.redo_log.specs.Operations.{Operation, held_after, written_by, IsAlways};
+ghost use Rattle.redo_talk.specs.Rounds.{Round, AreRounds, heard_in, lines_in};
 ghost use Rattle.redo_talk.specs.Talks.{Former, IsConversation, IsTalk};
-ghost use Rattle.redo_talk.specs.Inside.Laws.{Agree, AreFew, AsksWhy, HasSufficed, RestoresFormer, RestoresAnswered, lines_after, logged_after, rounds_of};
+ghost use Rattle.redo_talk.specs.Inside.Laws.{Agree, AreFew, AsksWhy, HasLed, HasSufficed, RestoresFormer, RestoresAnswered, lines_after, logged_after, rounds_of};
 ghost use Rattle.redo_talk.specs.Inside.Steps.{Known, Telling};
 ghost use Rattle.redo_talk.specs.declared.keeping.Keeping.{Keeping};
 
@@ -59,7 +59,8 @@ pub fn log_is_always_one()
 {}
 
 /// What is heard after a history determines what is done and answered, but for the answers that memory or the counters
-/// ran out, and for the shortest chain that tells why a name is out of date.
+/// ran out, and for the shortest chain that tells why a name is out of date. So the bytes that are read determine the
+/// bytes that are written, and the log.
 pub fn conversation_is_determined()
     ensures agree { (before : List (Line Text)) (a b : List Round)
         → AreRounds before a → AreRounds before b
@@ -70,6 +71,13 @@ pub fn conversation_is_determined()
         → map (λ round. round.heard) a ≡ map (λ round. round.heard) b
         → AllByRecursion HasSufficed a → AllByRecursion HasSufficed b
         → AllByRecursion (λ round. ¬ (AsksWhy round.heard)) a → a ≡ b }
+    ensures bytes { (version : Text) (former : Former) (a b : List Round) (rest last : Text)
+        (one other : List Operation) → HasLed version former a rest one
+        → HasLed version former b last other → heard_in a ++ rest ≡ heard_in b ++ last
+        → AllByRecursion HasSufficed a → AllByRecursion HasSufficed b
+        → AllByRecursion (λ round. ¬ (AsksWhy round.heard)) a
+        → (written_by one ≡ written_by other)
+        × ((held_after one).all ≡ (held_after other).all) }
 {}
 
 /// Questions with the same line as their answer are the same session's about the same name, and are answered the same.

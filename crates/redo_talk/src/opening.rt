@@ -49,7 +49,7 @@ pub(crate) struct Opened {
 /// Does the lines of a log again, or those before the first that differs, if it may be cut.
 fn restore_or_salvage(alloc: Global, salvage: bool, log: &[u8]) -> Result<Kept, ServeFault>
     ensures kept { IfOk result (IsKeptFrom salvage log.now) }
-    ensures cause { IfErr result (IsOpenCause log.now) }
+    ensures cause { IfErr result (IsOpenCause salvage log.now) }
 {
     match restore(alloc, log) {
         Ok(restored) => {
@@ -105,7 +105,7 @@ pub(crate) fn open(
     log: Vec<u8>,
 ) -> Result<Opened, ServeFault>
     ensures opened { IfOk result (IsOpenedFrom salvage version.now log.items) }
-    ensures cause { IfErr result (IsOpenCause log.items) }
+    ensures cause { IfErr result (IsOpenCause salvage log.items) }
 {
     let Kept { restored, rest } = restore_or_salvage(alloc, salvage, &log)?;
     let Restored {

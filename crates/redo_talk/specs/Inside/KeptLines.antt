@@ -7,9 +7,10 @@ use Rattle.redo_talk.specs.Logs.{HasNoEnd}
 abbrev pub kept_of : Text → Text
 kept_of line = take 8199 line
 
--- the line itself, or what is kept of it
-abbrev pub IsHeardOf : Text → Text → Type 0
-IsHeardOf whole line = (line ≡ whole) ⊎ (line ≡ kept_of whole)
+-- of a whole line this was heard: the line itself, or what is kept of it
+pub record IsHeardOf (whole line : Text) : Type 0 where
+  pub unended : HasNoEnd whole
+  pub is : (line ≡ whole) ⊎ (line ≡ kept_of whole)
 
 -- what is kept of a line that has not ended
 pub record IsPrefixOf (whole prefix : Text) : Type 0 where

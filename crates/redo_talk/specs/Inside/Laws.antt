@@ -1,5 +1,5 @@
 -- Words of the laws of conversations.
-use Rattle.std.specs.Prelude.{◌≡◌, ◌≢◌, ℕ, ◌+◌, ◌<◌, ◌≤◌, List, [], ◌∷◌, ◌++◌, Bool, cond, filter, length, nat_eq, codes, decimal, ⊤}
+use Rattle.std.specs.Prelude.{◌≡◌, ◌≢◌, ℕ, ◌+◌, ◌<◌, ◌≤◌, List, [], ◌∷◌, ◌++◌, Bool, Option, cond, filter, length, nat_eq, codes, decimal, ⊤}
 use Rattle.std.specs.List.{AllByRecursion, starts_with}
 use Rattle.redo_model.specs.Names.{Text, texts}
 use Rattle.redo_model.specs.State.{empty}
@@ -11,7 +11,8 @@ use Rattle.redo_live.specs.Lines.{names_after}
 use Rattle.redo_log.specs.Logs.{IsLogOf}
 use Rattle.redo_log.specs.Operations.{Operation, Held, IsPrefix, held_after, written_by}
 use Rattle.redo_talk.specs.Rounds.{Round, Asks, fault_text_of, lines_in}
-use Rattle.redo_talk.specs.Talks.{Former, AreRestored, history_of, output_of}
+use Rattle.redo_talk.specs.Talks.{Former, AreRestored, IsConversation, history_of, output_of}
+use Rattle.redo_talk.specs.declared.keeping.Keeping.{Keeping}
 
 -- the history after these rounds
 abbrev pub lines_after : Former → List Round → List (Line Text)
@@ -70,6 +71,12 @@ abbrev pub RestoresAnswered : Bool → Text → Former → List Round → List O
 RestoresAnswered sync version former rounds now =
     (left : Text) → IsLeftOf sync (held_after now) left
     → IsLogBehind version former rounds (written_by now) left
+
+-- a conversation from there was led to an end, whatever it was read from, and however its log was kept
+abbrev pub HasLed : Text → Former → List Round → Text → List Operation → Type 0
+HasLed version former rounds rest done =
+    (keeping : Keeping) × (input : Option Text) × (input_after : Option Text)
+    × IsConversation keeping version former rounds rest input input_after done
 
 -- the answer is not that memory or the counters ran out
 abbrev pub HasSufficed : Round → Type 0

@@ -7,7 +7,7 @@ use Rattle.redo_model.specs.History.{left_by}
 use Rattle.redo_live.specs.Lines.{names_after}
 use Rattle.redo_log.specs.Operations.{Operation, held_after, written_by, IsAlways}
 use Rattle.redo_talk.specs.Rounds.{Round, heard_in, said_in}
-use Rattle.redo_talk.specs.Talks.{Former, BeginsBy, IsBegun, IsLoggedFirst, history_of, log_of, output_of}
+use Rattle.redo_talk.specs.Talks.{Former, AreLines, BeginsBy, IsBegun, IsLoggedFirst, history_of, log_of, output_of}
 use Rattle.redo_talk.specs.Inside.Steps.{Known, AreSteps}
 
 -- how a conversation began: what was asked, what was restored from these bytes, and what is left to be read
@@ -51,6 +51,7 @@ pub record IsUnderWay (start : Start) (now : Moment) (waiting : Waiting) (more :
     pub sent : List Round
     pub kept : List Round
     pub steps : AreSteps (known_first start) now.known (sent ++ kept)
+    pub lines : AreLines (sent ++ kept)
     pub heard : Consumes start.left now.left (heard_in (sent ++ kept) ++ more)
     pub begins : BeginsBy start.bytes start.former now.done
     pub always : IsAlways (IsSafe start (sent ++ kept)) now.done
@@ -67,6 +68,7 @@ pub record IsBrokenOff (start : Start) (now : Moment) : Type 0 where
   pub rounds : List Round
   pub more : Text
   pub steps : AreSteps (known_first start) known rounds
+  pub lines : AreLines rounds
   pub heard : Consumes start.left now.left (heard_in rounds ++ more)
   pub begins : BeginsBy start.bytes start.former now.done
   pub always : IsAlways (IsSafe start rounds) now.done

@@ -1,5 +1,5 @@
 -- How a log is opened, and what was done then.
-use Rattle.std.specs.Prelude.{◌≡◌, ◌⊎◌, ℕ, Bool, List, [], ◌∷◌, ◌++◌, Option, length, take, ⊤}
+use Rattle.std.specs.Prelude.{◌≡◌, ◌⊎◌, ℕ, Bool, false, List, [], ◌∷◌, ◌++◌, Option, length, take, ⊤}
 use Rattle.redo_model.specs.Names.{Text}
 use Rattle.redo_model.specs.History.{Line}
 use Rattle.redo_live.specs.Lines.{lines_text_of}
@@ -77,11 +77,12 @@ pub record IsOpenedFrom (salvage : Bool) (version bytes : Text) (opened : Opened
   pub greeting : opened.greeting.items ≡ greeting_of version former
 
 -- why a log with these bytes was not opened
-abbrev pub IsOpenCause : Text → ServeFault → Type 0
-IsOpenCause bytes Memory = ⊤
-IsOpenCause bytes Worn = HasTooMany bytes
-IsOpenCause bytes (Differs line) = (count : ℕ) × (size : ℕ) × DiffersAt bytes line count size
-IsOpenCause bytes fault = ⊥
+abbrev pub IsOpenCause : Bool → Text → ServeFault → Type 0
+IsOpenCause salvage bytes Memory = ⊤
+IsOpenCause salvage bytes Worn = HasTooMany bytes
+IsOpenCause salvage bytes (Differs line) =
+    (salvage ≡ false) × ((count : ℕ) × (size : ℕ) × DiffersAt bytes line count size)
+IsOpenCause salvage bytes fault = ⊥
 
 -- after what comes after so many bytes was cut off; a damaged log is copied first, and synced then
 abbrev pub after_cut : Rest → ℕ → List Operation → List Operation

@@ -19,6 +19,9 @@ answer_piece-requires-clause-room g c = c.lines.invariant.room
 pub answer_piece-requires-clause-few : goal.answer_piece-requires-clause-few
 answer_piece-requires-clause-few g c = c.lines.invariant.few
 
+pub answer_piece-requires-clause-free : goal.answer_piece-requires-clause-free
+answer_piece-requires-clause-free g c = c.in-Some.ensures.1
+
 pub returns-in_err-answer_piece-clause-broken :
     goal.returns-in_err-answer_piece-clause-broken
 returns-in_err-answer_piece-clause-broken g c =

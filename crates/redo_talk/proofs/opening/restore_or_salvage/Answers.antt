@@ -31,6 +31,6 @@ returns-in_err-restore-in-Err-Differs-clause-cause c =
     let differs = rw c.in-Err-Differs.field-0-is at c.in-Err-Differs.ensures.cause in
     let p = err_from_is_err_and c.from_residual.result c.from_residual.ensures.1 in
     let refused = c.in_err-restore-in-Err-Differs in
-    rw (p.1, p.2) (first_refused log (take size log) c.in-Err-Differs.field-0-0
+    rw (p.1, p.2) (first_refused c.args.salvage log (take size log) c.in-Err-Differs.field-0-0
     c.in-Err-Differs.field-0-1 size refused.field-0.0 differs refl refused.ensures.only
     refused.ensures.begun refused.ensures.cause)

@@ -12,9 +12,12 @@ pub returns-in_err-buffers-clause-cause : goal.returns-in_err-buffers-clause-cau
 returns-in_err-buffers-clause-cause g c =
     let p = err_from_is_err_and c.from_residual-in_err-buffers.result
     c.from_residual-in_err-buffers.ensures.1 in
-    rw (p.1, p.2) (unchanged_by_read (g.D.Devices.history c.read.new.self)
-    (g.D.Devices.history c.args.devices.now) c.in_ok-log.log.items c.in_ok-log.ensures.read
-    c.requires)
+    rw (p.1, p.2) (
+      refl,
+      unchanged_by_read (g.D.Devices.history c.read.new.self)
+          (g.D.Devices.history c.args.devices.now) c.in_ok-log.log.items c.in_ok-log.ensures.read
+          c.requires,
+    )
 
 pub returns-in_err-begin-clause-cause : goal.returns-in_err-begin-clause-cause
 returns-in_err-begin-clause-cause g c =
